@@ -1,0 +1,5 @@
+use Rattle.aspa_top.proofs.AttestedLemmas.{attests-insert}
+use Rattle.aspa_top.proofs.assertions.attest.Goals as goal
+
+pub returns : goal.returns
+returns c = attests-insert _ _ _ (c.in_ok-insert.ensures.updates.0)
