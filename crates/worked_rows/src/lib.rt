@@ -1,0 +1,14 @@
+//! Tests over the libraries, of what no contract says: that the definitions mean what they should, and that a call succeeds.
+//!
+//! Each table has its expected values worked out by hand. `scripts` goes through [`aspa_top::run`] over the forms in memory,
+//! `judgements` judges paths in a small world by the plain judgement, and `faults` lets each call of the outside fail in turn.
+#![tactic(auto)]
+
+#[cfg(test)]
+mod faults;
+#[cfg(test)]
+mod judgements;
+#[cfg(test)]
+mod scripts;
+#[cfg(test)]
+mod world;
