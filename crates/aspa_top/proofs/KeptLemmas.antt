@@ -7,14 +7,14 @@ use Rattle.path_model.specs.declared.authority.Authority.TheVariants.{Silent, Re
 use Rattle.path_model.specs.declared.role.Role.{Role}
 use Rattle.path_model.specs.declared.verdict.Verdict.{Verdict}
 use Rattle.path_model.specs.Authority.{has, said_by, authority_of}
-use Rattle.path_model.specs.Path.{Path, path_of}
+use Rattle.path_model.specs.Trail.{Path, path_of}
 use Rattle.path_model.specs.RightVerdict.{IsRight}
 use Rattle.path_model.specs.CurrentTable.{Assertion, current_table, names_provider}
 use Rattle.path_model.proofs.CurrentTableLemmas.{assertions_attest}
 use Rattle.path_model.proofs.LawLemmas.{hops_decide}
 use Rattle.av_text.specs.VerdictText.{verdict_text}
 use Rattle.aspa_top.specs.declared.assertions.Assertions.{Assertions}
-use Rattle.aspa_top.specs.Attested.{providers_of, rows_of, AreKept}
+use Rattle.aspa_top.specs.Assertions.{providers_of, rows_of, AreKept}
 use Rattle.aspa_top.specs.Evaluation.{IsJudged}
 
 said_by-cond : (kept found : Bool) (row : List ℕ) (y : ℕ) → has row y ≡ found → said_by (cond kept (Some row) None) y ≡ cond kept (cond found Provides Refuses) Silent

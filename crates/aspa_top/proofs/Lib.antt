@@ -1,7 +1,7 @@
-pub mod AttestedLemmas
-pub mod LineLemmas
+pub mod AssertionLemmas
 pub mod GrammarLemmas
 pub mod KeptLemmas
+pub mod LineLemmas
 pub mod PerformingLemmas
+pub mod ProgramLemmas
 pub mod TextLemmas
-pub mod RunLemmas

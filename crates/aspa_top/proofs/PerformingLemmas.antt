@@ -11,11 +11,11 @@ use Rattle.aspa_top.specs.declared.assertions.Assertions.{Assertions}
 use Rattle.aspa_top.specs.declared.command.Command.{Command}
 use Rattle.aspa_top.specs.declared.command.Command.TheVariants.{Idle, Assert, Judge}
 use Rattle.aspa_top.specs.declared.working.Working.{Working}
-use Rattle.aspa_top.specs.Attested.{AreKept}
+use Rattle.aspa_top.specs.Assertions.{AreKept}
 use Rattle.aspa_top.specs.Grammar.{IsCommand}
 use Rattle.aspa_top.specs.Evaluation.{State, start, after, Performs, Evaluates, refusals_in}
 use Rattle.aspa_top.specs.Performing.{HasShortPath, StandsFor, Goes, GoesBy, WritesFront, Performing}
-use Rattle.aspa_top.specs.Run.{WentThrough, Ended}
+use Rattle.aspa_top.specs.Program.{WentThrough, Ended}
 use Rattle.aspa_top.proofs.TextLemmas.{Evaluates-lines, Evaluates-refused}
 
 -- a line is too short for a path that is too long

@@ -1,6 +1,7 @@
-pub mod Attested
+pub mod Assertions
 pub mod Evaluation
 pub mod Grammar
+pub mod Laws
 pub mod Lines
 pub mod Performing
-pub mod Run
+pub mod Program

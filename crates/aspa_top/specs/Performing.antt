@@ -11,7 +11,7 @@ use Rattle.path_model.specs.declared.role.Role.{Role}
 use Rattle.path_model.specs.CurrentTable.{Assertion}
 use Rattle.aspa_top.specs.declared.assertions.Assertions.{Assertions}
 use Rattle.aspa_top.specs.declared.working.Working.{Working}
-use Rattle.aspa_top.specs.Attested.{AreKept}
+use Rattle.aspa_top.specs.Assertions.{AreKept}
 use Rattle.aspa_top.specs.Evaluation.{State, start, IsReading, IsJudged, Writes, after, Evaluates}
 
 -- the path of a judgement isn't longer than a path can be

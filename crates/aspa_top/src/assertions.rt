@@ -2,7 +2,7 @@ ghost use Rattle.std.specs.Prelude.{◌≡◌, ℕ, nat_eq, not, ◌&&◌, ◌||
 ghost use Rattle.std.specs.BTreeSet.{keys};
 ghost use Rattle.path_model.specs.Authority.{has};
 ghost use Rattle.path_model.specs.CurrentTable.{Assertion};
-ghost use Rattle.aspa_top.specs.Attested.{AreKept, attests, rows_of};
+ghost use Rattle.aspa_top.specs.Assertions.{AreKept, attests, rows_of};
 
 use av_base::NoMemory;
 use path_model::{Authority, Table};

@@ -4,10 +4,10 @@ ghost use Rattle.av_base.specs.Told.{AppendsFront, HasCause, Rose};
 ghost use Rattle.aspa_top.specs.declared.evaluation.Stop.TheVariants.{Sink as SinkFault, NoMemory as OutOfMemory};
 ghost use Rattle.aspa_top.specs.Lines.{lines_in};
 ghost use Rattle.aspa_top.specs.Performing.{WritesFront};
-ghost use Rattle.aspa_top.specs.Run.{Ended, WentThrough};
+ghost use Rattle.aspa_top.specs.Program.{Ended, WentThrough};
 
 use crate::lines::next_line;
-use crate::perform::perform_line;
+use crate::performing::perform_line;
 use crate::script::PIECE;
 use crate::working::Working;
 use av_base::{Fault, NoMemory, Sink, Steps, put_all};

@@ -3,16 +3,16 @@
 //! The layer above uses one contract, that of [`run`]: for every script, however it is read and however its text is written, what is
 //! written is the text that evaluating each line from scratch gives, and each status has its cause. That text is defined in
 //! `specs/Evaluation.antt`, over what a line is (`specs/Grammar.antt`) and what the lines of a script are (`specs/Lines.antt`);
-//! `specs/Run.antt` says what each status means. Begin reading there.
+//! `specs/Program.antt` says what each status means. Begin reading there.
 #![tactic(auto)]
 
 mod assertions;
 mod command;
 mod evaluation;
+mod grammar;
 mod lines;
-mod perform;
+mod performing;
 mod program;
-mod reading;
 mod refusal;
 mod script;
 mod working;

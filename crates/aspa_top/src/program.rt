@@ -3,7 +3,7 @@ ghost use Rattle.std.specs.Prelude.{◌≡◌, ◌↔◌, ◌+◌, ◌<◌, ◌�
 ghost use Rattle.std.specs.String.{string_bytes};
 ghost use Rattle.std.specs.Io.KnownBytes.{IsAtEnd};
 ghost use Rattle.av_base.specs.Told.{Rose};
-ghost use Rattle.aspa_top.specs.Run.{IsEnding, IsRun, IsStatus, Ran, Completes};
+ghost use Rattle.aspa_top.specs.Program.{IsEnding, IsRun, IsStatus, Ran, Completes};
 
 use crate::evaluation::{Stop, evaluate};
 use crate::script::{ReadFault, read_all};

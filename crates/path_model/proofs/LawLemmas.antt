@@ -7,7 +7,7 @@ use Rattle.path_model.specs.declared.role.Direction.{Direction}
 use Rattle.path_model.specs.declared.verdict.Verdict.{Verdict}
 use Rattle.path_model.specs.declared.verdict.Verdict.TheVariants.{Valid, Unknown, Invalid}
 use Rattle.path_model.specs.Authority.{Table}
-use Rattle.path_model.specs.Path.{Path}
+use Rattle.path_model.specs.Trail.{Path}
 use Rattle.path_model.specs.Labelling.{IsValid, direction_of, tests_neighbour}
 use Rattle.path_model.specs.RightVerdict.{IsInvalidAtOnce, CanBeValid, IsRight}
 use Rattle.path_model.specs.Laws.{HasOneRightVerdict, FullestDecides, fullest, SameOnHops}

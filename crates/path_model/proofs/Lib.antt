@@ -1,6 +1,6 @@
-pub mod Decide
 pub mod AuthorityLemmas
-pub mod ValidLemmas
-pub mod LawLemmas
 pub mod CurrentTableLemmas
-pub mod PathLemmas
+pub mod Decide
+pub mod LawLemmas
+pub mod TrailLemmas
+pub mod ValidLemmas

@@ -1,5 +1,6 @@
 -- How the hops of a chain may be labelled. Hop k joins the ASes at the places k and k + 1, counted from the origin, at 0.
--- The verification draft says the same by ramps: an up-ramp, at most one hop at the top, and a down-ramp.
+-- The algorithms for upstream and for downstream paths of draft-ietf-sidrops-aspa-verification say the same by ramps: an up-ramp, at most
+-- one hop at the top, and a down-ramp.
 use Rattle.std.specs.Prelude.{◌≡◌, ℕ, ◌+◌, ◌<◌, ◌≤◌, Bool, true, false, List, length, slice_index}
 use Rattle.path_model.specs.declared.authority.Authority.TheVariants.{Provides}
 use Rattle.path_model.specs.declared.role.Role.{Role}
@@ -17,7 +18,7 @@ Climbs table chain k = authority_of table (slice_index chain k) (slice_index cha
 abbrev pub Descends : Table → List ℕ → ℕ → Type 0
 Descends table chain k = authority_of table (slice_index chain (k + 1)) (slice_index chain k) ≡ Provides
 
--- Towards providers a path may only climb. Towards customers it climbs, then has at most one free hop, and then descends.
+-- An upstream path may only climb. A downstream path climbs, then has at most one free hop, and then descends.
 abbrev pub IsOfShape : Direction → Labelling → Type 0
 IsOfShape Up labelling = (labelling.free ≡ 0) × (labelling.descents ≡ 0)
 IsOfShape Down labelling = labelling.free ≤ 1
@@ -38,8 +39,8 @@ pub record IsValid (table : Table) (direction : Direction) (chain : List ℕ) : 
   pub each_hop : LabelsEachHop chain labelling
   pub fits : Fits table chain labelling
 
--- Which procedure judges a path that a neighbour of this role sent: the one for downstream paths where the neighbour is a provider
--- or both provider and customer, else the one for upstream paths.
+-- Which algorithm judges a path that a neighbour of this role sent (RFC 9234, section 4.1): the one for downstream paths where the
+-- neighbour is a provider or both provider and customer, else the one for upstream paths.
 abbrev pub direction_of : Role → Direction
 direction_of Provider = Down
 direction_of Mutual = Down

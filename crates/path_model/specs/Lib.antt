@@ -1,7 +1,7 @@
 pub mod Authority
-pub mod Path
-pub mod Labelling
-pub mod RightVerdict
-pub mod Laws
-pub mod Judgement
 pub mod CurrentTable
+pub mod Judgement
+pub mod Labelling
+pub mod Laws
+pub mod RightVerdict
+pub mod Trail

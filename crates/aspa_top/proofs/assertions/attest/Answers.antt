@@ -1,4 +1,4 @@
-use Rattle.aspa_top.proofs.AttestedLemmas.{attests-insert}
+use Rattle.aspa_top.proofs.AssertionLemmas.{attests-insert}
 use Rattle.aspa_top.proofs.assertions.attest.Goals as goal
 
 pub returns : goal.returns

@@ -1,7 +1,7 @@
 use Rattle.std.proofs.Common.{◌≡◌, ℕ, nat_eq, not, ◌&&◌, ◌||◌, take}
 use Rattle.std.specs.BTreeSet.{keys}
 use Rattle.path_model.specs.Authority.{has}
-use Rattle.aspa_top.specs.Attested.{attests}
+use Rattle.aspa_top.specs.Assertions.{attests}
 use Rattle.aspa_top.proofs.assertions.attest_each.Given as goal
 
 abbrev pub invariant-loop-provider : goal.invariant-loop-provider

@@ -1,6 +1,6 @@
 use Rattle.std.proofs.Common.{ap, ◌∙◌, sym, map, [], ◌∷◌}
 use Rattle.std.specs.String.{string_bytes}
-use Rattle.aspa_top.proofs.RunLemmas.{one_item, run_word}
+use Rattle.aspa_top.proofs.ProgramLemmas.{one_item, run_word}
 use Rattle.aspa_top.proofs.program.is_run.Goals as goal
 
 pub returns-in-len1 : goal.returns-in-len1

@@ -1,5 +1,5 @@
 use Rattle.std.proofs.Common.{arith}
-use Rattle.aspa_top.proofs.RunLemmas.{Ran-start, not_whole}
+use Rattle.aspa_top.proofs.ProgramLemmas.{Ran-start, not_whole}
 use Rattle.aspa_top.proofs.program.run.Goals as goal
 
 pub returns-else-is_run-clause-ran : goal.returns-else-is_run-clause-ran

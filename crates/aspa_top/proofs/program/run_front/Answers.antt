@@ -1,7 +1,7 @@
 use Rattle.std.proofs.Common.{arith}
 use Rattle.std.proofs.lemmas.List.{length-append}
 use Rattle.aspa_top.specs.declared.program.TheConstants.{SCRIPT_LIMIT}
-use Rattle.aspa_top.proofs.RunLemmas.{performed-front, Ran-over, Ran-early, not_whole}
+use Rattle.aspa_top.proofs.ProgramLemmas.{performed-front, Ran-over, Ran-early, not_whole}
 use Rattle.aspa_top.proofs.program.run_front.Goals as goal
 
 pub returns-in-Ok-clause-ran : goal.returns-in-Ok-clause-ran

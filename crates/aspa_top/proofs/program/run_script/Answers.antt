@@ -1,6 +1,6 @@
 use Rattle.std.proofs.Common.{ℕ, List, arith, ap, sym, ◌∙◌}
 use Rattle.std.specs.Io.KnownBytes.{prepend_known}
-use Rattle.aspa_top.proofs.RunLemmas.{Ran-start, Ran-told, Ran-told_more, not_whole}
+use Rattle.aspa_top.proofs.ProgramLemmas.{Ran-start, Ran-told, Ran-told_more, not_whole}
 use Rattle.aspa_top.proofs.program.run_script.Goals as goal
 
 pub returns-then-text-le-SCRIPT_LIMIT-clause-ran : goal.returns-then-text-le-SCRIPT_LIMIT-clause-ran

@@ -1,6 +1,6 @@
 use Rattle.std.proofs.Common.{arith}
 use Rattle.aspa_top.specs.declared.program.TheConstants.{SCRIPT_LIMIT}
-use Rattle.aspa_top.proofs.RunLemmas.{performed-whole, Ran-clean, Ran-refused, Ran-early, not_whole}
+use Rattle.aspa_top.proofs.ProgramLemmas.{performed-whole, Ran-clean, Ran-refused, Ran-early, not_whole}
 use Rattle.aspa_top.proofs.program.run_whole.Goals as goal
 
 pub returns-in-Ok-eq0-clause-ran : goal.returns-in-Ok-eq0-clause-ran

@@ -1,6 +1,6 @@
 use Rattle.std.proofs.Common.{sym, ◌∙◌}
 use Rattle.std.specs.BTreeSet.{keys}
-use Rattle.aspa_top.proofs.AttestedLemmas.{attests-found, said_by-kept}
+use Rattle.aspa_top.proofs.AssertionLemmas.{attests-found, said_by-kept}
 use Rattle.aspa_top.proofs.assertions.AssertionsTable.authority.Goals as goal
 
 pub returns-then-contains : goal.returns-then-contains

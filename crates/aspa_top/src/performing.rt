@@ -1,13 +1,13 @@
 //! One line performed: its text, and what it leaves.
 ghost use Rattle.std.specs.Prelude.{◌≡◌, ◌≢◌, ℕ, ◌+◌, ◌^◌, ◌<◌, ◌≤◌, List, ◌++◌, length, Ok, Err, IfOk, OnOk};
 ghost use Rattle.path_model.specs.CurrentTable.{Assertion};
-ghost use Rattle.aspa_top.specs.Attested.{AreKept};
+ghost use Rattle.aspa_top.specs.Assertions.{AreKept};
 ghost use Rattle.aspa_top.specs.Evaluation.{IsJudged};
 ghost use Rattle.aspa_top.specs.Performing.{Goes, GoesBy, HasShortPath, Judges};
 
 use crate::assertions::Assertions;
 use crate::command::{Command, LineFault};
-use crate::reading::read;
+use crate::grammar::read;
 use crate::refusal::put_refusal;
 use crate::working::Working;
 use av_base::{NoMemory, Steps};

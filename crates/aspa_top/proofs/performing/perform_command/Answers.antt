@@ -1,5 +1,5 @@
 use Rattle.aspa_top.proofs.PerformingLemmas.{asserted}
-use Rattle.aspa_top.proofs.perform.perform_command.Goals as goal
+use Rattle.aspa_top.proofs.performing.perform_command.Goals as goal
 
 pub returns-in_ok-assert-in-Assert-clause-goes : goal.returns-in_ok-assert-in-Assert-clause-goes
 returns-in_ok-assert-in-Assert-clause-goes g c =

@@ -9,7 +9,7 @@ use Rattle.std.proofs.lemmas.Bool.Decides.{nat_tests}
 use Rattle.av_base.proofs.ToldLemmas.{AppendsFront-start}
 use Rattle.aspa_top.specs.Lines.{lines_in, performed}
 use Rattle.aspa_top.specs.Evaluation.{start}
-use Rattle.aspa_top.specs.Run.{WentThrough, Ended, IsWhole, Ran}
+use Rattle.aspa_top.specs.Program.{WentThrough, Ended, IsWhole, Ran}
 
 -- a list of one item
 pub one_item : {A B : Type 0} (f : A → B) (xs : List A) (x : A) → 1 ≤ length xs → length xs < 2 → x ≡ get_or xs 0 x → map f xs ≡ f x ∷ []

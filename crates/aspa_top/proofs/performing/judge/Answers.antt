@@ -1,9 +1,9 @@
 use Rattle.std.proofs.Common.{◌∙◌, ap, ◌++◌, ◌∷◌, [], List, ℕ, false}
 use Rattle.std.proofs.lemmas.List.{append_assoc}
-use Rattle.path_model.specs.Path.{path_of}
+use Rattle.path_model.specs.Trail.{path_of}
 use Rattle.av_text.specs.VerdictText.{verdict_text}
 use Rattle.aspa_top.proofs.KeptLemmas.{judged_by_kept}
-use Rattle.aspa_top.proofs.perform.judge.Goals as goal
+use Rattle.aspa_top.proofs.performing.judge.Goals as goal
 
 pub returns-clause-judged : goal.returns-clause-judged
 returns-clause-judged g c = λ made kept. (

@@ -1,7 +1,7 @@
 use Rattle.std.proofs.Common.{◌≡◌, ◌++◌, map, decimal, All}
 use Rattle.av_text.specs.Words.{words_left}
 use Rattle.aspa_top.specs.Grammar.{Is32Bit}
-use Rattle.aspa_top.proofs.reading.read_numbers.Given as goal
+use Rattle.aspa_top.proofs.grammar.read_numbers.Given as goal
 
 abbrev pub invariant-loop-word : goal.invariant-loop-word
 invariant-loop-word l = record {

@@ -2,7 +2,7 @@ use Rattle.std.proofs.Common.{◌≡◌, Err, arith, rules}
 use Rattle.std.proofs.lemmas.Result.{IfOk-weaker}
 use Rattle.aspa_top.specs.declared.command.LineFault.TheVariants.{NoMemory}
 use Rattle.aspa_top.proofs.PerformingLemmas.{HasShortPath-IsCommand}
-use Rattle.aspa_top.proofs.perform.perform_line.Goals as goal
+use Rattle.aspa_top.proofs.performing.perform_line.Goals as goal
 
 pub perform_command-requires-clause-short : goal.perform_command-requires-clause-short
 perform_command-requires-clause-short g c = HasShortPath-IsCommand c.args.line.now c.in-Ok.command c.in-Ok.ensures.command

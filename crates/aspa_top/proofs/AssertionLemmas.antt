@@ -11,7 +11,7 @@ use Rattle.path_model.specs.Authority.{has, said_by, authority_of}
 use Rattle.path_model.specs.declared.authority.Authority.TheVariants.{Refuses, Provides}
 use Rattle.aspa_top.specs.declared.assertions.Attested.{Attested}
 use Rattle.aspa_top.specs.declared.assertions.Assertions.{Assertions}
-use Rattle.aspa_top.specs.Attested.{attests, providers_of, rows_of}
+use Rattle.aspa_top.specs.Assertions.{attests, providers_of, rows_of}
 
 nat_eq-comm : (m n : ℕ) → nat_eq m n ≡ nat_eq n m
 nat_eq-comm m n = grind (arith, nat_tests)

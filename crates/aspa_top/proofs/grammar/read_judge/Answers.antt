@@ -4,8 +4,8 @@ use Rattle.av_text.specs.Words.{words_of, words_left}
 use Rattle.aspa_top.specs.declared.command.CommandName.TheVariants.{Judge as JudgeName}
 use Rattle.aspa_top.specs.Grammar.{name_text, IsForm}
 use Rattle.aspa_top.proofs.GrammarLemmas.{judge_form, no_number, no_number_first, no_number_later, refused_numbers}
-use Rattle.aspa_top.proofs.reading.read_judge.Goals as goal
-use Rattle.aspa_top.proofs.reading.read_judge.Goals.{After-read_u32}
+use Rattle.aspa_top.proofs.grammar.read_judge.Goals as goal
+use Rattle.aspa_top.proofs.grammar.read_judge.Goals.{After-read_u32}
 
 -- the line has a role and a neighbour
 formed : (c : After-read_u32) → IsForm (words_of c.args.line.now) (c.in-Some-next.neighbour.now ∷ words_left c.next-2.new.self)

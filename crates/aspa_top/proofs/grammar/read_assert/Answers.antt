@@ -4,8 +4,8 @@ use Rattle.av_text.specs.Words.{words_of, words_left}
 use Rattle.aspa_top.specs.declared.command.CommandName.TheVariants.{Assert as AssertName}
 use Rattle.aspa_top.specs.Grammar.{name_text, IsForm}
 use Rattle.aspa_top.proofs.GrammarLemmas.{assert_form, no_number, no_number_first, no_number_later, refused_numbers}
-use Rattle.aspa_top.proofs.reading.read_assert.Goals as goal
-use Rattle.aspa_top.proofs.reading.read_assert.Goals.{After-read_u32}
+use Rattle.aspa_top.proofs.grammar.read_assert.Goals as goal
+use Rattle.aspa_top.proofs.grammar.read_assert.Goals.{After-read_u32}
 
 -- the line has a customer and some provider
 formed : (c : After-read_u32) → IsForm (words_of c.args.line.now) (c.in-Some.customer.now ∷ words_left c.next.new.self)
