@@ -20,13 +20,13 @@ pub const SCRIPT_LIMIT: usize = 67_108_864;
 /// |---|---|
 /// | 0 | the whole script was performed, all its text was written, and no line of it begins with `! ` |
 /// | 1 | the same, and some line does: a line of the script was refused |
-/// | 2 | the words are no others than `run`; nothing is read, written, opened or connected |
+/// | 2 | the words are others than the one word `run`; nothing is read, written, opened or connected |
 /// | 3 | the script's source failed |
 /// | 4 | the sink failed |
 /// | 5 | there was no memory |
 /// | 6 | the script has more than [`SCRIPT_LIMIT`] bytes; the lines whose LF is among the first so many were performed |
 ///
-/// At 3, 4 and 5 what was written is the front of the text of some first lines. The shelf and the links aren't used yet.
+/// At 3, 4 and 5 what was written is a front of the text of some first lines. The shelf and the links aren't used yet.
 pub fn run<S: Source, F: Shelf, K: Links, W: Sink, L: Ledger>(
     alloc: Global,
     words: &Vec<String>,
