@@ -1,7 +1,12 @@
 pub mod AssertionLemmas
+pub mod EvaluationLemmas
+pub mod FormLemmas
 pub mod GrammarLemmas
 pub mod KeptLemmas
+pub mod LawLemmas
 pub mod LineLemmas
 pub mod PerformingLemmas
 pub mod ProgramLemmas
+pub mod ReadingLemmas
+pub mod SomeReadingLemmas
 pub mod TextLemmas

@@ -9,6 +9,7 @@ use Rattle.std.proofs.lemmas.Bool.Decides.{nat_tests}
 use Rattle.av_base.proofs.ToldLemmas.{AppendsFront-start}
 use Rattle.aspa_top.specs.Lines.{lines_in, performed}
 use Rattle.aspa_top.specs.Evaluation.{start}
+use Rattle.aspa_top.proofs.LawLemmas.{runs_write_fronts}
 use Rattle.aspa_top.specs.Program.{WentThrough, Ended, IsWhole, Ran}
 
 -- a list of one item
@@ -41,6 +42,7 @@ module _ (limit : ℕ) (script : List ℕ) (old new : Option (List ℕ)) (ticks_
   -- a run that ended early
   pub Ran-early : (status : ℕ) → (IsWhole status → ⊥) → WentThrough (performed limit script) old new ticks_old ticks_new → Ran limit script old new ticks_old ticks_new status
   Ran-early status early went = record {
+    front = λ text end evaluates. runs_write_fronts (performed limit script) old new ticks_old ticks_new text end went evaluates;
     went = went;
     refusals = 0;
     ended = λ whole. absurd (early whole);
@@ -52,6 +54,7 @@ module _ (limit : ℕ) (script : List ℕ) (old new : Option (List ℕ)) (ticks_
   -- a script within its limit that was performed to its end
   pub Ran-clean : (refusals : ℕ) → WentThrough (performed limit script) old new ticks_old ticks_new → Ended (performed limit script) old new ticks_old ticks_new refusals → refusals ≡ 0 → length script ≤ limit → Ran limit script old new ticks_old ticks_new 0
   Ran-clean refusals went ended none within = record {
+    front = λ text end evaluates. runs_write_fronts (performed limit script) old new ticks_old ticks_new text end went evaluates;
     went = went;
     refusals = refusals;
     ended = λ whole. ended;
@@ -62,6 +65,7 @@ module _ (limit : ℕ) (script : List ℕ) (old new : Option (List ℕ)) (ticks_
 
   pub Ran-refused : (refusals : ℕ) → WentThrough (performed limit script) old new ticks_old ticks_new → Ended (performed limit script) old new ticks_old ticks_new refusals → 0 < refusals → length script ≤ limit → Ran limit script old new ticks_old ticks_new 1
   Ran-refused refusals went ended some within = record {
+    front = λ text end evaluates. runs_write_fronts (performed limit script) old new ticks_old ticks_new text end went evaluates;
     went = went;
     refusals = refusals;
     ended = λ whole. ended;
@@ -73,6 +77,7 @@ module _ (limit : ℕ) (script : List ℕ) (old new : Option (List ℕ)) (ticks_
   -- the front of a script over its limit that was performed to its end
   pub Ran-over : (refusals : ℕ) → WentThrough (performed limit script) old new ticks_old ticks_new → Ended (performed limit script) old new ticks_old ticks_new refusals → limit < length script → Ran limit script old new ticks_old ticks_new 6
   Ran-over refusals went ended over = record {
+    front = λ text end evaluates. runs_write_fronts (performed limit script) old new ticks_old ticks_new text end went evaluates;
     went = went;
     refusals = refusals;
     ended = λ whole. ended;

@@ -47,7 +47,8 @@ IsWhole status = (status ≡ 0) ⊎ (status ≡ 1) ⊎ (status ≡ 6)
 -- What was written, and how often the counter ticked, at each status. The text depends on the script alone, and not on how it was
 -- read or how the text was written.
 pub record Ran (limit : ℕ) (script : List ℕ) (old new : Option (List ℕ)) (ticks_old ticks_new status : ℕ) : Type 0 where
-  -- at every status
+  -- at every status: what was written is a front of the script's text, and it is known how far the run went
+  pub front : (text : List ℕ) (end : State) → Evaluates start (performed limit script) text end → AppendsFront old new text
   pub went : WentThrough (performed limit script) old new ticks_old ticks_new
   -- at 0, 1 and 6
   pub refusals : ℕ

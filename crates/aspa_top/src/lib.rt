@@ -10,6 +10,7 @@ mod assertions;
 mod command;
 mod evaluation;
 mod grammar;
+mod laws;
 mod lines;
 mod performing;
 mod program;
@@ -17,4 +18,5 @@ mod refusal;
 mod script;
 mod working;
 
+pub use laws::{each_line_has_one_reading, each_script_has_one_text, runs_write_fronts};
 pub use program::{SCRIPT_LIMIT, run};

@@ -26,7 +26,7 @@ pub const SCRIPT_LIMIT: usize = 67_108_864;
 /// | 5 | there was no memory |
 /// | 6 | the script has more than [`SCRIPT_LIMIT`] bytes; the lines whose LF is among the first so many were performed |
 ///
-/// At 3, 4 and 5 what was written is a front of the text of some first lines. The shelf and the links aren't used yet.
+/// At 3, 4 and 5 what was written is a front of the script's text. The shelf and the links aren't used yet.
 pub fn run<S: Source, F: Shelf, K: Links, W: Sink, L: Ledger>(
     alloc: Global,
     words: &Vec<String>,

@@ -1,0 +1,17 @@
+//! Laws of the definitions: the contract of each function is the law, and its body does nothing.
+ghost use Rattle.aspa_top.specs.Laws.{EachLineHasOneReading, EachScriptHasOneText, RunsWriteFronts};
+
+/// Each line is one command, or refused for one cause.
+pub fn each_line_has_one_reading()
+    ensures { EachLineHasOneReading }
+{}
+
+/// Each script has one text.
+pub fn each_script_has_one_text()
+    ensures { EachScriptHasOneText }
+{}
+
+/// What a run that ends early has written is a front of the text of all lines that it was to perform.
+pub fn runs_write_fronts()
+    ensures { RunsWriteFronts }
+{}
