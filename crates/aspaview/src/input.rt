@@ -2,6 +2,7 @@ ghost use Rattle.std.specs.Prelude.{◌≡◌};
 
 use av_base::{Fault, Source};
 use std::io::Read;
+use std::marker::Model;
 
 /// A reader as a source. It tells no bytes, and counts each error of the reader as a fault.
 #[derive(Drop)]
@@ -10,10 +11,19 @@ pub struct InputSource<R: Read> {
     faults: u64,
 }
 
+/// A contract sees the number of faults counted.
+impl<R: Read> Model for InputSource<R> {
+    ghost use Rattle.std.specs.Prelude.{ℕ};
+
+    ghost Value = { ℕ };
+
+    ghost view = { λ a. a.faults };
+}
+
 impl<R: Read> InputSource<R> {
     /// The source of what the reader gives.
     pub fn new(reader: R) -> InputSource<R>
-        ensures { result.faults ≡ 0 }
+        ensures { result ≡ 0 }
     {
         InputSource { reader, faults: 0 }
     }
@@ -24,7 +34,7 @@ impl<R: Read> Source for InputSource<R> {
 
     ghost left = { λ _. None };
 
-    ghost faults = { λ source. source.faults };
+    ghost faults = { λ source. source };
 
     fn read(&mut self, buf: &mut [u8]) -> Result<usize, Fault> {
         match self.reader.read(buf) {

@@ -2,6 +2,7 @@ ghost use Rattle.std.specs.Prelude.{◌≡◌};
 
 use av_base::{Fault, Sink};
 use std::io::Write;
+use std::marker::Model;
 
 /// A writer as a sink. It tells no bytes, and counts each error of the writer as a fault, and each write that takes nothing.
 #[derive(Drop)]
@@ -10,10 +11,19 @@ pub struct OutputSink<W: Write> {
     faults: u64,
 }
 
+/// A contract sees the number of faults counted.
+impl<W: Write> Model for OutputSink<W> {
+    ghost use Rattle.std.specs.Prelude.{ℕ};
+
+    ghost Value = { ℕ };
+
+    ghost view = { λ a. a.faults };
+}
+
 impl<W: Write> OutputSink<W> {
     /// The sink of what the writer takes.
     pub fn new(writer: W) -> OutputSink<W>
-        ensures { result.faults ≡ 0 }
+        ensures { result ≡ 0 }
     {
         OutputSink { writer, faults: 0 }
     }
@@ -24,7 +34,7 @@ impl<W: Write> Sink for OutputSink<W> {
 
     ghost written = { λ _. None };
 
-    ghost faults = { λ sink. sink.faults };
+    ghost faults = { λ sink. sink };
 
     fn write(&mut self, buf: &[u8]) -> Result<usize, Fault> {
         match self.writer.write(buf) {
