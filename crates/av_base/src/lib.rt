@@ -36,6 +36,3 @@ pub use sink::{Sink, put_all};
 pub use source::Source;
 pub use standing::{Break, Standing};
 pub use steps::Steps;
-
-#[cfg(test)]
-mod tests;

@@ -17,8 +17,6 @@ mod pieces;
 mod role_text;
 mod spellings;
 mod splitting;
-#[cfg(test)]
-mod tests;
 mod verdict_text;
 
 pub use number::{put_u64, read_u32};

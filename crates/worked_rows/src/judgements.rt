@@ -2,7 +2,7 @@ use crate::world::World;
 use av_base::NoMemory;
 use path_model::Role::{Customer, Mutual, Peer, Provider, Rs, RsClient};
 use path_model::Verdict::{Invalid, Unknown, Valid};
-use path_model::{Role, Trail, Verdict, judge_by_labellings};
+use path_model::{AsList, Role, Trail, Verdict, judge_by_labellings};
 
 // The neighbour's role, the neighbour, the path as it is written, neighbour first, and the right verdict.
 type Case = (Role, u32, &'static [u32], Verdict);
@@ -150,5 +150,21 @@ fn paths_that_no_role_saves(rt: HostRuntime) -> Result<(), NoMemory> {
         let with_set = Trail::new(rt.alloc(), true, &[3, 2, 1])?;
         assert_eq!(rt; judge_by_labellings(&World, role, 3, &with_set), Invalid);
     }
+    Ok(())
+}
+
+// The lists and the paths are what was put into them, and so are their copies.
+#[test]
+fn lists_and_paths(rt: HostRuntime) -> Result<(), NoMemory> {
+    let mut ases = AsList::new(rt.alloc());
+    assert!(rt; ases.is_empty());
+    ases.push(64500)?;
+    ases.push(0)?;
+    let copy = ases.copy()?;
+    assert_eq!(rt; copy.as_slice(), [64500, 0].as_slice());
+    assert_eq!(rt; (copy.len(), copy.get(1), copy.get(2)), (2, Some(0), None));
+    let trail = Trail::new(rt.alloc(), true, &[3, 3, 2, 1, 1])?.copy()?;
+    assert!(rt; trail.is_set());
+    assert_eq!(rt; trail.chain().as_slice(), [1, 2, 3].as_slice());
     Ok(())
 }

@@ -1,7 +1,8 @@
 //! Tests over the libraries, of what no contract says: that the definitions mean what they should, and that a call succeeds.
 //!
 //! Each table has its expected values worked out by hand. `scripts` goes through [`aspa_top::run`] over the forms in memory,
-//! `judgements` judges paths in a small world by the plain judgement, and `faults` lets each call of the outside fail in turn.
+//! `judgements` judges paths in a small world by the plain judgement, `faults` lets each call of the outside fail in turn, `outside`
+//! and `texts` call the lower layers once each.
 #![tactic(auto)]
 
 #[cfg(test)]
@@ -9,6 +10,10 @@ mod faults;
 #[cfg(test)]
 mod judgements;
 #[cfg(test)]
+mod outside;
+#[cfg(test)]
 mod scripts;
+#[cfg(test)]
+mod texts;
 #[cfg(test)]
 mod world;

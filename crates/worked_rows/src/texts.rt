@@ -1,4 +1,4 @@
-use super::*;
+use av_text::{put_u64, put_verdict, read_role, read_u32, words};
 use path_model::{Role, Verdict};
 use std::test::Fail;
 

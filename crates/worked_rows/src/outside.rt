@@ -1,8 +1,8 @@
-ghost use Rattle.std.specs.Prelude.{◌≡◌, ◌<◌};
-
-use super::*;
+use av_base::{
+    Fault, Links, MemSink, MemSource, NoLinks, NoMemory, NoShelf, Plan, PlanStep, Shelf, Source,
+    Steps, put_all,
+};
 use std::marker::Brand;
-use std::sync::ledger::{Blank, Ledger};
 
 #[test]
 fn a_source_reads_in_pieces(rt: HostRuntime) -> Result<(), NoMemory> {
@@ -48,19 +48,8 @@ fn without_files_and_connections_each_call_fails(rt: HostRuntime) {
     assert_eq!(rt; NoLinks::new().connect("cache"), Err(Fault));
 }
 
-// Two steps.
-fn two_steps<L: Ledger>(blank: Blank)
-    requires name { blank.name ≡ L.name }
-    requires parts { blank.parts ≡ L.parts }
-    requires one { L.parts ≡ 1 }
-{
-    let mut steps = Steps::<L>::new(blank);
-    steps.tick();
-    steps.tick();
-}
-
+// A counter of steps costs nothing when the program runs.
 #[test]
-fn steps_are_counted_without_bytes(rt: HostRuntime) {
-    two_steps::<Brand>(Blank::new(1));
+fn steps_take_no_bytes(rt: HostRuntime) {
     assert_eq!(rt; size_of::<Steps<Brand>>(), 0);
 }
