@@ -1,27 +1,19 @@
 -- How the lines of a script come off it one by one.
-use Rattle.std.proofs.Common.{◌≡◌, ℕ, ◌+◌, ◌<◌, ◌≤◌, Bool, true, false, cond, nat_lt, ◌==◌, List, [], ◌∷◌, length, take, drop, map, Some, None, position, refl, sym, ap, ◌∙◌, subst, arith}
+use Rattle.std.proofs.Common.{◌≡◌, ℕ, ◌+◌, ◌<◌, ◌≤◌, Bool, true, false, cond, ◌==◌, List, [], ◌∷◌, length, take, drop, map, Some, None, position, refl, sym, ap, ◌∙◌, subst, arith}
 use Rattle.std.specs.List.{slice_split, onto_first, position_or_len}
 use Rattle.std.specs.Str.Lines.{lines_of_parts, strip_carriage_return}
 use Rattle.std.proofs.lemmas.List.Quantifiers.{position-Some}
 use Rattle.std.proofs.lemmas.List.Splits.{slice_split_first, slice_split_none}
 use Rattle.std.proofs.lemmas.List.Sums.{fails_before_first}
 use Rattle.std.proofs.lemmas.List.Elements.{All-from_get_or}
-use Rattle.std.proofs.lemmas.Bool.{ltb-false}
 use Rattle.std.proofs.lemmas.Bool.Decides.{nat_tests}
+use Rattle.av_text.proofs.PositionLemmas.{position-found, position-none}
 use Rattle.aspa_top.specs.Lines.{is_lf, lines_in, without_last}
-
-found_place : (b : Bool) (n i : ℕ) → cond b (Some n) None ≡ Some i → n ≡ i
-found_place true n i e = cc
-found_place false n i e = cc
-
-no_place : (b : Bool) (n len : ℕ) → nat_lt n len ≡ b → cond b (Some n) None ≡ None → len ≤ n
-no_place true n len t e = absurd (let no : ⊥ = cc in no)
-no_place false n len t e = ltb-false n len t
 
 -- a text with a LF is cut at the first one
 split_found : (text : List ℕ) (end : ℕ) → position is_lf text ≡ Some end → slice_split is_lf text ≡ take end text ∷ slice_split is_lf (drop (end + 1) text)
 split_found text end found =
-    let place : position_or_len is_lf text ≡ end = found_place _ _ _ found in
+    let place : position_or_len is_lf text ≡ end = position-found is_lf text end found in
     let within = position-Some is_lf text end 0 found in
     let inside : position_or_len is_lf text < length text = omega (arith, within.0) in
     let P : ℕ → Type 0 = λ n. slice_split is_lf text ≡ take n text ∷ slice_split is_lf (drop (n + 1) text) in
@@ -30,7 +22,7 @@ split_found text end found =
 -- a text without LF is one part
 split_none : (text : List ℕ) → position is_lf text ≡ None → slice_split is_lf text ≡ text ∷ []
 split_none text none =
-    let past : length text ≤ position_or_len is_lf text = no_place _ _ _ refl none in
+    let past : length text ≤ position_or_len is_lf text = position-none is_lf text none in
     slice_split_none is_lf text (All-from_get_or (λ byte. is_lf byte ≡ false) text 0 (λ k below. fails_before_first is_lf text k 0 (omega arith)))
 
 -- some parts, of which there is one at least

@@ -1,29 +1,22 @@
-ghost use Rattle.std.specs.Prelude.{◌≡◌};
+ghost use Rattle.std.specs.Prelude.{◌≡◌, ◌<◌, ◌≤◌, length, IfOk};
+ghost use Rattle.std.specs.Io.KnownBytes.{ReadConsumes};
+ghost use Rattle.av_base.specs.Told.{HasCause};
 
 use av_base::{Fault, Source};
 use std::io::Read;
-use std::marker::Model;
 
-/// A reader as a source. It tells no bytes, and counts each error of the reader as a fault.
+/// A reader as a source, which counts each error of the reader as a fault. As a source it tells no bytes, since a reader may come to
+/// know its bytes late; what it does to those that the reader knows is said by its own clause.
 #[derive(Drop)]
 pub struct InputSource<R: Read> {
     reader: R,
     faults: u64,
 }
 
-/// A contract sees the number of faults counted.
-impl<R: Read> Model for InputSource<R> {
-    ghost use Rattle.std.specs.Prelude.{ℕ};
-
-    ghost Value = { ℕ };
-
-    ghost view = { λ a. a.faults };
-}
-
 impl<R: Read> InputSource<R> {
     /// The source of what the reader gives.
     pub fn new(reader: R) -> InputSource<R>
-        ensures { result ≡ 0 }
+        ensures { result ≡ record { reader = reader; faults = 0 } }
     {
         InputSource { reader, faults: 0 }
     }
@@ -34,9 +27,16 @@ impl<R: Read> Source for InputSource<R> {
 
     ghost left = { λ _. None };
 
-    ghost faults = { λ source. source };
+    ghost faults = { λ source. source.faults };
 
-    fn read(&mut self, buf: &mut [u8]) -> Result<usize, Fault> {
+    fn read(&mut self, buf: &mut [u8]) -> Result<usize, Fault>
+        requires { 0 < length buf.old }
+        ensures bound { IfOk result (λ n. n ≤ length buf.new) }
+        ensures cause { HasCause self.old.faults self.new.faults result }
+
+        // Bytes that the reader knows are given as they are, 0 comes only at their end, and at a fault none is lost.
+        ensures known { ReadConsumes (R.remaining self.old.reader) (R.remaining self.new.reader) result buf.new }
+    {
         match self.reader.read(buf) {
             Ok(count) => Ok(count),
             Err(_) => {

@@ -1,10 +1,12 @@
 //! The program `aspaview`: it gives [`aspa_top::run`] the real standard input and output, and ends with its answer.
 //!
-//! The adapters in `input.rt` and `output.rt` keep the contracts of a source and of a sink, and tell no bytes: what the system
-//! really gives and takes is trusted. Nothing is written to standard error.
+//! The adapters in `input.rt` and `output.rt` keep the contracts of a source and of a sink, and tell no bytes; those that the reader or
+//! writer behind them knows go through unchanged. What the system really gives and takes is trusted. Nothing is written to standard error.
 #![tactic(auto)]
 
-ghost use Rattle.std.specs.Prelude.{◌≡◌};
+ghost use Rattle.std.specs.Prelude.{◌≡◌, ◌↔◌, map};
+ghost use Rattle.std.specs.String.{string_bytes};
+ghost use Rattle.aspa_top.specs.Program.{IsRun, IsStatus};
 
 mod input;
 mod output;
@@ -56,6 +58,8 @@ fn perform<R: Read + Drop, W: Write + Drop, L: Ledger>(
     requires name { blank.name ≡ L.name }
     requires parts { blank.parts ≡ L.parts }
     requires one { L.parts ≡ 1 }
+    ensures known { IsStatus result }
+    ensures other_words { (result ≡ 2) ↔ ¬ IsRun (map string_bytes words.now.items) }
 {
     let mut steps = Steps::<L>::new(blank);
     run(

@@ -8,7 +8,8 @@
 //! The contract that the layers above use most is that of `put_all`: at `Ok` all the bytes were appended, at `Fault` a proper front of
 //! them. Begin to read at `Source` and `Sink` with their words in `specs/Told.antt`. `Shelf` and `Links` say the same of a file and
 //! of a connection, and that all else stays; what a run did on its connections is read off them at its end by `Later` of
-//! `specs/Connections.antt`. Lemmas for proofs in the layers above are in `proofs/ToldLemmas.antt` and `proofs/LinksLemmas.antt`.
+//! `specs/Connections.antt`. Lemmas for proofs in the layers above are in `proofs/`: `ToldLemmas` and `FilesLemmas` for bytes,
+//! `LinksLemmas` and `EffectLemmas` for connections.
 #![tactic(auto)]
 
 mod fault;

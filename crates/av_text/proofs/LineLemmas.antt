@@ -1,5 +1,5 @@
 -- What the texts of a line of output lack, and that they tell the values apart.
-use Rattle.std.proofs.Common.{◌≡◌, ◌≢◌, ℕ, ◌^◌, ◌<◌, ◌≤◌, true, nat_le, List, [], ◌∷◌, length, get_or, map, decimal, refl, arith}
+use Rattle.std.proofs.Common.{◌≡◌, ◌≢◌, ℕ, ◌^◌, ◌<◌, ◌≤◌, true, nat_le, List, [], ◌∷◌, map, decimal, refl, arith}
 use Rattle.std.specs.List.{All, list_all}
 use Rattle.std.proofs.lemmas.List.Elements.{All-from_get_or, All-weaker, All-head, All-tail}
 use Rattle.std.proofs.lemmas.List.Sums.{AllPass-from_list_all}
@@ -24,14 +24,6 @@ decimal-lacks code n low small = All-weaker (λ byte. 48 ≤ byte) (λ byte. byt
 pub decimal-lacks_line_feed : (n : ℕ) → n < 2 ^ 64 → All (λ byte. byte ≢ 10) (decimal n)
 decimal-lacks_line_feed n small = decimal-lacks 10 n (omega arith) small
 
--- no space
-pub decimal-lacks_space : (n : ℕ) → n < 2 ^ 64 → All (λ byte. byte ≢ 32) (decimal n)
-decimal-lacks_space n small = decimal-lacks 32 n (omega arith) small
-
--- no exclamation mark
-pub decimal-lacks_mark : (n : ℕ) → n < 2 ^ 64 → All (λ byte. byte ≢ 33) (decimal n)
-decimal-lacks_mark n small = decimal-lacks 33 n (omega arith) small
-
 -- small letters alone
 are_letters : (text : List ℕ) → list_all (λ byte. nat_le 97 byte) text ≡ true → All (λ byte. 97 ≤ byte) text
 are_letters text e = All-weaker (λ byte. nat_le 97 byte ≡ true) (λ byte. 97 ≤ byte) (λ byte h. leb-true 97 byte h) text (AllPass-from_list_all (λ byte. nat_le 97 byte) text e)
@@ -49,18 +41,6 @@ verdict_text-lacks code low v = All-weaker (λ byte. 97 ≤ byte) (λ byte. byte
 -- no line feed
 pub verdict_text-lacks_line_feed : (v : Verdict) → All (λ byte. byte ≢ 10) (verdict_text v)
 verdict_text-lacks_line_feed v = verdict_text-lacks 10 (omega arith) v
-
--- it begins with no exclamation mark
-pub verdict_text-first : (v : Verdict) → get_or (verdict_text v) 0 0 ≢ 33
-verdict_text-first Valid e = omega arith
-verdict_text-first Unknown e = omega arith
-verdict_text-first Invalid e = omega arith
-
--- it has a byte
-pub verdict_text-some : (v : Verdict) → 0 < length (verdict_text v)
-verdict_text-some Valid = omega arith
-verdict_text-some Unknown = omega arith
-verdict_text-some Invalid = omega arith
 
 -- two lists of numbers of 32 bits with the same texts are equal
 pub map-decimal_injective : (ms ns : List ℕ) → All (λ n. n < 2 ^ 32) ms → All (λ n. n < 2 ^ 32) ns → map decimal ms ≡ map decimal ns → ms ≡ ns

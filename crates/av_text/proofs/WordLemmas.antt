@@ -1,13 +1,12 @@
 -- How the words of a line come off it one by one.
-use Rattle.std.proofs.Common.{suc, nat_lt, ◌≡◌, ℕ, ◌≤◌, Bool, true, false, not, cond, List, [], ◌∷◌, length, take, drop, Option, Some, None, filter, position, unwrap_or, refl, sym, ap, subst, ◌∙◌, arith, inl, inr, get_or}
-use Rattle.std.specs.List.{All, slice_split, before_first, position_or_len}
+use Rattle.std.proofs.Common.{suc, ◌≡◌, ℕ, ◌≤◌, Bool, true, false, not, List, [], ◌∷◌, length, take, drop, Option, Some, None, filter, position, unwrap_or, refl, sym, ap, subst, ◌∙◌, arith, inl, inr, get_or}
+use Rattle.std.specs.List.{slice_split, before_first, position_or_len}
 use Rattle.std.proofs.Math.Numerals.{one-add}
 use Rattle.std.proofs.Math.Seq.{drop-cons}
 use Rattle.std.proofs.lemmas.List.{drop_all}
 use Rattle.std.proofs.lemmas.List.Quantifiers.{position-Some}
-use Rattle.std.proofs.lemmas.Bool.{cases_Bool, not-true, ltb-false}
-use Rattle.std.proofs.lemmas.List.Sums.{prefix_len-le-length}
-use Rattle.std.proofs.lemmas.List.Elements.{filter_passes}
+use Rattle.std.proofs.lemmas.Bool.{cases_Bool, not-true}
+use Rattle.av_text.proofs.PositionLemmas.{position-found, position-none, unwrap_or-position}
 use Rattle.av_text.specs.Words.{is_blank, is_word, words_of}
 
 -- the pieces with a byte in them, at any test for what parts them
@@ -56,30 +55,11 @@ words_by-drop p (x ∷ xs) =
           ap (λ (n : ℕ). words_by p (drop n (x ∷ xs))) none
     ]
 
--- what `position` answers, as a choice by a test: the place itself,
-found_place : (b : Bool) (n i : ℕ) → cond b (Some n) None ≡ Some i → n ≡ i
-found_place true n i e = cc
-found_place false n i e = cc
-
--- nothing where no place is in the list,
-no_place : (b : Bool) (n len : ℕ) → nat_lt n len ≡ b → cond b (Some n) None ≡ None → len ≤ n
-no_place true n len t e = absurd (let no : ⊥ = cc in no)
-no_place false n len t e = ltb-false n len t
-
--- and with the length for nothing, the place in each case
-some_place : (b : Bool) (n len : ℕ) → nat_lt n len ≡ b → n ≤ len → unwrap_or (cond b (Some n) None) len ≡ n
-some_place true n len t within = refl
-some_place false n len t within = let above : len ≤ n = ltb-false n len t in omega arith
-
--- the first place that passes, or the length
-unwrap_or-position : (p : ℕ → Bool) (xs : List ℕ) → unwrap_or (position p xs) (length xs) ≡ position_or_len p xs
-unwrap_or-position p xs = some_place _ _ _ refl (prefix_len-le-length (λ x. not (p x)) xs)
-
 -- what parts words alone has no word
 words_by-none : (p : ℕ → Bool) (xs : List ℕ) → position (λ x. not (p x)) xs ≡ None → words_by p xs ≡ []
 words_by-none p xs e =
     let n : ℕ = position_or_len (λ x. not (p x)) xs in
-    let past : length xs ≤ n = no_place _ _ _ refl e in
+    let past : length xs ≤ n = position-none (λ x. not (p x)) xs e in
     sym (words_by-drop p xs) ∙ ap (words_by p) (drop_all n xs past)
 
 -- the first word begins at the first byte that parts no words
@@ -87,7 +67,7 @@ words_by-some : (p : ℕ → Bool) (xs : List ℕ) (i : ℕ) → position (λ x.
     words_by p xs ≡ before_first p (drop i xs) ∷ words_by p (drop (position_or_len p (drop i xs)) (drop i xs))
 words_by-some p xs i e =
     let q : ℕ → Bool = λ x. not (p x) in
-    let place : position_or_len q xs ≡ i = found_place _ _ _ e in
+    let place : position_or_len q xs ≡ i = position-found q xs i e in
     let found = position-Some q xs i 0 e in
     let front = drop-cons xs i 0 found.0 in
     let P : List ℕ → Type 0 = λ line. words_by p line ≡ before_first p line ∷ words_by p (drop (position_or_len p line) line) in
@@ -139,7 +119,3 @@ words_by-within p (x ∷ xs) =
 -- a line has no more words than bytes
 pub length-words_of : (line : List ℕ) → length (words_of line) ≤ length line
 length-words_of line = words_by-within is_blank line
-
--- each word has a byte
-pub words_of-full : (line : List ℕ) → All (λ word. is_word word ≡ true) (words_of line)
-words_of-full line = filter_passes is_word (slice_split is_blank line)

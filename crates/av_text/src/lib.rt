@@ -9,7 +9,7 @@
 //!
 //! Begin with `specs/Number.antt` and `specs/Words.antt`, which say what a number and a word are,
 //! then read `number.rt` and `pieces.rt`. What callers cite of lines and of their texts stands in
-//! `proofs/LineLemmas.antt` and `proofs/WordLemmas.antt`.
+//! `proofs/LineLemmas.antt`, `proofs/PositionLemmas.antt` and `proofs/WordLemmas.antt`.
 #![tactic(auto)]
 
 mod number;

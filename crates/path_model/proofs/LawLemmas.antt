@@ -9,15 +9,11 @@ use Rattle.path_model.specs.declared.verdict.Verdict.TheVariants.{Valid, Unknown
 use Rattle.path_model.specs.Authority.{Table}
 use Rattle.path_model.specs.Trail.{Path}
 use Rattle.path_model.specs.Labelling.{IsValid, direction_of, tests_neighbour}
-use Rattle.path_model.specs.RightVerdict.{IsInvalidAtOnce, CanBeValid, IsRight}
+use Rattle.path_model.specs.RightVerdict.{IsInvalidAtOnce, IsRight}
 use Rattle.path_model.specs.Laws.{HasOneRightVerdict, FullestDecides, fullest, SameOnHops}
 use Rattle.path_model.proofs.Decide.{Decided, decided_either, decided_both}
 use Rattle.path_model.proofs.AuthorityLemmas.{IsCompletion-fullest}
-use Rattle.path_model.proofs.ValidLemmas.{AttestsToo-same, AttestsToo-completion, AttestsToo-fullest, IsValid-more, SameOnHops-sym, CanBeValid-fullest, fullest-CanBeValid, CanBeValid-same, decided_valid}
-
--- what is valid can be valid
-pub CanBeValid-valid : (table : Table) (direction : Direction) (chain : List ℕ) → IsValid table direction chain → CanBeValid table direction chain
-CanBeValid-valid table direction chain valid = fullest-CanBeValid table direction chain (IsValid-more table (fullest table chain) direction chain (AttestsToo-fullest table chain) valid)
+use Rattle.path_model.proofs.ValidLemmas.{AttestsToo-same, AttestsToo-completion, IsValid-more, SameOnHops-sym, CanBeValid-fullest, fullest-CanBeValid, CanBeValid-same, decided_valid}
 
 -- no two verdicts are right
 pub IsRight-unique : (table : Table) (role : Role) (neighbour : ℕ) (path : Path) (one other : Verdict) → IsRight table role neighbour path one → IsRight table role neighbour path other → one ≡ other

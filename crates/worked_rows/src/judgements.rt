@@ -3,6 +3,8 @@ use av_base::NoMemory;
 use path_model::Role::{Customer, Mutual, Peer, Provider, Rs, RsClient};
 use path_model::Verdict::{Invalid, Unknown, Valid};
 use path_model::{AsList, Role, Trail, Verdict, judge_by_labellings};
+use std::alloc::Global;
+use std::process::Abort;
 
 // The neighbour's role, the neighbour, the path as it is written, neighbour first, and the right verdict.
 type Case = (Role, u32, &'static [u32], Verdict);
@@ -113,11 +115,12 @@ const DOWNSTREAM: [Case; 28] = [
     (Mutual, 2, &[1, 2, 3], Invalid),
 ];
 
-#[test]
-fn paths_upstream(rt: HostRuntime) -> Result<(), NoMemory> {
-    for (role, neighbour, path, verdict) in UPSTREAM {
+// Each case of a table.
+fn judge_all(rt: &impl Abort, alloc: Global, cases: &[Case]) -> Result<(), NoMemory> {
+    for case in cases {
+        let (role, neighbour, path, verdict) = *case;
         assert!(rt; path.len() <= 65_535);
-        let trail = Trail::new(rt.alloc(), false, path)?;
+        let trail = Trail::new(alloc, false, path)?;
         assert_eq!(rt;
             judge_by_labellings(&World, role, neighbour, &trail),
             verdict,
@@ -128,17 +131,13 @@ fn paths_upstream(rt: HostRuntime) -> Result<(), NoMemory> {
 }
 
 #[test]
+fn paths_upstream(rt: HostRuntime) -> Result<(), NoMemory> {
+    judge_all(&rt, rt.alloc(), &UPSTREAM)
+}
+
+#[test]
 fn paths_downstream(rt: HostRuntime) -> Result<(), NoMemory> {
-    for (role, neighbour, path, verdict) in DOWNSTREAM {
-        assert!(rt; path.len() <= 65_535);
-        let trail = Trail::new(rt.alloc(), false, path)?;
-        assert_eq!(rt;
-            judge_by_labellings(&World, role, neighbour, &trail),
-            verdict,
-            "{path:?}"
-        );
-    }
-    Ok(())
+    judge_all(&rt, rt.alloc(), &DOWNSTREAM)
 }
 
 // An empty path and one with an AS_SET are invalid whoever sent them.

@@ -47,7 +47,13 @@ fn run_counted<L: Ledger>(
 // A script, what it writes, and its status.
 type Row = (&'static [u8], &'static [u8], u8);
 
-const ROWS: [Row; 14] = [
+const ROWS: [Row; 15] = [
+    // The example of the README.
+    (
+        b"# 64500 attests that 64501 is its provider, and 64501 that it has none.\nassert 64500 64501\nassert 64501 0\n\n# A path that our customer 64501 sent us, written neighbour first: the route climbed from 64500 to 64501.\njudge customer 64501 64501 64500\n\n# 64501 refuses 64502, so 64502 got the route from a peer or a provider, and leaked it to us.\njudge customer 64502 64502 64501 64500\n\n# From our provider the same path is fine: one hop may cross at the top.\njudge provider 64502 64502 64501 64500\n\n# 64510 attests nothing.\njudge peer 64501 64501 64510\n",
+        b"valid\ninvalid\nvalid\nunknown\n",
+        0,
+    ),
     (b"", b"", 0),
     // An attested hop, a silent one, and a path of one AS.
     (
