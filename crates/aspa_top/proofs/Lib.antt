@@ -1,12 +1,10 @@
-pub mod AssertionLemmas
 pub mod EvaluationLemmas
-pub mod FormLemmas
-pub mod GrammarLemmas
-pub mod KeptLemmas
+pub mod JudgedLemmas
 pub mod LawLemmas
-pub mod LineLemmas
+pub mod LoadingLemmas
+pub mod NamedLemmas
+pub mod OutcomeLemmas
 pub mod PerformingLemmas
 pub mod ProgramLemmas
-pub mod ReadingLemmas
-pub mod SomeReadingLemmas
+pub mod RunLemmas
 pub mod TextLemmas

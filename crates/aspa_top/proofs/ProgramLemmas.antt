@@ -1,25 +1,31 @@
 -- What a run has done, status by status.
-use Rattle.std.proofs.Common.{◌≡◌, inl, inr, ℕ, ◌+◌, ◌<◌, ◌≤◌, true, false, nat_le, List, [], ◌∷◌, ◌++◌, length, take, map, Some, None, refl, sym, ap, ◌∙◌, arith, IfSome, IsTrue, ◌↔◌, Bool, codes, get_or}
+use Rattle.std.proofs.Common.{◌≡◌, ◌⊎◌, inl, inr, ℕ, ◌+◌, ◌<◌, ◌≤◌, true, false, nat_le, List, [], ◌∷◌, ◌++◌, length, take, map, Some, None, refl, sym, ap, ◌∙◌, arith, IfSome, IsTrue, ◌↔◌, Bool, codes, get_or}
 use Rattle.std.specs.Io.KnownBytes.{prepend_known, IsAtEnd}
 use Rattle.std.specs.declared.option.Option.{Option}
 use Rattle.std.proofs.lemmas.Slice.Eq.{bytes_eq-Decides}
 use Rattle.std.specs.Str.{bytes_eq}
 use Rattle.std.proofs.lemmas.List.{take_all, take-append-le, length-append, append-nil}
 use Rattle.std.proofs.lemmas.Bool.Decides.{nat_tests}
+use Rattle.av_base.specs.Files.{Files}
 use Rattle.av_base.proofs.ToldLemmas.{AppendsFront-start}
-use Rattle.aspa_top.specs.Lines.{lines_in, performed}
+use Rattle.av_text.specs.Lines.{lines_in}
+use Rattle.aspa_top.specs.Lines.{performed}
 use Rattle.aspa_top.specs.Evaluation.{start}
+use Rattle.aspa_top.specs.Program.{WentThrough, Ended, StopsAtFile, WritesPart, IsWhole, Ran, RanIfTold}
+use Rattle.aspa_top.specs.World.{Tells, World, world_of}
+use Rattle.aspa_top.proofs.EvaluationLemmas.{begins_none}
 use Rattle.aspa_top.proofs.LawLemmas.{runs_write_fronts}
-use Rattle.aspa_top.specs.Program.{WentThrough, Ended, IsWhole, Ran}
 
 -- a list of one item
-pub one_item : {A B : Type 0} (f : A → B) (xs : List A) (x : A) → 1 ≤ length xs → length xs < 2 → x ≡ get_or xs 0 x → map f xs ≡ f x ∷ []
+pub one_item : {A B : Type 0} (f : A → B) (xs : List A) (x : A) → 1 ≤ length xs → length xs < 2 → x ≡ get_or xs 0 x
+    → map f xs ≡ f x ∷ []
 one_item f [] x some one is = absurd (omega arith)
 one_item f (y ∷ []) x some one is = ap (λ z. f z ∷ []) (sym is)
 one_item f (y ∷ z ∷ zs) x some one is = absurd (omega arith)
 
 -- the one word is compared with `run`
-pub run_word : (result : Bool) (text : List ℕ) (words : List (List ℕ)) → words ≡ text ∷ [] → result ≡ bytes_eq text (codes "run") → IsTrue result ↔ (words ≡ codes "run" ∷ [])
+pub run_word : (result : Bool) (text : List ℕ) (words : List (List ℕ)) → words ≡ text ∷ []
+    → result ≡ bytes_eq text (codes "run") → IsTrue result ↔ (words ≡ codes "run" ∷ [])
 run_word result text words one compared = (
   (λ yes. one ∙ ap (λ (t : List ℕ). t ∷ []) ((bytes_eq-Decides text (codes "run")).0 (sym compared ∙ yes))),
   (λ same. compared ∙ (bytes_eq-Decides text (codes "run")).1 (let e : text ∷ [] ≡ codes "run" ∷ [] = sym one ∙ same in cc)),
@@ -32,86 +38,125 @@ performed-whole limit script within =
     rw (fits, take_all limit script within) refl
 
 -- of a longer one the front is
-pub performed-front : (limit : ℕ) (script more : List ℕ) → length script ≡ limit + 1 → performed limit (script ++ more) ≡ lines_in false (take limit script)
+pub performed-front : (limit : ℕ) (script more : List ℕ) → length script ≡ limit + 1
+    → performed limit (script ++ more) ≡ lines_in false (take limit script)
 performed-front limit script more over =
     let size = length-append script more in
     let long : nat_le (length (script ++ more)) limit ≡ false = grind (arith, nat_tests) in
     rw (long, take-append-le limit script more (omega arith)) refl
 
-module _ (limit : ℕ) (script : List ℕ) (old new : Option (List ℕ)) (ticks_old ticks_new : ℕ) where
+not_whole : (status : ℕ) → 1 < status → status < 6 → IsWhole status → ⊥
+not_whole status above below whole = elim whole [ inl a ↦ omega arith | inr b ↦ elim b [ inl c ↦ omega arith | inr d ↦ omega arith ] ]
+
+module _ (limit : ℕ) (world : World) (script : List ℕ) (script_failed shelf_failed : Type 0) (old new : Option (List ℕ))
+    (ticks_old ticks_new : ℕ) where
   -- a run that ended early
-  pub Ran-early : (status : ℕ) → (IsWhole status → ⊥) → WentThrough (performed limit script) old new ticks_old ticks_new → Ran limit script old new ticks_old ticks_new status
-  Ran-early status early went = record {
-    front = λ text end evaluates. runs_write_fronts (performed limit script) old new ticks_old ticks_new text end went evaluates;
+  pub Ran-early : (status : ℕ) → 1 < status → status < 6
+      → WentThrough world (performed limit script) old new ticks_old ticks_new
+      → (status ≡ 3 → (script_failed × (new ≡ old)) ⊎ (shelf_failed × StopsAtFile world (performed limit script) old new))
+      → (status ≡ 4 → WritesPart world (performed limit script) old new)
+      → Ran limit world script script_failed shelf_failed old new ticks_old ticks_new status
+  Ran-early status above below went stopped cut = record {
+    front = runs_write_fronts world (performed limit script) old new ticks_old ticks_new went;
     went = went;
     refusals = 0;
-    ended = λ whole. absurd (early whole);
-    clean = λ same. absurd (early (inl same));
-    refused = λ same. absurd (early (inr (inl same)));
-    over = λ same. absurd (early (inr (inr same)));
-  }
-
-  -- a script within its limit that was performed to its end
-  pub Ran-clean : (refusals : ℕ) → WentThrough (performed limit script) old new ticks_old ticks_new → Ended (performed limit script) old new ticks_old ticks_new refusals → refusals ≡ 0 → length script ≤ limit → Ran limit script old new ticks_old ticks_new 0
-  Ran-clean refusals went ended none within = record {
-    front = λ text end evaluates. runs_write_fronts (performed limit script) old new ticks_old ticks_new text end went evaluates;
-    went = went;
-    refusals = refusals;
-    ended = λ whole. ended;
-    clean = λ same. (none, within);
-    refused = λ same. absurd (omega arith);
-    over = λ same. absurd (omega arith);
-  }
-
-  pub Ran-refused : (refusals : ℕ) → WentThrough (performed limit script) old new ticks_old ticks_new → Ended (performed limit script) old new ticks_old ticks_new refusals → 0 < refusals → length script ≤ limit → Ran limit script old new ticks_old ticks_new 1
-  Ran-refused refusals went ended some within = record {
-    front = λ text end evaluates. runs_write_fronts (performed limit script) old new ticks_old ticks_new text end went evaluates;
-    went = went;
-    refusals = refusals;
-    ended = λ whole. ended;
-    clean = λ same. absurd (omega arith);
-    refused = λ same. (some, within);
-    over = λ same. absurd (omega arith);
-  }
-
-  -- the front of a script over its limit that was performed to its end
-  pub Ran-over : (refusals : ℕ) → WentThrough (performed limit script) old new ticks_old ticks_new → Ended (performed limit script) old new ticks_old ticks_new refusals → limit < length script → Ran limit script old new ticks_old ticks_new 6
-  Ran-over refusals went ended over = record {
-    front = λ text end evaluates. runs_write_fronts (performed limit script) old new ticks_old ticks_new text end went evaluates;
-    went = went;
-    refusals = refusals;
-    ended = λ whole. ended;
+    ended = λ whole. absurd (not_whole status above below whole);
     clean = λ same. absurd (omega arith);
     refused = λ same. absurd (omega arith);
-    over = λ same. over;
+    over = λ same. absurd (omega arith);
+    stopped = stopped;
+    cut = cut;
+  }
+
+  -- a run that performed all its lines
+  pub Ran-whole : (status refusals : ℕ) → IsWhole status
+      → WentThrough world (performed limit script) old new ticks_old ticks_new
+      → Ended world (performed limit script) old new ticks_old ticks_new refusals
+      → (status ≡ 0 → (refusals ≡ 0) × (length script ≤ limit)) → (status ≡ 1 → (0 < refusals) × (length script ≤ limit))
+      → (status ≡ 6 → limit < length script)
+      → Ran limit world script script_failed shelf_failed old new ticks_old ticks_new status
+  Ran-whole status refusals whole went ended clean refused over = record {
+    front = runs_write_fronts world (performed limit script) old new ticks_old ticks_new went;
+    went = went;
+    refusals = refusals;
+    ended = λ again. ended;
+    clean = clean;
+    refused = refused;
+    over = over;
+    stopped = λ same. absurd (not_whole status (omega arith) (omega arith) whole);
+    cut = λ same. absurd (not_whole status (omega arith) (omega arith) whole);
   }
 
 -- nothing was evaluated
-pub WentThrough-start : (lines : List (List ℕ)) (old : Option (List ℕ)) (ticks : ℕ) → WentThrough lines old old ticks ticks
-WentThrough-start lines old ticks = record {
+WentThrough-start : (world : World) (lines : List (List ℕ)) (old : Option (List ℕ)) (ticks : ℕ)
+    → WentThrough world lines old old ticks ticks
+WentThrough-start world lines old ticks = record {
   done = [];
   left = lines;
   lines_are = refl;
   text = [];
   state = start;
   evaluates = (refl, refl);
+  part = [];
+  begins = begins_none world start lines;
   written = AppendsFront-start old [];
   ticked = omega arith;
 }
 
-pub Ran-start : (limit : ℕ) (left old : Option (List ℕ)) (ticks status : ℕ) → (IsWhole status → ⊥) → IfSome left (λ script. Ran limit script old old ticks ticks status)
-Ran-start limit None old ticks status early = tt
-Ran-start limit (Some script) old ticks status early = Ran-early limit script old old ticks ticks status early (WentThrough-start (performed limit script) old ticks)
+pub Ran-start : (limit : ℕ) (left : Option (List ℕ)) (files : Option Files) (script_failed shelf_failed : Type 0)
+    (old : Option (List ℕ)) (ticks status : ℕ)
+    → 1 < status → status < 4 ⊎ (status ≡ 5) → (status ≡ 3 → script_failed)
+    → RanIfTold limit left files script_failed shelf_failed old old ticks ticks status
+Ran-start limit None files script_failed shelf_failed old ticks status above below failed = tt
+Ran-start limit (Some script) None script_failed shelf_failed old ticks status above below failed = tt
+Ran-start limit (Some script) (Some told) script_failed shelf_failed old ticks status above below failed =
+    Ran-early limit (world_of told) script script_failed shelf_failed old old ticks ticks status above (elim below [ inl a ↦ omega arith | inr b ↦ omega arith ])
+    (WentThrough-start (world_of told) (performed limit script) old ticks)
+    (λ same. inl (failed same, refl))
+    (λ same. absurd (elim below [ inl a ↦ omega arith | inr b ↦ omega arith ]))
 
-pub not_whole : (status : ℕ) → 1 < status → status < 6 → IsWhole status → ⊥
-not_whole status above below whole = elim whole [ inl a ↦ omega arith | inr b ↦ elim b [ inl c ↦ omega arith | inr d ↦ omega arith ] ]
+-- the script itself didn't fail
+Ran-weaker : (limit : ℕ) (world : World) (script : List ℕ) (script_failed shelf_failed : Type 0) (old new : Option (List ℕ))
+    (ticks_old ticks_new status : ℕ)
+    → Ran limit world script ⊥ shelf_failed old new ticks_old ticks_new status
+    → Ran limit world script script_failed shelf_failed old new ticks_old ticks_new status
+Ran-weaker limit world script script_failed shelf_failed old new ticks_old ticks_new status ran = record {
+  front = ran.front;
+  went = ran.went;
+  refusals = ran.refusals;
+  ended = ran.ended;
+  clean = ran.clean;
+  refused = ran.refused;
+  over = ran.over;
+  stopped = λ same. elim (ran.stopped same) [ inl unread ↦ absurd unread.0 | inr stops ↦ inr stops ];
+  cut = ran.cut;
+}
 
--- all that the script told was read
-pub Ran-told : (limit : ℕ) (old_left new_left : Option (List ℕ)) (bytes : List ℕ) (old new : Option (List ℕ)) (ticks_old ticks_new status : ℕ) → old_left ≡ prepend_known bytes new_left → IsAtEnd new_left → Ran limit bytes old new ticks_old ticks_new status → IfSome old_left (λ script. Ran limit script old new ticks_old ticks_new status)
-Ran-told limit old_left None bytes old new ticks_old ticks_new status taken at_end ran = rw taken tt
-Ran-told limit old_left (Some left) bytes old new ticks_old ticks_new status taken at_end ran = rw (taken, at_end, append-nil) ran
+module _ (limit : ℕ) (files : Option Files) (script_failed shelf_failed : Type 0) (old new : Option (List ℕ))
+    (ticks_old ticks_new status : ℕ) where
+  -- in the world that the shelf tells
+  Ran-told_world : (script : List ℕ)
+      → ((world : World) → Tells files world → Ran limit world script ⊥ shelf_failed old new ticks_old ticks_new status)
+      → IfSome files (λ told. Ran limit (world_of told) script script_failed shelf_failed old new ticks_old ticks_new status)
+  Ran-told_world script ran = by files ran
+    where
+      by : (files : Option Files)
+          → ((world : World) → Tells files world → Ran limit world script ⊥ shelf_failed old new ticks_old ticks_new status)
+          → IfSome files (λ told. Ran limit (world_of told) script script_failed shelf_failed old new ticks_old ticks_new status)
+      by None ran = tt
+      by (Some told) ran = Ran-weaker limit (world_of told) script script_failed shelf_failed old new ticks_old ticks_new status (ran (world_of told) (record { told = told; is = refl; named = refl }))
 
--- more was told than was read
-pub Ran-told_more : (limit : ℕ) (old_left new_left : Option (List ℕ)) (bytes : List ℕ) (old new : Option (List ℕ)) (ticks_old ticks_new status : ℕ) → old_left ≡ prepend_known bytes new_left → ((more : List ℕ) → Ran limit (bytes ++ more) old new ticks_old ticks_new status) → IfSome old_left (λ script. Ran limit script old new ticks_old ticks_new status)
-Ran-told_more limit old_left None bytes old new ticks_old ticks_new status taken ran = rw taken tt
-Ran-told_more limit old_left (Some more) bytes old new ticks_old ticks_new status taken ran = rw taken (ran more)
+  -- all that the script told was read
+  pub Ran-told : (old_left new_left : Option (List ℕ)) (bytes : List ℕ) → old_left ≡ prepend_known bytes new_left
+      → IsAtEnd new_left
+      → ((world : World) → Tells files world → Ran limit world bytes ⊥ shelf_failed old new ticks_old ticks_new status)
+      → RanIfTold limit old_left files script_failed shelf_failed old new ticks_old ticks_new status
+  Ran-told old_left None bytes taken at_end ran = rw taken tt
+  Ran-told old_left (Some left) bytes taken at_end ran = rw (taken, at_end, append-nil) (Ran-told_world bytes ran)
+
+  -- more was told than was read
+  pub Ran-told_more : (old_left new_left : Option (List ℕ)) (bytes : List ℕ) → old_left ≡ prepend_known bytes new_left
+      → ((world : World) → Tells files world → (more : List ℕ) → Ran limit world (bytes ++ more) ⊥ shelf_failed old new ticks_old ticks_new status)
+      → RanIfTold limit old_left files script_failed shelf_failed old new ticks_old ticks_new status
+  Ran-told_more old_left None bytes taken ran = rw taken tt
+  Ran-told_more old_left (Some more) bytes taken ran = rw taken (Ran-told_world (bytes ++ more) (λ world tells. ran world tells more))

@@ -1,7 +1,9 @@
-pub mod Assertions
 pub mod Evaluation
-pub mod Grammar
 pub mod Laws
 pub mod Lines
+pub mod Loading
+pub mod LoadingSteps
 pub mod Performing
 pub mod Program
+pub mod Stops
+pub mod World

@@ -1,36 +1,75 @@
 -- What a run of a script has done when it ends with a status.
-use Rattle.std.specs.Prelude.{◌≡◌, ℕ, ◌+◌, ◌<◌, ◌≤◌, ◌⊎◌, List, [], ◌∷◌, ◌++◌, length, codes}
+use Rattle.std.specs.Prelude.{◌≡◌, ℕ, ◌+◌, ◌<◌, ◌≤◌, ◌⊎◌, List, [], ◌∷◌, ◌++◌, length, codes, IfSome}
 use Rattle.std.specs.Io.KnownBytes.{append_known}
 use Rattle.std.specs.declared.option.Option.{Option}
 use Rattle.std.specs.declared.option.Option.TheVariants.{Some}
-use Rattle.av_base.specs.Told.{AppendsFront}
+use Rattle.std.specs.declared.result.Result.{Result}
+use Rattle.av_base.specs.Files.{Files}
+use Rattle.av_base.specs.Told.{AppendsFront, AppendsPart}
+use Rattle.script_lines.specs.declared.command.Command.{Command}
+use Rattle.script_lines.specs.declared.command.LineFault.{LineFault}
 use Rattle.aspa_top.specs.Lines.{performed}
-use Rattle.aspa_top.specs.Evaluation.{State, start, Evaluates, refusals_in}
+use Rattle.script_lines.specs.Grammar.{IsReading}
+use Rattle.aspa_top.specs.World.{World, world_of}
+use Rattle.aspa_top.specs.Evaluation.{State, start, Evaluates, Begins, UsesFile, counted, refusals_in}
 
 -- the one form of words that the program is called with
 abbrev pub IsRun : List (List ℕ) → Type 0
 IsRun words = words ≡ codes "run" ∷ []
 
--- Some first lines were evaluated, and a front of their text was written, perhaps all. Each judgement of theirs ticked once,
--- and perhaps one of the next line.
-pub record WentThrough (lines : List (List ℕ)) (old new : Option (List ℕ)) (ticks_old ticks_new : ℕ) : Type 0 where
+-- of the lines that are left the first went some way, perhaps none
+abbrev pub BeginsNext : World → State → List (List ℕ) → List ℕ → Type 0
+BeginsNext world state [] part = part ≡ []
+BeginsNext world state (line ∷ more) part = Begins world state line part
+
+-- Some first lines were evaluated, and the next went some way. A front of their text was written, perhaps all. Each judgement of
+-- the first lines ticked once, and perhaps one of the next.
+pub record WentThrough (world : World) (lines : List (List ℕ)) (old new : Option (List ℕ)) (ticks_old ticks_new : ℕ) : Type 0 where
   pub done : List (List ℕ)
   pub left : List (List ℕ)
   pub lines_are : lines ≡ done ++ left
   pub text : List ℕ
   pub state : State
-  pub evaluates : Evaluates start done text state
-  pub written : AppendsFront old new text
+  pub evaluates : Evaluates world start done text state
+  pub part : List ℕ
+  pub begins : BeginsNext world state left part
+  pub written : AppendsFront old new (text ++ part)
   pub ticked : ticks_new ≤ ticks_old + state.judgements + 1
 
--- All lines were evaluated and all their text was written, in which so many lines begin with `! `. Each judgement ticked once.
-pub record Ended (lines : List (List ℕ)) (old new : Option (List ℕ)) (ticks_old ticks_new refusals : ℕ) : Type 0 where
+-- What was written stops in the text of a line that opens or reads a file: it is the text of the lines before it, followed by a
+-- front of its own text.
+pub record StopsAtFile (world : World) (lines : List (List ℕ)) (old new : Option (List ℕ)) : Type 0 where
+  pub done : List (List ℕ)
+  pub line : List ℕ
+  pub more : List (List ℕ)
+  pub lines_are : lines ≡ done ++ line ∷ more
   pub text : List ℕ
   pub state : State
-  pub evaluates : Evaluates start lines text state
+  pub evaluates : Evaluates world start done text state
+  pub reading : Result Command LineFault
+  pub reads : IsReading line reading
+  pub uses : UsesFile (counted state) reading
+  pub part : List ℕ
+  pub begins : Begins world state line part
+  pub written : new ≡ append_known old (text ++ part)
+
+-- All lines were evaluated and all their text was written, in which so many lines begin with `! `. Each judgement ticked once.
+pub record Ended (world : World) (lines : List (List ℕ)) (old new : Option (List ℕ)) (ticks_old ticks_new refusals : ℕ) : Type 0 where
+  pub text : List ℕ
+  pub state : State
+  pub evaluates : Evaluates world start lines text state
   pub written : new ≡ append_known old text
   pub ticked : ticks_new ≡ ticks_old + state.judgements
   pub counted : refusals ≡ refusals_in text
+
+-- what was written is a front of these lines' text, perhaps all
+abbrev pub WritesFront : World → List (List ℕ) → Option (List ℕ) → Option (List ℕ) → Type 0
+WritesFront world lines old new = (text : List ℕ) (end : State) → Evaluates world start lines text end → AppendsFront old new text
+
+-- what was written, where the sink tells it, isn't all of these lines' text
+abbrev pub WritesPart : World → List (List ℕ) → Option (List ℕ) → Option (List ℕ) → Type 0
+WritesPart world lines old new =
+    (text : List ℕ) (end : State) → Evaluates world start lines text end → IfSome old (λ before. AppendsPart old new text)
 
 -- the statuses that a performed script ends with
 abbrev pub IsEnding : ℕ → Type 0
@@ -44,21 +83,35 @@ IsStatus status = (status ≡ 2) ⊎ IsEnding status
 abbrev pub IsWhole : ℕ → Type 0
 IsWhole status = (status ≡ 0) ⊎ (status ≡ 1) ⊎ (status ≡ 6)
 
--- What was written, and how often the counter ticked, at each status. The text depends on the script alone, and not on how it was
--- read or how the text was written.
-pub record Ran (limit : ℕ) (script : List ℕ) (old new : Option (List ℕ)) (ticks_old ticks_new status : ℕ) : Type 0 where
+-- What was written, and how often the counter ticked, at each status. The text depends on the script and the world alone, and not on
+-- how anything was read or how the text was written.
+pub record Ran (limit : ℕ) (world : World) (script : List ℕ) (script_failed shelf_failed : Type 0)
+    (old new : Option (List ℕ)) (ticks_old ticks_new status : ℕ) : Type 0 where
   -- at every status: what was written is a front of the script's text, and it is known how far the run went
-  pub front : (text : List ℕ) (end : State) → Evaluates start (performed limit script) text end → AppendsFront old new text
-  pub went : WentThrough (performed limit script) old new ticks_old ticks_new
+  pub front : WritesFront world (performed limit script) old new
+  pub went : WentThrough world (performed limit script) old new ticks_old ticks_new
   -- at 0, 1 and 6
   pub refusals : ℕ
-  pub ended : IsWhole status → Ended (performed limit script) old new ticks_old ticks_new refusals
+  pub ended : IsWhole status → Ended world (performed limit script) old new ticks_old ticks_new refusals
   -- 0: no line of the text begins with `! `. 1: one does. 6: the script is over its limit.
   pub clean : status ≡ 0 → (refusals ≡ 0) × (length script ≤ limit)
   pub refused : status ≡ 1 → (0 < refusals) × (length script ≤ limit)
   pub over : status ≡ 6 → limit < length script
+  -- 3: the script failed before anything was written, or the shelf did at a line that opens or reads a file
+  pub stopped : status ≡ 3 → (script_failed × (new ≡ old)) ⊎ (shelf_failed × StopsAtFile world (performed limit script) old new)
+  -- 4: not all of the text was written
+  pub cut : status ≡ 4 → WritesPart world (performed limit script) old new
 
--- Where neither the script nor the sink failed, a script within its limit ends with 0 or 1, and a longer one with 6; or memory ran out.
-pub record Completes (limit : ℕ) (script : Option (List ℕ)) (script_failed sink_failed : Type 0) (status : ℕ) : Type 0 where
-  pub within : ¬ script_failed → ¬ sink_failed → (bytes : List ℕ) → script ≡ Some bytes → length bytes ≤ limit → (status ≡ 0) ⊎ (status ≡ 1) ⊎ (status ≡ 5)
-  pub beyond : ¬ script_failed → ¬ sink_failed → (bytes : List ℕ) → script ≡ Some bytes → limit < length bytes → (status ≡ 6) ⊎ (status ≡ 5)
+-- the same of a script that tells its bytes, over a shelf that tells its files
+abbrev pub RanIfTold : ℕ → Option (List ℕ) → Option Files → Type 0 → Type 0 → Option (List ℕ) → Option (List ℕ) → ℕ → ℕ → ℕ → Type 0
+RanIfTold limit script files script_failed shelf_failed old new ticks_old ticks_new status =
+    IfSome script (λ bytes. IfSome files (λ told.
+    Ran limit (world_of told) bytes script_failed shelf_failed old new ticks_old ticks_new status))
+
+-- Where neither the script nor the shelf nor the sink failed, a script within its limit ends with 0 or 1, and a longer one with 6; or
+-- memory ran out.
+pub record Completes (limit : ℕ) (script : Option (List ℕ)) (script_failed shelf_failed sink_failed : Type 0) (status : ℕ) : Type 0 where
+  pub within : ¬ script_failed → ¬ shelf_failed → ¬ sink_failed
+      → (bytes : List ℕ) → script ≡ Some bytes → length bytes ≤ limit → (status ≡ 0) ⊎ (status ≡ 1) ⊎ (status ≡ 5)
+  pub beyond : ¬ script_failed → ¬ shelf_failed → ¬ sink_failed
+      → (bytes : List ℕ) → script ≡ Some bytes → limit < length bytes → (status ≡ 6) ⊎ (status ≡ 5)

@@ -1,12 +1,7 @@
 //! Laws of the definitions: the contract of each function is the law, and its body does nothing.
-ghost use Rattle.aspa_top.specs.Laws.{EachLineHasOneReading, EachScriptHasOneText, RunsWriteFronts};
+ghost use Rattle.aspa_top.specs.Laws.{EachScriptHasOneText, RunsWriteFronts};
 
-/// Each line is one command, or refused for one cause.
-pub fn each_line_has_one_reading()
-    ensures { EachLineHasOneReading }
-{}
-
-/// Each script has one text.
+/// In each world each script has one text.
 pub fn each_script_has_one_text()
     ensures { EachScriptHasOneText }
 {}

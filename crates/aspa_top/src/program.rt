@@ -1,12 +1,14 @@
 //! The top call: a script from its words to its status.
-ghost use Rattle.std.specs.Prelude.{◌≡◌, ◌↔◌, ◌+◌, ◌<◌, ◌≤◌, ◌⊎◌, ◌++◌, ℕ, List, length, map, IsTrue, IfSome};
+ghost use Rattle.std.specs.Prelude.{◌≡◌, ◌≢◌, ◌↔◌, ◌+◌, ◌<◌, ◌≤◌, ◌⊎◌, ◌++◌, ℕ, List, length, map, IsTrue};
 ghost use Rattle.std.specs.String.{string_bytes};
 ghost use Rattle.std.specs.Io.KnownBytes.{IsAtEnd};
 ghost use Rattle.av_base.specs.Told.{Rose};
-ghost use Rattle.aspa_top.specs.Program.{IsEnding, IsRun, IsStatus, Ran, Completes};
+ghost use Rattle.aspa_top.specs.Program.{Completes, IsEnding, IsRun, IsStatus, Ran, RanIfTold};
+ghost use Rattle.aspa_top.specs.World.{Tells, World, names_of};
 
-use crate::evaluation::{Stop, evaluate};
+use crate::evaluation::evaluate;
 use crate::script::{ReadFault, read_all};
+use crate::stop::Stop;
 use av_base::{Links, Shelf, Sink, Source, Steps};
 use std::alloc::Global;
 use std::sync::ledger::Ledger;
@@ -21,12 +23,12 @@ pub const SCRIPT_LIMIT: usize = 67_108_864;
 /// | 0 | the whole script was performed, all its text was written, and no line of it begins with `! ` |
 /// | 1 | the same, and some line does: a line of the script was refused |
 /// | 2 | the words are others than the one word `run`; nothing is read, written, opened or connected |
-/// | 3 | the script's source failed |
-/// | 4 | the sink failed |
+/// | 3 | the script's source failed before a line was performed, or the shelf failed at a line that opens or reads a file |
+/// | 4 | the sink failed, and not all of the text was written |
 /// | 5 | there was no memory |
 /// | 6 | the script has more than [`SCRIPT_LIMIT`] bytes; the lines whose LF is among the first so many were performed |
 ///
-/// At 3, 4 and 5 what was written is a front of the script's text. The shelf and the links aren't used yet.
+/// At 3, 4 and 5 what was written is a front of the script's text. The links aren't used yet.
 pub fn run<S: Source, F: Shelf, K: Links, W: Sink, L: Ledger>(
     alloc: Global,
     words: &Vec<String>,
@@ -36,29 +38,37 @@ pub fn run<S: Source, F: Shelf, K: Links, W: Sink, L: Ledger>(
     out: &mut W,
     steps: &mut Steps<L>,
 ) -> u8
-    // What is written at each status, for every script that tells its bytes and however it is read and the text written.
-    ensures ran { IfSome (S.left script.old) (λ bytes. Ran SCRIPT_LIMIT bytes (W.written out.old) (W.written out.new) steps.old steps.new result) }
+    // What is written at each status, for every script that tells its bytes and every shelf that tells its files, and however the
+    // script is read and the text written.
+    ensures ran { RanIfTold SCRIPT_LIMIT (S.left script.old) (F.files shelf.old)
+        (Rose (S.faults script.old) (S.faults script.new)) (Rose (F.faults shelf.old) (F.faults shelf.new))
+        (W.written out.old) (W.written out.new) steps.old steps.new result }
 
     // When each status comes, beside what it says of the text.
     ensures known { IsStatus result }
-    ensures other_words { (result ≡ 2) ↔ ¬ IsRun (map string_bytes words.now.items) }
-    ensures untouched { result ≡ 2 → (script.new ≡ script.old) × (out.new ≡ out.old) × (steps.new ≡ steps.old) }
+    ensures other_words { result ≡ 2 → ¬ IsRun (map string_bytes words.now.items) }
+    ensures run_words { result ≢ 2 → IsRun (map string_bytes words.now.items) }
+    ensures untouched { result ≡ 2 → (script.new ≡ script.old) × (shelf.new ≡ shelf.old)
+        × (out.new ≡ out.old) × (steps.new ≡ steps.old) }
     ensures at_end { (result ≡ 0) ⊎ (result ≡ 1) → IsAtEnd (S.left script.new) }
-    ensures script_cause { result ≡ 3 → Rose (S.faults script.old) (S.faults script.new) }
+    ensures input_cause { result ≡ 3 → (Rose (S.faults script.old) (S.faults script.new) × (out.new ≡ out.old))
+        ⊎ Rose (F.faults shelf.old) (F.faults shelf.new) }
     ensures sink_cause { result ≡ 4 → Rose (W.faults out.old) (W.faults out.new) }
 
     // Nothing but a fault, want of memory or the limit ends a run early.
-    ensures complete { IsRun (map string_bytes words.now.items)
-        → Completes SCRIPT_LIMIT (S.left script.old) (Rose (S.faults script.old) (S.faults script.new)) (Rose (W.faults out.old) (W.faults out.new)) result }
+    ensures complete { IsRun (map string_bytes words.now.items) → Completes SCRIPT_LIMIT (S.left script.old)
+        (Rose (S.faults script.old) (S.faults script.new)) (Rose (F.faults shelf.old) (F.faults shelf.new))
+        (Rose (W.faults out.old) (W.faults out.new)) result }
 
-    // Counts of faults don't fall, and nothing is opened or connected.
+    // Counts of faults don't fall, the names of the shelf stay as they are, and nothing is connected.
     ensures script_faults { S.faults script.old ≤ S.faults script.new }
     ensures sink_faults { W.faults out.old ≤ W.faults out.new }
-    ensures shelf { shelf.new ≡ shelf.old }
+    ensures names { names_of (F.files shelf.new) ≡ names_of (F.files shelf.old) }
+    ensures shelf_faults { F.faults shelf.old ≤ F.faults shelf.new }
     ensures links { links.new ≡ links.old }
 {
     if is_run(words) {
-        run_script(alloc, script, out, steps)
+        run_script(alloc, script, shelf, out, steps)
     } else {
         2
     }
@@ -75,27 +85,36 @@ fn is_run(words: &Vec<String>) -> bool
 }
 
 // Reads the script and performs it.
-fn run_script<S: Source, W: Sink, L: Ledger>(
+fn run_script<S: Source, F: Shelf, W: Sink, L: Ledger>(
     alloc: Global,
     script: &mut S,
+    shelf: &mut F,
     out: &mut W,
     steps: &mut Steps<L>,
 ) -> u8
-    ensures ran { IfSome (S.left script.old) (λ bytes. Ran SCRIPT_LIMIT bytes (W.written out.old) (W.written out.new) steps.old steps.new result) }
+    ensures ran { RanIfTold SCRIPT_LIMIT (S.left script.old) (F.files shelf.old)
+        (Rose (S.faults script.old) (S.faults script.new)) (Rose (F.faults shelf.old) (F.faults shelf.new))
+        (W.written out.old) (W.written out.new) steps.old steps.new result }
     ensures known { IsEnding result }
     ensures at_end { (result ≡ 0) ⊎ (result ≡ 1) → IsAtEnd (S.left script.new) }
-    ensures script_cause { result ≡ 3 → Rose (S.faults script.old) (S.faults script.new) }
+    ensures input_cause { result ≡ 3 → (Rose (S.faults script.old) (S.faults script.new) × (out.new ≡ out.old))
+        ⊎ Rose (F.faults shelf.old) (F.faults shelf.new) }
     ensures sink_cause { result ≡ 4 → Rose (W.faults out.old) (W.faults out.new) }
+    ensures complete { Completes SCRIPT_LIMIT (S.left script.old)
+        (Rose (S.faults script.old) (S.faults script.new)) (Rose (F.faults shelf.old) (F.faults shelf.new))
+        (Rose (W.faults out.old) (W.faults out.new)) result }
     ensures script_faults { S.faults script.old ≤ S.faults script.new }
     ensures sink_faults { W.faults out.old ≤ W.faults out.new }
+    ensures names { names_of (F.files shelf.new) ≡ names_of (F.files shelf.old) }
+    ensures shelf_faults { F.faults shelf.old ≤ F.faults shelf.new }
 {
     match read_all(alloc, script, SCRIPT_LIMIT) {
         Ok(bytes) => {
             let text = bytes.as_slice();
             if text.len() <= SCRIPT_LIMIT {
-                run_whole(alloc, text, out, steps)
+                run_whole(alloc, text, shelf, out, steps)
             } else {
-                run_front(alloc, text, out, steps)
+                run_front(alloc, text, shelf, out, steps)
             }
         }
         Err(ReadFault::Source) => 3,
@@ -104,42 +123,56 @@ fn run_script<S: Source, W: Sink, L: Ledger>(
 }
 
 // Performs a whole script.
-fn run_whole<W: Sink, L: Ledger>(
+fn run_whole<F: Shelf, W: Sink, L: Ledger>(
     alloc: Global,
     script: &[u8],
+    shelf: &mut F,
     out: &mut W,
     steps: &mut Steps<L>,
 ) -> u8
     requires { length script.now ≤ SCRIPT_LIMIT }
-    ensures ran { Ran SCRIPT_LIMIT script.now (W.written out.old) (W.written out.new) steps.old steps.new result }
-    ensures known { (result ≡ 0) ⊎ (result ≡ 1) ⊎ (result ≡ 4) ⊎ (result ≡ 5) }
+    ensures ran { (world : World) → Tells (F.files shelf.old) world
+        → Ran SCRIPT_LIMIT world script.now ⊥ (Rose (F.faults shelf.old) (F.faults shelf.new))
+        (W.written out.old) (W.written out.new) steps.old steps.new result }
+    ensures known { (result ≡ 0) ⊎ (result ≡ 1) ⊎ (result ≡ 3) ⊎ (result ≡ 4) ⊎ (result ≡ 5) }
+    ensures shelf_cause { result ≡ 3 → Rose (F.faults shelf.old) (F.faults shelf.new) }
     ensures sink_cause { result ≡ 4 → Rose (W.faults out.old) (W.faults out.new) }
     ensures sink_faults { W.faults out.old ≤ W.faults out.new }
+    ensures names { names_of (F.files shelf.new) ≡ names_of (F.files shelf.old) }
+    ensures shelf_faults { F.faults shelf.old ≤ F.faults shelf.new }
 {
-    match evaluate(alloc, script, true, out, steps) {
+    match evaluate(alloc, script, true, shelf, out, steps) {
         Ok(0) => 0,
         Ok(_) => 1,
+        Err(Stop::Shelf) => 3,
         Err(Stop::Sink) => 4,
         Err(Stop::NoMemory) => 5,
     }
 }
 
 // Performs the front of a script that is over its limit, of which one byte too many was read.
-fn run_front<W: Sink, L: Ledger>(
+fn run_front<F: Shelf, W: Sink, L: Ledger>(
     alloc: Global,
     script: &[u8],
+    shelf: &mut F,
     out: &mut W,
     steps: &mut Steps<L>,
 ) -> u8
     requires { length script.now ≡ SCRIPT_LIMIT + 1 }
-    ensures ran { (more : List ℕ) → Ran SCRIPT_LIMIT (script.now ++ more) (W.written out.old) (W.written out.new) steps.old steps.new result }
-    ensures known { (result ≡ 6) ⊎ (result ≡ 4) ⊎ (result ≡ 5) }
+    ensures ran { (world : World) → Tells (F.files shelf.old) world → (more : List ℕ)
+        → Ran SCRIPT_LIMIT world (script.now ++ more) ⊥ (Rose (F.faults shelf.old) (F.faults shelf.new))
+        (W.written out.old) (W.written out.new) steps.old steps.new result }
+    ensures known { (result ≡ 6) ⊎ (result ≡ 3) ⊎ (result ≡ 4) ⊎ (result ≡ 5) }
+    ensures shelf_cause { result ≡ 3 → Rose (F.faults shelf.old) (F.faults shelf.new) }
     ensures sink_cause { result ≡ 4 → Rose (W.faults out.old) (W.faults out.new) }
     ensures sink_faults { W.faults out.old ≤ W.faults out.new }
+    ensures names { names_of (F.files shelf.new) ≡ names_of (F.files shelf.old) }
+    ensures shelf_faults { F.faults shelf.old ≤ F.faults shelf.new }
 {
     let (front, _) = script.split_at(SCRIPT_LIMIT);
-    match evaluate(alloc, front, false, out, steps) {
+    match evaluate(alloc, front, false, shelf, out, steps) {
         Ok(_) => 6,
+        Err(Stop::Shelf) => 3,
         Err(Stop::Sink) => 4,
         Err(Stop::NoMemory) => 5,
     }

@@ -1,18 +1,16 @@
+//! A source read to its end.
 ghost use Rattle.std.specs.Prelude.{◌≡◌, ℕ, ◌+◌, ◌^◌, ◌<◌, ◌≤◌, length, IfOk, IsErrOf};
 ghost use Rattle.std.specs.Io.KnownBytes.{prepend_known, IsAtEnd};
 ghost use Rattle.av_base.specs.Told.{Rose};
 ghost use Rattle.aspa_top.specs.declared.script.ReadFault.TheVariants.{Source as SourceFault, NoMemory as OutOfMemory};
 
-use av_base::{Fault, NoMemory, Source};
+use av_base::{Fault, NoMemory, PIECE, Source};
 use std::alloc::{AllocError, Global};
 
-/// How many bytes are read or written at a time.
-pub(crate) const PIECE: usize = 65_536;
-
-/// Why reading a source ended early.
+/// Why reading a source, or a file of the shelf, ended early.
 #[derive(Clone, Copy, Debug, PartialEq, Eq)]
 pub(crate) enum ReadFault {
-    /// The source failed, and counted it.
+    /// The source or the shelf failed, and counted it.
     Source,
     /// There was no memory.
     NoMemory,
@@ -30,6 +28,14 @@ impl From<AllocError> for ReadFault {
     ghost from_gives = { λ _ e. e ≡ OutOfMemory };
 
     fn from(_error: AllocError) -> ReadFault {
+        ReadFault::NoMemory
+    }
+}
+
+impl From<NoMemory> for ReadFault {
+    ghost from_gives = { λ _ e. e ≡ OutOfMemory };
+
+    fn from(_error: NoMemory) -> ReadFault {
         ReadFault::NoMemory
     }
 }

@@ -1,13 +1,14 @@
+//! What the program keeps between two lines.
 ghost use Rattle.std.specs.Prelude.{◌≡◌};
 
-use crate::assertions::Assertions;
 use std::alloc::Global;
+use vap_table::Vaps;
 
 /// What the lines that were performed have left.
 #[derive(Drop)]
 pub(crate) struct Working {
-    /// The assertions that were made.
-    pub(crate) assertions: Assertions,
+    /// The current table with its parts.
+    pub(crate) table: Vaps,
     /// How many lines there were.
     pub(crate) lines: u64,
     /// How many of them were refused.
@@ -23,7 +24,7 @@ impl Working {
         ensures { StandsFor result start }
     {
         Working {
-            assertions: Assertions::new(alloc),
+            table: Vaps::new(alloc),
             lines: 0,
             refused: 0,
         }

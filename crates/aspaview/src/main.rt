@@ -1,23 +1,30 @@
-//! The program `aspaview`: it gives [`aspa_top::run`] the real standard input and output, and ends with its answer.
+//! The program `aspaview`: it gives [`aspa_top::run`] the real standard input and output and the system's files, and ends with its answer.
 //!
-//! The adapters in `input.rt` and `output.rt` keep the contracts of a source and of a sink, and tell no bytes; those that the reader or
-//! writer behind them knows go through unchanged. What the system really gives and takes is trusted. Nothing is written to standard error.
+//! `main` makes the objects, and `perform` runs over them with `run`'s own clauses. The adapters in `input.rt`, `output.rt` and
+//! `file_shelf.rt` keep the contracts of a source, of a sink and of a shelf, and tell no bytes; those that the reader, writer or file
+//! behind them knows go through unchanged. What the system really gives and takes is trusted. Nothing is written to standard error.
 #![tactic(auto)]
 
-ghost use Rattle.std.specs.Prelude.{◌≡◌, ◌↔◌, map};
+ghost use Rattle.std.specs.Prelude.{◌≡◌, ◌≢◌, ◌≤◌, ◌⊎◌, ℕ, map};
 ghost use Rattle.std.specs.String.{string_bytes};
-ghost use Rattle.aspa_top.specs.Program.{IsRun, IsStatus};
+ghost use Rattle.std.specs.Io.KnownBytes.{IsAtEnd};
+ghost use Rattle.av_base.specs.Told.{Rose};
+ghost use Rattle.aspa_top.specs.Program.{Completes, IsRun, IsStatus, RanIfTold};
+ghost use Rattle.aspa_top.specs.World.{names_of};
 
+mod file_shelf;
 mod input;
+mod opened_file;
 mod output;
 
-use aspa_top::run;
-use av_base::{NoLinks, NoShelf, Steps};
+use aspa_top::{SCRIPT_LIMIT, run};
+use av_base::{Links, NoLinks, Shelf, Sink, Source, Steps};
+use file_shelf::FileShelf;
 use input::InputSource;
 use output::OutputSink;
 use std::alloc::{AllocError, Global};
 use std::env;
-use std::io::{self, ErrorKind, Read, Write};
+use std::io::{self, ErrorKind};
 use std::marker::Brand;
 use std::process::ExitCode;
 use std::sync::ledger::{Blank, Ledger};
@@ -31,11 +38,13 @@ const NO_MEMORY: u8 = 5;
 fn main(rt: HostRuntime) -> ExitCode {
     let status = match env::args(&rt) {
         Ok(arguments) => match arguments.skip(1).collect(rt.alloc()) {
-            Ok(words) => perform::<_, _, Brand>(
+            Ok(words) => perform::<_, _, _, _, Brand>(
                 rt.alloc(),
                 &words,
-                rt.reader(),
-                io::writer(&rt),
+                &mut InputSource::new(rt.reader()),
+                &mut FileShelf::new(rt.alloc(), &rt),
+                &mut NoLinks::new(),
+                &mut OutputSink::new(io::writer(&rt)),
                 Blank::new(1),
             ),
             Err(AllocError) => NO_MEMORY,
@@ -47,28 +56,36 @@ fn main(rt: HostRuntime) -> ExitCode {
     ExitCode::from(status)
 }
 
-// Runs over a reader and a writer, with a counter of steps that costs nothing.
-fn perform<R: Read + Drop, W: Write + Drop, L: Ledger>(
+// Runs with a counter of steps that costs nothing. The clauses are those of `run`, whose counter is at 0 before it.
+fn perform<S: Source, F: Shelf, K: Links, W: Sink, L: Ledger>(
     alloc: Global,
     words: &Vec<String>,
-    reader: R,
-    writer: W,
+    script: &mut S,
+    shelf: &mut F,
+    links: &mut K,
+    out: &mut W,
     blank: Blank,
 ) -> u8
     requires name { blank.name ≡ L.name }
     requires parts { blank.parts ≡ L.parts }
     requires one { L.parts ≡ 1 }
+    ensures ran { (ticks : ℕ) × RanIfTold SCRIPT_LIMIT (S.left script.old) (F.files shelf.old)
+        (Rose (S.faults script.old) (S.faults script.new)) (Rose (F.faults shelf.old) (F.faults shelf.new))
+        (W.written out.old) (W.written out.new) 0 ticks result }
     ensures known { IsStatus result }
-    ensures other_words { (result ≡ 2) ↔ ¬ IsRun (map string_bytes words.now.items) }
+    ensures other_words { result ≡ 2 → ¬ IsRun (map string_bytes words.now.items) }
+    ensures run_words { result ≢ 2 → IsRun (map string_bytes words.now.items) }
+    ensures untouched { result ≡ 2 → (script.new ≡ script.old) × (shelf.new ≡ shelf.old) × (out.new ≡ out.old) }
+    ensures at_end { (result ≡ 0) ⊎ (result ≡ 1) → IsAtEnd (S.left script.new) }
+    ensures input_cause { result ≡ 3 → (Rose (S.faults script.old) (S.faults script.new) × (out.new ≡ out.old))
+        ⊎ Rose (F.faults shelf.old) (F.faults shelf.new) }
+    ensures sink_cause { result ≡ 4 → Rose (W.faults out.old) (W.faults out.new) }
+    ensures complete { IsRun (map string_bytes words.now.items) → Completes SCRIPT_LIMIT (S.left script.old)
+        (Rose (S.faults script.old) (S.faults script.new)) (Rose (F.faults shelf.old) (F.faults shelf.new))
+        (Rose (W.faults out.old) (W.faults out.new)) result }
+    ensures names { names_of (F.files shelf.new) ≡ names_of (F.files shelf.old) }
+    ensures links { links.new ≡ links.old }
 {
     let mut steps = Steps::<L>::new(blank);
-    run(
-        alloc,
-        words,
-        &mut InputSource::new(reader),
-        &mut NoShelf::new(),
-        &mut NoLinks::new(),
-        &mut OutputSink::new(writer),
-        &mut steps,
-    )
+    run(alloc, words, script, shelf, links, out, &mut steps)
 }

@@ -1,4 +1,12 @@
+mod AddressLemmas
+pub mod AnySpellingLemmas
+pub mod LackLemmas
 pub mod LineLemmas
 pub mod NumberLemmas
+mod OctetLemmas
+mod PartLemmas
 pub mod PositionLemmas
+mod PrefixLemmas
+mod PutLemmas
+pub mod SpellingLemmas
 pub mod WordLemmas

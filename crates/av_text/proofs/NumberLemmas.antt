@@ -1,13 +1,15 @@
 -- What digits that are read from the left say of the whole text.
-use Rattle.std.proofs.Common.{◌≡◌, ℕ, ◌+◌, ◌*◌, ◌^◌, ◌<◌, ◌≤◌, List, [], ◌∷◌, length, get_or, take, decimal, refl, sym, ap, subst, ◌∙◌, arith, ◌⊎◌, inl, inr}
+use Rattle.std.proofs.Common.{◌≡◌, ℕ, ◌+◌, ◌*◌, ◌^◌, ◌<◌, ◌≤◌, List, [], ◌∷◌, length, get_or, take, map, decimal, Option, Some, None, IfSome, IfNone, refl, sym, ap, subst, ◌∙◌, arith, ◌⊎◌, inl, inr}
 use Rattle.std.specs.Char.{digit_value}
+use Rattle.std.specs.List.{All}
+use Rattle.std.proofs.lemmas.List.Elements.{All-head, All-tail}
 use Rattle.std.specs.Str.Parse.{AllDigits, digits_value}
 use Rattle.std.proofs.lemmas.Int.Digits.{digits_value_more, digits_more}
 use Rattle.std.proofs.lemmas.Str.Parse.{IsNumeralModel, numerals_by_value, tells_digits, digit_at, digits_value-take-le}
-use Rattle.std.proofs.lemmas.Fmt.{decimal_is_IsNumeral, decimal_digit, first_decimal, decimal-digits_value}
+use Rattle.std.proofs.lemmas.Fmt.{decimal_is_IsNumeral, decimal_digit, first_decimal, decimal-digits_value, decimal_injective}
 use Rattle.std.proofs.lemmas.Str.{digit_value_digit}
 use Rattle.std.proofs.lemmas.Bool.{cases_eq, cases_lt}
-use Rattle.av_text.specs.Number.{IsNoNumber}
+use Rattle.av_text.specs.Number.{Is32Bit, IsNumber, IsNoNumber}
 
 -- the front is digits alone, and value is their number
 pub record IsReadSoFar (front : List ℕ) (value : ℕ) : Type 0 where
@@ -103,8 +105,27 @@ number_or_none text =
       ]
     ]
 
+-- the number that was put is the one that is read
+pub number_again : (text : List ℕ) (read : Option ℕ) → IfSome read (λ n. n ≡ digits_value 10 text) → IfNone read (IsNoNumber text) → (n : ℕ) → IsNumber text n → read ≡ Some n
+number_again text (Some m) is none n put = let known = text_of_number text n put.0 put.1 in ap Some (is ∙ known.2)
+number_again text None is none n put = absurd (none n put.0 put.1)
+
 -- what `read_u32` needs
 pub ruleset number_steps = (no_number-empty, no_number-zero, number-all)
 
 -- what `read_digits` needs
 pub ruleset digit_steps = (no_number-other, no_number-large, read_more)
+
+-- two lists of numbers of 32 bits with the same texts are equal
+pub map-decimal_injective : (ms ns : List ℕ) → All Is32Bit ms → All Is32Bit ns → map decimal ms ≡ map decimal ns → ms ≡ ns
+map-decimal_injective [] [] all_m all_n same = refl
+map-decimal_injective [] (n ∷ ns) all_m all_n same = cc
+map-decimal_injective (m ∷ ms) [] all_m all_n same = cc
+map-decimal_injective (m ∷ ms) (n ∷ ns) all_m all_n same =
+    let small_m : m < 2 ^ 32 = All-head Is32Bit m ms all_m in
+    let small_n : n < 2 ^ 32 = All-head Is32Bit n ns all_n in
+    let text : decimal m ≡ decimal n = cc in
+    let texts : map decimal ms ≡ map decimal ns = cc in
+    let first : m ≡ n = decimal_injective m n (omega arith) (omega arith) text in
+    let rest : ms ≡ ns = map-decimal_injective ms ns (All-tail Is32Bit m ms all_m) (All-tail Is32Bit n ns all_n) texts in
+    cc

@@ -1,4 +1,11 @@
+pub mod AddressText
+pub mod Lines
+pub mod Marks
+pub mod NameText
 pub mod Number
+pub mod Parts
+pub mod PeerText
+pub mod PrefixText
 pub mod RoleText
 pub mod Spellings
 pub mod VerdictText

@@ -1,4 +1,5 @@
-ghost use Rattle.std.specs.Prelude.{◌≡◌, ◌≤◌, ◌++◌, IfSome, IfNone, OnOk, OnErr, decimal};
+//! Numbers as text.
+ghost use Rattle.std.specs.Prelude.{◌≡◌, ◌≤◌, ◌++◌, ℕ, Some, IfSome, IfNone, OnOk, OnErr, decimal};
 ghost use Rattle.std.specs.Str.Parse.{AllDigits, digits_value};
 ghost use Rattle.av_text.specs.Number.{IsNumber, IsNoNumber};
 
@@ -11,6 +12,9 @@ use itoa::Buffer;
 pub fn read_u32(text: &[u8]) -> Option<u32>
     ensures number { IfSome result (IsNumber text.now) }
     ensures none { IfNone result (IsNoNumber text.now) }
+
+    // What was put is read again as itself.
+    ensures again { (n : ℕ) → IsNumber text.now n → result ≡ Some n }
 {
     if text.is_empty() {
         return None;

@@ -1,3 +1,4 @@
+//! The words of a line, one after another.
 ghost use Rattle.std.specs.Prelude.{◌≡◌, Bool, not, position};
 ghost use Rattle.av_text.specs.Words.{is_blank as blank};
 

@@ -1,4 +1,5 @@
-ghost use Rattle.std.specs.Prelude.{◌≡◌, ◌≢◌, IfSome, IfNone};
+//! Roles as text.
+ghost use Rattle.std.specs.Prelude.{◌≡◌, ◌≢◌, Some, IfSome, IfNone};
 ghost use Rattle.path_model.specs.declared.role.Role.{Role};
 ghost use Rattle.av_text.specs.RoleText.{role_text};
 
@@ -9,6 +10,9 @@ use path_model::Role;
 pub fn read_role(text: &[u8]) -> Option<Role>
     ensures spelled { IfSome result (λ role. text.now ≡ role_text role) }
     ensures none { IfNone result ((role : Role) → text.now ≢ role_text role) }
+
+    // What was put is read again as itself.
+    ensures again { (role : Role) → text.now ≡ role_text role → result ≡ Some role }
 {
     match text {
         b"provider" => Some(Role::Provider),

@@ -1,3 +1,4 @@
+//! A line cut into its words.
 ghost use Rattle.std.specs.Prelude.{◌≡◌};
 ghost use Rattle.av_text.specs.Words.{words_of, words_left};
 

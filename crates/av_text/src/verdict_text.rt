@@ -1,3 +1,4 @@
+//! Verdicts as text.
 ghost use Rattle.std.specs.Prelude.{◌≡◌, ◌++◌, OnOk, OnErr};
 ghost use Rattle.av_text.specs.VerdictText.{verdict_text};
 

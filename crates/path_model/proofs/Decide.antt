@@ -1,44 +1,13 @@
 -- Facts of which it can be found out whether they hold.
-use Rattle.std.proofs.Common.{◌≡◌, ℕ, zero, suc, ◌<◌, ◌⊎◌, inl, inr, arith, below_more, add-one}
+use Rattle.std.proofs.Common.{◌≡◌, ℕ, Bool, true, false, List, [], ◌∷◌, ◌⊎◌, inl, inr, refl, ap, arith}
+use Rattle.std.specs.declared.option.Option.{Option}
+use Rattle.std.specs.declared.option.Option.TheVariants.{Some, None}
 use Rattle.path_model.specs.declared.authority.Authority.{Authority}
 use Rattle.path_model.specs.declared.authority.Authority.TheVariants.{Silent, Refuses, Provides}
 
 -- the fact, or that it doesn't hold
 abbrev pub Decided : Type 0 → Type 0
 Decided P = P ⊎ (P → ⊥)
-
--- whether a fact holds at each number below n
-pub decided_each : (P : ℕ → Type 0) → ((k : ℕ) → Decided (P k)) → (n : ℕ) → Decided ((k : ℕ) → k < n → P k)
-decided_each P decide zero = inl (λ k below. absurd (omega arith))
-decided_each P decide (suc n) =
-    elim (decided_each P decide n) [
-      | inl before ↦ elim (decide n) [
-        | inl here ↦ inl (rw (← add-one n) (below_more P n before here))
-        | inr not_here ↦ inr (λ each. not_here (each n (omega arith)))
-      ]
-      | inr not_before ↦ inr (λ each. not_before (λ k below. each k (omega arith)))
-    ]
-
--- a number below n + 1 is n or below n
-k_or_below : (k n : ℕ) → k < suc n → (k ≡ n) ⊎ (k < n)
-k_or_below k n below = grind arith
-
--- where it holds neither at n nor below, it holds nowhere below n + 1
-some_or_last : (P : ℕ → Type 0) (n : ℕ) → (P n → ⊥) → ((k : ℕ) × (k < n) × P k → ⊥) → (k : ℕ) → k < suc n → P k → ⊥
-some_or_last P n not_here none k below holds =
-    elim (k_or_below k n below) [ inl same ↦ not_here (rw same at holds) | inr less ↦ none (k, less, holds) ]
-
--- whether it holds at some number below n
-pub decided_some : (P : ℕ → Type 0) → ((k : ℕ) → Decided (P k)) → (n : ℕ) → Decided ((k : ℕ) × (k < n) × P k)
-decided_some P decide zero = inr (λ some. absurd (omega (arith, some.1)))
-decided_some P decide (suc n) =
-    elim (decide n) [
-      | inl here ↦ inl (n, omega arith, here)
-      | inr not_here ↦ elim (decided_some P decide n) [
-        | inl some ↦ inl (some.0, omega (arith, some.1), some.2)
-        | inr none ↦ inr (λ some. some_or_last P n not_here none some.0 some.1 some.2)
-      ]
-    ]
 
 -- whether one fact holds or another
 pub decided_either : {P Q : Type 0} → Decided P → Decided Q → Decided (P ⊎ Q)
@@ -52,8 +21,37 @@ decided_both (inl p) (inl q) = inl (p, q)
 decided_both (inl p) (inr no_q) = inr (λ both. no_q both.1)
 decided_both (inr no_p) q = inr (λ both. no_p both.0)
 
+-- whether a fact fails
+pub decided_not : {P : Type 0} → Decided P → Decided (P → ⊥)
+decided_not (inl holds) = inr (λ fails. fails holds)
+decided_not (inr fails) = inl fails
+
+-- whether a list is empty
+pub decided_empty : (xs : List ℕ) → Decided (xs ≡ [])
+decided_empty [] = inl refl
+decided_empty (x ∷ xs) = inr (λ same. cc)
+
+-- whether a test succeeds
+pub decided_true : (b : Bool) → Decided (b ≡ true)
+decided_true true = inl refl
+decided_true false = inr (λ same. cc)
+
+same_or_not : (m n : ℕ) → Decided (m ≡ n)
+same_or_not m n = grind arith
+
+-- whether what was found is this number
+pub decided_some_is : (found : Option ℕ) (n : ℕ) → Decided (found ≡ Some n)
+decided_some_is None n = inr (λ same. cc)
+decided_some_is (Some m) n = elim (same_or_not m n) [ inl same ↦ inl (ap Some same) | inr other ↦ inr (λ same. other (cc)) ]
+
 -- whether the authority is that of a provider
 pub decided_provides : (authority : Authority) → Decided (authority ≡ Provides)
 decided_provides Silent = inr (λ same. cc)
 decided_provides Refuses = inr (λ same. cc)
-decided_provides Provides = inl (cc)
+decided_provides Provides = inl refl
+
+-- whether it is a refusal
+pub decided_refuses : (authority : Authority) → Decided (authority ≡ Refuses)
+decided_refuses Silent = inr (λ same. cc)
+decided_refuses Refuses = inl refl
+decided_refuses Provides = inr (λ same. cc)

@@ -1,24 +1,48 @@
-//! What a path's verdict is: the types that all layers share, and the definitions of the right verdict.
+//! What a path's verdict is: the types that all layers share, and the definitions of the right verdict and of its witness.
 //!
-//! The layer above uses one contract: [`judge_by_labellings`] answers the right verdict of a path by any [`Table`] of attestations.
-//! The right verdict is defined in `specs/RightVerdict.antt`; begin reading there, and then in `specs/Labelling.antt`.
+//! The crate judges nothing. The layers above use its definitions: the right verdict (`specs/RightVerdict.antt`), the facts of a witness
+//! (`specs/Witness.antt`) and the one that is printed (`specs/PrintedWitness.antt`), for any [`Table`] of attestations; and their laws,
+//! each the contract of a function of `laws`. Begin reading in `specs/RightVerdict.antt`, and then in `specs/Labelling.antt`.
 #![tactic(auto)]
 
+mod addr;
 mod as_list;
 mod authority;
-mod judgement;
-mod labelling;
+mod change;
+mod changes;
+mod gathered;
+mod key;
 mod laws;
+mod name;
+mod patch;
+mod peer;
+mod prefix;
 mod role;
+mod roles;
+mod rows;
 mod trail;
 mod verdict;
+mod witness;
 
+pub use addr::Addr;
 pub use as_list::AsList;
 pub use authority::{Authority, Table};
-pub use judgement::judge_by_labellings;
+pub use change::Change;
+pub use changes::Changes;
+pub use gathered::Gathered;
+pub use key::Key;
 pub use laws::{
-    assertions_attest, each_case_has_one_right_verdict, fullest_completion_decides, hops_decide,
+    computed_is_current, each_case_has_one_right_verdict, each_case_has_one_witness, facts_decide,
+    fullest_completion_decides, hops_decide, hops_decide_witnesses, parts_have_one_table,
+    printed_witness_has_facts, ramps_decide, right_verdict_has_witness,
 };
+pub use name::{MOST_NAME_BYTES, Name};
+pub use patch::{Patch, PatchEntries};
+pub use peer::Peer;
+pub use prefix::Prefix;
 pub use role::{Direction, Role};
+pub use roles::Roles;
+pub use rows::{RowEntries, Rows};
 pub use trail::Trail;
 pub use verdict::Verdict;
+pub use witness::Witness;

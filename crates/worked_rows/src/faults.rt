@@ -111,5 +111,10 @@ fn a_long_text(rt: HostRuntime) -> Result<(), NoMemory> {
     assert_eq!(rt; status, 4);
     assert_eq!(rt; written.len() < text.len(), true);
     assert_eq!(rt; text.starts_with(&written), true);
+
+    // Text is written before the last line: a second write comes, and fails.
+    let plan = [PlanStep::AtMost(1_000_000), PlanStep::Fail];
+    let (status, _) = outcome(alloc, &["run"], &script, &[], &plan)?;
+    assert_eq!(rt; status, 4);
     Ok(())
 }

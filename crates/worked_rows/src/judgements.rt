@@ -1,129 +1,243 @@
+//! Paths in a small world, each with its right verdict and printed witness.
+use crate::wording::in_words;
 use crate::world::World;
 use av_base::NoMemory;
 use path_model::Role::{Customer, Mutual, Peer, Provider, Rs, RsClient};
-use path_model::Verdict::{Invalid, Unknown, Valid};
-use path_model::{AsList, Role, Trail, Verdict, judge_by_labellings};
+use path_model::{AsList, Role, Trail};
+use ramps::{decide, explain};
 use std::alloc::Global;
 use std::process::Abort;
+use witness_checker::confirm;
 
-// The neighbour's role, the neighbour, the path as it is written, neighbour first, and the right verdict.
-type Case = (Role, u32, &'static [u32], Verdict);
+// The neighbour's role, the neighbour, the path as it is written, neighbour first, and the right verdict with its printed witness. Hop 1
+// is at the origin, so at the end of the path.
+type Case = (Role, u32, &'static [u32], &'static str);
 
-// A path that came from a customer, a peer or a route server, or to a route server's client, may only have climbed.
-const UPSTREAM: [Case; 27] = [
+// A path that came from a customer, a peer, a route server or a route server's client may only have climbed. So a valid path has
+// climbs alone, and the first hop that doesn't climb tells of the others.
+const UPSTREAM: [Case; 29] = [
     // One AS has no hop.
-    (Customer, 1, &[1], Valid),
-    (Customer, 10, &[10], Valid),
+    (Customer, 1, &[1], "valid climbs 0 free 0 descents 0"),
+    (Customer, 10, &[10], "valid climbs 0 free 0 descents 0"),
     // 1 attests 2.
-    (Customer, 2, &[2, 1], Valid),
+    (Customer, 2, &[2, 1], "valid climbs 1 free 0 descents 0"),
     // 2 attests 3 too.
-    (Customer, 3, &[3, 2, 1], Valid),
+    (Customer, 3, &[3, 2, 1], "valid climbs 2 free 0 descents 0"),
     // Three hops up from 20.
-    (Customer, 3, &[3, 2, 1, 20], Valid),
-    // Prepends count once.
-    (Customer, 2, &[2, 2, 1, 1, 1], Valid),
+    (
+        Customer,
+        3,
+        &[3, 2, 1, 20],
+        "valid climbs 3 free 0 descents 0",
+    ),
+    // Prepends count once, and are no hops.
+    (
+        Customer,
+        2,
+        &[2, 2, 1, 1, 1],
+        "valid climbs 1 free 0 descents 0",
+    ),
     // 3 has no provider, and so not 4.
-    (Customer, 4, &[4, 3, 2, 1], Invalid),
+    (Customer, 4, &[4, 3, 2, 1], "invalid blocked 3"),
     // 1 attests 2 alone, and not a silent 11.
-    (Customer, 11, &[11, 1], Invalid),
+    (Customer, 11, &[11, 1], "invalid blocked 1"),
     // 10 is silent and might attest 1.
-    (Customer, 1, &[1, 10], Unknown),
+    (
+        Customer,
+        1,
+        &[1, 10],
+        "unknown unsettled 1 climbs 1 free 0 descents 0",
+    ),
     // A silent AS might attest a silent one.
-    (Customer, 11, &[11, 10], Unknown),
+    (
+        Customer,
+        11,
+        &[11, 10],
+        "unknown unsettled 1 climbs 1 free 0 descents 0",
+    ),
     // The silent AS at the origin, and a climb that is attested behind it.
-    (Customer, 3, &[3, 2, 10], Unknown),
+    (
+        Customer,
+        3,
+        &[3, 2, 10],
+        "unknown unsettled 1 climbs 2 free 0 descents 0",
+    ),
+    // 9 attests 8, and 8 refuses 10: what 10 might attest doesn't matter.
+    (Customer, 11, &[11, 10, 8, 9], "invalid blocked 2"),
     // The silent AS in the middle doesn't matter where 1 refuses it.
-    (Customer, 3, &[3, 10, 1], Invalid),
-    // A silent AS in the middle, which a silent one might attest.
-    (Customer, 3, &[3, 11, 10], Unknown),
-    // The silent AS at the end has nothing to attest: 3 refuses it.
-    (Customer, 10, &[10, 3, 2, 1], Invalid),
+    (Customer, 3, &[3, 10, 1], "invalid blocked 1"),
+    // A silent AS in the middle, which a silent one might attest: the first of the two is named.
+    (
+        Customer,
+        3,
+        &[3, 11, 10],
+        "unknown unsettled 1 climbs 2 free 0 descents 0",
+    ),
+    // Not the silent AS at the end, but 3, which refuses it.
+    (Customer, 10, &[10, 3, 2, 1], "invalid blocked 3"),
     // Up and down again: 2 doesn't attest 1.
-    (Customer, 1, &[1, 2, 1], Invalid),
+    (Customer, 1, &[1, 2, 1], "invalid blocked 2"),
+    // Two hops refuse, and the first is named.
+    (Customer, 4, &[4, 3, 4, 5], "invalid blocked 2"),
     // A loop of two that attest each other climbs all the way.
-    (Customer, 8, &[8, 9, 8], Valid),
-    // A loop in which 10 is silent: 1 refuses 10.
-    (Customer, 10, &[10, 1, 10], Invalid),
+    (Customer, 8, &[8, 9, 8], "valid climbs 2 free 0 descents 0"),
+    // A loop in which 10 is silent: that 1 refuses 10 decides, and not the silence before it.
+    (Customer, 10, &[10, 1, 10], "invalid blocked 2"),
     // A peer sends what its customers sent.
-    (Peer, 3, &[3, 2, 1], Valid),
+    (Peer, 3, &[3, 2, 1], "valid climbs 2 free 0 descents 0"),
     // A peer that sends what another peer sent leaks: 4 has no provider.
-    (Peer, 3, &[3, 4, 5], Invalid),
+    (Peer, 3, &[3, 4, 5], "invalid blocked 2"),
     // 7 sends its provider's route to a peer: 3 doesn't attest 7.
-    (Peer, 7, &[7, 3], Invalid),
+    (Peer, 7, &[7, 3], "invalid blocked 1"),
     // The neighbour that sent the path isn't its last AS.
-    (Peer, 2, &[3, 2, 1], Invalid),
-    (Customer, 9, &[8, 9], Invalid),
+    (Peer, 2, &[3, 2, 1], "invalid neighbour"),
+    (Customer, 9, &[8, 9], "invalid neighbour"),
     // A route server isn't in the path.
-    (Rs, 99, &[3, 2, 1], Valid),
-    (Rs, 99, &[1, 10], Unknown),
-    (Rs, 99, &[4, 3], Invalid),
+    (Rs, 99, &[3, 2, 1], "valid climbs 2 free 0 descents 0"),
+    (
+        Rs,
+        99,
+        &[1, 10],
+        "unknown unsettled 1 climbs 1 free 0 descents 0",
+    ),
+    (Rs, 99, &[4, 3], "invalid blocked 1"),
     // A client of a route server is.
-    (RsClient, 3, &[3, 2, 1], Valid),
-    (RsClient, 99, &[3, 2, 1], Invalid),
+    (RsClient, 3, &[3, 2, 1], "valid climbs 2 free 0 descents 0"),
+    (RsClient, 99, &[3, 2, 1], "invalid neighbour"),
 ];
 
-// A path that came from a provider may have climbed, crossed one free hop and descended.
-const DOWNSTREAM: [Case; 28] = [
-    (Provider, 1, &[1], Valid),
+// A path that came from a provider may have climbed, crossed one free hop and descended. The printed climb is the longest.
+const DOWNSTREAM: [Case; 32] = [
+    (Provider, 1, &[1], "valid climbs 0 free 0 descents 0"),
     // Any one hop is free, between silent ASes too.
-    (Provider, 11, &[11, 10], Valid),
-    (Provider, 4, &[4, 3], Valid),
+    (Provider, 11, &[11, 10], "valid climbs 0 free 1 descents 0"),
+    (Provider, 4, &[4, 3], "valid climbs 0 free 1 descents 0"),
     // Climbs alone.
-    (Provider, 3, &[3, 2, 1], Valid),
-    // Descents alone: 2 attests 3, and 1 attests 2.
-    (Provider, 1, &[1, 2, 3], Valid),
-    // A peak: up from 1 to 2 and down again.
-    (Provider, 1, &[1, 2, 1], Valid),
+    (Provider, 3, &[3, 2, 1], "valid climbs 2 free 0 descents 0"),
+    // Descents alone: 1 attests 2, and 2 attests 3. As no hop climbs, the first counts as free.
+    (Provider, 1, &[1, 2, 3], "valid climbs 0 free 1 descents 1"),
+    // A peak: up from 1 to 2 and down again. The hop down counts as free, since it is the one behind the longest climb.
+    (Provider, 1, &[1, 2, 1], "valid climbs 1 free 1 descents 0"),
+    // 8 and 9 attest each other: each hop climbs and descends, and it is shown as a climb.
+    (
+        Provider,
+        8,
+        &[8, 9, 8, 9],
+        "valid climbs 3 free 0 descents 0",
+    ),
     // A plateau of two: 3 and 4 are peers.
-    (Provider, 4, &[4, 3, 2, 1], Valid),
+    (
+        Provider,
+        4,
+        &[4, 3, 2, 1],
+        "valid climbs 2 free 1 descents 0",
+    ),
     // The first hops refuse to descend and the last one refuses to climb, but in this order that is no leak.
-    (Provider, 5, &[5, 4, 3, 2, 1], Valid),
-    (Provider, 6, &[6, 5, 4, 3, 2, 1], Valid),
+    (
+        Provider,
+        5,
+        &[5, 4, 3, 2, 1],
+        "valid climbs 2 free 1 descents 1",
+    ),
+    (
+        Provider,
+        6,
+        &[6, 5, 4, 3, 2, 1],
+        "valid climbs 2 free 1 descents 2",
+    ),
     // Six hops, two on each side of the plateau and one more.
-    (Provider, 6, &[6, 5, 4, 3, 2, 1, 20], Valid),
-    // A silent origin under it.
-    (Provider, 6, &[6, 5, 4, 3, 2, 1, 10], Unknown),
-    // A silent AS below the plateau on the other side.
-    (Provider, 10, &[10, 4, 3, 2, 1], Unknown),
+    (
+        Provider,
+        6,
+        &[6, 5, 4, 3, 2, 1, 20],
+        "valid climbs 3 free 1 descents 2",
+    ),
+    // A silent origin under it: hop 1 would have to climb, since the plateau takes hop 4, which doesn't descend.
+    (
+        Provider,
+        6,
+        &[6, 5, 4, 3, 2, 1, 10],
+        "unknown unsettled 1 4 climbs 3 free 1 descents 2",
+    ),
+    // A silent AS below the plateau on the other side: it would have to attest 4.
+    (
+        Provider,
+        10,
+        &[10, 4, 3, 2, 1],
+        "unknown unsettled 3 4 climbs 2 free 1 descents 1",
+    ),
     // The free hop joins the silent origin to 4, and 5 attests 4.
-    (Provider, 5, &[5, 4, 10], Valid),
+    (Provider, 5, &[5, 4, 10], "valid climbs 0 free 1 descents 1"),
     // 3 and 4 take the free hop, so the silent origin has to climb.
-    (Provider, 4, &[4, 3, 10], Unknown),
+    (
+        Provider,
+        4,
+        &[4, 3, 10],
+        "unknown unsettled 1 2 climbs 1 free 1 descents 0",
+    ),
+    // Silent ASes at both ends of a climb: the one hop that is free can't be both.
+    (
+        Provider,
+        11,
+        &[11, 2, 1, 10],
+        "unknown unsettled 1 3 climbs 2 free 1 descents 0",
+    ),
     // A plateau of three is too long: no hop of it is attested, and one alone is free.
-    (Provider, 3, &[3, 4, 3], Invalid),
+    (Provider, 3, &[3, 4, 3], "invalid blocked 1 2"),
+    // One of four: the outermost hops are named.
+    (Provider, 4, &[4, 3, 4, 3], "invalid blocked 1 3"),
     // A valley: 7 sends its provider 3's route to its provider 4, who would have to attest 7.
-    (Provider, 4, &[4, 7, 3], Invalid),
+    (Provider, 4, &[4, 7, 3], "invalid blocked 1 2"),
     // The same with a climb before it and a descent behind it.
-    (Provider, 5, &[5, 4, 7, 3, 2], Invalid),
+    (Provider, 5, &[5, 4, 7, 3, 2], "invalid blocked 2 3"),
     // A valley at a silent AS: neither 3 nor 4 attests it.
-    (Provider, 3, &[3, 10, 4], Invalid),
+    (Provider, 3, &[3, 10, 4], "invalid blocked 1 2"),
     // The free hop leads to the silent 10, which 5 doesn't attest.
-    (Provider, 5, &[5, 10, 1], Invalid),
+    (Provider, 5, &[5, 10, 1], "invalid blocked 1 2"),
     // The free hop leads to the silent 10, which the silent 11 might attest.
-    (Provider, 11, &[11, 10, 1], Unknown),
+    (
+        Provider,
+        11,
+        &[11, 10, 1],
+        "unknown unsettled 1 2 climbs 0 free 1 descents 1",
+    ),
     // Of three silent ASes one hop is free, and the other might be attested.
-    (Provider, 12, &[12, 11, 10], Unknown),
+    (
+        Provider,
+        12,
+        &[12, 11, 10],
+        "unknown unsettled 1 2 climbs 2 free 0 descents 0",
+    ),
     // The first hop is free, and the second descends.
-    (Provider, 5, &[5, 4, 3], Valid),
+    (Provider, 5, &[5, 4, 3], "valid climbs 0 free 1 descents 1"),
     // The neighbour that sent the path isn't its last AS.
-    (Provider, 9, &[3, 2, 1], Invalid),
+    (Provider, 9, &[3, 2, 1], "invalid neighbour"),
     // Both provider and customer: as from a provider.
-    (Mutual, 4, &[4, 3, 2, 1], Valid),
-    (Mutual, 8, &[8, 9], Valid),
-    (Mutual, 3, &[3, 4, 3], Invalid),
-    (Mutual, 12, &[12, 11, 10], Unknown),
-    (Mutual, 2, &[1, 2, 3], Invalid),
+    (Mutual, 4, &[4, 3, 2, 1], "valid climbs 2 free 1 descents 0"),
+    (Mutual, 8, &[8, 9], "valid climbs 1 free 0 descents 0"),
+    (Mutual, 1, &[1, 2, 7], "valid climbs 0 free 1 descents 1"),
+    (Mutual, 3, &[3, 4, 3], "invalid blocked 1 2"),
+    (
+        Mutual,
+        12,
+        &[12, 11, 10],
+        "unknown unsettled 1 2 climbs 2 free 0 descents 0",
+    ),
+    (Mutual, 2, &[1, 2, 3], "invalid neighbour"),
 ];
 
-// Each case of a table.
+// Each case of a table: its verdict, its printed witness, and that the checker confirms them.
 fn judge_all(rt: &impl Abort, alloc: Global, cases: &[Case]) -> Result<(), NoMemory> {
     for case in cases {
-        let (role, neighbour, path, verdict) = *case;
+        let (role, neighbour, path, text) = *case;
         assert!(rt; path.len() <= 65_535);
         let trail = Trail::new(alloc, false, path)?;
-        assert_eq!(rt;
-            judge_by_labellings(&World, role, neighbour, &trail),
-            verdict,
+        let verdict = decide(&World, role, neighbour, &trail);
+        let witness = explain(&World, role, neighbour, &trail);
+        let words = in_words(alloc, verdict, witness)?;
+        assert_eq!(rt; words.as_str(), text, "{path:?}");
+        assert!(rt;
+            confirm(&World, role, neighbour, &trail, verdict, witness),
             "{path:?}"
         );
     }
@@ -140,14 +254,22 @@ fn paths_downstream(rt: HostRuntime) -> Result<(), NoMemory> {
     judge_all(&rt, rt.alloc(), &DOWNSTREAM)
 }
 
-// An empty path and one with an AS_SET are invalid whoever sent them.
+// An empty path and one with an AS_SET are invalid whoever sent them. The first of the causes is named.
 #[test]
 fn paths_that_no_role_saves(rt: HostRuntime) -> Result<(), NoMemory> {
-    for role in [Provider, Customer, Peer, Rs, RsClient, Mutual] {
-        let empty = Trail::new(rt.alloc(), false, &[])?;
-        assert_eq!(rt; judge_by_labellings(&World, role, 3, &empty), Invalid);
-        let with_set = Trail::new(rt.alloc(), true, &[3, 2, 1])?;
-        assert_eq!(rt; judge_by_labellings(&World, role, 3, &with_set), Invalid);
+    let alloc = rt.alloc();
+    for (set, path, text) in [
+        (false, [].as_slice(), "invalid empty"),
+        (true, [].as_slice(), "invalid empty"),
+        (true, [3, 2, 1].as_slice(), "invalid set"),
+        (true, [9, 2, 1].as_slice(), "invalid set"),
+    ] {
+        let trail = Trail::new(alloc, set, path)?;
+        for role in [Provider, Customer, Peer, Rs, RsClient, Mutual] {
+            let verdict = decide(&World, role, 3, &trail);
+            let words = in_words(alloc, verdict, explain(&World, role, 3, &trail))?;
+            assert_eq!(rt; words.as_str(), text);
+        }
     }
     Ok(())
 }

@@ -1,7 +1,7 @@
 ghost use Rattle.std.specs.Prelude.{◌≡◌};
 
 use aspa_top::{SCRIPT_LIMIT, run};
-use av_base::{MemSink, MemSource, NoLinks, NoMemory, NoShelf, Plan, PlanStep, Steps};
+use av_base::{MemShelf, MemSink, MemSource, NoLinks, NoMemory, Plan, PlanStep, Steps};
 use std::alloc::Global;
 use std::marker::Brand;
 use std::sync::ledger::{Blank, Ledger};
@@ -20,7 +20,15 @@ pub fn outcome(
     }
     let mut source = MemSource::new(alloc, script, Plan::new(alloc, reads)?)?;
     let mut sink = MemSink::new(alloc, Plan::new(alloc, writes)?);
-    let status = run_counted::<Brand>(alloc, &owned, &mut source, &mut sink, Blank::new(1));
+    let mut shelf = MemShelf::new(alloc, Plan::new(alloc, &[])?);
+    let status = run_counted::<Brand>(
+        alloc,
+        &owned,
+        &mut source,
+        &mut shelf,
+        &mut sink,
+        Blank::new(1),
+    );
     Ok((status, Vec::from_slice(alloc, sink.written())?))
 }
 
@@ -29,6 +37,7 @@ fn run_counted<L: Ledger>(
     alloc: Global,
     words: &Vec<String>,
     script: &mut MemSource,
+    shelf: &mut MemShelf,
     sink: &mut MemSink,
     blank: Blank,
 ) -> u8
@@ -37,11 +46,8 @@ fn run_counted<L: Ledger>(
     requires one { L.parts ≡ 1 }
 {
     let mut steps = Steps::<L>::new(blank);
-    let mut shelf = NoShelf::new();
     let mut links = NoLinks::new();
-    run(
-        alloc, words, script, &mut shelf, &mut links, sink, &mut steps,
-    )
+    run(alloc, words, script, shelf, &mut links, sink, &mut steps)
 }
 
 // A script, what it writes, and its status.

@@ -1,5 +1,11 @@
-use av_text::{put_u64, put_verdict, read_role, read_u32, words};
-use path_model::{Role, Verdict};
+//! Numbers, roles, addresses, prefixes, peers, names and words as text.
+use av_base::NoMemory;
+use av_text::{
+    next_line, put_addr, put_peer, put_prefix, put_u64, put_verdict, read_addr, read_name,
+    read_prefix, read_role, read_u32, words,
+};
+use path_model::{Addr, Peer, Prefix, Role, Verdict};
+use report_text::{Place, put_refusal};
 use std::test::Fail;
 
 #[test]
@@ -65,4 +71,167 @@ fn reads_roles(rt: HostRuntime) {
     for (text, role) in table {
         assert_eq!(rt; read_role(text), role);
     }
+}
+
+const LOOPBACK: u128 = 1;
+
+const DOCUMENTED: u128 = 0x2001_0db8_0000_0000_0000_0000_0000_0000;
+
+#[test]
+fn reads_addresses(rt: HostRuntime) {
+    let table: [(&[u8], Option<Addr>); 22] = [
+        (b"0.0.0.0", Some(Addr::V4(0))),
+        (b"192.0.2.1", Some(Addr::V4(0xc000_0201))),
+        (b"255.255.255.255", Some(Addr::V4(u32::MAX))),
+        (b"256.0.0.0", None),
+        (b"192.0.2.01", None),
+        (b"192.0.2", None),
+        (b"192.0.2.", None),
+        (b"192.0.2.1.", None),
+        (b"192.0..1", None),
+        (b" 192.0.2.1", None),
+        (
+            b"0000:0000:0000:0000:0000:0000:0000:0001",
+            Some(Addr::V6(LOOPBACK)),
+        ),
+        (
+            b"2001:0db8:0000:0000:0000:0000:0000:0000",
+            Some(Addr::V6(DOCUMENTED)),
+        ),
+        (
+            b"ffff:ffff:ffff:ffff:ffff:ffff:ffff:ffff",
+            Some(Addr::V6(u128::MAX)),
+        ),
+        // No short forms, no capitals, no IPv4 part.
+        (b"::1", None),
+        (b"2001:db8:0000:0000:0000:0000:0000:0000", None),
+        (b"2001:0DB8:0000:0000:0000:0000:0000:0000", None),
+        (b"2001:0db8:0000:0000:0000:0000:0000", None),
+        (b"2001:0db8:0000:0000:0000:0000:0000:0000:0000", None),
+        (b"2001:0dg8:0000:0000:0000:0000:0000:0000", None),
+        (b"0000:0000:0000:0000:0000:ffff:192.0.2.1", None),
+        (b"1", None),
+        (b"", None),
+    ];
+    for (text, addr) in table {
+        assert_eq!(rt; read_addr(text), addr);
+    }
+}
+
+#[test]
+fn reads_prefixes(rt: HostRuntime) {
+    let table: [(&[u8], Option<Prefix>); 16] = [
+        (b"0.0.0.0/0", Prefix::new(Addr::V4(0), 0)),
+        (b"192.0.2.0/24", Prefix::new(Addr::V4(0xc000_0200), 24)),
+        (b"192.0.2.1/32", Prefix::new(Addr::V4(0xc000_0201), 32)),
+        (b"192.0.2.1/24", None),
+        (b"0.0.0.1/0", None),
+        (b"192.0.2.0/33", None),
+        (b"192.0.2.0/024", None),
+        (b"192.0.2.0/256", None),
+        (b"192.0.2.0/", None),
+        (b"192.0.2.0", None),
+        (b"/24", None),
+        (
+            b"2001:0db8:0000:0000:0000:0000:0000:0000/32",
+            Prefix::new(Addr::V6(DOCUMENTED), 32),
+        ),
+        (
+            b"0000:0000:0000:0000:0000:0000:0000:0001/128",
+            Prefix::new(Addr::V6(LOOPBACK), 128),
+        ),
+        (b"0000:0000:0000:0000:0000:0000:0000:0001/127", None),
+        (b"0000:0000:0000:0000:0000:0000:0000:0000/129", None),
+        (b"2001:0db8::/32", None),
+    ];
+    for (text, prefix) in table {
+        assert_eq!(rt; read_prefix(text), prefix);
+    }
+}
+
+#[test]
+fn puts_addresses_prefixes_and_peers(rt: HostRuntime) -> Result<(), NoMemory> {
+    let mut out = Vec::new(rt.alloc());
+    put_addr(&mut out, &Addr::V4(0xc000_0201))?;
+    out.push(b'\n')?;
+    put_addr(&mut out, &Addr::V6(DOCUMENTED + 0xabc))?;
+    out.push(b'\n')?;
+    let peer = Peer {
+        addr: Addr::V6(LOOPBACK),
+        asn: u32::MAX,
+    };
+    put_peer(&mut out, &peer)?;
+    for (addr, len) in [(Addr::V4(0x0a0b_0c0d), 8), (Addr::V6(u128::MAX), 126)] {
+        out.push(b'\n')?;
+        if let Some(prefix) = Prefix::new(addr, len) {
+            put_prefix(&mut out, &prefix)?;
+        }
+    }
+    assert_eq!(rt;
+        out.as_slice(),
+        b"192.0.2.1\n2001:0db8:0000:0000:0000:0000:0000:0abc\n0000:0000:0000:0000:0000:0000:0000:0001 4294967295\n10.0.0.0/8\nffff:ffff:ffff:ffff:ffff:ffff:ffff:fffc/126".as_slice()
+    );
+    Ok(())
+}
+
+#[test]
+fn reads_names(rt: HostRuntime) -> Result<(), NoMemory> {
+    let alloc = rt.alloc();
+    for text in [b"a".as_slice(), b"rrc00", b"A.b_c-9", &[b'x'; 64]] {
+        let name = read_name(alloc, text)?;
+        assert!(rt; matches!(&name, Some(name) if name.text().as_bytes() == text));
+    }
+    for text in [
+        b"".as_slice(),
+        b"a b",
+        b"a/b",
+        b"\xc3\xa9",
+        b"a\n",
+        &[b'x'; 65],
+    ] {
+        assert!(rt; read_name(alloc, text)?.is_none());
+    }
+    Ok(())
+}
+
+#[test]
+fn cuts_lines(rt: HostRuntime) {
+    let table: [(&[u8], bool, Option<(&[u8], &[u8])>); 8] = [
+        (b"", true, None),
+        (b"ab\ncd", true, Some((b"ab", b"cd"))),
+        (b"ab\r\n", true, Some((b"ab", b""))),
+        (b"ab\r\r\n", true, Some((b"ab\r", b""))),
+        (b"\n\n", true, Some((b"", b"\n"))),
+        (b"ab\r", true, Some((b"ab\r", b""))),
+        (b"ab", false, None),
+        (b"a\nb", false, Some((b"a", b"b"))),
+    ];
+    for (text, whole, cut) in table {
+        assert_eq!(rt; next_line(text, whole), cut);
+    }
+}
+
+#[test]
+fn puts_refusals(rt: HostRuntime) {
+    let alloc = rt.alloc();
+    let mut out = Vec::new(alloc);
+    let slurm = Place::Unit {
+        name: "slurm",
+        unit: 1,
+    };
+    let dump = Place::Unit {
+        name: "rrc-00.a_b",
+        unit: 12,
+    };
+    assert!(rt; put_refusal(alloc, &mut out, 1, Place::Line, 34).is_ok());
+    assert!(rt; put_refusal(alloc, &mut out, 2, slurm, 11).is_ok());
+    assert!(rt; put_refusal(alloc, &mut out, u64::MAX, dump, 27).is_ok());
+    assert_eq!(rt;
+        out.as_slice(),
+        b"! line 1 cause 34 Number
+! line 2 slurm unit 1 cause 11 Json
+! line 18446744073709551615 rrc-00.a_b unit 12 cause 27 CutShort
+"
+            .as_slice()
+    );
 }

@@ -1,41 +1,95 @@
-use Rattle.std.proofs.Common.{ap, ◌∙◌, arith}
-use Rattle.std.specs.Io.KnownBytes.{append_known}
-use Rattle.aspa_top.specs.Lines.{lines_in}
-use Rattle.aspa_top.proofs.PerformingLemmas.{Performing-start, Performing-next, Performing-write, Performing-went, Performing-ended}
+use Rattle.std.proofs.Common.{◌≡◌, Err, refl, ap, ◌∙◌, arith}
+use Rattle.av_base.proofs.PouringLemmas.{Grows-refl, Grows-trans}
+use Rattle.aspa_top.proofs.RunLemmas.{Tells-names, part_same, Performing-start, Performing-next, Performing-same, Reached-between, Reached-within, Reached-went, Reached-cut, Performing-stopped, Performing-ended}
 use Rattle.aspa_top.proofs.evaluation.evaluate.Goals as goal
-use Rattle.aspa_top.proofs.evaluation.evaluate.Goals.{After-write_piece}
 
 pub loop-line-init : goal.loop-line-init
-loop-line-init g c = record {
-  so_far = rw c.new-text.ensures.items (Performing-start (lines_in c.args.whole c.args.script.now) (g.W.Sink.written c.args.out.now) c.args.steps.now c.new-working.result c.new-working.ensures);
-  faults = omega arith;
-  count = omega (arith, c.new-working.ensures.lines);
-  fewer = omega (arith, c.new-working.ensures.lines, c.new-working.ensures.refused);
-}
+loop-line-init g c =
+    let none : c.new-working.result.lines ≡ 0 = c.new-working.ensures.lines in
+    let no_refused : c.new-working.result.refused ≡ 0 = c.new-working.ensures.refused in
+    record {
+      so_far = λ world tells. Performing-start _ _ _ _ _ _ c.new-working.ensures c.new-text.ensures.items;
+      names = refl;
+      shelf_faults = omega arith;
+      grows = Grows-refl _;
+      sink_faults = omega arith;
+      count = omega (arith, none);
+      fewer = omega (arith, none, no_refused);
+    }
 
 pub loop-line-preserved : goal.loop-line-preserved
 loop-line-preserved g c = record {
-  so_far = Performing-write _ _ _ _ _ _ _ _ _ _
-      (Performing-next _ _ _ _ _ _ _ _ _ _ _ _ _ c.loop-line.invariant.so_far c.in-Some.ensures.first c.in_ok-working.ensures.goes) c.in_ok-write_piece.ensures.ok;
-  faults = omega (arith, c.loop-line.invariant.faults, c.in_ok-write_piece.ensures.cause.later);
-  count = omega (arith, c.loop-line.invariant.count, c.in-Some.ensures.less, c.in_ok-working.ensures.counts.0);
-  fewer = c.in_ok-working.ensures.counts.1;
+  so_far = λ world tells. Performing-same _ _ _ _ _ _ _ _ _
+      (Performing-next _ _ _ _ _ _ _ _ _ _ _ _ _ _ (c.loop-line.invariant.so_far world tells) c.in-Some.ensures.first
+      (Tells-names _ _ world c.loop-line.invariant.names tells) c.in-Ok.ensures.goes) c.pour_piece.ensures.same;
+  names = c.perform_line.ensures.names ∙ c.loop-line.invariant.names;
+  shelf_faults = omega (arith, c.loop-line.invariant.shelf_faults, c.perform_line.ensures.shelf_faults);
+  grows = Grows-trans c.loop-line.invariant.grows (Grows-trans c.perform_line.ensures.grows c.pour_piece.ensures.grows);
+  sink_faults = omega (arith, c.loop-line.invariant.sink_faults, c.perform_line.ensures.sink_faults, c.pour_piece.ensures.cause.later);
+  count = omega (arith, c.loop-line.invariant.count, c.in-Some.ensures.less, c.in-Ok.ensures.counts.0);
+  fewer = c.in-Ok.ensures.counts.1;
 }
 
-pub returns-in_err-write_piece-clause-went : goal.returns-in_err-write_piece-clause-went
-returns-in_err-write_piece-clause-went g c =
-    Performing-went _ _ _ _ _ _ _ _ _ _
-    (Performing-next _ _ _ _ _ _ _ _ _ _ _ _ _ c.loop-line.invariant.so_far c.in-Some.ensures.first c.in_ok-working.ensures.goes) c.in_err-write_piece.ensures.front (omega arith)
+pub returns-in_err-pour-in-Err-Shelf-clause-went : goal.returns-in_err-pour-in-Err-Shelf-clause-went
+returns-in_err-pour-in-Err-Shelf-clause-went g c = λ world tells.
+    Reached-went _ _ _ _ _ _ _ (Reached-within _ _ _ _ _ _ _ _ _ _ _ _ _ (c.loop-line.invariant.so_far world tells) c.in-Some.ensures.first
+    (Tells-names _ _ world c.loop-line.invariant.names tells) (part_same _ _ _ _ _ _ c.perform_line.ensures.part c.pour.ensures.same) c.perform_line.ensures.ticks) (Grows-trans c.loop-line.invariant.grows (Grows-trans c.perform_line.ensures.grows c.pour.ensures.grows))
 
-pub returns-in_err-put_all-clause-went : goal.returns-in_err-put_all-clause-went
-returns-in_err-put_all-clause-went g c =
-    Performing-went _ _ _ _ _ _ _ _ _ _ c.loop-line.invariant.so_far (rw c.as_slice.ensures.value at c.in_err-put_all.ensures.front) (omega arith)
+pub returns-in_err-pour-in-Err-Shelf-clause-cut : goal.returns-in_err-pour-in-Err-Shelf-clause-cut
+returns-in_err-pour-in-Err-Shelf-clause-cut g c = λ failed world tells.
+    Reached-cut _ _ _ _ _ _ _ (Reached-within _ _ _ _ _ _ _ _ _ _ _ _ _ (c.loop-line.invariant.so_far world tells) c.in-Some.ensures.first
+    (Tells-names _ _ world c.loop-line.invariant.names tells) (part_same _ _ _ _ _ _ c.perform_line.ensures.part c.pour.ensures.same) c.perform_line.ensures.ticks) (Grows-trans c.loop-line.invariant.grows (Grows-trans c.perform_line.ensures.grows c.pour.ensures.grows)) c.in_err-pour-in-Err-Shelf.ensures.err
+
+pub returns-in-Err-Shelf-clause-went : goal.returns-in-Err-Shelf-clause-went
+returns-in-Err-Shelf-clause-went g c = λ world tells.
+    Reached-went _ _ _ _ _ _ _ (Reached-within _ _ _ _ _ _ _ _ _ _ _ _ _ (c.loop-line.invariant.so_far world tells) c.in-Some.ensures.first
+    (Tells-names _ _ world c.loop-line.invariant.names tells) (part_same _ _ _ _ _ _ c.perform_line.ensures.part c.pour.ensures.same) c.perform_line.ensures.ticks) (Grows-trans c.loop-line.invariant.grows (Grows-trans c.perform_line.ensures.grows c.pour.ensures.grows))
+
+pub returns-in-Err-Shelf-clause-stopped : goal.returns-in-Err-Shelf-clause-stopped
+returns-in-Err-Shelf-clause-stopped g c = λ failed world tells.
+    Performing-stopped _ _ _ _ _ _ _ _ _ _ _ _ _ (c.loop-line.invariant.so_far world tells) c.in-Some.ensures.first
+    (Tells-names _ _ world c.loop-line.invariant.names tells) (part_same _ _ _ _ _ _ c.perform_line.ensures.part c.pour.ensures.same)
+    (c.in-Err-Shelf.ensures.uses (ap Err c.in-Err-Shelf.field-0-is)) c.in_ok-pour-in-Err-Shelf.ensures.ok
+
+pub returns-in-Err-Sink-clause-went : goal.returns-in-Err-Sink-clause-went
+returns-in-Err-Sink-clause-went g c = λ world tells.
+    Reached-went _ _ _ _ _ _ _ (Reached-within _ _ _ _ _ _ _ _ _ _ _ _ _ (c.loop-line.invariant.so_far world tells) c.in-Some.ensures.first
+    (Tells-names _ _ world c.loop-line.invariant.names tells) c.perform_line.ensures.part c.perform_line.ensures.ticks) (Grows-trans c.loop-line.invariant.grows c.perform_line.ensures.grows)
+
+pub returns-in-Err-Sink-clause-cut : goal.returns-in-Err-Sink-clause-cut
+returns-in-Err-Sink-clause-cut g c = λ failed world tells.
+    Reached-cut _ _ _ _ _ _ _ (Reached-within _ _ _ _ _ _ _ _ _ _ _ _ _ (c.loop-line.invariant.so_far world tells) c.in-Some.ensures.first
+    (Tells-names _ _ world c.loop-line.invariant.names tells) c.perform_line.ensures.part c.perform_line.ensures.ticks) (Grows-trans c.loop-line.invariant.grows c.perform_line.ensures.grows) (c.in-Err-Sink.ensures.held (ap Err c.in-Err-Sink.field-0-is))
+
+pub returns-in-Err-NoMemory-clause-went : goal.returns-in-Err-NoMemory-clause-went
+returns-in-Err-NoMemory-clause-went g c = λ world tells.
+    Reached-went _ _ _ _ _ _ _ (Reached-within _ _ _ _ _ _ _ _ _ _ _ _ _ (c.loop-line.invariant.so_far world tells) c.in-Some.ensures.first
+    (Tells-names _ _ world c.loop-line.invariant.names tells) c.perform_line.ensures.part c.perform_line.ensures.ticks) (Grows-trans c.loop-line.invariant.grows c.perform_line.ensures.grows)
+
+pub returns-in_err-pour_piece-clause-went : goal.returns-in_err-pour_piece-clause-went
+returns-in_err-pour_piece-clause-went g c = λ world tells.
+    Reached-went _ _ _ _ _ _ _ (Reached-between _ _ _ _ _ _ _ _ (Performing-same _ _ _ _ _ _ _ _ _
+    (Performing-next _ _ _ _ _ _ _ _ _ _ _ _ _ _ (c.loop-line.invariant.so_far world tells) c.in-Some.ensures.first
+    (Tells-names _ _ world c.loop-line.invariant.names tells) c.in-Ok.ensures.goes) c.pour_piece.ensures.same)) (Grows-trans c.loop-line.invariant.grows (Grows-trans c.perform_line.ensures.grows c.pour_piece.ensures.grows))
+
+pub returns-in_err-pour_piece-clause-cut : goal.returns-in_err-pour_piece-clause-cut
+returns-in_err-pour_piece-clause-cut g c = λ failed world tells.
+    Reached-cut _ _ _ _ _ _ _ (Reached-between _ _ _ _ _ _ _ _ (Performing-same _ _ _ _ _ _ _ _ _
+    (Performing-next _ _ _ _ _ _ _ _ _ _ _ _ _ _ (c.loop-line.invariant.so_far world tells) c.in-Some.ensures.first
+    (Tells-names _ _ world c.loop-line.invariant.names tells) c.in-Ok.ensures.goes) c.pour_piece.ensures.same)) (Grows-trans c.loop-line.invariant.grows (Grows-trans c.perform_line.ensures.grows c.pour_piece.ensures.grows)) c.in_err-pour_piece.ensures.err
+
+pub returns-in_err-pour-clause-went : goal.returns-in_err-pour-clause-went
+returns-in_err-pour-clause-went g c = λ world tells.
+    Reached-went _ _ _ _ _ _ _ (Reached-between _ _ _ _ _ _ _ _ (Performing-same _ _ _ _ _ _ _ _ _ (c.loop-line.invariant.so_far world tells) c.pour-2.ensures.same)) (Grows-trans c.loop-line.invariant.grows c.pour-2.ensures.grows)
+
+pub returns-in_err-pour-clause-cut : goal.returns-in_err-pour-clause-cut
+returns-in_err-pour-clause-cut g c = λ failed world tells.
+    Reached-cut _ _ _ _ _ _ _ (Reached-between _ _ _ _ _ _ _ _ (Performing-same _ _ _ _ _ _ _ _ _ (c.loop-line.invariant.so_far world tells) c.pour-2.ensures.same)) (Grows-trans c.loop-line.invariant.grows c.pour-2.ensures.grows) c.in_err-pour.ensures.err
 
 pub returns-clause-ended : goal.returns-clause-ended
-returns-clause-ended g c =
-    Performing-ended _ _ _ _ _ _ _ _ _ c.loop-line.invariant.so_far c.in_default.ensures.none
-    (c.in_ok-put_all.ensures.ok ∙ ap (append_known (g.W.Sink.written c.loop-line.out)) c.as_slice.ensures.value) (omega (arith, c.loop-line.invariant.count))
+returns-clause-ended g c = λ world tells.
+    Performing-ended _ _ _ _ _ _ _ _ _ (Performing-same _ _ _ _ _ _ _ _ _ (c.loop-line.invariant.so_far world tells) c.pour-2.ensures.same) c.in_default.ensures.none c.in_ok-pour.ensures.ok
 
 pub returns-clause-went : goal.returns-clause-went
-returns-clause-went g c =
-    Performing-went _ _ _ _ _ _ _ _ _ _ c.loop-line.invariant.so_far (rw c.as_slice.ensures.value at c.in_ok-put_all.ensures.front) (omega arith)
+returns-clause-went g c = λ world tells.
+    Reached-went _ _ _ _ _ _ _ (Reached-between _ _ _ _ _ _ _ _ (Performing-same _ _ _ _ _ _ _ _ _ (c.loop-line.invariant.so_far world tells) c.pour-2.ensures.same)) (Grows-trans c.loop-line.invariant.grows c.pour-2.ensures.grows)

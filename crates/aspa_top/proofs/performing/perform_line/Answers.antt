@@ -1,17 +1,50 @@
-use Rattle.std.proofs.Common.{◌≡◌, Err, arith, rules}
-use Rattle.std.proofs.lemmas.Result.{IfOk-weaker}
-use Rattle.aspa_top.specs.declared.command.LineFault.TheVariants.{NoMemory}
-use Rattle.aspa_top.proofs.PerformingLemmas.{HasShortPath-IsCommand}
+use Rattle.std.proofs.Common.{◌≡◌, Ok, Err, refl, ap, arith, rules}
+use Rattle.std.specs.Io.KnownBytes.{append_known}
+use Rattle.script_lines.specs.declared.command.LineFault.TheVariants.{NoMemory}
+use Rattle.av_base.proofs.PouringLemmas.{Grows-refl}
+use Rattle.aspa_top.proofs.PerformingLemmas.{HasShortPath-IsReading, part_read, part_whole, refused}
 use Rattle.aspa_top.proofs.performing.perform_line.Goals as goal
 
 pub perform_command-requires-clause-short : goal.perform_command-requires-clause-short
-perform_command-requires-clause-short g c = HasShortPath-IsCommand c.args.line.now c.in-Ok.command c.in-Ok.ensures.command
+perform_command-requires-clause-short g c = HasShortPath-IsReading c.args.line.now c.in-Ok.command (c.in-Ok.ensures (λ none. cc))
 
-pub returns-in-Err : goal.returns-in-Err
-returns-in-Err g c =
+pub returns-in-Ok-clause-uses : goal.returns-in-Ok-clause-uses
+returns-in-Ok-clause-uses g c = λ failed. record { reading = Ok c.in-Ok.command; reads = c.in-Ok.ensures (λ none. cc); holds = c.perform_command.ensures.uses failed }
+
+pub returns-in_err-refuse-in-Err : goal.returns-in_err-refuse-in-Err
+returns-in_err-refuse-in-Err g c = record {
+  goes = search rules;
+  counts = search rules;
+  part = part_read _ _ _ _ _ (ap (append_known (g.W.Sink.written c.args.out.now)) c.in_err-refuse-in-Err.ensures.err);
+  grows = Grows-refl _;
+  ticks = omega arith;
+  names = refl;
+  shelf_faults = omega arith;
+  sink_faults = omega arith;
+  uses = search rules;
+  shelf_cause = search rules;
+  held = search rules;
+  sink_cause = search rules;
+}
+
+pub returns-in-Err-NoMemory-clause-part : goal.returns-in-Err-NoMemory-clause-part
+returns-in-Err-NoMemory-clause-part g c = part_read _ _ _ _ _ refl
+
+pub returns-in_ok-refuse-in-Err : goal.returns-in_ok-refuse-in-Err
+returns-in_ok-refuse-in-Err g c =
     let other : c.in-Err.fault ≡ NoMemory → ⊥ = search rules in
+    let goes = refused _ _ c.in-Err.fault _ _ _ (rw c.line_cause.ensures.number at c.in_ok-refuse-in-Err.ensures.text) c.in_ok-refuse-in-Err.ensures.next (g.W.Sink.written c.args.out.now) c.args.steps.now in
     record {
-      goes = IfOk-weaker c.refuse.result _ _ (λ next goes. record { reading = Err c.in-Err.fault; reads = c.in-Err.ensures.refused other; goes = goes c.args.steps.now }) c.refuse.ensures.goes;
-      counts = c.refuse.ensures.counts;
+      goes = record { reading = Err c.in-Err.fault; reads = c.in-Err.ensures (λ none. other cc); holds = goes };
+      counts = search rules;
+      part = record { reading = Err c.in-Err.fault; reads = c.in-Err.ensures (λ none. other cc); holds = part_whole _ _ _ _ _ _ _ _ goes };
+      grows = Grows-refl _;
       ticks = omega arith;
+      names = refl;
+      shelf_faults = omega arith;
+      sink_faults = omega arith;
+      uses = search rules;
+      shelf_cause = search rules;
+      held = search rules;
+      sink_cause = search rules;
     }

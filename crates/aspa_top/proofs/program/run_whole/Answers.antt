@@ -1,21 +1,35 @@
-use Rattle.std.proofs.Common.{arith}
+use Rattle.std.proofs.Common.{inl, inr, refl, ap, Err, arith}
 use Rattle.aspa_top.specs.declared.program.TheConstants.{SCRIPT_LIMIT}
-use Rattle.aspa_top.proofs.ProgramLemmas.{performed-whole, Ran-clean, Ran-refused, Ran-early, not_whole}
+use Rattle.aspa_top.proofs.ProgramLemmas.{performed-whole, Ran-whole, Ran-early}
 use Rattle.aspa_top.proofs.program.run_whole.Goals as goal
 
 pub returns-in-Ok-eq0-clause-ran : goal.returns-in-Ok-eq0-clause-ran
-returns-in-Ok-eq0-clause-ran g c =
+returns-in-Ok-eq0-clause-ran g c = λ world tells.
     let whole = performed-whole SCRIPT_LIMIT c.args.script.now c.requires in
-    Ran-clean _ _ _ _ _ _ c.in-Ok-eq0.field-0 (rw whole c.evaluate.ensures.went) (rw whole c.in-Ok-eq0.ensures.ended) c.in-Ok-eq0.field-0-test c.requires
+    Ran-whole _ _ _ _ _ _ _ _ _ 0 c.in-Ok-eq0.field-0 (inl refl) (rw whole (c.evaluate.ensures.went world tells)) (rw whole (c.in-Ok-eq0.ensures.ended world tells))
+    (λ same. (c.in-Ok-eq0.field-0-test, c.requires)) (λ same. absurd (omega (arith, same))) (λ same. absurd (omega (arith, same)))
 
 pub returns-in-Ok-clause-ran : goal.returns-in-Ok-clause-ran
-returns-in-Ok-clause-ran g c =
+returns-in-Ok-clause-ran g c = λ world tells.
     let whole = performed-whole SCRIPT_LIMIT c.args.script.now c.requires in
     let other = c.in-Ok.field-0-test.1 in
-    Ran-refused _ _ _ _ _ _ c.in-Ok.field-0 (rw whole c.evaluate.ensures.went) (rw whole c.in-Ok.ensures.ended) (omega (arith, other)) c.requires
+    Ran-whole _ _ _ _ _ _ _ _ _ 1 c.in-Ok.field-0 (inr (inl refl)) (rw whole (c.evaluate.ensures.went world tells)) (rw whole (c.in-Ok.ensures.ended world tells))
+    (λ same. absurd (omega (arith, same))) (λ same. (omega (arith, other), c.requires)) (λ same. absurd (omega (arith, same)))
+
+pub returns-in-Err-Shelf-clause-ran : goal.returns-in-Err-Shelf-clause-ran
+returns-in-Err-Shelf-clause-ran g c = λ world tells.
+    let whole = performed-whole SCRIPT_LIMIT c.args.script.now c.requires in
+    let failed = ap Err c.in-Err-Shelf.field-0-is in
+    Ran-early _ _ _ _ _ _ _ _ _ 3 (omega arith) (omega arith) (rw whole (c.evaluate.ensures.went world tells))
+    (λ same. inr (c.in-Err-Shelf.ensures.shelf_cause failed, rw whole (c.in-Err-Shelf.ensures.stopped failed world tells))) (λ same. absurd (omega (arith, same)))
 
 pub returns-in-Err-Sink-clause-ran : goal.returns-in-Err-Sink-clause-ran
-returns-in-Err-Sink-clause-ran g c = Ran-early _ _ _ _ _ _ 4 (not_whole 4 (omega arith) (omega arith)) (rw (performed-whole SCRIPT_LIMIT c.args.script.now c.requires) c.evaluate.ensures.went)
+returns-in-Err-Sink-clause-ran g c = λ world tells.
+    let whole = performed-whole SCRIPT_LIMIT c.args.script.now c.requires in
+    Ran-early _ _ _ _ _ _ _ _ _ 4 (omega arith) (omega arith) (rw whole (c.evaluate.ensures.went world tells))
+    (λ same. absurd (omega (arith, same))) (λ same. rw whole (c.in-Err-Sink.ensures.cut (ap Err c.in-Err-Sink.field-0-is) world tells))
 
 pub returns-in-Err-NoMemory-clause-ran : goal.returns-in-Err-NoMemory-clause-ran
-returns-in-Err-NoMemory-clause-ran g c = Ran-early _ _ _ _ _ _ 5 (not_whole 5 (omega arith) (omega arith)) (rw (performed-whole SCRIPT_LIMIT c.args.script.now c.requires) c.evaluate.ensures.went)
+returns-in-Err-NoMemory-clause-ran g c = λ world tells.
+    let whole = performed-whole SCRIPT_LIMIT c.args.script.now c.requires in
+    Ran-early _ _ _ _ _ _ _ _ _ 5 (omega arith) (omega arith) (rw whole (c.evaluate.ensures.went world tells)) (λ same. absurd (omega (arith, same))) (λ same. absurd (omega (arith, same)))

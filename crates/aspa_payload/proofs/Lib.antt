@@ -1,0 +1,12 @@
+mod AnswerLemmas
+mod ContentLemmas
+mod DecideLemmas
+pub mod FileLawLemmas
+mod FileLemmas
+mod IntegersLemmas
+mod LineLemmas
+pub mod LinesLawLemmas
+mod LinesLemmas
+mod OneLemmas
+mod ReadingLemmas
+mod WritingLemmas

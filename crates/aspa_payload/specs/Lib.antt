@@ -1,0 +1,9 @@
+pub mod Answers
+pub mod Content
+pub mod File
+pub mod Laws
+pub mod Line
+pub mod Lines
+pub mod Payload
+pub mod Reading
+pub mod Writing

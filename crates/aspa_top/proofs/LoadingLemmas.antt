@@ -1,0 +1,126 @@
+-- A file that was opened, read whole and understood.
+use Rattle.std.proofs.Common.{◌≡◌, ℕ, ◌<◌, ◌≤◌, List, ◌++◌, None, Some, Ok, Err, IfOk, IfSome, length, refl, sym, ◌∙◌, ap, subst, arith, append_assoc, append-nil, length-append}
+use Rattle.std.specs.Option.{option_map}
+use Rattle.std.specs.Io.KnownBytes.{prepend_known, IsAtEnd}
+use Rattle.std.specs.declared.option.Option.{Option}
+use Rattle.std.specs.declared.result.Result.{Result}
+use Rattle.av_base.specs.declared.fault.NoMemory.{NoMemory as NoMemoryFault}
+use Rattle.av_base.specs.Files.{Files, Opens, left_of, opens, reads}
+use Rattle.av_base.proofs.FilesLemmas.{left_of-opens}
+use Rattle.path_model.specs.Rows.{RowMap}
+use Rattle.vap_table.specs.declared.change.TableChange.TheVariants.{Replace}
+use Rattle.aspa_payload.specs.File.{FileAnswers, IsFileReading}
+use Rattle.aspa_payload.specs.Lines.{IsLinesReading}
+use Rattle.aspa_payload.specs.declared.file.FileFault.{FileFault}
+use Rattle.aspa_payload.specs.declared.file.FileFault.TheVariants.{Bad, NoMemory}
+use Rattle.aspa_payload.specs.declared.fault.PayloadFault.{PayloadFault}
+use Rattle.slurm_rules.specs.Reading.{IsRefused}
+use Rattle.slurm_rules.specs.Answers.{MemoryOr}
+use Rattle.slurm_rules.specs.declared.fault.SlurmFault.{SlurmFault}
+use Rattle.slurm_rules.specs.declared.fault.SlurmFault.TheVariants.{Json, Version, Member, Number, NoMemory as SlurmNoMemory}
+use Rattle.report_text.specs.Refusals.{IsCause}
+use Rattle.aspa_top.specs.declared.loading.FileKind.{FileKind}
+use Rattle.aspa_top.specs.declared.loading.FileKind.TheVariants.{Payloads, PayloadLines, Slurm}
+use Rattle.aspa_top.specs.declared.loading.Outcome.{Outcome}
+use Rattle.aspa_top.specs.declared.loading.Outcome.TheVariants.{NoFile, Long, Flawed, Good}
+use Rattle.aspa_top.specs.Loading.{Makes, Fails, IsWithin, IsBeyond, payload_cause, slurm_cause}
+use Rattle.aspa_top.specs.LoadingSteps.{ComesTold, IsRowsOutcome, Understands}
+use Rattle.aspa_top.specs.World.{names_of}
+
+-- ---- the names of a shelf stay
+
+opens_same : (bytes : List ℕ) (old : Option Files) → names_of (option_map (opens bytes) old) ≡ names_of old
+opens_same bytes None = refl
+opens_same bytes (Some told) = refl
+
+pub opens_names : (old new : Option Files) (before after : ℕ) (name : List ℕ) (file : ℕ) → Opens old new before after name file
+    → names_of new ≡ names_of old
+opens_names old new before after name file opened = ap names_of opened.told ∙ opens_same opened.bytes old
+
+reads_same : (file n : ℕ) (old : Option Files) → names_of (option_map (reads file n) old) ≡ names_of old
+reads_same file n None = refl
+reads_same file n (Some told) = refl
+
+pub reads_names : (file n : ℕ) (old new : Option Files) → new ≡ option_map (reads file n) old → names_of new ≡ names_of old
+reads_names file n old new is = ap names_of is ∙ reads_same file n old
+
+-- ---- a file that was read whole
+
+-- one piece more was taken
+pub takes_more : (old mid new : Option (List ℕ)) (taken piece : List ℕ) → old ≡ prepend_known taken mid → mid ≡ prepend_known piece new
+    → old ≡ prepend_known (taken ++ piece) new
+takes_more old mid None taken piece so_far next = so_far ∙ ap (prepend_known taken) next
+takes_more old mid (Some left) taken piece so_far next = so_far ∙ ap (prepend_known taken) next ∙ ap Some (sym (append_assoc taken piece left))
+
+whole : (named left : Option (List ℕ)) (bytes some : List ℕ) → named ≡ Some some → named ≡ prepend_known bytes left → IsAtEnd left
+    → named ≡ Some bytes
+whole named None bytes some is taken at_end = absurd (let no : ⊥ = cc in no)
+whole named (Some left) bytes some is taken at_end = taken ∙ ap (λ (t : List ℕ). Some (bytes ++ t)) at_end ∙ ap Some (append-nil bytes)
+
+front : (named left : Option (List ℕ)) (bytes some : List ℕ) → named ≡ Some some → named ≡ prepend_known bytes left
+    → 67108864 < length bytes → IsBeyond named
+front named None bytes some is taken long = absurd (let no : ⊥ = cc in no)
+front named (Some left) bytes some is taken long =
+    record { bytes = bytes ++ left; is = taken; beyond = omega (arith, long, length-append bytes left) }
+
+module _ (old mid new : Option Files) (before after : ℕ) (name : List ℕ) (file : ℕ) (bytes : List ℕ)
+    (opened : Opens old mid before after name file) (count : IfSome old (λ told. length told.left ≡ before))
+    (taken : left_of mid file ≡ prepend_known bytes (left_of new file)) where
+  told_bytes : (told : Files) → old ≡ Some told → told.named name ≡ prepend_known bytes (left_of new file)
+  told_bytes told is =
+      let left : IfSome (Some told) (λ files. left_of mid file ≡ files.named name) = rw is at (left_of-opens old mid before after name file opened count) in
+      sym left ∙ taken
+
+  within : (P : List ℕ → Type 0) → length bytes ≤ 67108864 → IsAtEnd (left_of new file) → P bytes
+      → (told : Files) → old ≡ Some told → IsWithin (told.named name) P
+  within P short at_end holds = λ told is. record {
+    bytes = bytes;
+    is = whole (told.named name) (left_of new file) bytes opened.bytes (opened.named told is) (told_bytes told is) at_end;
+    within = short;
+    holds = holds;
+  }
+
+  -- it was read to its end
+  pub file_within : (kind : FileKind) (outcome : Outcome) → length bytes ≤ 67108864 → IsAtEnd (left_of new file)
+      → Understands kind bytes outcome → ComesTold old kind name outcome
+  file_within kind NoFile short at_end none = absurd none
+  file_within kind Long short at_end none = absurd none
+  file_within kind (Flawed flaw) short at_end fails = within (λ b. Fails kind b flaw) short at_end fails
+  file_within kind (Good change) short at_end makes = within (λ b. Makes kind b change) short at_end makes
+
+  -- it is over its limit
+  pub file_beyond : (kind : FileKind) → 67108864 < length bytes → ComesTold old kind name Long
+  file_beyond kind long = λ told is. front (told.named name) (left_of new file) bytes opened.bytes (opened.named told is) (told_bytes told is) long
+
+-- ---- what its bytes are understood as
+
+rows_understood : (kind : FileKind) (name bytes : List ℕ) (Due : Result RowMap FileFault → Type 0)
+    → ((rows : RowMap) → Due (Ok rows) → Makes kind bytes (Replace name rows))
+    → ((unit : ℕ) (fault : PayloadFault) → Due (Err (Bad unit fault)) → Fails kind bytes (record { unit = unit; cause = payload_cause fault }))
+    → (reading : Result RowMap FileFault) (outcome : Outcome) → FileAnswers Due reading → IsRowsOutcome name reading outcome
+    → Understands kind bytes outcome
+rows_understood kind name bytes Due makes fails (Ok rows) outcome answers is = subst (λ (o : Outcome). Understands kind bytes o) (sym is) (makes rows answers)
+rows_understood kind name bytes Due makes fails (Err (Bad unit fault)) outcome answers is = subst (λ (o : Outcome). Understands kind bytes o) (sym is) (fails unit fault answers)
+rows_understood kind name bytes Due makes fails (Err NoMemory) outcome answers is = absurd is
+
+if_ok : {P Q : Outcome → Type 0} (result : Result Outcome NoMemoryFault) → ((outcome : Outcome) → P outcome → Q outcome) → IfOk result P → IfOk result Q
+if_ok {P} {Q} (Ok outcome) more holds = more outcome holds
+if_ok {P} {Q} (Err fault) more holds = tt
+
+pub payloads_understood : (name bytes : List ℕ) (reading : Result RowMap FileFault) (result : Result Outcome NoMemoryFault)
+    → FileAnswers (IsFileReading bytes) reading → IfOk result (IsRowsOutcome name reading) → IfOk result (Understands (Payloads name) bytes)
+payloads_understood name bytes reading result answers is =
+    if_ok result (λ outcome o. rows_understood (Payloads name) name bytes (IsFileReading bytes) (λ rows reads. (rows, reads, refl)) (λ unit fault reads. (fault, reads, refl)) reading outcome answers o) is
+
+pub lines_understood : (name bytes : List ℕ) (reading : Result RowMap FileFault) (result : Result Outcome NoMemoryFault)
+    → FileAnswers (IsLinesReading bytes) reading → IfOk result (IsRowsOutcome name reading) → IfOk result (Understands (PayloadLines name) bytes)
+lines_understood name bytes reading result answers is =
+    if_ok result (λ outcome o. rows_understood (PayloadLines name) name bytes (IsLinesReading bytes) (λ rows reads. (rows, reads, refl)) (λ unit fault reads. (fault, reads, refl)) reading outcome answers o) is
+
+pub slurm_fails : (bytes : List ℕ) (fault : SlurmFault) (cause : ℕ) → MemoryOr fault (IsRefused bytes fault) → cause ≡ slurm_cause fault
+    → IsCause cause → Fails Slurm bytes (record { unit = 1; cause = cause })
+slurm_fails bytes Json cause due is known = (Json, due, refl, is)
+slurm_fails bytes Version cause due is known = (Version, due, refl, is)
+slurm_fails bytes Member cause due is known = (Member, due, refl, is)
+slurm_fails bytes Number cause due is known = (Number, due, refl, is)
+slurm_fails bytes SlurmNoMemory cause due is known = absurd (omega (arith, is, known.least))

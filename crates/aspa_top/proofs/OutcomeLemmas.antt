@@ -1,0 +1,163 @@
+-- Each file comes to one outcome.
+use Rattle.std.proofs.Common.{◌≡◌, ℕ, ◌≤◌, Bool, true, false, nat_le, List, length, Ok, Err, Some, None, refl, sym, ap, subst, ◌∙◌, arith}
+use Rattle.std.specs.declared.option.Option.{Option}
+use Rattle.std.specs.declared.result.Result.{Result}
+use Rattle.std.proofs.lemmas.Bool.Decides.{nat_tests}
+use Rattle.path_model.specs.Rows.{RowMap}
+use Rattle.vap_table.specs.declared.change.TableChange.{TableChange}
+use Rattle.vap_table.specs.declared.change.TableChange.TheVariants.{Replace, Slurm as BySlurm}
+use Rattle.aspa_payload.specs.File.{IsFileReading}
+use Rattle.aspa_payload.specs.Lines.{IsLinesReading}
+use Rattle.aspa_payload.specs.Laws.{HasOneReading}
+use Rattle.aspa_payload.specs.declared.file.FileFault.{FileFault}
+use Rattle.aspa_payload.specs.declared.file.FileFault.TheVariants.{Bad, NoMemory}
+use Rattle.aspa_payload.specs.declared.fault.PayloadFault.{PayloadFault}
+use Rattle.aspa_payload.proofs.FileLawLemmas.{each_file}
+use Rattle.aspa_payload.proofs.LinesLawLemmas.{each_file_of_lines}
+use Rattle.slurm_rules.specs.Reading.{IsReading}
+use Rattle.slurm_rules.specs.declared.slurm.Slurm.{Slurm as SlurmContent}
+use Rattle.slurm_rules.specs.declared.fault.SlurmFault.{SlurmFault}
+use Rattle.slurm_rules.proofs.LawLemmas.{each_file as each_slurm_file}
+use Rattle.aspa_top.specs.declared.loading.FileKind.{FileKind}
+use Rattle.aspa_top.specs.declared.loading.FileKind.TheVariants.{Payloads, PayloadLines, Slurm}
+use Rattle.aspa_top.specs.declared.loading.Flaw.{Flaw}
+use Rattle.aspa_top.specs.declared.loading.Outcome.{Outcome}
+use Rattle.aspa_top.specs.declared.loading.Outcome.TheVariants.{NoFile, Long, Flawed, Good}
+use Rattle.aspa_top.specs.Loading.{Makes, Fails, IsWithin, IsBeyond, ComesOf, payload_cause, slurm_cause}
+
+-- ---- what is inside two answers that are equal
+
+same_value : {T E : Type 0} (one other : T) (the : Result T E) → Ok one ≡ the → Ok other ≡ the → one ≡ other
+same_value {T} {E} one other the a b = let same = a ∙ sym b in cc
+
+same_fault : {T E : Type 0} (one other : E) (the : Result T E) → Err one ≡ the → Err other ≡ the → one ≡ other
+same_fault {T} {E} one other the a b = let same = a ∙ sym b in cc
+
+no_both : {T E : Type 0} (value : T) (fault : E) (the : Result T E) → Ok value ≡ the → Err fault ≡ the → ⊥
+no_both {T} {E} value fault the a b = let same = a ∙ sym b in cc
+
+-- ---- files of payloads; `Due` says how the file reads
+
+module _ (Due : Result RowMap FileFault → Type 0) (the : HasOneReading Due) where
+  one_change : (name : List ℕ) (one other : TableChange)
+      → (rows : RowMap) × Due (Ok rows) × (one ≡ Replace name rows) → (rows : RowMap) × Due (Ok rows) × (other ≡ Replace name rows)
+      → one ≡ other
+  one_change name one other a b =
+      let same = same_value a.0 b.0 the.reading (the.only (Ok a.0) a.1) (the.only (Ok b.0) b.1) in
+      a.2 ∙ ap (λ (rows : RowMap). Replace name rows) same ∙ sym b.2
+
+  one_flaw : (one other : Flaw)
+      → (fault : PayloadFault) × Due (Err (Bad one.unit fault)) × (one.cause ≡ payload_cause fault)
+      → (fault : PayloadFault) × Due (Err (Bad other.unit fault)) × (other.cause ≡ payload_cause fault) → one ≡ other
+  one_flaw one other a b =
+      let same = same_fault (Bad one.unit a.0) (Bad other.unit b.0) the.reading (the.only (Err (Bad one.unit a.0)) a.1) (the.only (Err (Bad other.unit b.0)) b.1) in
+      let unit : one.unit ≡ other.unit = cc in
+      let fault : a.0 ≡ b.0 = cc in
+      let cause : one.cause ≡ other.cause = a.2 ∙ ap payload_cause fault ∙ sym b.2 in
+      λ i. record { unit = unit i; cause = cause i }
+
+  no_change_and_flaw : (rows : RowMap) (unit : ℕ) (fault : PayloadFault) → Due (Ok rows) → Due (Err (Bad unit fault)) → ⊥
+  no_change_and_flaw rows unit fault a b = no_both rows (Bad unit fault) the.reading (the.only (Ok rows) a) (the.only (Err (Bad unit fault)) b)
+
+-- ---- each kind of file makes one change, or fails in one way
+
+makes_one : (kind : FileKind) (bytes : List ℕ) (one other : TableChange) → Makes kind bytes one → Makes kind bytes other → one ≡ other
+makes_one (Payloads name) bytes one other a b = one_change (IsFileReading bytes) (each_file bytes) name one other a b
+makes_one (PayloadLines name) bytes one other a b = one_change (IsLinesReading bytes) (each_file_of_lines bytes) name one other a b
+makes_one Slurm bytes one other a b =
+    let the = each_slurm_file bytes in
+    let same = same_value a.0 b.0 the.reading (the.only (Ok a.0) a.1) (the.only (Ok b.0) b.1) in
+    a.2 ∙ ap (λ (s : SlurmContent). BySlurm s.filters s.assertions) same ∙ sym b.2
+
+fails_one : (kind : FileKind) (bytes : List ℕ) (one other : Flaw) → Fails kind bytes one → Fails kind bytes other → one ≡ other
+fails_one (Payloads name) bytes one other a b = one_flaw (IsFileReading bytes) (each_file bytes) one other a b
+fails_one (PayloadLines name) bytes one other a b = one_flaw (IsLinesReading bytes) (each_file_of_lines bytes) one other a b
+fails_one Slurm bytes one other a b =
+    let the = each_slurm_file bytes in
+    let fault = same_fault a.0 b.0 the.reading (the.only (Err a.0) a.1) (the.only (Err b.0) b.1) in
+    let unit : one.unit ≡ other.unit = a.2 ∙ sym b.2 in
+    let cause : one.cause ≡ other.cause = a.3 ∙ ap slurm_cause fault ∙ sym b.3 in
+    λ i. record { unit = unit i; cause = cause i }
+
+makes_or_fails : (kind : FileKind) (bytes : List ℕ) (change : TableChange) (flaw : Flaw) → Makes kind bytes change → Fails kind bytes flaw → ⊥
+makes_or_fails (Payloads name) bytes change flaw a b = no_change_and_flaw (IsFileReading bytes) (each_file bytes) a.0 flaw.unit b.0 a.1 b.1
+makes_or_fails (PayloadLines name) bytes change flaw a b = no_change_and_flaw (IsLinesReading bytes) (each_file_of_lines bytes) a.0 flaw.unit b.0 a.1 b.1
+makes_or_fails Slurm bytes change flaw a b =
+    let the = each_slurm_file bytes in
+    no_both a.0 b.0 the.reading (the.only (Ok a.0) a.1) (the.only (Err b.0) b.1)
+
+-- ---- one outcome
+
+module _ (named : Option (List ℕ)) where
+  absent_beyond : named ≡ None → IsBeyond named → ⊥
+  absent_beyond none beyond = let some = beyond.is in cc
+
+  absent_within : {P : List ℕ → Type 0} → named ≡ None → IsWithin named P → ⊥
+  absent_within {P} none within = let some = within.is in cc
+
+  same_bytes : {P Q : List ℕ → Type 0} (one : IsWithin named P) (other : IsWithin named Q) → other.bytes ≡ one.bytes
+  same_bytes {P} {Q} one other = let a = one.is in let b = other.is in cc
+
+  beyond_within : {P : List ℕ → Type 0} → IsBeyond named → IsWithin named P → ⊥
+  beyond_within {P} one other =
+      let a = one.is in
+      let b = other.is in
+      let same : one.bytes ≡ other.bytes = cc in
+      omega (arith, ap length same, one.beyond, other.within)
+
+pub outcome_unique : (kind : FileKind) (named : Option (List ℕ)) (one other : Outcome) → ComesOf kind named one → ComesOf kind named other → one ≡ other
+outcome_unique kind named NoFile NoFile a b = refl
+outcome_unique kind named NoFile Long a b = absurd (absent_beyond named a b)
+outcome_unique kind named NoFile (Flawed g) a b = absurd (absent_within named a b)
+outcome_unique kind named NoFile (Good d) a b = absurd (absent_within named a b)
+outcome_unique kind named Long NoFile a b = absurd (absent_beyond named b a)
+outcome_unique kind named Long Long a b = refl
+outcome_unique kind named Long (Flawed g) a b = absurd (beyond_within named a b)
+outcome_unique kind named Long (Good d) a b = absurd (beyond_within named a b)
+outcome_unique kind named (Flawed f) NoFile a b = absurd (absent_within named b a)
+outcome_unique kind named (Flawed f) Long a b = absurd (beyond_within named b a)
+outcome_unique kind named (Flawed f) (Flawed g) a b =
+    ap Flawed (fails_one kind a.bytes f g a.holds (subst (λ (bytes : List ℕ). Fails kind bytes g) (same_bytes named a b) b.holds))
+outcome_unique kind named (Flawed f) (Good d) a b =
+    absurd (makes_or_fails kind a.bytes d f (subst (λ (bytes : List ℕ). Makes kind bytes d) (same_bytes named a b) b.holds) a.holds)
+outcome_unique kind named (Good c) NoFile a b = absurd (absent_within named b a)
+outcome_unique kind named (Good c) Long a b = absurd (beyond_within named b a)
+outcome_unique kind named (Good c) (Flawed g) a b =
+    absurd (makes_or_fails kind a.bytes c g a.holds (subst (λ (bytes : List ℕ). Fails kind bytes g) (same_bytes named a b) b.holds))
+outcome_unique kind named (Good c) (Good d) a b =
+    ap Good (makes_one kind a.bytes c d a.holds (subst (λ (bytes : List ℕ). Makes kind bytes d) (same_bytes named a b) b.holds))
+
+-- ---- and there is one
+
+rows_within : (kind : FileKind) (name bytes : List ℕ) (Due : Result RowMap FileFault → Type 0) → length bytes ≤ 67108864
+    → ((rows : RowMap) → Due (Ok rows) → Makes kind bytes (Replace name rows))
+    → ((unit : ℕ) (fault : PayloadFault) → Due (Err (Bad unit fault)) → Fails kind bytes (record { unit = unit; cause = payload_cause fault }))
+    → (Due (Err NoMemory) → ⊥) → (reading : Result RowMap FileFault) → Due reading → (outcome : Outcome) × ComesOf kind (Some bytes) outcome
+rows_within kind name bytes Due within makes fails none (Ok rows) reads = (Good (Replace name rows), record { bytes = bytes; is = refl; within = within; holds = makes rows reads })
+rows_within kind name bytes Due within makes fails none (Err (Bad unit fault)) reads =
+    (Flawed (record { unit = unit; cause = payload_cause fault }), record { bytes = bytes; is = refl; within = within; holds = fails unit fault reads })
+rows_within kind name bytes Due within makes fails none (Err NoMemory) reads = absurd (none reads)
+
+slurm_within : (bytes : List ℕ) → length bytes ≤ 67108864 → (reading : Result SlurmContent SlurmFault) → IsReading bytes reading
+    → (outcome : Outcome) × ComesOf Slurm (Some bytes) outcome
+slurm_within bytes within (Ok slurm) reads =
+    (Good (BySlurm slurm.filters slurm.assertions), record { bytes = bytes; is = refl; within = within; holds = (slurm, reads, refl) })
+slurm_within bytes within (Err fault) reads =
+    (Flawed (record { unit = 1; cause = slurm_cause fault }), record { bytes = bytes; is = refl; within = within; holds = (fault, reads, refl, refl) })
+
+some_within : (kind : FileKind) (bytes : List ℕ) → length bytes ≤ 67108864 → (outcome : Outcome) × ComesOf kind (Some bytes) outcome
+some_within (Payloads name) bytes within =
+    let the = each_file bytes in
+    rows_within (Payloads name) name bytes (IsFileReading bytes) within (λ rows reads. (rows, reads, refl)) (λ unit fault reads. (fault, reads, refl)) (λ none. none) the.reading the.reads
+some_within (PayloadLines name) bytes within =
+    let the = each_file_of_lines bytes in
+    rows_within (PayloadLines name) name bytes (IsLinesReading bytes) within (λ rows reads. (rows, reads, refl)) (λ unit fault reads. (fault, reads, refl)) (λ none. none) the.reading the.reads
+some_within Slurm bytes within = let the = each_slurm_file bytes in slurm_within bytes within the.reading the.reads
+
+by_length : (kind : FileKind) (bytes : List ℕ) (fits : Bool) → nat_le (length bytes) 67108864 ≡ fits → (outcome : Outcome) × ComesOf kind (Some bytes) outcome
+by_length kind bytes true is = some_within kind bytes (grind (arith, nat_tests, is))
+by_length kind bytes false is = (Long, record { bytes = bytes; is = refl; beyond = grind (arith, nat_tests, is) })
+
+pub some_outcome : (kind : FileKind) (named : Option (List ℕ)) → (outcome : Outcome) × ComesOf kind named outcome
+some_outcome kind None = (NoFile, refl)
+some_outcome kind (Some bytes) = by_length kind bytes (nat_le (length bytes) 67108864) refl

@@ -1,0 +1,83 @@
+-- What comes of a file that a line names.
+use Rattle.std.specs.Prelude.{◌≡◌, ℕ, ◌<◌, ◌≤◌, List, length, codes}
+use Rattle.std.specs.declared.option.Option.{Option}
+use Rattle.std.specs.declared.option.Option.TheVariants.{Some, None}
+use Rattle.std.specs.declared.result.Result.TheVariants.{Ok, Err}
+use Rattle.path_model.specs.Rows.{RowMap}
+use Rattle.vap_table.specs.declared.change.TableChange.{TableChange}
+use Rattle.vap_table.specs.declared.change.TableChange.TheVariants.{Replace, Slurm as BySlurm}
+use Rattle.aspa_payload.specs.File.{IsFileReading}
+use Rattle.aspa_payload.specs.Lines.{IsLinesReading}
+use Rattle.aspa_payload.specs.declared.file.FileFault.TheVariants.{Bad}
+use Rattle.aspa_payload.specs.declared.fault.PayloadFault.{PayloadFault}
+use Rattle.aspa_payload.specs.declared.fault.PayloadFault.TheVariants.{NotDer, Version, NoProviders, Order, SelfProvider, Base64, NoMemory}
+use Rattle.slurm_rules.specs.Reading.{IsReading}
+use Rattle.slurm_rules.specs.declared.slurm.Slurm.{Slurm as SlurmContent}
+use Rattle.slurm_rules.specs.declared.fault.SlurmFault.{SlurmFault}
+use Rattle.slurm_rules.specs.declared.fault.SlurmFault.TheVariants.{Json, Version as SlurmVersion, Member, Number, NoMemory as SlurmNoMemory}
+use Rattle.aspa_top.specs.declared.loading.FileKind.{FileKind}
+use Rattle.aspa_top.specs.declared.loading.FileKind.TheVariants.{Payloads, PayloadLines, Slurm}
+use Rattle.aspa_top.specs.declared.loading.Flaw.{Flaw}
+use Rattle.aspa_top.specs.declared.loading.Outcome.{Outcome}
+use Rattle.aspa_top.specs.declared.loading.Outcome.TheVariants.{NoFile, Long, Flawed, Good}
+
+-- the name by which the refused units of a file are reported
+abbrev pub unit_name : FileKind → List ℕ
+unit_name (Payloads name) = name
+unit_name (PayloadLines name) = name
+unit_name Slurm = codes "slurm"
+
+-- the number of the cause for which a payload is refused; want of memory is none
+abbrev pub payload_cause : PayloadFault → ℕ
+payload_cause NotDer = 5
+payload_cause Version = 6
+payload_cause NoProviders = 7
+payload_cause Order = 8
+payload_cause SelfProvider = 9
+payload_cause Base64 = 10
+payload_cause NoMemory = 0
+
+-- the number of the cause for which a SLURM file is refused; want of memory is none
+abbrev pub slurm_cause : SlurmFault → ℕ
+slurm_cause Json = 11
+slurm_cause SlurmVersion = 12
+slurm_cause Member = 13
+slurm_cause Number = 14
+slurm_cause SlurmNoMemory = 0
+
+-- The file is good, and this is the change that it makes: the source of that name has its rows, or the filters and assertions of a SLURM
+-- file are its own.
+abbrev pub Makes : FileKind → List ℕ → TableChange → Type 0
+Makes (Payloads name) bytes change = (rows : RowMap) × IsFileReading bytes (Ok rows) × (change ≡ Replace name rows)
+Makes (PayloadLines name) bytes change = (rows : RowMap) × IsLinesReading bytes (Ok rows) × (change ≡ Replace name rows)
+Makes Slurm bytes change =
+    (slurm : SlurmContent) × IsReading bytes (Ok slurm) × (change ≡ BySlurm slurm.filters slurm.assertions)
+
+-- The file is refused at this unit for this cause. A SLURM file is one unit.
+abbrev pub Fails : FileKind → List ℕ → Flaw → Type 0
+Fails (Payloads name) bytes flaw =
+    (fault : PayloadFault) × IsFileReading bytes (Err (Bad flaw.unit fault)) × (flaw.cause ≡ payload_cause fault)
+Fails (PayloadLines name) bytes flaw =
+    (fault : PayloadFault) × IsLinesReading bytes (Err (Bad flaw.unit fault)) × (flaw.cause ≡ payload_cause fault)
+Fails Slurm bytes flaw =
+    (fault : SlurmFault) × IsReading bytes (Err fault) × (flaw.unit ≡ 1) × (flaw.cause ≡ slurm_cause fault)
+
+-- a file that is there, and has no more bytes than a file may have; of these this holds
+pub record IsWithin (named : Option (List ℕ)) (P : List ℕ → Type 0) : Type 0 where
+  pub bytes : List ℕ
+  pub is : named ≡ Some bytes
+  pub within : length bytes ≤ 67108864
+  pub holds : P bytes
+
+-- a file that is there, and has more
+pub record IsBeyond (named : Option (List ℕ)) : Type 0 where
+  pub bytes : List ℕ
+  pub is : named ≡ Some bytes
+  pub beyond : 67108864 < length bytes
+
+-- what comes of a file that is to be read so, where the world has this under its name
+abbrev pub ComesOf : FileKind → Option (List ℕ) → Outcome → Type 0
+ComesOf kind named NoFile = named ≡ None
+ComesOf kind named Long = IsBeyond named
+ComesOf kind named (Flawed flaw) = IsWithin named (λ bytes. Fails kind bytes flaw)
+ComesOf kind named (Good change) = IsWithin named (λ bytes. Makes kind bytes change)

@@ -1,0 +1,196 @@
+//! Files that a line names: read whole, and understood.
+ghost use Rattle.std.specs.Prelude.{◌≡◌, ◌+◌, ◌^◌, ◌<◌, ◌≤◌, length, IfOk, IsErrOf};
+ghost use Rattle.std.specs.Io.KnownBytes.{prepend_known, IsAtEnd};
+ghost use Rattle.av_base.specs.Files.{left_of};
+ghost use Rattle.av_base.specs.Told.{Rose};
+ghost use Rattle.report_text.specs.Refusals.{IsCause};
+ghost use Rattle.aspa_top.specs.Loading.{unit_name, payload_cause as number_of_payload, slurm_cause as number_of_slurm};
+ghost use Rattle.aspa_top.specs.LoadingSteps.{ComesTold, HasKnownCause, IsRowsOutcome, Understands};
+ghost use Rattle.aspa_top.specs.World.{names_of};
+
+use crate::script::ReadFault;
+use aspa_payload::{FileFault, PayloadFault, read_lines, read_many};
+use av_base::{NoMemory, PIECE, Shelf};
+use path_model::{Name, Rows};
+use slurm_rules::{Slurm, SlurmFault};
+use std::alloc::Global;
+use vap_table::TableChange;
+
+/// The most bytes that a file may have.
+pub(crate) const FILE_LIMIT: usize = 67_108_864;
+
+/// As what a file is read.
+#[derive(Debug, Drop)]
+pub(crate) enum FileKind {
+    /// Payloads one after another, of the source of this name.
+    Payloads(Name),
+    /// One base64 payload a line, of the source of this name.
+    PayloadLines(Name),
+    /// A SLURM file.
+    Slurm,
+}
+
+impl FileKind {
+    /// The name by which its refused units are reported.
+    pub(crate) fn unit_name(&self) -> &str
+        ensures { result.now ≡ unit_name self.now }
+    {
+        match self {
+            FileKind::Payloads(name) => name.text(),
+            FileKind::PayloadLines(name) => name.text(),
+            FileKind::Slurm => "slurm",
+        }
+    }
+}
+
+/// The first refused unit of a file, counted from 1, and the cause.
+#[derive(Clone, Copy, Debug, PartialEq, Eq)]
+pub(crate) struct Flaw {
+    pub(crate) unit: u64,
+    pub(crate) cause: u16,
+}
+
+/// What comes of a file.
+#[derive(Debug, Drop)]
+pub(crate) enum Outcome {
+    /// The name isn't there.
+    NoFile,
+    /// It has more than [`FILE_LIMIT`] bytes.
+    Long,
+    /// One of its units is refused.
+    Flawed(Flaw),
+    /// It is good, and changes the table so.
+    Good(TableChange),
+}
+
+/// Opens a file, reads it whole and understands it.
+pub(crate) fn load_file<F: Shelf>(
+    alloc: Global,
+    kind: &FileKind,
+    name: &str,
+    shelf: &mut F,
+) -> Result<Outcome, ReadFault>
+    ensures comes { IfOk result (ComesTold (F.files shelf.old) kind.now name.now) }
+    ensures known { IfOk result HasKnownCause }
+    ensures names { names_of (F.files shelf.new) ≡ names_of (F.files shelf.old) }
+    ensures cause { IsErrOf result ReadFault.Source → Rose (F.faults shelf.old) (F.faults shelf.new) }
+    ensures faults { F.faults shelf.old ≤ F.faults shelf.new }
+{
+    let Some(file) = shelf.open_file(name)? else {
+        return Ok(Outcome::NoFile);
+    };
+    let bytes = read_whole(alloc, file, shelf, FILE_LIMIT)?;
+    if bytes.len() > FILE_LIMIT {
+        return Ok(Outcome::Long);
+    }
+    let outcome = understand(alloc, kind, &bytes)?;
+    Ok(outcome)
+}
+
+// Reads a file to its end, or to one byte past the limit.
+fn read_whole<F: Shelf>(
+    alloc: Global,
+    file: u32,
+    shelf: &mut F,
+    limit: usize,
+) -> Result<Vec<u8>, ReadFault>
+    requires limit { limit < 2 ^ 62 }
+    requires given { file < F.opened shelf.old }
+    ensures taken { IfOk result (λ bytes. left_of (F.files shelf.old) file
+        ≡ prepend_known bytes.items (left_of (F.files shelf.new) file)) }
+    ensures bound { IfOk result (λ bytes. length bytes.items ≤ limit + 1) }
+    ensures ended { IfOk result (λ bytes. length bytes.items ≤ limit → IsAtEnd (left_of (F.files shelf.new) file)) }
+    ensures names { names_of (F.files shelf.new) ≡ names_of (F.files shelf.old) }
+    ensures cause { IsErrOf result ReadFault.Source → Rose (F.faults shelf.old) (F.faults shelf.new) }
+    ensures faults { F.faults shelf.old ≤ F.faults shelf.new }
+{
+    let mut bytes = Vec::new(alloc);
+    let mut buffer = [0u8; PIECE];
+    while bytes.len() <= limit {
+        let room = (limit + 1 - bytes.len()).min(PIECE);
+        let count = shelf.read(file, &mut buffer[..room])?;
+        if count == 0 {
+            break;
+        }
+        bytes.extend_from_slice(&buffer[..count])?;
+    }
+    Ok(bytes)
+}
+
+// What comes of a file of these bytes.
+fn understand(alloc: Global, kind: &FileKind, bytes: &[u8]) -> Result<Outcome, NoMemory>
+    requires { length bytes.now ≤ 67108864 }
+    ensures comes { IfOk result (Understands kind.now bytes.now) }
+    ensures known { IfOk result HasKnownCause }
+{
+    match kind {
+        FileKind::Payloads(name) => rows_outcome(name, read_many(alloc, bytes)),
+        FileKind::PayloadLines(name) => rows_outcome(name, read_lines(alloc, bytes)),
+        FileKind::Slurm => slurm_outcome(alloc, bytes),
+    }
+}
+
+// What comes of a payload file that was read so.
+fn rows_outcome(name: &Name, reading: Result<Rows, FileFault>) -> Result<Outcome, NoMemory>
+    ensures comes { IfOk result (IsRowsOutcome name.now reading) }
+    ensures known { IfOk result HasKnownCause }
+{
+    match reading {
+        Ok(rows) => Ok(Outcome::Good(TableChange::Replace(name.copy()?, rows))),
+        Err(FileFault::Bad { unit, cause }) => Ok(Outcome::Flawed(Flaw {
+            unit: u64::from(unit),
+            cause: payload_cause(cause)?,
+        })),
+        Err(FileFault::NoMemory) => Err(NoMemory),
+    }
+}
+
+// What comes of a SLURM file of these bytes.
+fn slurm_outcome(alloc: Global, bytes: &[u8]) -> Result<Outcome, NoMemory>
+    ensures comes { IfOk result (Understands FileKind.Slurm bytes.now) }
+    ensures known { IfOk result HasKnownCause }
+{
+    match slurm_rules::read(alloc, bytes) {
+        Ok(slurm) => {
+            let Slurm {
+                filters,
+                assertions,
+            } = slurm;
+            Ok(Outcome::Good(TableChange::Slurm(filters, assertions)))
+        }
+        Err(fault) => Ok(Outcome::Flawed(Flaw {
+            unit: 1,
+            cause: slurm_cause(fault)?,
+        })),
+    }
+}
+
+// The number of the cause for which a payload is refused; want of memory is none.
+fn payload_cause(fault: PayloadFault) -> Result<u16, NoMemory>
+    ensures number { IfOk result (λ cause. cause ≡ number_of_payload fault) }
+    ensures known { IfOk result IsCause }
+{
+    match fault {
+        PayloadFault::NotDer => Ok(5),
+        PayloadFault::Version => Ok(6),
+        PayloadFault::NoProviders => Ok(7),
+        PayloadFault::Order => Ok(8),
+        PayloadFault::SelfProvider => Ok(9),
+        PayloadFault::Base64 => Ok(10),
+        PayloadFault::NoMemory => Err(NoMemory),
+    }
+}
+
+// The number of the cause for which a SLURM file is refused; want of memory is none.
+fn slurm_cause(fault: SlurmFault) -> Result<u16, NoMemory>
+    ensures number { IfOk result (λ cause. cause ≡ number_of_slurm fault) }
+    ensures known { IfOk result IsCause }
+{
+    match fault {
+        SlurmFault::Json => Ok(11),
+        SlurmFault::Version => Ok(12),
+        SlurmFault::Member => Ok(13),
+        SlurmFault::Number => Ok(14),
+        SlurmFault::NoMemory => Err(NoMemory),
+    }
+}

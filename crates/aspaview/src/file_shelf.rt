@@ -1,0 +1,118 @@
+//! The files of the system as a shelf.
+ghost use Rattle.std.specs.Prelude.{◌≡◌, ◌≢◌, ◌+◌, ◌-◌, ◌^◌, ◌<◌, ◌≤◌, [], None, Ok, Some, length, slice_get, IfErr, IfNone, IfOk, IfSome, IsErr, OnSome};
+ghost use Rattle.std.specs.Io.KnownBytes.{ReadConsumes};
+ghost use Rattle.std.specs.IoError.{error_kind};
+ghost use Rattle.std.specs.declared.io.ErrorKind.TheVariants.{NotFound};
+ghost use Rattle.av_base.specs.Told.{HasCause};
+ghost use Rattle.aspaview.specs.Known.{left_in};
+
+use crate::opened_file::OpenedFile;
+use av_base::{Fault, Shelf};
+use std::alloc::Global;
+use std::fs::File;
+use std::io::{self, ErrorKind};
+use std::rt::Files;
+
+/// The files of the system as a shelf, which counts each error but a missing name as a fault. As a shelf it tells no names and no bytes;
+/// what it does to those that an opened file knows is said by its own clause.
+#[derive(Drop)]
+pub struct FileShelf<R: Files> {
+    runtime: R,
+    opened: Vec<OpenedFile<R::File>>,
+    faults: u64,
+}
+
+impl<R: Files> FileShelf<R> {
+    /// The files that the runtime reaches.
+    pub fn new(alloc: Global, runtime: R) -> FileShelf<R>
+        ensures opened { result.opened.items ≡ [] }
+        ensures faults { result.faults ≡ 0 }
+    {
+        FileShelf {
+            runtime,
+            opened: Vec::new(alloc),
+            faults: 0,
+        }
+    }
+
+    // Keeps a file, and answers its number. There is none where as many files were opened as have numbers, or where there is no memory.
+    fn keep(&mut self, file: R::File) -> Option<u32>
+        ensures number { IfSome result (λ number. number ≡ length self.old.opened.items) }
+        ensures room { OnSome result (length self.old.opened.items < 2 ^ 32 - 1) }
+        ensures kept { OnSome result (length self.new.opened.items ≡ length self.old.opened.items + 1) }
+        ensures none { IfNone result (length self.new.opened.items ≡ length self.old.opened.items) }
+        ensures faults { self.new.faults ≡ self.old.faults }
+    {
+        let Ok(number) = u32::try_from(self.opened.len()) else {
+            return None;
+        };
+        if number == u32::MAX {
+            return None;
+        }
+        match self.opened.push(OpenedFile::new(file)) {
+            Ok(()) => Some(number),
+            Err(_) => None,
+        }
+    }
+}
+
+impl<R: Files> Shelf for FileShelf<R> {
+    ghost files = { λ _. None };
+
+    ghost opened = { λ shelf. length shelf.opened.items };
+
+    ghost faults = { λ shelf. shelf.faults };
+
+    ghost numbered = { λ _. tt };
+
+    fn open_file(&mut self, name: &str) -> Result<Option<u32>, Fault> {
+        match found(File::open(&self.runtime, name)) {
+            Ok(Some(file)) => match self.keep(file) {
+                Some(number) => Ok(Some(number)),
+                None => {
+                    self.faults = self.faults.saturating_add(1);
+                    Err(Fault)
+                }
+            },
+            Ok(None) => Ok(None),
+            Err(Fault) => {
+                self.faults = self.faults.saturating_add(1);
+                Err(Fault)
+            }
+        }
+    }
+
+    fn read(&mut self, file: u32, buf: &mut [u8]) -> Result<usize, Fault>
+        requires some_room { 0 < length buf.old }
+        requires given { file < length self.old.opened.items }
+        ensures bound { IfOk result (λ n. n ≤ length buf.new) }
+        ensures opened { length self.new.opened.items ≡ length self.old.opened.items }
+        ensures cause { HasCause self.old.faults self.new.faults result }
+
+        // Bytes that the file knows are given as they are, 0 comes only at their end, and at a fault none is lost.
+        ensures known { IfSome (slice_get self.old.opened.items file) (λ old.
+            IfSome (slice_get self.new.opened.items file) (λ new.
+            ReadConsumes (left_in R.File.remaining old.reader) (left_in R.File.remaining new.reader) result buf.new)) }
+    {
+        match self.opened[file as usize].read(buf) {
+            Ok(count) => Ok(count),
+            Err(Fault) => {
+                self.faults = self.faults.saturating_add(1);
+                Err(Fault)
+            }
+        }
+    }
+}
+
+// The file that was opened, or `None` where its name isn't there; each other error is a fault.
+fn found<F: Drop>(opened: io::Result<F>) -> Result<Option<F>, Fault>
+    ensures file { IfOk opened (λ file. result ≡ Ok (Some file)) }
+    ensures missing { IfErr opened (λ error. error_kind error ≡ NotFound → result ≡ Ok None) }
+    ensures fault { IfErr opened (λ error. error_kind error ≢ NotFound → IsErr result) }
+{
+    match opened {
+        Ok(file) => Ok(Some(file)),
+        Err(error) if error.kind() == ErrorKind::NotFound => Ok(None),
+        Err(_) => Err(Fault),
+    }
+}

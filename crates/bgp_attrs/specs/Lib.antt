@@ -1,0 +1,10 @@
+pub mod Attributes
+pub mod Blocks
+pub mod Joined
+pub mod Laws
+pub mod Left
+pub mod Merging
+pub mod Parts
+pub mod Prefixes
+pub mod Reading
+pub mod Segments

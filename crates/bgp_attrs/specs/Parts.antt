@@ -1,0 +1,51 @@
+-- What single attributes give, found in the list of them; only private contracts cite it.
+use Rattle.std.specs.Prelude.{ℕ, ◌≤◌, Bool, List, length, IfSome}
+use Rattle.std.specs.declared.option.Option.{Option}
+use Rattle.path_model.specs.Prefix.{Subnet}
+use Rattle.bgp_attrs.specs.declared.form.Form.{Form}
+use Rattle.bgp_attrs.specs.declared.pieces.AttributeList.{AttributeList}
+use Rattle.bgp_attrs.specs.declared.pieces.Segments.{Segments}
+use Rattle.bgp_attrs.specs.Attributes.{contents_of, first_content}
+use Rattle.bgp_attrs.specs.Left.{fields_left}
+use Rattle.bgp_attrs.specs.Reading.{Reads, IsPath, IsOnly, IsReach, IsUnreach}
+use Rattle.bgp_attrs.specs.Segments.{Segment}
+
+-- the contents of the attributes of a type in a list
+abbrev pub contents_in : ℕ → AttributeList → List (List ℕ)
+contents_in kind list = contents_of kind (fields_left list)
+
+-- the content of the first one
+abbrev pub first_in : ℕ → AttributeList → Option (List ℕ)
+first_in kind list = first_content kind (fields_left list)
+
+-- a path of at most so many bytes as an attribute has
+abbrev pub IsShort : Option Segments → Type 0
+IsShort path = IfSome path (λ path. length path.rest.now ≤ 65535)
+
+-- the AS_PATH of the list
+abbrev pub IsPathIn : Bool → AttributeList → Option (List Segment) → Type 0
+IsPathIn wide list value = Reads (IsPath wide) (first_in 2 list) value
+
+-- the AS_PATH isn't in form
+abbrev pub HasBadPath : Bool → AttributeList → Type 0
+HasBadPath wide list = (value : Option (List Segment)) → IsPathIn wide list value → ⊥
+
+-- the prefixes of the MP_REACH_NLRI
+abbrev pub IsAnnouncedIn : Form → AttributeList → Option (List Subnet) → Type 0
+IsAnnouncedIn form list value = IsOnly IsReach form (contents_in 14 list) value
+
+-- it isn't in form, or repeated
+abbrev pub HasBadReach : Form → AttributeList → Type 0
+HasBadReach form list = (value : Option (List Subnet)) → IsAnnouncedIn form list value → ⊥
+
+-- the prefixes of the MP_UNREACH_NLRI
+abbrev pub IsWithdrawnIn : Form → AttributeList → Option (List Subnet) → Type 0
+IsWithdrawnIn form list value = IsOnly IsUnreach form (contents_in 15 list) value
+
+-- it isn't in form, or repeated
+abbrev pub HasBadUnreach : Form → AttributeList → Type 0
+HasBadUnreach form list = (value : Option (List Subnet)) → IsWithdrawnIn form list value → ⊥
+
+-- the content gives no such prefixes
+abbrev pub GivesNone : (List ℕ → Option (List Subnet) → Type 0) → List ℕ → Type 0
+GivesNone S content = (value : Option (List Subnet)) → S content value → ⊥

@@ -1,0 +1,40 @@
+//! Path attributes of BGP, read from slices without memory, and the path that they give.
+//!
+//! The layers above use three contracts. [`read`] answers what counts of an attribute field, exactly where the field has a reading
+//! (`specs/Reading.antt`: `IsRead`). [`Attrs::trail`] gives the path as it is judged, AS4_PATH merged in (`specs/Merging.antt`:
+//! `trail_in`). [`prefixes`] answers the prefixes that bytes spell, exactly where they spell some (`specs/Prefixes.antt`).
+//!
+//! Begin reading at `specs/Reading.antt`. All lists in these formats are *joined spellings* (`specs/Joined.antt`): a relation says
+//! which bytes spell one item, and a function that reads the first item is proved to be that relation, so that no spelling begins
+//! another one. The modules, from the bottom up: `taking` and `splitting` read first items, `pieces` has the iterators over them,
+//! `whole` checks that bytes are such items and nothing else, `finding` and `reaching` look into a list of attributes, `reading`
+//! reads all of it; `merging` makes items and trails; `laws` has the laws for the layers above.
+#![tactic(auto)]
+
+mod attrs;
+mod fault;
+mod finding;
+mod form;
+mod items;
+mod laws;
+mod merging;
+mod pieces;
+mod reaching;
+mod reading;
+mod splitting;
+mod taking;
+mod whole;
+
+pub use attrs::Attrs;
+pub use fault::Attributes;
+pub use form::Form;
+pub use items::{Item, Items};
+pub use laws::{
+    attributes_have_one_reading, attributes_read_or_not, no_prefix_begins_another,
+    prefixes_have_one_reading,
+};
+pub use merging::merge4;
+pub use pieces::{Ases, Prefixes, Segments};
+pub use reading::read;
+pub use taking::{take_block, take_prefix};
+pub use whole::prefixes;

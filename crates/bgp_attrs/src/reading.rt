@@ -1,0 +1,135 @@
+//! A whole attribute field.
+ghost use Rattle.std.specs.Prelude.{◌≡◌, option_map, IfOk, IsOk, OnErr};
+ghost use Rattle.bgp_attrs.specs.Left.{segments_left, prefixes_left};
+ghost use Rattle.bgp_attrs.specs.Parts.{first_in, IsShort, IsPathIn, HasBadPath, IsAnnouncedIn, HasBadReach, IsWithdrawnIn, HasBadUnreach};
+ghost use Rattle.bgp_attrs.specs.Reading.{Reading, IsPath4, aggregator_of, has_length, IsRead};
+
+use crate::attrs::Attrs;
+use crate::fault::Attributes;
+use crate::finding::{first_content, only_content};
+use crate::form::Form;
+use crate::pieces::{Ases, AttributeList, Prefixes, Segments};
+use crate::reaching::{reach, unreach};
+use crate::splitting::as_size;
+use crate::whole::{attributes, segments};
+
+const AS_PATH: u8 = 2;
+
+const AGGREGATOR: u8 = 7;
+
+const MP_REACH_NLRI: u8 = 14;
+
+const MP_UNREACH_NLRI: u8 = 15;
+
+const AS4_PATH: u8 = 17;
+
+const AS4_AGGREGATOR: u8 = 18;
+
+/// Reads an attribute field. It takes no memory; the answer keeps slices of the bytes.
+///
+/// `wide` says that ASes have four bytes (RFC 6793), as in a table's records and between speakers that agreed on it; else they have
+/// two, and AS4_PATH and AS4_AGGREGATOR count. A refusal comes exactly where the bytes have no reading: an attribute's header or
+/// content is cut, the first AS_PATH is malformed, or in a message MP_REACH_NLRI or MP_UNREACH_NLRI is repeated or malformed.
+pub fn read(bytes: &[u8], wide: bool, form: Form) -> Result<Attrs<'_>, Attributes>
+    ensures ok { IfOk result (λ attrs. IsRead wide form bytes.now attrs) }
+    ensures only { (value : Reading) → IsRead wide form bytes.now value → IsOk result }
+{
+    let fields = attributes(bytes).ok_or(Attributes)?;
+    let path = path_in(fields, wide)?;
+    let announced = announced_in(fields, form)?;
+    let withdrawn = withdrawn_in(fields, form)?;
+    Ok(Attrs {
+        path,
+        path4: path4_in(fields, wide),
+        aggregator: aggregator_in(fields, wide),
+        aggregator4: has_aggregator4(fields),
+        announced,
+        withdrawn,
+    })
+}
+
+fn path_in<'a>(fields: AttributeList<'a>, wide: bool) -> Result<Option<Segments<'a>>, Attributes>
+    ensures short { IfOk result IsShort }
+    ensures ok { IfOk result (λ found.
+        IsPathIn wide fields.entry (option_map segments_left found)) }
+    ensures err { OnErr result (HasBadPath wide fields.entry) }
+{
+    match first_content(fields, AS_PATH) {
+        Some(content) => match segments(content, wide) {
+            Some(path) => Ok(Some(path)),
+            None => Err(Attributes),
+        },
+        None => Ok(None),
+    }
+}
+
+fn path4_in<'a>(fields: AttributeList<'a>, wide: bool) -> Option<Segments<'a>>
+    ensures { IsPath4 wide (first_in 17 fields.entry) (option_map segments_left result) }
+{
+    if wide {
+        return None;
+    }
+    match first_content(fields, AS4_PATH) {
+        Some(content) => segments(content, true),
+        None => None,
+    }
+}
+
+fn aggregator_in(fields: AttributeList<'_>, wide: bool) -> Option<u32>
+    ensures { result ≡ aggregator_of wide (first_in 7 fields.entry) }
+{
+    match first_content(fields, AGGREGATOR) {
+        Some(content) => {
+            let size = as_size(wide);
+            if content.len() != size + 4 {
+                return None;
+            }
+            let (asn, _) = content.split_at(size);
+            Ases { rest: asn, wide }.next()
+        }
+        None => None,
+    }
+}
+
+fn has_aggregator4(fields: AttributeList<'_>) -> bool
+    ensures { result ≡ has_length 8 (first_in 18 fields.entry) }
+{
+    match first_content(fields, AS4_AGGREGATOR) {
+        Some(content) => content.len() == 8,
+        None => false,
+    }
+}
+
+fn announced_in<'a>(
+    fields: AttributeList<'a>,
+    form: Form,
+) -> Result<Option<Prefixes<'a>>, Attributes>
+    ensures ok { IfOk result (λ found.
+        IsAnnouncedIn form fields.entry (option_map prefixes_left found)) }
+    ensures err { OnErr result (HasBadReach form fields.entry) }
+{
+    match form {
+        Form::Table => Ok(None),
+        Form::Message => match only_content(fields, MP_REACH_NLRI)? {
+            Some(content) => reach(content),
+            None => Ok(None),
+        },
+    }
+}
+
+fn withdrawn_in<'a>(
+    fields: AttributeList<'a>,
+    form: Form,
+) -> Result<Option<Prefixes<'a>>, Attributes>
+    ensures ok { IfOk result (λ found.
+        IsWithdrawnIn form fields.entry (option_map prefixes_left found)) }
+    ensures err { OnErr result (HasBadUnreach form fields.entry) }
+{
+    match form {
+        Form::Table => Ok(None),
+        Form::Message => match only_content(fields, MP_UNREACH_NLRI)? {
+            Some(content) => unreach(content),
+            None => Ok(None),
+        },
+    }
+}

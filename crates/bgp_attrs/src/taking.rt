@@ -1,0 +1,65 @@
+//! Blocks and prefixes at the front of bytes.
+ghost use Rattle.std.specs.Prelude.{◌≡◌, ◌≤◌, ◌*◌, length, option_map};
+ghost use Rattle.bgp_attrs.specs.Blocks.{block_at};
+ghost use Rattle.bgp_attrs.specs.Prefixes.{addr_of, family_bits, prefix_at};
+
+use path_model::{Addr, Prefix};
+
+/// The bytes behind two bytes of length, and what follows them; `None` where they are cut.
+#[tactic(auto, unfolding(crate::specs::Blocks::block_at))]
+pub fn take_block(bytes: &[u8]) -> Option<(&[u8], &[u8])>
+    ensures { option_map (λ x. (x.0.now, x.1.now)) result ≡ block_at bytes.now }
+{
+    match bytes {
+        [high, low, rest @ ..] => {
+            let count = usize::from(u16::from_be_bytes([*high, *low]));
+            if count > rest.len() {
+                return None;
+            }
+            Some(rest.split_at(count))
+        }
+        _ => None,
+    }
+}
+
+/// The first prefix, of IPv6 or else of IPv4, and what follows it; `None` where the length is over 128 or 32, or it is cut.
+/// Bits behind the length are cleared.
+#[tactic(auto, unfolding(crate::specs::Prefixes::prefix_at))]
+pub fn take_prefix(bytes: &[u8], six: bool) -> Option<(Prefix, &[u8])>
+    ensures { option_map (λ x. (x.0, x.1.now)) result ≡ prefix_at six bytes.now }
+{
+    match bytes {
+        [len, rest @ ..] => {
+            let count = (usize::from(*len) + 7) / 8;
+            if *len > bits_in(six) || rest.len() < count {
+                return None;
+            }
+            let (bits, rest) = rest.split_at(count);
+            let prefix = Prefix::new(padded_addr(bits, six), *len)?;
+            Some((prefix, rest))
+        }
+        _ => None,
+    }
+}
+
+// The address that begins with these bytes.
+fn padded_addr(bytes: &[u8], six: bool) -> Addr
+    requires { 8 * length bytes.now ≤ family_bits six }
+    ensures { result ≡ addr_of six bytes.now }
+{
+    if six {
+        let mut octets = [0u8; 16];
+        octets[..bytes.len()].copy_from_slice(bytes);
+        Addr::V6(u128::from_be_bytes(octets))
+    } else {
+        let mut octets = [0u8; 4];
+        octets[..bytes.len()].copy_from_slice(bytes);
+        Addr::V4(u32::from_be_bytes(octets))
+    }
+}
+
+fn bits_in(six: bool) -> u8
+    ensures { result ≡ family_bits six }
+{
+    if six { 128 } else { 32 }
+}

@@ -1,0 +1,58 @@
+//! Whether bytes are prefixes, segments or attributes, and nothing else.
+ghost use Rattle.std.specs.Prelude.{◌≡◌, List, IfSome, IfNone};
+ghost use Rattle.path_model.specs.Prefix.{Subnet};
+ghost use Rattle.bgp_attrs.specs.Attributes.{Field, IsField};
+ghost use Rattle.bgp_attrs.specs.Joined.{IsJoined};
+ghost use Rattle.bgp_attrs.specs.Left.{segments_left, prefixes_left, fields_left};
+ghost use Rattle.bgp_attrs.specs.Prefixes.{IsPrefix};
+ghost use Rattle.bgp_attrs.specs.Reading.{IsPath};
+ghost use Rattle.bgp_attrs.specs.Segments.{Segment};
+
+use crate::pieces::{AttributeList, Prefixes, Segments};
+use crate::splitting::{take_attribute, take_segment};
+use crate::taking::take_prefix;
+
+/// The prefixes that the bytes spell, of IPv6 or else of IPv4; `None` exactly where the bytes aren't whole prefixes of that family.
+/// It takes no memory.
+pub fn prefixes(bytes: &[u8], six: bool) -> Option<Prefixes<'_>>
+    ensures some { IfSome result (λ found.
+        IsJoined (IsPrefix six) bytes.now (prefixes_left found)) }
+    ensures none { IfNone result ((list : List Subnet) →
+        IsJoined (IsPrefix six) bytes.now list → ⊥) }
+{
+    let mut rest = bytes;
+    while !rest.is_empty() {
+        let Some((_, more)) = take_prefix(rest, six) else {
+            return None;
+        };
+        rest = more;
+    }
+    Some(Prefixes { rest: bytes, six })
+}
+
+// The segments that the bytes spell.
+pub(crate) fn segments(bytes: &[u8], wide: bool) -> Option<Segments<'_>>
+    ensures same { IfSome result (λ found. found.rest.now ≡ bytes.now) }
+    ensures some { IfSome result (λ found. IsPath wide bytes.now (segments_left found)) }
+    ensures none { IfNone result ((list : List Segment) → IsPath wide bytes.now list → ⊥) }
+{
+    let mut rest = bytes;
+    while !rest.is_empty() {
+        let (_, more) = take_segment(rest, wide)?;
+        rest = more;
+    }
+    Some(Segments { rest: bytes, wide })
+}
+
+// The attributes that the bytes spell.
+pub(crate) fn attributes(bytes: &[u8]) -> Option<AttributeList<'_>>
+    ensures some { IfSome result (λ found. IsJoined IsField bytes.now (fields_left found)) }
+    ensures none { IfNone result ((list : List Field) → IsJoined IsField bytes.now list → ⊥) }
+{
+    let mut rest = bytes;
+    while !rest.is_empty() {
+        let (_, more) = take_attribute(rest)?;
+        rest = more;
+    }
+    Some(AttributeList { rest: bytes })
+}

@@ -1,0 +1,5 @@
+pub mod Frames
+pub mod Laws
+pub mod Outcomes
+pub mod Updates
+pub mod Views

@@ -1,0 +1,34 @@
+-- What an UPDATE says, once its parts and its attributes are read; only private contracts cite it.
+use Rattle.std.specs.Prelude.{◌≡◌, Bool, List, [], option_map, unwrap_or, Ok, Err}
+use Rattle.std.specs.declared.option.Option.{Option}
+use Rattle.std.specs.declared.result.Result.{Result}
+use Rattle.path_model.specs.declared.change.Change.{Change}
+use Rattle.path_model.specs.declared.peer.Peer.{Peer}
+use Rattle.path_model.specs.Prefix.{Subnet}
+use Rattle.bgp_attrs.specs.declared.form.Form.TheVariants.{Message}
+use Rattle.bgp_attrs.specs.declared.pieces.Prefixes.{Prefixes}
+use Rattle.bgp_attrs.specs.Left.{prefixes_left}
+use Rattle.bgp_attrs.specs.Reading.{Reading, IsRead, IsUnreadable}
+use Rattle.bgp_update.specs.declared.fault.UpdateFault.{UpdateFault}
+use Rattle.bgp_update.specs.declared.fault.UpdateFault.TheVariants as faults
+use Rattle.bgp_update.specs.Updates.{Update, changes_of, AnnouncesWithoutPath, HasPathIfAnnounced}
+
+-- the prefixes, where there are some
+abbrev pub some_left : Option Prefixes → List Subnet
+some_left prefixes = unwrap_or (option_map prefixes_left prefixes) []
+
+-- by the attributes' reading
+abbrev pub IsOutcomeBy : Peer → Update → Reading → Result (List Change) UpdateFault → Type 0
+IsOutcomeBy peer update reading (Ok changes) = HasPathIfAnnounced update reading × (changes ≡ changes_of peer update reading)
+IsOutcomeBy peer update reading (Err faults.NoMemory) = Unit {0}
+IsOutcomeBy peer update reading (Err faults.Message) = ⊥
+IsOutcomeBy peer update reading (Err faults.Attributes) = ⊥
+IsOutcomeBy peer update reading (Err faults.NoPath) = AnnouncesWithoutPath update reading
+
+-- by the parts
+abbrev pub IsOutcomeOf : Bool → Peer → Update → Result (List Change) UpdateFault → Type 0
+IsOutcomeOf wide peer update (Err faults.NoMemory) = Unit {0}
+IsOutcomeOf wide peer update (Err faults.Message) = ⊥
+IsOutcomeOf wide peer update (Err faults.Attributes) = IsUnreadable wide Message update.attributes
+IsOutcomeOf wide peer update (Err faults.NoPath) = (reading : Reading) × IsRead wide Message update.attributes reading × AnnouncesWithoutPath update reading
+IsOutcomeOf wide peer update (Ok changes) = (reading : Reading) × IsRead wide Message update.attributes reading × HasPathIfAnnounced update reading × (changes ≡ changes_of peer update reading)

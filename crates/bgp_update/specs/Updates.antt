@@ -1,0 +1,100 @@
+-- UPDATE messages (RFC 4271, section 4.3), and the changes that they make.
+use Rattle.std.specs.Prelude.{◌≡◌, ◌≢◌, ℕ, Bool, false, List, [], ◌++◌, map, unwrap_or, ◌⊎◌, Some, None, Ok, Err}
+use Rattle.std.specs.declared.option.Option.{Option}
+use Rattle.std.specs.declared.result.Result.{Result}
+use Rattle.path_model.specs.declared.change.Change.{Change}
+use Rattle.path_model.specs.declared.change.Change.TheVariants.{Remove, Announce}
+use Rattle.path_model.specs.declared.key.Key.{Key}
+use Rattle.path_model.specs.declared.peer.Peer.{Peer}
+use Rattle.path_model.specs.Prefix.{Subnet}
+use Rattle.path_model.specs.Trail.{Path}
+use Rattle.bgp_attrs.specs.declared.form.Form.TheVariants.{Message}
+use Rattle.bgp_attrs.specs.Blocks.{IsBlock}
+use Rattle.bgp_attrs.specs.Joined.{Begins, IsJoined}
+use Rattle.bgp_attrs.specs.Merging.{trail_in}
+use Rattle.bgp_attrs.specs.Prefixes.{IsPrefix}
+use Rattle.bgp_attrs.specs.Reading.{Reading, IsRead, IsUnreadable}
+use Rattle.bgp_update.specs.declared.fault.UpdateFault.{UpdateFault}
+use Rattle.bgp_update.specs.declared.fault.UpdateFault.TheVariants as faults
+use Rattle.bgp_update.specs.Frames.{IsFramed}
+
+-- the parts of an UPDATE
+pub record Update : Type 0 where
+  pub withdrawn : List Subnet
+  pub attributes : List ℕ
+  pub announced : List Subnet
+
+-- The bytes behind an UPDATE's header: withdrawn IPv4 prefixes and path attributes, each behind their length, and announced IPv4
+-- prefixes to the end.
+pub record IsUpdate (rest : List ℕ) (update : Update) : Type 0 where
+  pub withdrawn : List ℕ
+  pub more : List ℕ
+  pub announced : List ℕ
+  pub first : Begins IsBlock rest withdrawn more
+  pub second : Begins IsBlock more update.attributes announced
+  pub are_withdrawn : IsJoined (IsPrefix false) withdrawn update.withdrawn
+  pub are_announced : IsJoined (IsPrefix false) announced update.announced
+
+-- the message is in form: an UPDATE of these parts, or of another type, whose rest has no form here
+abbrev pub IsMessage : List ℕ → Option Update → Type 0
+IsMessage message None = (kind : ℕ) × (rest : List ℕ) × IsFramed message kind rest × (kind ≢ 2)
+IsMessage message (Some update) = (rest : List ℕ) × IsFramed message 2 rest × IsUpdate rest update
+
+-- the key of a peer's route
+abbrev pub key_of : Peer → Subnet → Key
+key_of peer prefix = record { peer = peer; prefix = prefix }
+
+-- the peer withdraws the prefixes
+abbrev pub removals : Peer → List Subnet → List Change
+removals peer prefixes = map (λ prefix. Remove (key_of peer prefix)) prefixes
+
+-- the peer announces the prefixes, all with one path
+abbrev pub announcements : Peer → Path → List Subnet → List Change
+announcements peer trail prefixes = map (λ prefix. Announce (key_of peer prefix) trail) prefixes
+
+-- all prefixes that are withdrawn: those of the UPDATE, and those of MP_UNREACH_NLRI
+abbrev pub withdrawn_in : Update → Reading → List Subnet
+withdrawn_in update reading = update.withdrawn ++ unwrap_or reading.withdrawn []
+
+-- all prefixes that are announced: those of the UPDATE, and those of MP_REACH_NLRI
+abbrev pub announced_in : Update → Reading → List Subnet
+announced_in update reading = update.announced ++ unwrap_or reading.announced []
+
+-- the announcements, where there is a path
+abbrev pub all_announcements : Peer → Option Path → List Subnet → List Change
+all_announcements peer None prefixes = []
+all_announcements peer (Some trail) prefixes = announcements peer trail prefixes
+
+-- The changes: removals first, so that a prefix that is withdrawn and announced is announced (RFC 4271, section 4.3, at its end).
+abbrev pub changes_of : Peer → Update → Reading → List Change
+changes_of peer update reading = removals peer (withdrawn_in update reading) ++ all_announcements peer (trail_in reading) (announced_in update reading)
+
+-- a prefix is announced, and there is no AS_PATH
+abbrev pub AnnouncesWithoutPath : Update → Reading → Type 0
+AnnouncesWithoutPath update reading = (reading.path ≡ None) × (announced_in update reading ≢ [])
+
+-- where there is no AS_PATH, no prefix is announced
+abbrev pub HasPathIfAnnounced : Update → Reading → Type 0
+HasPathIfAnnounced update reading = (reading.path ≡ None) → announced_in update reading ≡ []
+
+-- the message is an UPDATE that makes these changes
+abbrev pub MakesChanges : Bool → Peer → List ℕ → List Change → Type 0
+MakesChanges wide peer message changes =
+    (update : Update) × IsMessage message (Some update) × (reading : Reading) × IsRead wide Message update.attributes reading × HasPathIfAnnounced update reading × (changes ≡ changes_of peer update reading)
+
+-- What the message says: its changes, or the first fault, by the order of the cases. A case has the readings that the ones before it
+-- deny, so that no two hold at once.
+abbrev pub IsReading : Bool → Peer → List ℕ → Result (List Change) UpdateFault → Type 0
+IsReading wide peer message (Err faults.Message) = (shape : Option Update) → IsMessage message shape → ⊥
+IsReading wide peer message (Err faults.Attributes) = (update : Update) × IsMessage message (Some update) × IsUnreadable wide Message update.attributes
+IsReading wide peer message (Err faults.NoPath) = (update : Update) × IsMessage message (Some update) × (reading : Reading) × IsRead wide Message update.attributes reading × AnnouncesWithoutPath update reading
+IsReading wide peer message (Err faults.NoMemory) = ⊥
+IsReading wide peer message (Ok changes) = (IsMessage message None × (changes ≡ [])) ⊎ MakesChanges wide peer message changes
+
+-- the answer is what the message says, or want of memory
+abbrev pub IsOutcome : Bool → Peer → List ℕ → Result (List Change) UpdateFault → Type 0
+IsOutcome wide peer message (Err faults.Message) = IsReading wide peer message (Err faults.Message)
+IsOutcome wide peer message (Err faults.Attributes) = IsReading wide peer message (Err faults.Attributes)
+IsOutcome wide peer message (Err faults.NoPath) = IsReading wide peer message (Err faults.NoPath)
+IsOutcome wide peer message (Err faults.NoMemory) = Unit {0}
+IsOutcome wide peer message (Ok changes) = IsReading wide peer message (Ok changes)

@@ -1,0 +1,162 @@
+-- Entries one after another.
+use Rattle.std.proofs.Common.{◌≡◌, ℕ, zero, suc, slice_get, Ok, Err, ◌≤◌, inl, inr, Bool, true, false, List, [], ◌∷◌, ◌++◌, length, Some, None, refl, sym, ap, subst, ◌∙◌, append_assoc, arith}
+use Rattle.std.proofs.lemmas.List.{append-nil}
+use Rattle.std.specs.List.{AllByRecursion}
+use Rattle.std.specs.declared.option.Option.{Option}
+use Rattle.std.specs.declared.result.Result.{Result}
+use Rattle.path_model.specs.declared.change.Change.{Change}
+use Rattle.path_model.specs.declared.change.Change.TheVariants.{Announce}
+use Rattle.path_model.specs.declared.key.Key.{Key}
+use Rattle.path_model.specs.declared.peer.Peer.{Peer}
+use Rattle.path_model.specs.Prefix.{Subnet}
+use Rattle.bgp_update.specs.Updates.{key_of}
+use Rattle.mrt_reader.specs.declared.body.Body.{Body}
+use Rattle.mrt_reader.specs.declared.body.Body.TheVariants as bodies
+use Rattle.mrt_reader.specs.declared.fault.BodyFault.{BodyFault}
+use Rattle.mrt_reader.specs.declared.fault.BodyFault.TheVariants as faults
+use Rattle.mrt_reader.specs.Bodies.{OrNoMemory, RibSays}
+use Rattle.mrt_reader.specs.Dumps.{Dumped}
+use Rattle.mrt_reader.specs.Ribs.{Entry, Rib, IsRib}
+use Rattle.mrt_reader.specs.Routes.{AnyOf, IsWithin, IsBeyond, EntryReadable, EntryUnreadable, EntryLacksPath, IsRoute, AreRoutes, EntriesSay, DumpSays}
+use Rattle.mrt_reader.specs.Routing.{IsPut, Going}
+
+any_behind : {A : Type 0} (P : A → Type 0) (front left : List A) → AnyOf P left → AnyOf P (front ++ left)
+any_behind P [] left any = any
+any_behind P (x ∷ front) left any = inr (any_behind P front left any)
+
+any_before : {A : Type 0} (P : A → Type 0) (front left : List A) → AnyOf P front → AnyOf P (front ++ left)
+any_before P [] left any = absurd any
+any_before P (x ∷ front) left (inl p) = inl p
+any_before P (x ∷ front) left (inr any) = inr (any_before P front left any)
+
+all_push : {A : Type 0} (P : A → Type 0) (front : List A) (x : A) → AllByRecursion P front → P x → AllByRecursion P (front ++ x ∷ [])
+all_push P [] x each p = (p, tt)
+all_push P (y ∷ front) x each p = (each.0, all_push P front x each.1 p)
+
+routes_push : (peers : List Peer) (prefix : Subnet) (front : List Entry) (entry : Entry) (changes : List Change) (change : Change) → AreRoutes peers prefix front changes → IsRoute peers prefix entry change
+    → AreRoutes peers prefix (front ++ entry ∷ []) (changes ++ change ∷ [])
+routes_push peers prefix [] entry changes change are is = (change, [], ap (λ (cs : List Change). cs ++ change ∷ []) are, is, refl)
+routes_push peers prefix (e ∷ front) entry changes change are is =
+    (are.0, are.1 ++ change ∷ [], ap (λ (cs : List Change). cs ++ change ∷ []) are.2, are.3, routes_push peers prefix front entry are.1 change are.4 is)
+
+regrouped : {A : Type 0} (all front left : List A) (x : A) → all ≡ front ++ x ∷ left → all ≡ (front ++ x ∷ []) ++ left
+regrouped all front left x e = e ∙ sym (append_assoc front (x ∷ []) left)
+
+pub Going-start : (peers : List Peer) (prefix : Subnet) (all : List Entry) → Going peers prefix all all [] false
+Going-start peers prefix all = record { front = []; whole = refl; readable = tt; routes = λ e. refl; none = λ e. absurd cc }
+
+pub Going-route : (peers : List Peer) (prefix : Subnet) (all left : List Entry) (entry : Entry) (changes : List Change) (change : Change) (no_path : Bool)
+    → Going peers prefix all (entry ∷ left) changes no_path → IsRoute peers prefix entry change → Going peers prefix all left (changes ++ change ∷ []) no_path
+Going-route peers prefix all left entry changes change no_path g is = record {
+  front = g.front ++ entry ∷ [];
+  whole = regrouped all g.front left entry g.whole;
+  readable = all_push EntryReadable g.front entry g.readable (is.gives.0, is.gives.1);
+  routes = λ e. routes_push peers prefix g.front entry changes change (g.routes e) is;
+  none = λ e. any_before EntryLacksPath g.front (entry ∷ []) (g.none e);
+}
+
+pub Going-no_path : (peers : List Peer) (prefix : Subnet) (all left : List Entry) (entry : Entry) (changes : List Change) (no_path : Bool)
+    → Going peers prefix all (entry ∷ left) changes no_path → EntryLacksPath entry → Going peers prefix all left changes true
+Going-no_path peers prefix all left entry changes no_path g is = record {
+  front = g.front ++ entry ∷ [];
+  whole = regrouped all g.front left entry g.whole;
+  readable = all_push EntryReadable g.front entry g.readable (is.0, is.1);
+  routes = λ e. absurd cc;
+  none = λ e. any_behind EntryLacksPath g.front (entry ∷ []) (inl is);
+}
+
+pub Going-any : (P : Entry → Type 0) (peers : List Peer) (prefix : Subnet) (all left : List Entry) (entry : Entry) (changes : List Change) (no_path : Bool)
+    → Going peers prefix all (entry ∷ left) changes no_path → P entry → AnyOf P all
+Going-any P peers prefix all left entry changes no_path g is = subst (AnyOf P) (sym g.whole) (any_behind P g.front (entry ∷ left) (inl is))
+
+all_of : (peers : List Peer) (prefix : Subnet) (all : List Entry) (changes : List Change) (no_path : Bool) (g : Going peers prefix all [] changes no_path) → g.front ≡ all
+all_of peers prefix all changes no_path g = sym (g.whole ∙ append-nil g.front)
+
+pub Going-end : (peers : List Peer) (prefix : Subnet) (all left : List Entry) (changes : List Change) → Going peers prefix all left changes false → left ≡ [] → AreRoutes peers prefix all changes
+Going-end peers prefix all left changes g e =
+    let h : Going peers prefix all [] changes false = subst (λ (l : List Entry). Going peers prefix all l changes false) e g in
+    subst (λ (es : List Entry). AreRoutes peers prefix es changes) (all_of peers prefix all changes false h) (h.routes refl)
+
+pub Going-none : (peers : List Peer) (prefix : Subnet) (all left : List Entry) (changes : List Change) → Going peers prefix all left changes true → left ≡ [] → AllByRecursion EntryReadable all × AnyOf EntryLacksPath all
+Going-none peers prefix all left changes g e =
+    let h : Going peers prefix all [] changes true = subst (λ (l : List Entry). Going peers prefix all l changes true) e g in
+    subst (λ (es : List Entry). AllByRecursion EntryReadable es × AnyOf EntryLacksPath es) (all_of peers prefix all changes true h) (h.readable, h.none refl)
+
+-- ---- the same, where what is left begins with the entry
+
+pub next_route : (peers : List Peer) (prefix : Subnet) (all before left : List Entry) (entry : Entry) (changes new : List Change) (no_path : Bool) (peer : Peer)
+    → Going peers prefix all before changes no_path → before ≡ entry ∷ left → slice_get peers entry.index ≡ Some peer → IsPut true (key_of peer prefix) entry.attributes changes new (Ok true) → Going peers prefix all left new no_path
+next_route peers prefix all before left entry changes new no_path peer g e is_peer put =
+    let h : Going peers prefix all (entry ∷ left) changes no_path = subst (λ (l : List Entry). Going peers prefix all l changes no_path) e g in
+    let change = Announce (key_of peer prefix) put.0 in
+    let made = Going-route peers prefix all left entry changes change no_path h (record { peer = peer; trail = put.0; is_peer = is_peer; gives = put.1; is_change = refl }) in
+    subst (λ (cs : List Change). Going peers prefix all left cs no_path) (sym put.2) made
+
+pub next_no_path : (peers : List Peer) (prefix : Subnet) (all before left : List Entry) (entry : Entry) (changes new : List Change) (no_path : Bool) (key : Key)
+    → Going peers prefix all before changes no_path → before ≡ entry ∷ left → IsPut true key entry.attributes changes new (Ok false) → Going peers prefix all left new true
+next_no_path peers prefix all before left entry changes new no_path key g e put =
+    let h : Going peers prefix all (entry ∷ left) changes no_path = subst (λ (l : List Entry). Going peers prefix all l changes no_path) e g in
+    subst (λ (cs : List Change). Going peers prefix all left cs true) (sym put.1) (Going-no_path peers prefix all left entry changes no_path h put.0)
+
+pub stops : (peers : List Peer) (prefix : Subnet) (all before left : List Entry) (entry : Entry) (changes new : List Change) (no_path : Bool) (key : Key) (fault : BodyFault)
+    → Going peers prefix all before changes no_path → before ≡ entry ∷ left → AllByRecursion (IsWithin peers) all → IsPut true key entry.attributes changes new (Err fault) → OrNoMemory (EntriesSay peers prefix all) (Err fault)
+stops peers prefix all before left entry changes new no_path key faults.NoMemory g e within put = tt
+stops peers prefix all before left entry changes new no_path key faults.Attributes g e within put =
+    let h : Going peers prefix all (entry ∷ left) changes no_path = subst (λ (l : List Entry). Going peers prefix all l changes no_path) e g in
+    (within, Going-any EntryUnreadable peers prefix all left entry changes no_path h put)
+stops peers prefix all before left entry changes new no_path key faults.NoPath g e within put = absurd put
+stops peers prefix all before left entry changes new no_path key faults.PeerIndex g e within put = absurd put
+stops peers prefix all before left entry changes new no_path key faults.Body g e within put = absurd put
+stops peers prefix all before left entry changes new no_path key faults.NoPeerTable g e within put = absurd put
+stops peers prefix all before left entry changes new no_path key faults.Message g e within put = absurd put
+
+get_none : {A : Type 0} (xs : List A) (i : ℕ) → slice_get xs i ≡ None → length xs ≤ i
+get_none [] i e = omega arith
+get_none (x ∷ xs) zero e = absurd cc
+get_none (x ∷ xs) (suc i) e = let before = get_none xs i e in omega arith
+
+pub stops_beyond : (peers : List Peer) (prefix : Subnet) (all before left : List Entry) (entry : Entry) (changes : List Change) (no_path : Bool)
+    → Going peers prefix all before changes no_path → before ≡ entry ∷ left → slice_get peers entry.index ≡ None → AnyOf (IsBeyond peers) all
+stops_beyond peers prefix all before left entry changes no_path g e none =
+    let h : Going peers prefix all (entry ∷ left) changes no_path = subst (λ (l : List Entry). Going peers prefix all l changes no_path) e g in
+    Going-any (IsBeyond peers) peers prefix all left entry changes no_path h (get_none peers entry.index none)
+
+-- a whole record says what its entries say
+pub rib_from : (six : Bool) (peers : Option (List Peer)) (body : List ℕ) (table : List Peer) (rib : Rib) (result : Result Body BodyFault) → IsRib six body rib → peers ≡ Some table
+    → EntriesSay table rib.prefix rib.entries result → RibSays six peers body result
+rib_from six peers body table rib (Ok (bodies.Routes changes)) is e say = (rib, table, is, e, say)
+rib_from six peers body table rib (Ok (bodies.Peers others)) is e say = absurd say
+rib_from six peers body table rib (Ok bodies.Passed) is e say = absurd say
+rib_from six peers body table rib (Err faults.Body) is e say = absurd say
+rib_from six peers body table rib (Err faults.NoPeerTable) is e say = absurd say
+rib_from six peers body table rib (Err faults.PeerIndex) is e say = (rib, table, is, e, say)
+rib_from six peers body table rib (Err faults.Message) is e say = absurd say
+rib_from six peers body table rib (Err faults.Attributes) is e say = (rib, table, is, e, say)
+rib_from six peers body table rib (Err faults.NoPath) is e say = (rib, table, is, e, say)
+rib_from six peers body table rib (Err faults.NoMemory) is e say = absurd say
+
+-- what follows from an answer follows from want of memory too
+or_maps : (P Q : Result Body BodyFault → Type 0) → ((result : Result Body BodyFault) → P result → Q result) → (result : Result Body BodyFault) → OrNoMemory P result → OrNoMemory Q result
+or_maps P Q f (Ok body) p = f (Ok body) p
+or_maps P Q f (Err faults.Body) p = f (Err faults.Body) p
+or_maps P Q f (Err faults.NoPeerTable) p = f (Err faults.NoPeerTable) p
+or_maps P Q f (Err faults.PeerIndex) p = f (Err faults.PeerIndex) p
+or_maps P Q f (Err faults.Message) p = f (Err faults.Message) p
+or_maps P Q f (Err faults.Attributes) p = f (Err faults.Attributes) p
+or_maps P Q f (Err faults.NoPath) p = f (Err faults.NoPath) p
+or_maps P Q f (Err faults.NoMemory) p = tt
+
+pub rib_says : (six : Bool) (peers : Option (List Peer)) (body : List ℕ) (table : List Peer) (rib : Rib) (result : Result Body BodyFault) → IsRib six body rib → peers ≡ Some table
+    → OrNoMemory (EntriesSay table rib.prefix rib.entries) result → OrNoMemory (RibSays six peers body) result
+rib_says six peers body table rib result is e say = or_maps (EntriesSay table rib.prefix rib.entries) (RibSays six peers body) (λ r s. rib_from six peers body table rib r is e s) result say
+
+-- ---- the one route of a TABLE_DUMP record
+
+pub dump_says : (dumped : Dumped) (old new : List Change) (key : Key) (fault : BodyFault) → IsPut false key dumped.attributes old new (Err fault) → OrNoMemory (DumpSays dumped) (Err fault)
+dump_says dumped old new key faults.Attributes put = put
+dump_says dumped old new key faults.NoMemory put = tt
+dump_says dumped old new key faults.NoPath put = absurd put
+dump_says dumped old new key faults.Message put = absurd put
+dump_says dumped old new key faults.PeerIndex put = absurd put
+dump_says dumped old new key faults.NoPeerTable put = absurd put
+dump_says dumped old new key faults.Body put = absurd put

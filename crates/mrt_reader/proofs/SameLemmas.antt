@@ -1,0 +1,254 @@
+-- No record has two readings.
+use Rattle.std.proofs.Common.{◌≡◌, ℕ, zero, suc, ◌<◌, ◌⊎◌, inl, inr, slice_get, Bool, true, false, List, [], ◌∷◌, length, drop, Some, None, Ok, Err, refl, sym, ap, subst, ◌∙◌, arith}
+use Rattle.std.specs.Prelude.{option_map}
+use Rattle.std.specs.List.{AllByRecursion}
+use Rattle.std.proofs.lemmas.Option.{same_Some, some_pair_parts}
+use Rattle.std.specs.declared.option.Option.{Option}
+use Rattle.std.specs.declared.result.Result.{Result}
+use Rattle.path_model.specs.declared.change.Change.{Change}
+use Rattle.path_model.specs.declared.change.Change.TheVariants.{Announce}
+use Rattle.path_model.specs.declared.peer.Peer.{Peer}
+use Rattle.path_model.specs.Prefix.{Subnet}
+use Rattle.path_model.specs.Trail.{Path}
+use Rattle.bgp_attrs.specs.declared.form.Form.TheVariants.{Table}
+use Rattle.bgp_attrs.specs.Merging.{trail_in, path_of_items, merged_with, used_in}
+use Rattle.bgp_attrs.specs.Reading.{IsUnreadable}
+use Rattle.bgp_attrs.specs.Segments.{Segment}
+use Rattle.bgp_attrs.proofs.JoinedLemmas.{joined_same}
+use Rattle.bgp_attrs.proofs.LawLemmas as attrs
+use Rattle.bgp_update.specs.Updates.{key_of}
+use Rattle.bgp_update.proofs.MessageLemmas as messages
+use Rattle.mrt_reader.specs.declared.body.Body.{Body}
+use Rattle.mrt_reader.specs.declared.body.Body.TheVariants as bodies
+use Rattle.mrt_reader.specs.declared.fault.BodyFault.{BodyFault}
+use Rattle.mrt_reader.specs.declared.fault.BodyFault.TheVariants as faults
+use Rattle.mrt_reader.specs.declared.layout.Layout.{Layout}
+use Rattle.mrt_reader.specs.declared.layout.Layout.TheVariants as layouts
+use Rattle.mrt_reader.specs.Bodies.{TableSays, HasEntries, RibSays, RouteSays, raised, MessageSays, StateSays, LayoutSays, IsReading}
+use Rattle.mrt_reader.specs.Dumps.{Dumped, dump_at}
+use Rattle.mrt_reader.specs.Layouts.{layout_of}
+use Rattle.mrt_reader.specs.Peers.{table_at}
+use Rattle.mrt_reader.specs.Records.{Recorded}
+use Rattle.mrt_reader.specs.Ribs.{Entry, Rib, IsCounted, IsRib}
+use Rattle.mrt_reader.specs.Routes.{AnyOf, LacksPath, GivesPath, IsWithin, IsBeyond, EntryReadable, EntryUnreadable, EntryLacksPath, IsRoute, AreRoutes, EntriesSay, DumpSays}
+use Rattle.mrt_reader.specs.Sessions.{message_at, state_at}
+use Rattle.mrt_reader.proofs.EntryLemmas.{entry_reader}
+use Rattle.mrt_reader.proofs.ShapeLemmas.{read_prefix, counted_of, counted_long}
+
+-- ---- attributes
+
+gives_same : (wide : Bool) (attributes : List ℕ) (one other : Path) → GivesPath wide attributes one → GivesPath wide attributes other → one ≡ other
+gives_same wide attributes one other p q =
+    same_Some one other (sym p.2 ∙ ap trail_in (attrs.reading_same wide Table attributes p.0 q.0 p.1 q.1) ∙ q.2)
+
+gives_lacks : (wide : Bool) (attributes : List ℕ) (trail : Path) → GivesPath wide attributes trail → LacksPath wide attributes → ⊥
+gives_lacks wide attributes trail p q =
+    let same = attrs.reading_same wide Table attributes p.0 q.0 p.1 q.1 in
+    let none : trail_in p.0 ≡ None = ap trail_in same ∙ ap (option_map (λ (path : List Segment). path_of_items (merged_with path (used_in q.0)))) q.2 in
+    let both : Some trail ≡ None = sym p.2 ∙ none in
+    cc
+
+-- ---- entries
+
+all_any : {A : Type 0} (P Q : A → Type 0) → ((x : A) → P x → Q x → ⊥) → (xs : List A) → AllByRecursion P xs → AnyOf Q xs → ⊥
+all_any P Q apart [] all any = any
+all_any P Q apart (x ∷ xs) all (inl q) = apart x all.0 q
+all_any P Q apart (x ∷ xs) all (inr any) = all_any P Q apart xs all.1 any
+
+get_within : {A : Type 0} (xs : List A) (i : ℕ) (x : A) → slice_get xs i ≡ Some x → i < length xs
+get_within [] i x e = absurd cc
+get_within (y ∷ xs) zero x e = omega arith
+get_within (y ∷ xs) (suc i) x e = let before = get_within xs i x e in omega arith
+
+-- what each entry is, of which the route is announced
+record IsRouted (peers : List Peer) (entry : Entry) : Type 0 where
+  within : entry.index < length peers
+  trail : Path
+  gives : GivesPath true entry.attributes trail
+
+routes_routed : (peers : List Peer) (prefix : Subnet) (entries : List Entry) (changes : List Change) → AreRoutes peers prefix entries changes → AllByRecursion (IsRouted peers) entries
+routes_routed peers prefix [] changes are = tt
+routes_routed peers prefix (entry ∷ entries) changes are =
+    let is = are.3 in
+    (record { within = get_within peers entry.index is.peer is.is_peer; trail = is.trail; gives = is.gives }, routes_routed peers prefix entries are.1 are.4)
+
+routed_beyond : (peers : List Peer) (entry : Entry) → IsRouted peers entry → IsBeyond peers entry → ⊥
+routed_beyond peers entry routed beyond = let within = routed.within in omega arith
+
+within_beyond : (peers : List Peer) (entry : Entry) → IsWithin peers entry → IsBeyond peers entry → ⊥
+within_beyond peers entry within beyond = omega arith
+
+routed_unreadable : (peers : List Peer) (entry : Entry) → IsRouted peers entry → EntryUnreadable entry → ⊥
+routed_unreadable peers entry routed unread = unread routed.gives.0 routed.gives.1
+
+readable_unreadable : (entry : Entry) → EntryReadable entry → EntryUnreadable entry → ⊥
+readable_unreadable entry read unread = unread read.0 read.1
+
+routed_lacks : (peers : List Peer) (entry : Entry) → IsRouted peers entry → EntryLacksPath entry → ⊥
+routed_lacks peers entry routed lacks = gives_lacks true entry.attributes routed.trail routed.gives lacks
+
+route_same : (peers : List Peer) (prefix : Subnet) (entry : Entry) (one other : Change) → IsRoute peers prefix entry one → IsRoute peers prefix entry other → one ≡ other
+route_same peers prefix entry one other p q =
+    let peer = same_Some p.peer q.peer (sym p.is_peer ∙ q.is_peer) in
+    let trail = gives_same true entry.attributes p.trail q.trail p.gives q.gives in
+    p.is_change ∙ (λ i. Announce (key_of (peer i) prefix) (trail i)) ∙ sym q.is_change
+
+routes_same : (peers : List Peer) (prefix : Subnet) (entries : List Entry) (changes others : List Change) → AreRoutes peers prefix entries changes → AreRoutes peers prefix entries others → changes ≡ others
+routes_same peers prefix [] changes others p q = p ∙ sym q
+routes_same peers prefix (entry ∷ entries) changes others p q =
+    let first = route_same peers prefix entry p.0 q.0 p.3 q.3 in
+    let behind = routes_same peers prefix entries p.1 q.1 p.4 q.4 in
+    p.2 ∙ (λ i. first i ∷ behind i) ∙ sym q.2
+
+-- the four things that entries say
+abbrev EntriesCase : List Peer → Subnet → List Entry → Result Body BodyFault → Type 0
+EntriesCase peers prefix entries reading =
+    ((changes : List Change) × AreRoutes peers prefix entries changes × (reading ≡ Ok (bodies.Routes changes)))
+    ⊎ (AnyOf (IsBeyond peers) entries × (reading ≡ Err faults.PeerIndex))
+    ⊎ (AllByRecursion (IsWithin peers) entries × AnyOf EntryUnreadable entries × (reading ≡ Err faults.Attributes))
+    ⊎ (AllByRecursion (IsWithin peers) entries × AllByRecursion EntryReadable entries × AnyOf EntryLacksPath entries × (reading ≡ Err faults.NoPath))
+
+entries_case : (peers : List Peer) (prefix : Subnet) (entries : List Entry) (reading : Result Body BodyFault) → EntriesSay peers prefix entries reading → EntriesCase peers prefix entries reading
+entries_case peers prefix entries (Ok (bodies.Routes changes)) say = inl (changes, say, refl)
+entries_case peers prefix entries (Ok (bodies.Peers table)) say = absurd say
+entries_case peers prefix entries (Ok bodies.Passed) say = absurd say
+entries_case peers prefix entries (Err faults.Body) say = absurd say
+entries_case peers prefix entries (Err faults.NoPeerTable) say = absurd say
+entries_case peers prefix entries (Err faults.PeerIndex) say = inr (inl (say, refl))
+entries_case peers prefix entries (Err faults.Message) say = absurd say
+entries_case peers prefix entries (Err faults.Attributes) say = inr (inr (inl (say.0, say.1, refl)))
+entries_case peers prefix entries (Err faults.NoPath) say = inr (inr (inr (say.0, say.1, say.2, refl)))
+entries_case peers prefix entries (Err faults.NoMemory) say = absurd say
+
+cases_same : (peers : List Peer) (prefix : Subnet) (entries : List Entry) (one other : Result Body BodyFault) → EntriesCase peers prefix entries one → EntriesCase peers prefix entries other → one ≡ other
+cases_same peers prefix entries one other (inl p) (inl q) = p.2 ∙ ap (λ (changes : List Change). Ok (bodies.Routes changes)) (routes_same peers prefix entries p.0 q.0 p.1 q.1) ∙ sym q.2
+cases_same peers prefix entries one other (inl p) (inr (inl q)) = absurd (all_any (IsRouted peers) (IsBeyond peers) (routed_beyond peers) entries (routes_routed peers prefix entries p.0 p.1) q.0)
+cases_same peers prefix entries one other (inl p) (inr (inr (inl q))) = absurd (all_any (IsRouted peers) EntryUnreadable (routed_unreadable peers) entries (routes_routed peers prefix entries p.0 p.1) q.1)
+cases_same peers prefix entries one other (inl p) (inr (inr (inr q))) = absurd (all_any (IsRouted peers) EntryLacksPath (routed_lacks peers) entries (routes_routed peers prefix entries p.0 p.1) q.2)
+cases_same peers prefix entries one other (inr (inl p)) (inl q) = absurd (all_any (IsRouted peers) (IsBeyond peers) (routed_beyond peers) entries (routes_routed peers prefix entries q.0 q.1) p.0)
+cases_same peers prefix entries one other (inr (inl p)) (inr (inl q)) = p.1 ∙ sym q.1
+cases_same peers prefix entries one other (inr (inl p)) (inr (inr (inl q))) = absurd (all_any (IsWithin peers) (IsBeyond peers) (within_beyond peers) entries q.0 p.0)
+cases_same peers prefix entries one other (inr (inl p)) (inr (inr (inr q))) = absurd (all_any (IsWithin peers) (IsBeyond peers) (within_beyond peers) entries q.0 p.0)
+cases_same peers prefix entries one other (inr (inr (inl p))) (inl q) = absurd (all_any (IsRouted peers) EntryUnreadable (routed_unreadable peers) entries (routes_routed peers prefix entries q.0 q.1) p.1)
+cases_same peers prefix entries one other (inr (inr (inl p))) (inr (inl q)) = absurd (all_any (IsWithin peers) (IsBeyond peers) (within_beyond peers) entries p.0 q.0)
+cases_same peers prefix entries one other (inr (inr (inl p))) (inr (inr (inl q))) = p.2 ∙ sym q.2
+cases_same peers prefix entries one other (inr (inr (inl p))) (inr (inr (inr q))) = absurd (all_any EntryReadable EntryUnreadable readable_unreadable entries q.1 p.1)
+cases_same peers prefix entries one other (inr (inr (inr p))) (inl q) = absurd (all_any (IsRouted peers) EntryLacksPath (routed_lacks peers) entries (routes_routed peers prefix entries q.0 q.1) p.2)
+cases_same peers prefix entries one other (inr (inr (inr p))) (inr (inl q)) = absurd (all_any (IsWithin peers) (IsBeyond peers) (within_beyond peers) entries p.0 q.0)
+cases_same peers prefix entries one other (inr (inr (inr p))) (inr (inr (inl q))) = absurd (all_any EntryReadable EntryUnreadable readable_unreadable entries p.1 q.1)
+cases_same peers prefix entries one other (inr (inr (inr p))) (inr (inr (inr q))) = p.3 ∙ sym q.3
+
+-- ---- RIB records
+
+counted_same : (bytes : List ℕ) (entries others : List Entry) → IsCounted bytes entries → IsCounted bytes others → entries ≡ others
+counted_same bytes entries others p q =
+    let long = counted_long bytes entries p in
+    joined_same entry_reader (drop 2 bytes) entries others (counted_of bytes entries long p).0 (counted_of bytes others long q).0
+
+rib_same : (six : Bool) (body : List ℕ) (one other : Rib) → IsRib six body one → IsRib six body other → one ≡ other
+rib_same six body one other p q =
+    let parts = some_pair_parts one.prefix other.prefix p.counted q.counted (sym (read_prefix six body one p) ∙ read_prefix six body other q) in
+    let entries = counted_same q.counted one.entries other.entries (subst (λ (bytes : List ℕ). IsCounted bytes one.entries) parts.1 p.entries) q.entries in
+    λ i. record { prefix = parts.0 i; entries = entries i }
+
+-- the three things that a RIB record says
+abbrev RibCase : Bool → Option (List Peer) → List ℕ → Result Body BodyFault → Type 0
+RibCase six peers body reading =
+    (((rib : Rib) → IsRib six body rib → ⊥) × (reading ≡ Err faults.Body))
+    ⊎ ((rib : Rib) × IsRib six body rib × (peers ≡ None) × (reading ≡ Err faults.NoPeerTable))
+    ⊎ HasEntries six peers body reading
+
+rib_case : (six : Bool) (peers : Option (List Peer)) (body : List ℕ) (reading : Result Body BodyFault) → RibSays six peers body reading → RibCase six peers body reading
+rib_case six peers body (Err faults.Body) say = inl (say, refl)
+rib_case six peers body (Err faults.NoPeerTable) say = inr (inl (say.0, say.1, say.2, refl))
+rib_case six peers body (Err faults.PeerIndex) say = inr (inr say)
+rib_case six peers body (Err faults.Message) say = absurd say
+rib_case six peers body (Err faults.Attributes) say = inr (inr say)
+rib_case six peers body (Err faults.NoPath) say = inr (inr say)
+rib_case six peers body (Err faults.NoMemory) say = absurd say
+rib_case six peers body (Ok (bodies.Routes changes)) say = inr (inr say)
+rib_case six peers body (Ok (bodies.Peers table)) say = absurd say
+rib_case six peers body (Ok bodies.Passed) say = absurd say
+
+tables_apart : (peers : Option (List Peer)) (table : List Peer) → peers ≡ None → peers ≡ Some table → ⊥
+tables_apart peers table p q = let both : None ≡ Some table = sym p ∙ q in cc
+
+entries_same : (six : Bool) (peers : Option (List Peer)) (body : List ℕ) (one other : Result Body BodyFault) → HasEntries six peers body one → HasEntries six peers body other → one ≡ other
+entries_same six peers body one other p q =
+    let ribs : p.0 ≡ q.0 = rib_same six body p.0 q.0 p.2 q.2 in
+    let tables : p.1 ≡ q.1 = same_Some p.1 q.1 (sym p.3 ∙ q.3) in
+    let here : EntriesSay p.1 p.0.prefix p.0.entries other = subst (λ (r : Rib). EntriesSay p.1 r.prefix r.entries other) (sym ribs) (subst (λ (t : List Peer). EntriesSay t q.0.prefix q.0.entries other) (sym tables) q.4) in
+    cases_same p.1 p.0.prefix p.0.entries one other (entries_case p.1 p.0.prefix p.0.entries one p.4) (entries_case p.1 p.0.prefix p.0.entries other here)
+
+ribs_say_same : (six : Bool) (peers : Option (List Peer)) (body : List ℕ) (one other : Result Body BodyFault) → RibCase six peers body one → RibCase six peers body other → one ≡ other
+ribs_say_same six peers body one other (inl p) (inl q) = p.1 ∙ sym q.1
+ribs_say_same six peers body one other (inl p) (inr (inl q)) = absurd (p.0 q.0 q.1)
+ribs_say_same six peers body one other (inl p) (inr (inr q)) = absurd (p.0 q.0 q.2)
+ribs_say_same six peers body one other (inr (inl p)) (inl q) = absurd (q.0 p.0 p.1)
+ribs_say_same six peers body one other (inr (inl p)) (inr (inl q)) = p.3 ∙ sym q.3
+ribs_say_same six peers body one other (inr (inl p)) (inr (inr q)) = absurd (tables_apart peers q.1 p.2 q.3)
+ribs_say_same six peers body one other (inr (inr p)) (inl q) = absurd (q.0 p.0 p.2)
+ribs_say_same six peers body one other (inr (inr p)) (inr (inl q)) = absurd (tables_apart peers p.1 q.2 p.3)
+ribs_say_same six peers body one other (inr (inr p)) (inr (inr q)) = entries_same six peers body one other p q
+
+-- ---- TABLE_DUMP records
+
+-- the three things that a route says
+abbrev DumpCase : Dumped → Result Body BodyFault → Type 0
+DumpCase dumped reading =
+    ((trail : Path) × GivesPath false dumped.attributes trail × (reading ≡ Ok (bodies.Routes (Announce (key_of dumped.peer dumped.prefix) trail ∷ []))))
+    ⊎ (IsUnreadable false Table dumped.attributes × (reading ≡ Err faults.Attributes))
+    ⊎ (LacksPath false dumped.attributes × (reading ≡ Err faults.NoPath))
+
+dump_case : (dumped : Dumped) (reading : Result Body BodyFault) → DumpSays dumped reading → DumpCase dumped reading
+dump_case dumped (Ok (bodies.Routes changes)) say = inl (say.0, say.1, ap (λ (cs : List Change). Ok (bodies.Routes cs)) say.2)
+dump_case dumped (Ok (bodies.Peers table)) say = absurd say
+dump_case dumped (Ok bodies.Passed) say = absurd say
+dump_case dumped (Err faults.Body) say = absurd say
+dump_case dumped (Err faults.NoPeerTable) say = absurd say
+dump_case dumped (Err faults.PeerIndex) say = absurd say
+dump_case dumped (Err faults.Message) say = absurd say
+dump_case dumped (Err faults.Attributes) say = inr (inl (say, refl))
+dump_case dumped (Err faults.NoPath) say = inr (inr (say, refl))
+dump_case dumped (Err faults.NoMemory) say = absurd say
+
+dumps_say_same : (dumped : Dumped) (one other : Result Body BodyFault) → DumpCase dumped one → DumpCase dumped other → one ≡ other
+dumps_say_same dumped one other (inl p) (inl q) =
+    p.2 ∙ ap (λ (trail : Path). Ok (bodies.Routes (Announce (key_of dumped.peer dumped.prefix) trail ∷ []))) (gives_same false dumped.attributes p.0 q.0 p.1 q.1) ∙ sym q.2
+dumps_say_same dumped one other (inl p) (inr (inl q)) = absurd (q.0 p.1.0 p.1.1)
+dumps_say_same dumped one other (inl p) (inr (inr q)) = absurd (gives_lacks false dumped.attributes p.0 p.1 q.0)
+dumps_say_same dumped one other (inr (inl p)) (inl q) = absurd (p.0 q.1.0 q.1.1)
+dumps_say_same dumped one other (inr (inl p)) (inr (inl q)) = p.1 ∙ sym q.1
+dumps_say_same dumped one other (inr (inl p)) (inr (inr q)) = absurd (p.0 q.0.0 q.0.1)
+dumps_say_same dumped one other (inr (inr p)) (inl q) = absurd (gives_lacks false dumped.attributes q.0 q.1 p.0)
+dumps_say_same dumped one other (inr (inr p)) (inr (inl q)) = absurd (q.0 p.0.0 p.0.1)
+dumps_say_same dumped one other (inr (inr p)) (inr (inr q)) = p.1 ∙ sym q.1
+
+route_says_same : (dumped : Option Dumped) (one other : Result Body BodyFault) → RouteSays dumped one → RouteSays dumped other → one ≡ other
+route_says_same None one other p q = p ∙ sym q
+route_says_same (Some dumped) one other p q = dumps_say_same dumped one other (dump_case dumped one p) (dump_case dumped other q)
+
+-- ---- all layouts
+
+table_says_same : (table : Option (List Peer)) (one other : Result Body BodyFault) → TableSays table one → TableSays table other → one ≡ other
+table_says_same None one other p q = p ∙ sym q
+table_says_same (Some peers) one other p q = p ∙ sym q
+
+message_says_same : (as4 : Bool) (message : Option (Peer × List ℕ)) (one other : Result Body BodyFault) → MessageSays as4 message one → MessageSays as4 message other → one ≡ other
+message_says_same as4 None one other p q = p ∙ sym q
+message_says_same as4 (Some (peer, message)) one other p q = p.2 ∙ ap raised (messages.reading_same as4 peer message p.0 q.0 p.1 q.1) ∙ sym q.2
+
+state_says_same : (state : Option (Peer × ℕ)) (one other : Result Body BodyFault) → StateSays state one → StateSays state other → one ≡ other
+state_says_same None one other p q = p ∙ sym q
+state_says_same (Some (peer, state)) one other p q = p ∙ sym q
+
+layout_says_same : (layout : Layout) (peers : Option (List Peer)) (body : List ℕ) (one other : Result Body BodyFault) → LayoutSays layout peers body one → LayoutSays layout peers body other → one ≡ other
+layout_says_same layouts.PeerIndex peers body one other p q = table_says_same (table_at body) one other p q
+layout_says_same (layouts.Rib six) peers body one other p q = ribs_say_same six peers body one other (rib_case six peers body one p) (rib_case six peers body other q)
+layout_says_same (layouts.Dump six) peers body one other p q = route_says_same (dump_at six body) one other p q
+layout_says_same (layouts.Message timed as4) peers body one other p q = message_says_same as4 (message_at timed as4 body) one other p q
+layout_says_same (layouts.State timed as4) peers body one other p q = state_says_same (state_at timed as4 body) one other p q
+layout_says_same layouts.Other peers body one other p q = p ∙ sym q
+
+pub reading_same : (it : Recorded) (peers : Option (List Peer)) (one other : Result Body BodyFault) → IsReading it peers one → IsReading it peers other → one ≡ other
+reading_same it peers one other p q = layout_says_same (layout_of it.kind it.subkind) peers it.body one other p q

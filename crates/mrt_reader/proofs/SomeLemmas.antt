@@ -1,0 +1,187 @@
+-- Each record has a reading.
+use Rattle.std.proofs.Common.{◌≡◌, ℕ, zero, suc, ◌<◌, ◌≤◌, ◌==◌, ◌⊎◌, inl, inr, slice_get, Bool, true, false, List, [], ◌∷◌, length, drop, Some, None, Ok, Err, refl, ap, arith}
+use Rattle.std.specs.Prelude.{option_map, nat_lt}
+use Rattle.std.specs.Int.{w16, from_be_bytes}
+use Rattle.std.specs.List.{AllByRecursion}
+use Rattle.std.proofs.lemmas.Bool.Decides.{nat_tests}
+use Rattle.std.specs.declared.option.Option.{Option}
+use Rattle.std.specs.declared.result.Result.{Result}
+use Rattle.path_model.specs.declared.change.Change.{Change}
+use Rattle.path_model.specs.declared.change.Change.TheVariants.{Announce}
+use Rattle.path_model.specs.declared.peer.Peer.{Peer}
+use Rattle.path_model.specs.Prefix.{Subnet}
+use Rattle.path_model.specs.Trail.{Path}
+use Rattle.bgp_attrs.specs.declared.form.Form.TheVariants.{Table}
+use Rattle.bgp_attrs.specs.Joined.{IsJoined}
+use Rattle.bgp_attrs.specs.Merging.{path_of_items, merged_with, used_in}
+use Rattle.bgp_attrs.specs.Prefixes.{prefix_at}
+use Rattle.bgp_attrs.specs.Reading.{Reading, IsRead}
+use Rattle.bgp_attrs.specs.Segments.{Segment}
+use Rattle.bgp_attrs.proofs.DecideLemmas.{SomeOrNone, joined_decided, reading_decided}
+use Rattle.bgp_attrs.proofs.JoinedLemmas.{joined_same}
+use Rattle.bgp_update.specs.Laws.{HasOne}
+use Rattle.bgp_update.specs.Updates.{key_of}
+use Rattle.bgp_update.proofs.MessageLemmas as messages
+use Rattle.mrt_reader.specs.declared.body.Body.{Body}
+use Rattle.mrt_reader.specs.declared.body.Body.TheVariants as bodies
+use Rattle.mrt_reader.specs.declared.fault.BodyFault.{BodyFault}
+use Rattle.mrt_reader.specs.declared.fault.BodyFault.TheVariants as faults
+use Rattle.mrt_reader.specs.declared.layout.Layout.{Layout}
+use Rattle.mrt_reader.specs.declared.layout.Layout.TheVariants as layouts
+use Rattle.mrt_reader.specs.Bodies.{TableSays, RibSays, RouteSays, raised, MessageSays, StateSays, changes_at, LayoutSays, IsReading}
+use Rattle.mrt_reader.specs.Dumps.{Dumped, dump_at}
+use Rattle.mrt_reader.specs.Layouts.{layout_of}
+use Rattle.mrt_reader.specs.Peers.{table_at}
+use Rattle.mrt_reader.specs.Records.{Recorded}
+use Rattle.mrt_reader.specs.Ribs.{Entry, IsEntry, IsCounted, IsRib}
+use Rattle.mrt_reader.specs.Routes.{AnyOf, LacksPath, GivesPath, IsWithin, IsBeyond, EntryReadable, EntryUnreadable, EntryLacksPath, AreRoutes, EntriesSay, DumpSays}
+use Rattle.mrt_reader.specs.Sessions.{message_at, state_at}
+use Rattle.mrt_reader.proofs.EntryLemmas.{entry_reader}
+use Rattle.mrt_reader.proofs.RouteLemmas.{rib_from}
+use Rattle.mrt_reader.proofs.SameLemmas.{reading_same}
+use Rattle.mrt_reader.proofs.ShapeLemmas.{counted_of, counted_long, rib_long, rib_no_prefix, rib_no_entries, rib_made}
+
+-- ---- the form of a RIB record
+
+counted_by : (a b : ℕ) (rest : List ℕ) (entries : List Entry) → IsJoined IsEntry rest entries → (counts : Bool) → (from_be_bytes w16 (a ∷ b ∷ []) == length entries) ≡ counts → SomeOrNone (IsCounted (a ∷ b ∷ rest))
+counted_by a b rest entries joined true e = inl (entries, record { count = a ∷ b ∷ []; behind = rest; two = refl; counts = grind (arith, nat_tests); whole = refl; are_entries = joined })
+counted_by a b rest entries joined false e = inr (λ (others : List Entry) is.
+    let o = counted_of (a ∷ b ∷ rest) others (counted_long (a ∷ b ∷ rest) others is) is in
+    let sizes = ap length (joined_same entry_reader rest others entries o.0 joined) in
+    let counts = o.1 in
+    grind (arith, nat_tests))
+
+counted_from : (a b : ℕ) (rest : List ℕ) → SomeOrNone (IsJoined IsEntry rest) → SomeOrNone (IsCounted (a ∷ b ∷ rest))
+counted_from a b rest (inl entries) = counted_by a b rest entries.0 entries.1 (from_be_bytes w16 (a ∷ b ∷ []) == length entries.0) refl
+counted_from a b rest (inr none) = inr (λ others is. none others (counted_of (a ∷ b ∷ rest) others (counted_long (a ∷ b ∷ rest) others is) is).0)
+
+counted_decided : (bytes : List ℕ) → SomeOrNone (IsCounted bytes)
+counted_decided [] = inr (λ entries is. (let long = counted_long [] entries is in omega arith))
+counted_decided (a ∷ []) = inr (λ entries is. (let long = counted_long (a ∷ []) entries is in omega arith))
+counted_decided (a ∷ b ∷ rest) = counted_from a b rest (joined_decided entry_reader rest)
+
+rib_behind : (six : Bool) (body : List ℕ) → 4 ≤ length body → (prefix : Subnet) (rest : List ℕ) → prefix_at six (drop 4 body) ≡ Some (prefix, rest) → SomeOrNone (IsCounted rest) → SomeOrNone (IsRib six body)
+rib_behind six body long prefix rest e (inl entries) = inl (record { prefix = prefix; entries = entries.0 }, rib_made six body prefix rest entries.0 long e entries.1)
+rib_behind six body long prefix rest e (inr none) = inr (rib_no_entries six body prefix rest e none)
+
+rib_by_prefix : (six : Bool) (body : List ℕ) → 4 ≤ length body → (first : Option (Subnet × List ℕ)) → prefix_at six (drop 4 body) ≡ first → SomeOrNone (IsRib six body)
+rib_by_prefix six body long None e = inr (rib_no_prefix six body e)
+rib_by_prefix six body long (Some x) e = rib_behind six body long x.0 x.1 e (counted_decided x.1)
+
+rib_by_length : (six : Bool) (body : List ℕ) (short : Bool) → nat_lt (length body) 4 ≡ short → SomeOrNone (IsRib six body)
+rib_by_length six body true e = inr (rib_long six body (grind (arith, nat_tests)))
+rib_by_length six body false e = rib_by_prefix six body (grind (arith, nat_tests)) (prefix_at six (drop 4 body)) refl
+
+rib_decided : (six : Bool) (body : List ℕ) → SomeOrNone (IsRib six body)
+rib_decided six body = rib_by_length six body (nat_lt (length body) 4) refl
+
+-- ---- the entries
+
+all_or_any : {A : Type 0} (P Q : A → Type 0) → ((x : A) → P x ⊎ Q x) → (xs : List A) → AllByRecursion P xs ⊎ AnyOf Q xs
+all_or_any P Q d [] = inl tt
+all_or_any {A} P Q d (x ∷ xs) = with_first (d x) (all_or_any P Q d xs)
+  where
+    with_first : P x ⊎ Q x → AllByRecursion P xs ⊎ AnyOf Q xs → AllByRecursion P (x ∷ xs) ⊎ AnyOf Q (x ∷ xs)
+    with_first (inl p) (inl all) = inl (p, all)
+    with_first (inl p) (inr any) = inr (inr any)
+    with_first (inr q) rest = inr (inl q)
+
+within_or_beyond : (peers : List Peer) (entry : Entry) → IsWithin peers entry ⊎ IsBeyond peers entry
+within_or_beyond peers entry = by_test (nat_lt entry.index (length peers)) refl
+  where
+    by_test : (less : Bool) → nat_lt entry.index (length peers) ≡ less → IsWithin peers entry ⊎ IsBeyond peers entry
+    by_test true e = inl (grind (arith, nat_tests))
+    by_test false e = inr (grind (arith, nat_tests))
+
+path_or_none : (wide : Bool) (attributes : List ℕ) (reading : Reading) → IsRead wide Table attributes reading → (path : Option (List Segment)) → reading.path ≡ path
+    → ((trail : Path) × GivesPath wide attributes trail) ⊎ LacksPath wide attributes
+path_or_none wide attributes reading is (Some path) e =
+    inl (path_of_items (merged_with path (used_in reading)), (reading, is, ap (option_map (λ (p : List Segment). path_of_items (merged_with p (used_in reading)))) e))
+path_or_none wide attributes reading is None e = inr (reading, is, e)
+
+abbrev EntryGivesPath : Entry → Type 0
+EntryGivesPath entry = (trail : Path) × GivesPath true entry.attributes trail
+
+paths_or_none : (entries : List Entry) → AllByRecursion EntryReadable entries → AllByRecursion EntryGivesPath entries ⊎ AnyOf EntryLacksPath entries
+paths_or_none [] all = inl tt
+paths_or_none (entry ∷ entries) all = with_first (path_or_none true entry.attributes all.0.0 all.0.1 all.0.0.path refl) (paths_or_none entries all.1)
+  where
+    with_first : EntryGivesPath entry ⊎ EntryLacksPath entry → AllByRecursion EntryGivesPath entries ⊎ AnyOf EntryLacksPath entries
+        → AllByRecursion EntryGivesPath (entry ∷ entries) ⊎ AnyOf EntryLacksPath (entry ∷ entries)
+    with_first (inl p) (inl each) = inl (p, each)
+    with_first (inl p) (inr any) = inr (inr any)
+    with_first (inr q) rest = inr (inl q)
+
+get_some : {A : Type 0} (xs : List A) (i : ℕ) → i < length xs → (x : A) × (slice_get xs i ≡ Some x)
+get_some [] i less = absurd (omega arith)
+get_some (x ∷ xs) zero less = (x, refl)
+get_some (x ∷ xs) (suc i) less = get_some xs i (omega arith)
+
+routes_some : (peers : List Peer) (prefix : Subnet) (entries : List Entry) → AllByRecursion (IsWithin peers) entries → AllByRecursion EntryGivesPath entries → (changes : List Change) × AreRoutes peers prefix entries changes
+routes_some peers prefix [] within give = ([], refl)
+routes_some peers prefix (entry ∷ entries) within give =
+    let peer = get_some peers entry.index within.0 in
+    let others = routes_some peers prefix entries within.1 give.1 in
+    let change = Announce (key_of peer.0 prefix) give.0.0 in
+    (change ∷ others.0, (change, others.0, refl, record { peer = peer.0; trail = give.0.0; is_peer = peer.1; gives = give.0.1; is_change = refl }, others.1))
+
+abbrev Says : (Result Body BodyFault → Type 0) → Type 0
+Says P = (reading : Result Body BodyFault) × P reading
+
+entries_by : (peers : List Peer) (prefix : Subnet) (entries : List Entry) → AllByRecursion (IsWithin peers) entries → AllByRecursion EntryReadable entries ⊎ AnyOf EntryUnreadable entries → Says (EntriesSay peers prefix entries)
+entries_by peers prefix entries within (inr any) = (Err faults.Attributes, (within, any))
+entries_by peers prefix entries within (inl read) = with_paths (paths_or_none entries read)
+  where
+    with_paths : AllByRecursion EntryGivesPath entries ⊎ AnyOf EntryLacksPath entries → Says (EntriesSay peers prefix entries)
+    with_paths (inl give) = (let routes = routes_some peers prefix entries within give in (Ok (bodies.Routes routes.0), routes.1))
+    with_paths (inr any) = (Err faults.NoPath, (within, read, any))
+
+entries_some : (peers : List Peer) (prefix : Subnet) (entries : List Entry) → AllByRecursion (IsWithin peers) entries ⊎ AnyOf (IsBeyond peers) entries → Says (EntriesSay peers prefix entries)
+entries_some peers prefix entries (inr any) = (Err faults.PeerIndex, any)
+entries_some peers prefix entries (inl within) = entries_by peers prefix entries within (all_or_any EntryReadable EntryUnreadable (λ entry. reading_decided true Table entry.attributes) entries)
+
+-- ---- all layouts
+
+rib_some : (six : Bool) (peers : Option (List Peer)) (body : List ℕ) → SomeOrNone (IsRib six body) → Says (RibSays six peers body)
+rib_some six peers body (inr none) = (Err faults.Body, none)
+rib_some six None body (inl rib) = (Err faults.NoPeerTable, (rib.0, rib.1, refl))
+rib_some six (Some table) body (inl rib) =
+    let say = entries_some table rib.0.prefix rib.0.entries (all_or_any (IsWithin table) (IsBeyond table) (within_or_beyond table) rib.0.entries) in
+    (say.0, rib_from six (Some table) body table rib.0 say.0 rib.1 refl say.1)
+
+dump_by : (dumped : Dumped) → SomeOrNone (IsRead false Table dumped.attributes) → Says (DumpSays dumped)
+dump_by dumped (inr none) = (Err faults.Attributes, none)
+dump_by dumped (inl x) = with_path (path_or_none false dumped.attributes x.0 x.1 x.0.path refl)
+  where
+    with_path : ((trail : Path) × GivesPath false dumped.attributes trail) ⊎ LacksPath false dumped.attributes → Says (DumpSays dumped)
+    with_path (inl give) = (Ok (bodies.Routes (Announce (key_of dumped.peer dumped.prefix) give.0 ∷ [])), (give.0, give.1, refl))
+    with_path (inr lacks) = (Err faults.NoPath, lacks)
+
+route_some : (dumped : Option Dumped) → Says (RouteSays dumped)
+route_some None = (Err faults.Body, refl)
+route_some (Some dumped) = dump_by dumped (reading_decided false Table dumped.attributes)
+
+table_some : (table : Option (List Peer)) → Says (TableSays table)
+table_some None = (Err faults.Body, refl)
+table_some (Some peers) = (Ok (bodies.Peers peers), refl)
+
+message_some : (as4 : Bool) (message : Option (Peer × List ℕ)) → Says (MessageSays as4 message)
+message_some as4 None = (Err faults.Body, refl)
+message_some as4 (Some (peer, message)) = let inner = messages.reading_some as4 peer message in (raised inner.0, (inner.0, inner.1, refl))
+
+state_some : (state : Option (Peer × ℕ)) → Says (StateSays state)
+state_some None = (Err faults.Body, refl)
+state_some (Some (peer, state)) = (Ok (bodies.Routes (changes_at peer state)), refl)
+
+layout_some : (layout : Layout) (peers : Option (List Peer)) (body : List ℕ) → Says (LayoutSays layout peers body)
+layout_some layouts.PeerIndex peers body = table_some (table_at body)
+layout_some (layouts.Rib six) peers body = rib_some six peers body (rib_decided six body)
+layout_some (layouts.Dump six) peers body = route_some (dump_at six body)
+layout_some (layouts.Message timed as4) peers body = message_some as4 (message_at timed as4 body)
+layout_some (layouts.State timed as4) peers body = state_some (state_at timed as4 body)
+layout_some layouts.Other peers body = (Ok bodies.Passed, refl)
+
+pub one_reading : (it : Recorded) (peers : Option (List Peer)) → HasOne (IsReading it peers)
+one_reading it peers =
+    let some = layout_some (layout_of it.kind it.subkind) peers it.body in
+    record { one = some.0; is = some.1; only = λ other is. reading_same it peers other some.0 is some.1 }

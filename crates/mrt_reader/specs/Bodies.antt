@@ -1,0 +1,105 @@
+-- What the body of a record says, by the peer table before it. Begin reading at `IsReading`, at the end.
+use Rattle.std.specs.Prelude.{◌≡◌, ℕ, ◌==◌, Bool, if◌then◌else◌, List, [], ◌∷◌, Some, None, Ok, Err}
+use Rattle.std.specs.declared.option.Option.{Option}
+use Rattle.std.specs.declared.result.Result.{Result}
+use Rattle.path_model.specs.declared.change.Change.{Change}
+use Rattle.path_model.specs.declared.change.Change.TheVariants.{RemovePeer}
+use Rattle.path_model.specs.declared.peer.Peer.{Peer}
+use Rattle.bgp_update.specs.declared.fault.UpdateFault.{UpdateFault}
+use Rattle.bgp_update.specs.declared.fault.UpdateFault.TheVariants as update_faults
+use Rattle.bgp_update.specs.Updates as updates
+use Rattle.mrt_reader.specs.declared.body.Body.{Body}
+use Rattle.mrt_reader.specs.declared.body.Body.TheVariants as bodies
+use Rattle.mrt_reader.specs.declared.fault.BodyFault.{BodyFault}
+use Rattle.mrt_reader.specs.declared.fault.BodyFault.TheVariants as faults
+use Rattle.mrt_reader.specs.declared.layout.Layout.{Layout}
+use Rattle.mrt_reader.specs.declared.layout.Layout.TheVariants as layouts
+use Rattle.mrt_reader.specs.Dumps.{Dumped, dump_at}
+use Rattle.mrt_reader.specs.Layouts.{layout_of}
+use Rattle.mrt_reader.specs.Peers.{table_at}
+use Rattle.mrt_reader.specs.Records.{Recorded}
+use Rattle.mrt_reader.specs.Ribs.{Rib, IsRib}
+use Rattle.mrt_reader.specs.Routes.{EntriesSay, DumpSays}
+use Rattle.mrt_reader.specs.Sessions.{message_at, state_at}
+
+-- a peer table: the peers, or the body is out of form
+abbrev pub TableSays : Option (List Peer) → Result Body BodyFault → Type 0
+TableSays None reading = reading ≡ Err faults.Body
+TableSays (Some peers) reading = reading ≡ Ok (bodies.Peers peers)
+
+-- a RIB record with a table before it: what its entries say
+abbrev pub HasEntries : Bool → Option (List Peer) → List ℕ → Result Body BodyFault → Type 0
+HasEntries six peers body reading = (rib : Rib) × (table : List Peer) × IsRib six body rib × (peers ≡ Some table) × EntriesSay table rib.prefix rib.entries reading
+
+-- a RIB record: the body is out of form; or it is in form, and no table is before it; or what its entries say
+abbrev pub RibSays : Bool → Option (List Peer) → List ℕ → Result Body BodyFault → Type 0
+RibSays six peers body (Err faults.Body) = (rib : Rib) → IsRib six body rib → ⊥
+RibSays six peers body (Err faults.NoPeerTable) = (rib : Rib) × IsRib six body rib × (peers ≡ None)
+RibSays six peers body (Err faults.PeerIndex) = HasEntries six peers body (Err faults.PeerIndex)
+RibSays six peers body (Err faults.Message) = ⊥
+RibSays six peers body (Err faults.Attributes) = HasEntries six peers body (Err faults.Attributes)
+RibSays six peers body (Err faults.NoPath) = HasEntries six peers body (Err faults.NoPath)
+RibSays six peers body (Err faults.NoMemory) = ⊥
+RibSays six peers body (Ok (bodies.Routes changes)) = HasEntries six peers body (Ok (bodies.Routes changes))
+RibSays six peers body (Ok (bodies.Peers table)) = ⊥
+RibSays six peers body (Ok bodies.Passed) = ⊥
+
+-- a TABLE_DUMP record: the body is out of form, or what its route says
+abbrev pub RouteSays : Option Dumped → Result Body BodyFault → Type 0
+RouteSays None reading = reading ≡ Err faults.Body
+RouteSays (Some dumped) reading = DumpSays dumped reading
+
+-- a message's fault as a record's
+abbrev pub fault_of : UpdateFault → BodyFault
+fault_of update_faults.Message = faults.Message
+fault_of update_faults.Attributes = faults.Attributes
+fault_of update_faults.NoPath = faults.NoPath
+fault_of update_faults.NoMemory = faults.NoMemory
+
+-- what a message says as what a record says
+abbrev pub raised : Result (List Change) UpdateFault → Result Body BodyFault
+raised (Ok changes) = Ok (bodies.Routes changes)
+raised (Err fault) = Err (fault_of fault)
+
+-- a recorded message: the fields before it are cut, or what the message says
+abbrev pub MessageSays : Bool → Option (Peer × List ℕ) → Result Body BodyFault → Type 0
+MessageSays as4 None reading = reading ≡ Err faults.Body
+MessageSays as4 (Some (peer, message)) reading = (inner : Result (List Change) UpdateFault) × updates.IsReading as4 peer message inner × (reading ≡ raised inner)
+
+-- the session of the peer is up (6 Established), or the peer's routes are gone
+abbrev pub changes_at : Peer → ℕ → List Change
+changes_at peer state = if state == 6 then [] else RemovePeer peer ∷ []
+
+-- a state change: the body is out of form, or what the new state does
+abbrev pub StateSays : Option (Peer × ℕ) → Result Body BodyFault → Type 0
+StateSays None reading = reading ≡ Err faults.Body
+StateSays (Some (peer, state)) reading = reading ≡ Ok (bodies.Routes (changes_at peer state))
+
+-- the body of each layout; the bodies of all other types and subtypes are passed over unread
+abbrev pub LayoutSays : Layout → Option (List Peer) → List ℕ → Result Body BodyFault → Type 0
+LayoutSays layouts.PeerIndex peers body reading = TableSays (table_at body) reading
+LayoutSays (layouts.Rib six) peers body reading = RibSays six peers body reading
+LayoutSays (layouts.Dump six) peers body reading = RouteSays (dump_at six body) reading
+LayoutSays (layouts.Message timed as4) peers body reading = MessageSays as4 (message_at timed as4 body) reading
+LayoutSays (layouts.State timed as4) peers body reading = StateSays (state_at timed as4 body) reading
+LayoutSays layouts.Other peers body reading = reading ≡ Ok bodies.Passed
+
+-- What the record says, or the first fault in the order Body, NoPeerTable, PeerIndex, Message, Attributes, NoPath, each over the
+-- whole record.
+abbrev pub IsReading : Recorded → Option (List Peer) → Result Body BodyFault → Type 0
+IsReading it peers reading = LayoutSays (layout_of it.kind it.subkind) peers it.body reading
+
+-- the answer has the property, or it is want of memory
+abbrev pub OrNoMemory : (Result Body BodyFault → Type 0) → Result Body BodyFault → Type 0
+OrNoMemory P (Ok body) = P (Ok body)
+OrNoMemory P (Err faults.Body) = P (Err faults.Body)
+OrNoMemory P (Err faults.NoPeerTable) = P (Err faults.NoPeerTable)
+OrNoMemory P (Err faults.PeerIndex) = P (Err faults.PeerIndex)
+OrNoMemory P (Err faults.Message) = P (Err faults.Message)
+OrNoMemory P (Err faults.Attributes) = P (Err faults.Attributes)
+OrNoMemory P (Err faults.NoPath) = P (Err faults.NoPath)
+OrNoMemory P (Err faults.NoMemory) = Unit {0}
+
+-- the answer is what the record says, or want of memory
+abbrev pub IsOutcome : Recorded → Option (List Peer) → Result Body BodyFault → Type 0
+IsOutcome it peers result = OrNoMemory (IsReading it peers) result

@@ -1,0 +1,21 @@
+-- Which layout a record's body has, by its type and subtype (RFC 6396, section 4; extended timestamps: section 3).
+use Rattle.std.specs.Prelude.{ℕ, ◌==◌, Bool, true, false, if◌then◌else◌}
+use Rattle.mrt_reader.specs.declared.layout.Layout.{Layout}
+use Rattle.mrt_reader.specs.declared.layout.Layout.TheVariants.{PeerIndex, Rib, Dump, Message, State, Other}
+
+-- TABLE_DUMP: the subtypes are families
+abbrev pub dump_layout : ℕ → Layout
+dump_layout subkind = if subkind == 1 then Dump false else (if subkind == 2 then Dump true else Other)
+
+-- TABLE_DUMP_V2: PEER_INDEX_TABLE, RIB_IPV4_UNICAST, RIB_IPV6_UNICAST
+abbrev pub table_layout : ℕ → Layout
+table_layout subkind = if subkind == 1 then PeerIndex else (if subkind == 2 then Rib false else (if subkind == 4 then Rib true else Other))
+
+-- BGP4MP: STATE_CHANGE, MESSAGE, MESSAGE_AS4, STATE_CHANGE_AS4
+abbrev pub session_layout : Bool → ℕ → Layout
+session_layout timed subkind =
+    if subkind == 0 then State timed false else (if subkind == 1 then Message timed false else (if subkind == 4 then Message timed true else (if subkind == 5 then State timed true else Other)))
+
+abbrev pub layout_of : ℕ → ℕ → Layout
+layout_of kind subkind =
+    if kind == 12 then dump_layout subkind else (if kind == 13 then table_layout subkind else (if kind == 16 then session_layout false subkind else (if kind == 17 then session_layout true subkind else Other)))

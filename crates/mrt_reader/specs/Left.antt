@@ -1,0 +1,21 @@
+-- What the iterator over entries has still to give, and the parts of a RIB record as they are held; only private contracts cite it.
+use Rattle.std.specs.Prelude.{List, [], unwrap_or}
+use Rattle.bgp_attrs.specs.Joined.{items_of}
+use Rattle.mrt_reader.specs.declared.entries.Entries.{Entries}
+use Rattle.mrt_reader.specs.declared.entries.RibEntry.{RibEntry}
+use Rattle.mrt_reader.specs.declared.parts.DumpParts.{DumpParts}
+use Rattle.mrt_reader.specs.declared.parts.RibParts.{RibParts}
+use Rattle.mrt_reader.specs.Dumps.{Dumped}
+use Rattle.mrt_reader.specs.Ribs.{Entry, Rib, entry_at}
+
+abbrev pub entry_of : RibEntry → Entry
+entry_of entry = record { index = entry.index; attributes = entry.attributes.now }
+
+abbrev pub entries_left : Entries → List Entry
+entries_left entries = unwrap_or (items_of entry_at entries.rest.now) []
+
+abbrev pub rib_of : RibParts → Rib
+rib_of parts = record { prefix = parts.prefix; entries = entries_left parts.entries }
+
+abbrev pub dumped_of : DumpParts → Dumped
+dumped_of parts = record { prefix = parts.key.prefix; peer = parts.key.peer; attributes = parts.attributes.now }

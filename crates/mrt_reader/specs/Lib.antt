@@ -1,0 +1,15 @@
+pub mod Bodies
+pub mod Coming
+pub mod Dumps
+pub mod Fields
+pub mod Gathering
+pub mod Headed
+pub mod Laws
+pub mod Layouts
+pub mod Left
+pub mod Peers
+pub mod Records
+pub mod Ribs
+pub mod Routes
+pub mod Routing
+pub mod Sessions

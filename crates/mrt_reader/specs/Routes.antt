@@ -1,0 +1,98 @@
+-- The routes that the entries of a RIB record, or the one of a TABLE_DUMP record, announce.
+use Rattle.std.specs.Prelude.{◌≡◌, ℕ, ◌<◌, ◌≤◌, Bool, true, false, List, [], ◌∷◌, length, slice_get, ◌⊎◌, Some, None, Ok, Err}
+use Rattle.std.specs.declared.result.Result.{Result}
+use Rattle.std.specs.List.{AllByRecursion}
+use Rattle.path_model.specs.declared.change.Change.{Change}
+use Rattle.path_model.specs.declared.change.Change.TheVariants.{Announce}
+use Rattle.path_model.specs.declared.peer.Peer.{Peer}
+use Rattle.path_model.specs.Prefix.{Subnet}
+use Rattle.path_model.specs.Trail.{Path}
+use Rattle.bgp_attrs.specs.declared.form.Form.TheVariants.{Table}
+use Rattle.bgp_attrs.specs.Merging.{trail_in}
+use Rattle.bgp_attrs.specs.Reading.{Reading, IsRead, IsUnreadable}
+use Rattle.bgp_update.specs.Updates.{key_of}
+use Rattle.mrt_reader.specs.declared.body.Body.{Body}
+use Rattle.mrt_reader.specs.declared.body.Body.TheVariants as bodies
+use Rattle.mrt_reader.specs.declared.fault.BodyFault.{BodyFault}
+use Rattle.mrt_reader.specs.declared.fault.BodyFault.TheVariants as faults
+use Rattle.mrt_reader.specs.Dumps.{Dumped}
+use Rattle.mrt_reader.specs.Ribs.{Entry}
+
+-- some item has the property
+abbrev pub AnyOf : {A : Type 0} → (A → Type 0) → List A → Type 0
+AnyOf P [] = ⊥
+AnyOf P (x ∷ xs) = P x ⊎ AnyOf P xs
+
+-- the attributes have a reading
+abbrev pub IsReadable : Bool → List ℕ → Type 0
+IsReadable wide attributes = (reading : Reading) × IsRead wide Table attributes reading
+
+-- they have one, without AS_PATH
+abbrev pub LacksPath : Bool → List ℕ → Type 0
+LacksPath wide attributes = (reading : Reading) × IsRead wide Table attributes reading × (reading.path ≡ None)
+
+-- they give this path
+abbrev pub GivesPath : Bool → List ℕ → Path → Type 0
+GivesPath wide attributes trail = (reading : Reading) × IsRead wide Table attributes reading × (trail_in reading ≡ Some trail)
+
+-- ---- the entries of a RIB record, by the peer table before it
+
+-- the index is that of a peer
+abbrev pub IsWithin : List Peer → Entry → Type 0
+IsWithin peers entry = entry.index < length peers
+
+-- the index is that of none
+abbrev pub IsBeyond : List Peer → Entry → Type 0
+IsBeyond peers entry = length peers ≤ entry.index
+
+-- the attributes of an entry, with ASes of four bytes
+abbrev pub EntryReadable : Entry → Type 0
+EntryReadable entry = IsReadable true entry.attributes
+
+abbrev pub EntryUnreadable : Entry → Type 0
+EntryUnreadable entry = IsUnreadable true Table entry.attributes
+
+abbrev pub EntryLacksPath : Entry → Type 0
+EntryLacksPath entry = LacksPath true entry.attributes
+
+-- the entry's peer announces the prefix with the entry's path
+pub record IsRoute (peers : List Peer) (prefix : Subnet) (entry : Entry) (change : Change) : Type 0 where
+  pub peer : Peer
+  pub trail : Path
+  pub is_peer : slice_get peers entry.index ≡ Some peer
+  pub gives : GivesPath true entry.attributes trail
+  pub is_change : change ≡ Announce (key_of peer prefix) trail
+
+-- one announcement for each entry, in order
+abbrev pub AreRoutes : List Peer → Subnet → List Entry → List Change → Type 0
+AreRoutes peers prefix [] changes = changes ≡ []
+AreRoutes peers prefix (entry ∷ entries) changes = (change : Change) × (others : List Change) × (changes ≡ change ∷ others) × IsRoute peers prefix entry change × AreRoutes peers prefix entries others
+
+-- What the entries say: all their routes; or an index is beyond the table; or none is, and some attributes have no reading; or all
+-- have one, and some have no path.
+abbrev pub EntriesSay : List Peer → Subnet → List Entry → Result Body BodyFault → Type 0
+EntriesSay peers prefix entries (Ok (bodies.Routes changes)) = AreRoutes peers prefix entries changes
+EntriesSay peers prefix entries (Ok (bodies.Peers table)) = ⊥
+EntriesSay peers prefix entries (Ok bodies.Passed) = ⊥
+EntriesSay peers prefix entries (Err faults.Body) = ⊥
+EntriesSay peers prefix entries (Err faults.NoPeerTable) = ⊥
+EntriesSay peers prefix entries (Err faults.PeerIndex) = AnyOf (IsBeyond peers) entries
+EntriesSay peers prefix entries (Err faults.Message) = ⊥
+EntriesSay peers prefix entries (Err faults.Attributes) = AllByRecursion (IsWithin peers) entries × AnyOf EntryUnreadable entries
+EntriesSay peers prefix entries (Err faults.NoPath) = AllByRecursion (IsWithin peers) entries × AllByRecursion EntryReadable entries × AnyOf EntryLacksPath entries
+EntriesSay peers prefix entries (Err faults.NoMemory) = ⊥
+
+-- ---- the route of a TABLE_DUMP record, with ASes of two bytes
+
+-- What it says: its announcement; or its attributes have no reading; or they have one without a path.
+abbrev pub DumpSays : Dumped → Result Body BodyFault → Type 0
+DumpSays dumped (Ok (bodies.Routes changes)) = (trail : Path) × GivesPath false dumped.attributes trail × (changes ≡ Announce (key_of dumped.peer dumped.prefix) trail ∷ [])
+DumpSays dumped (Ok (bodies.Peers table)) = ⊥
+DumpSays dumped (Ok bodies.Passed) = ⊥
+DumpSays dumped (Err faults.Body) = ⊥
+DumpSays dumped (Err faults.NoPeerTable) = ⊥
+DumpSays dumped (Err faults.PeerIndex) = ⊥
+DumpSays dumped (Err faults.Message) = ⊥
+DumpSays dumped (Err faults.Attributes) = IsUnreadable false Table dumped.attributes
+DumpSays dumped (Err faults.NoPath) = LacksPath false dumped.attributes
+DumpSays dumped (Err faults.NoMemory) = ⊥

@@ -1,0 +1,77 @@
+//! Bodies of TABLE_DUMP records.
+ghost use Rattle.std.specs.Prelude.{◌≡◌, option_map};
+ghost use Rattle.mrt_reader.specs.Bodies.{OrNoMemory, RouteSays};
+ghost use Rattle.mrt_reader.specs.Dumps.{dump_at, route_at, last_block as block_in};
+ghost use Rattle.mrt_reader.specs.Left.{dumped_of};
+ghost use Rattle.mrt_reader.specs.Routes.{DumpSays};
+
+use crate::body::Body;
+use crate::fault::BodyFault;
+use crate::fields::{take, take_addr, take_asn, take_byte};
+use crate::parts::DumpParts;
+use crate::routing::put_route;
+use bgp_attrs::take_block;
+use path_model::{Changes, Key, Peer, Prefix};
+use std::alloc::Global;
+
+// The route of a whole body.
+pub(crate) fn read_dump(alloc: Global, body: &[u8], six: bool) -> Result<Body, BodyFault>
+    ensures { OrNoMemory (RouteSays (dump_at six body.now)) result }
+{
+    match dump_parts(body, six) {
+        Some(parts) => route_of(alloc, parts),
+        None => Err(BodyFault::Body),
+    }
+}
+
+// The parts of a body, where it is in form.
+#[tactic(auto, unfolding(crate::specs::Dumps::dump_at))]
+fn dump_parts(body: &[u8], six: bool) -> Option<DumpParts<'_>>
+    ensures { option_map dumped_of result ≡ dump_at six body.now }
+{
+    let (_, rest) = take(body, 4)?;
+    let (addr, rest) = take_addr(rest, six)?;
+    let (len, rest) = take_byte(rest)?;
+    let prefix = Prefix::new(addr, len)?;
+    let (peer, attributes) = take_route(rest, six)?;
+    Some(DumpParts {
+        key: Key { peer, prefix },
+        attributes,
+    })
+}
+
+// The peer and the attributes, behind the prefix.
+#[tactic(auto, unfolding(crate::specs::Dumps::route_at))]
+fn take_route(bytes: &[u8], six: bool) -> Option<(Peer, &[u8])>
+    ensures { option_map (λ x. (x.0, x.1.now)) result ≡ route_at six bytes.now }
+{
+    let (_, rest) = take(bytes, 5)?;
+    let (addr, rest) = take_addr(rest, six)?;
+    let (asn, rest) = take_asn(rest, false)?;
+    let attributes = last_block(rest)?;
+    Some((Peer { addr, asn }, attributes))
+}
+
+// A block that fills the bytes.
+#[tactic(auto, unfolding(crate::specs::Dumps::last_block))]
+fn last_block(bytes: &[u8]) -> Option<&[u8]>
+    ensures { option_map (λ x. x.now) result ≡ block_in bytes.now }
+{
+    let (block, rest) = take_block(bytes)?;
+    if !rest.is_empty() {
+        return None;
+    }
+    Some(block)
+}
+
+// The route of the parts.
+fn route_of(alloc: Global, parts: DumpParts<'_>) -> Result<Body, BodyFault>
+    ensures { OrNoMemory (DumpSays (dumped_of parts.entry)) result }
+{
+    let mut changes = Changes::new(alloc);
+    match put_route(alloc, &mut changes, parts.key, parts.attributes, false) {
+        Ok(true) => Ok(Body::Routes(changes)),
+        Ok(false) => Err(BodyFault::NoPath),
+        Err(fault) => Err(fault),
+    }
+}

@@ -1,0 +1,38 @@
+//! The entries of a RIB record.
+ghost use Rattle.std.specs.Prelude.{◌≡◌, is_some, true};
+ghost use Rattle.bgp_attrs.specs.Joined.{items_of};
+ghost use Rattle.mrt_reader.specs.Ribs.{entry_at};
+
+use crate::splitting::take_entry;
+
+/// An entry: a peer's place in the peer table, and the attributes of its route.
+#[derive(Clone, Copy, Debug)]
+pub(crate) struct RibEntry<'a> {
+    pub(crate) index: u16,
+    pub(crate) attributes: &'a [u8],
+}
+
+/// The entries that are still to come.
+#[derive(Clone, Copy, Debug)]
+pub(crate) struct Entries<'a> {
+    // entries, and nothing else
+    pub(crate) rest: &'a [u8],
+    ghost whole: { is_some (items_of entry_at rest.now) ≡ true },
+}
+
+impl<'a> Iterator for Entries<'a> {
+    ghost use Rattle.std.specs.Iterator.{YieldsFirstBy, item_count};
+    ghost use Rattle.mrt_reader.specs.Left.{entry_of, entries_left};
+
+    type Item = RibEntry<'a>;
+
+    ghost next_gives = { YieldsFirstBy entry_of entries_left };
+
+    ghost remaining = { item_count entries_left };
+
+    fn next(&mut self) -> Option<RibEntry<'a>> {
+        let (entry, rest) = take_entry(self.rest)?;
+        self.rest = rest;
+        Some(entry)
+    }
+}

@@ -1,0 +1,17 @@
+//! The parts of table records, as slices of them.
+use crate::entries::Entries;
+use path_model::{Key, Prefix};
+
+/// The parts of a RIB record.
+#[derive(Clone, Copy, Debug)]
+pub(crate) struct RibParts<'a> {
+    pub(crate) prefix: Prefix,
+    pub(crate) entries: Entries<'a>,
+}
+
+/// The parts of a TABLE_DUMP record.
+#[derive(Clone, Copy, Debug)]
+pub(crate) struct DumpParts<'a> {
+    pub(crate) key: Key,
+    pub(crate) attributes: &'a [u8],
+}

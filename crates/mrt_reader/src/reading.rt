@@ -1,0 +1,36 @@
+//! The body of a record.
+ghost use Rattle.std.specs.Option.{option_copied};
+ghost use Rattle.mrt_reader.specs.Bodies.{IsOutcome};
+ghost use Rattle.mrt_reader.specs.Coming.{recorded};
+
+use crate::body::Body;
+use crate::dump::read_dump;
+use crate::fault::BodyFault;
+use crate::framer::Record;
+use crate::layout::{Layout, layout_of};
+use crate::peers::PeerTable;
+use crate::rib::read_rib;
+use crate::session::{read_message, read_state};
+use crate::table::read_table;
+use std::alloc::Global;
+
+/// Reads the body of a record, by the last peer table before it.
+///
+/// The refusals are tested over the whole record in this order: 28 Body, 29 NoPeerTable, 30 PeerIndex, 24 Message, 23 Attributes,
+/// 25 NoPath. A refused record changes nothing, so no entry before a malformed one counts.
+pub fn read_body(
+    alloc: Global,
+    unit: &Record<'_>,
+    peers: Option<&PeerTable>,
+) -> Result<Body, BodyFault>
+    ensures { IsOutcome (recorded unit.now) (option_copied peers.entry) result }
+{
+    match layout_of(unit.kind, unit.subkind) {
+        Layout::PeerIndex => read_table(alloc, unit.body),
+        Layout::Rib { six } => read_rib(alloc, unit.body, six, peers),
+        Layout::Dump { six } => read_dump(alloc, unit.body, six),
+        Layout::Message { timed, as4 } => read_message(alloc, unit.body, timed, as4),
+        Layout::State { timed, as4 } => read_state(alloc, unit.body, timed, as4),
+        Layout::Other => Ok(Body::Passed),
+    }
+}

@@ -1,0 +1,28 @@
+//! Bodies of RIB records.
+ghost use Rattle.std.specs.Option.{option_copied};
+ghost use Rattle.mrt_reader.specs.Bodies.{OrNoMemory, RibSays};
+
+use crate::body::Body;
+use crate::fault::BodyFault;
+use crate::peers::PeerTable;
+use crate::routing::routes_of_entries;
+use crate::shaping::rib_parts;
+use std::alloc::Global;
+
+// The routes of a whole body: first its form, then the table, then the entries.
+pub(crate) fn read_rib(
+    alloc: Global,
+    body: &[u8],
+    six: bool,
+    peers: Option<&PeerTable>,
+) -> Result<Body, BodyFault>
+    ensures { OrNoMemory (RibSays six (option_copied peers.entry) body.now) result }
+{
+    match rib_parts(body, six) {
+        Some(parts) => match peers {
+            Some(peers) => routes_of_entries(alloc, peers, &parts.prefix, parts.entries),
+            None => Err(BodyFault::NoPeerTable),
+        },
+        None => Err(BodyFault::Body),
+    }
+}

@@ -1,0 +1,86 @@
+//! The routes of table records.
+ghost use Rattle.std.specs.Prelude.{◌≡◌, MatchBool};
+ghost use Rattle.std.specs.List.{AllByRecursion};
+ghost use Rattle.mrt_reader.specs.Bodies.{OrNoMemory};
+ghost use Rattle.mrt_reader.specs.Left.{entries_left};
+ghost use Rattle.mrt_reader.specs.Routes.{EntriesSay, AnyOf, IsWithin, IsBeyond};
+ghost use Rattle.mrt_reader.specs.Routing.{IsPut};
+
+use crate::body::Body;
+use crate::entries::Entries;
+use crate::fault::BodyFault;
+use crate::peers::PeerTable;
+use bgp_attrs::Form;
+use path_model::{Changes, Key, Prefix};
+use std::alloc::Global;
+
+// The routes of all entries. First the indexes are tested, then each entry is read; an entry without a path is reported at the end,
+// since attributes out of form behind it come first.
+pub(crate) fn routes_of_entries(
+    alloc: Global,
+    peers: &PeerTable,
+    prefix: &Prefix,
+    entries: Entries<'_>,
+) -> Result<Body, BodyFault>
+    ensures { OrNoMemory (EntriesSay peers.now prefix.now (entries_left entries.entry)) result }
+{
+    if !are_within(peers, entries) {
+        return Err(BodyFault::PeerIndex);
+    }
+    let mut changes = Changes::new(alloc);
+    let mut no_path = false;
+    for entry in entries {
+        match peers.get(entry.index) {
+            Some(peer) => {
+                let key = Key {
+                    peer,
+                    prefix: *prefix,
+                };
+                if !put_route(alloc, &mut changes, key, entry.attributes, true)? {
+                    no_path = true;
+                }
+            }
+            None => return Err(BodyFault::PeerIndex),
+        }
+    }
+    if no_path {
+        return Err(BodyFault::NoPath);
+    }
+    Ok(Body::Routes(changes))
+}
+
+// Whether all indexes are those of peers.
+fn are_within(peers: &PeerTable, entries: Entries<'_>) -> bool
+    ensures { MatchBool result
+        (AllByRecursion (IsWithin peers.now) (entries_left entries.entry))
+        (AnyOf (IsBeyond peers.now) (entries_left entries.entry)) }
+{
+    for entry in entries {
+        if usize::from(entry.index) >= peers.len() {
+            return false;
+        }
+    }
+    true
+}
+
+// Announces the key, if the attributes have a path. `wide` says that their ASes have four bytes.
+pub(crate) fn put_route(
+    alloc: Global,
+    changes: &mut Changes,
+    key: Key,
+    attributes: &[u8],
+    wide: bool,
+) -> Result<bool, BodyFault>
+    ensures { IsPut wide key attributes.now changes.old changes.new result }
+{
+    match bgp_attrs::read(attributes, wide, Form::Table) {
+        Ok(attrs) => match attrs.trail(alloc)? {
+            Some(trail) => {
+                changes.announce(key, trail)?;
+                Ok(true)
+            }
+            None => Ok(false),
+        },
+        Err(_) => Err(BodyFault::Attributes),
+    }
+}

@@ -1,0 +1,125 @@
+//! Bodies of recorded messages and state changes.
+ghost use Rattle.std.specs.Prelude.{◌≡◌, option_map};
+ghost use Rattle.mrt_reader.specs.Bodies.{OrNoMemory, MessageSays, StateSays, fault_of};
+ghost use Rattle.mrt_reader.specs.Sessions.{six_of, behind_time, session_at, message_at, state_at};
+
+use crate::body::Body;
+use crate::fault::BodyFault;
+use crate::fields::{take, take_addr, take_asn, take_two};
+use bgp_update::UpdateFault;
+use path_model::{Changes, Peer};
+use std::alloc::Global;
+
+const ESTABLISHED: u16 = 6;
+
+// The changes of a recorded message.
+pub(crate) fn read_message(
+    alloc: Global,
+    body: &[u8],
+    timed: bool,
+    as4: bool,
+) -> Result<Body, BodyFault>
+    ensures { OrNoMemory (MessageSays as4 (message_at timed as4 body.now)) result }
+{
+    match take_message(body, timed, as4) {
+        Some((peer, message)) => changes_of(alloc, message, as4, peer),
+        None => Err(BodyFault::Body),
+    }
+}
+
+fn changes_of(alloc: Global, message: &[u8], as4: bool, peer: Peer) -> Result<Body, BodyFault>
+    ensures { OrNoMemory (MessageSays as4 (Some (peer, message.now))) result }
+{
+    match bgp_update::read(alloc, message, as4, peer) {
+        Ok(changes) => Ok(Body::Routes(changes)),
+        Err(UpdateFault::Message) => Err(BodyFault::Message),
+        Err(UpdateFault::Attributes) => Err(BodyFault::Attributes),
+        Err(UpdateFault::NoPath) => Err(BodyFault::NoPath),
+        Err(UpdateFault::NoMemory) => Err(BodyFault::NoMemory),
+    }
+}
+
+// The change of a state change.
+pub(crate) fn read_state(
+    alloc: Global,
+    body: &[u8],
+    timed: bool,
+    as4: bool,
+) -> Result<Body, BodyFault>
+    ensures { OrNoMemory (StateSays (state_at timed as4 body.now)) result }
+{
+    match take_state(body, timed, as4) {
+        Some((peer, state)) => change_at(alloc, peer, state),
+        None => Err(BodyFault::Body),
+    }
+}
+
+// Where the session isn't up, all routes of the peer are gone.
+fn change_at(alloc: Global, peer: Peer, state: u16) -> Result<Body, BodyFault>
+    ensures { OrNoMemory (StateSays (Some (peer, state))) result }
+{
+    let mut changes = Changes::new(alloc);
+    if state != ESTABLISHED {
+        changes.remove_peer(peer)?;
+    }
+    Ok(Body::Routes(changes))
+}
+
+// The peer and the new state.
+#[tactic(auto, unfolding(crate::specs::Sessions::state_at))]
+fn take_state(body: &[u8], timed: bool, as4: bool) -> Option<(Peer, u16)>
+    ensures { result ≡ state_at timed as4 body.now }
+{
+    let (peer, rest) = take_message(body, timed, as4)?;
+    let (_, rest) = take_two(rest)?;
+    let (state, rest) = take_two(rest)?;
+    if !rest.is_empty() {
+        return None;
+    }
+    Some((peer, state))
+}
+
+// The peer and the bytes behind the fields of the session.
+#[tactic(auto, unfolding(crate::specs::Sessions::message_at))]
+fn take_message(body: &[u8], timed: bool, as4: bool) -> Option<(Peer, &[u8])>
+    ensures { option_map (λ x. (x.0, x.1.now)) result ≡ message_at timed as4 body.now }
+{
+    take_session(fields_of(body, timed)?, as4)
+}
+
+// The bytes behind the microseconds, if there are some.
+fn fields_of(body: &[u8], timed: bool) -> Option<&[u8]>
+    ensures { option_map (λ x. x.now) result ≡ behind_time timed body.now }
+{
+    if timed {
+        let (_, rest) = take(body, 4)?;
+        Some(rest)
+    } else {
+        Some(body)
+    }
+}
+
+#[tactic(auto, unfolding(crate::specs::Sessions::session_at))]
+fn take_session(bytes: &[u8], as4: bool) -> Option<(Peer, &[u8])>
+    ensures { option_map (λ x. (x.0, x.1.now)) result ≡ session_at as4 bytes.now }
+{
+    let (asn, rest) = take_asn(bytes, as4)?;
+    let (_, rest) = take_asn(rest, as4)?;
+    let (_, rest) = take_two(rest)?;
+    let (afi, rest) = take_two(rest)?;
+    let six = is_six(afi)?;
+    let (addr, rest) = take_addr(rest, six)?;
+    let (_, rest) = take_addr(rest, six)?;
+    Some((Peer { addr, asn }, rest))
+}
+
+// Whether an address family is IPv6.
+fn is_six(afi: u16) -> Option<bool>
+    ensures { result ≡ six_of afi }
+{
+    match afi {
+        2 => Some(true),
+        1 => Some(false),
+        _ => None,
+    }
+}

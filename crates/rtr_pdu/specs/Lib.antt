@@ -1,0 +1,5 @@
+pub mod Bodies
+pub mod Laws
+pub mod Pdus
+pub mod Spelled
+pub mod Units

@@ -1,0 +1,55 @@
+-- The one way in which a PDU is written.
+use Rattle.std.specs.Prelude.{◌≡◌, ℕ, ◌+◌, ◌*◌, ◌<◌, ◌≤◌, ◌^◌, Bool, true, false, List, [], ◌∷◌, ◌++◌, length}
+use Rattle.std.specs.List.{All}
+use Rattle.byteorder.specs.Endian.{big_bytes}
+use Rattle.rtr_pdu.specs.declared.pdu.Pdu.{Pdu}
+use Rattle.rtr_pdu.specs.declared.pdu.Pdu.TheVariants.{Notify, SerialQuery, ResetQuery, CacheResponse, Passed, EndOfData, CacheReset, ErrorReport, Aspa}
+
+-- version 2, the type, the two bytes, the length
+abbrev pub header : ℕ → ℕ → ℕ → List ℕ
+header code two len = 2 ∷ code ∷ [] ++ big_bytes 2 two ++ big_bytes 4 len
+
+-- the refresh, retry and expire times of an End of Data, in seconds
+abbrev pub timers : List ℕ
+timers = big_bytes 4 3600 ++ big_bytes 4 600 ++ big_bytes 4 7200
+
+-- four bytes for each number
+abbrev pub spelled_numbers : List ℕ → List ℕ
+spelled_numbers [] = []
+spelled_numbers (n ∷ more) = big_bytes 4 n ++ spelled_numbers more
+
+-- the flags of an ASPA PDU, and a zero byte
+abbrev pub flags : Bool → ℕ
+flags true = 256
+flags false = 0
+
+-- the bytes of a PDU: zero where a field has no meaning, and an error report without a copy and a text
+abbrev pub spelled : Pdu → List ℕ
+spelled (Notify session serial) = header 0 session 12 ++ big_bytes 4 serial
+spelled (SerialQuery session serial) = header 1 session 12 ++ big_bytes 4 serial
+spelled ResetQuery = header 2 0 8
+spelled (CacheResponse session) = header 3 session 8
+spelled (Passed kind) = []
+spelled (EndOfData session serial) = header 7 session 24 ++ big_bytes 4 serial ++ timers
+spelled CacheReset = header 8 0 8
+spelled (ErrorReport code) = header 10 code 16 ++ big_bytes 4 0 ++ big_bytes 4 0
+spelled (Aspa announce customer providers) = header 11 (flags announce) (12 + 4 * length providers) ++ big_bytes 4 customer ++ spelled_numbers providers
+
+-- what may be written: what a Framer reads, but for the types that are passed over, and for providers over the longest PDU
+abbrev pub IsWritable : Pdu → Type 0
+IsWritable (Passed kind) = ⊥
+IsWritable (Aspa true customer providers) = (0 < length providers) × (length providers ≤ 65533)
+IsWritable (Aspa false customer providers) = providers ≡ []
+IsWritable pdu = Unit {0}
+
+-- the numbers of a PDU fit their fields
+abbrev pub FitsFields : Pdu → Type 0
+FitsFields (Notify session serial) = (session < 2 ^ 16) × (serial < 2 ^ 32)
+FitsFields (SerialQuery session serial) = (session < 2 ^ 16) × (serial < 2 ^ 32)
+FitsFields ResetQuery = Unit {0}
+FitsFields (CacheResponse session) = session < 2 ^ 16
+FitsFields (Passed kind) = Unit {0}
+FitsFields (EndOfData session serial) = (session < 2 ^ 16) × (serial < 2 ^ 32)
+FitsFields CacheReset = Unit {0}
+FitsFields (ErrorReport code) = code < 2 ^ 16
+FitsFields (Aspa announce customer providers) = (customer < 2 ^ 32) × All (λ provider. provider < 2 ^ 32) providers

@@ -1,0 +1,105 @@
+//! The bytes of a stream that are held, and its units.
+ghost use Rattle.std.specs.Prelude.{◌≡◌, ◌<◌, [], ◌++◌, length, IfOk, IfNone};
+ghost use Rattle.rtr_pdu.specs.Units.{Answers, IsRefusedNow, IsReportFor};
+
+use crate::header::{HEADER, read_header};
+use crate::pdu::{Pdu, PduFault};
+use crate::reading::read_pdu;
+use av_base::NoMemory;
+use std::alloc::Global;
+use std::marker::Model;
+
+// The type byte of an error report.
+const ERROR_REPORT: u8 = 10;
+
+/// The bytes of a stream of PDUs that came and weren't taken yet. Where all whole PDUs are taken before it is fed again, it takes the
+/// memory of a piece and of one PDU.
+#[derive(Drop)]
+pub struct Framer {
+    held: Vec<u8>,
+    // how many of them were taken
+    at: usize,
+    alloc: Global,
+}
+
+/// A contract sees the bytes that are held and weren't taken.
+impl Model for Framer {
+    ghost use Rattle.std.specs.Prelude.{List, ℕ, ◌≤◌, length, drop};
+
+    ghost Value = { List ℕ };
+
+    ghost view = { λ f. drop f.at f.held.items };
+
+    ghost invariant = { λ f. f.at ≤ length f.held.items };
+}
+
+impl Framer {
+    /// Nothing is held. It takes no memory.
+    pub fn new(alloc: Global) -> Framer
+        ensures { result ≡ [] }
+    {
+        Framer {
+            held: Vec::new(alloc),
+            at: 0,
+            alloc,
+        }
+    }
+
+    /// Adds a piece to what is held. The bytes of the PDUs that were taken are let go here, once for all of them.
+    pub fn feed(mut self, piece: &[u8]) -> Result<Framer, NoMemory>
+        ensures { IfOk result (λ framer. framer ≡ self ++ piece.now) }
+    {
+        self.let_go();
+        self.held.extend_from_slice(piece)?;
+        Ok(self)
+    }
+
+    fn let_go(&mut self)
+        ensures { self.new ≡ self.old }
+    {
+        if self.at > 0 {
+            self.held.drain(..self.at);
+            self.at = 0;
+        }
+    }
+
+    /// Takes the next PDU. `None` says that the bytes begin with a PDU that isn't whole yet. A refused PDU stays held, so each later
+    /// call answers the same.
+    pub fn next(&mut self) -> Result<Option<Pdu>, PduFault>
+        ensures next { Answers self.old self.new result }
+        ensures partial { IfOk result (λ pdu. IfNone pdu (length self.new < 262144)) }
+    {
+        let (_, held) = self.held.split_at(self.at);
+        if held.len() < HEADER {
+            return Ok(None);
+        }
+        let (kind, length) = read_header(held)?;
+        if held.len() < length {
+            return Ok(None);
+        }
+        let (bytes, _) = held.split_at(length);
+        let pdu = read_pdu(self.alloc, kind, bytes)?;
+        self.at += length;
+        Ok(Some(pdu))
+    }
+
+    /// The code of the error report that is due for the refused PDU. `None` comes exactly where its type byte is that of an error
+    /// report, on which no report is sent (RFC 8210, section 5.11).
+    pub fn report(&self) -> Option<u16>
+        requires { IsRefusedNow self.now }
+        ensures { IsReportFor self.now result }
+    {
+        let (_, held) = self.held.split_at(self.at);
+        if held[1] == ERROR_REPORT {
+            return None;
+        }
+        match read_header(held) {
+            Err(PduFault::PduVersion) => Some(8),
+            Err(PduFault::PduLength) => Some(0),
+            Err(PduFault::PduType) => Some(5),
+            Err(PduFault::NoProviders) => Some(0),
+            Err(PduFault::NoMemory) => Some(0),
+            Ok(_) => Some(0),
+        }
+    }
+}

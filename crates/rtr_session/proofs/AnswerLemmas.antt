@@ -1,0 +1,222 @@
+-- What an answer that a session receives makes of its rows.
+use Rattle.std.proofs.Common.{◌≡◌, ◌≢◌, ℕ, ◌⊎◌, ◌↔◌, inl, inr, Bool, true, false, cond, List, [], ◌∷◌, refl, sym, ap, subst, ◌∙◌, arith}
+use Rattle.std.specs.Prelude.{IsSome}
+use Rattle.std.specs.declared.option.Option.{Option}
+use Rattle.std.specs.declared.option.Option.TheVariants.{Some, None}
+use Rattle.std.specs.Ordering.{nat_cmp}
+use Rattle.std.specs.BTreeMap.{is_at}
+use Rattle.std.specs.Cmp.{nat_cmp_total}
+use Rattle.std.specs.FinMap as map
+use Rattle.std.proofs.lemmas.Bool.Decides.{nat_tests}
+use Rattle.path_model.specs.Rows.{RowMap, PatchMap}
+use Rattle.rtr_pdu.specs.declared.pdu.Pdu.{Pdu}
+use Rattle.rtr_pdu.specs.declared.pdu.Pdu.TheVariants.{Notify, SerialQuery, ResetQuery, CacheResponse, Passed, EndOfData, CacheReset, ErrorReport, Aspa}
+use Rattle.rtr_session.specs.declared.act.Act.{Act}
+use Rattle.rtr_session.specs.declared.act.Act.TheVariants.{Nothing, Apply, End}
+use Rattle.rtr_session.specs.declared.act.Delta.TheVariants.{Whole, Part}
+use Rattle.rtr_session.specs.declared.act.Ending.{Ending}
+use Rattle.rtr_session.specs.declared.act.Phase.{Phase}
+use Rattle.rtr_session.specs.declared.act.Phase.TheVariants.{AskedWhole, AskedChanges, ReceivingWhole, ReceivingChanges}
+use Rattle.rtr_session.specs.State.{State}
+use Rattle.rtr_session.specs.Client.{Announces, Client, Goes, OnAnnounce, OnEnd, OnNotify, OnPassed, OnReset, OnResponse, OnWithdraw, Withdraws, named}
+use Rattle.rtr_session.specs.Laws.{AnswersChanges, AnswersWhole, AreNamed, IsPatchOf, Names, Receives, patched}
+
+IsReceiving : Phase → Type 0
+IsReceiving phase = (phase ≡ ReceivingWhole) ⊎ (phase ≡ ReceivingChanges)
+
+-- the rows are the kept ones with what was named
+abbrev Tracks : RowMap → State → Type 0
+Tracks kept st = (q : ℕ) → map.get st.rows q ≡ patched (map.get st.changes q) (map.get kept q)
+
+-- what some PDUs of an answer do, by the customers that they name
+record Does (old new : State) (names : ℕ → Type 0) : Type 0 where
+  pub phase : new.phase ≡ old.phase
+  pub named : (q : ℕ) → IsSome (map.get new.changes q) ↔ (IsSome (map.get old.changes q) ⊎ names q)
+  pub rows : (q : ℕ) → IsSome (map.get new.rows q) → IsSome (map.get old.rows q) ⊎ names q
+  pub tracks : (kept : RowMap) → Tracks kept old → Tracks kept new
+
+-- ---- one PDU
+
+nothing_else : {old next to : State} {does : Act} → Goes old Nothing next does to → does ≢ Nothing → ⊥
+nothing_else goes other = other (sym goes.act_is)
+
+unnamed : (old next : State) → next ≡ old → Does old next (λ q. ⊥)
+unnamed old next same = subst (λ (st : State). Does old st (λ q. ⊥)) (sym same) (record {
+  phase = refl;
+  named = λ q. (λ some. inl some, λ h. elim h [ inl some ↦ some | inr never ↦ absurd never ]);
+  rows = λ q some. inl some;
+  tracks = λ kept t. t;
+})
+
+same_key : (q k : ℕ) → is_at (nat_cmp q) k ≡ true → k ≡ q
+same_key q k e = grind (arith, nat_tests)
+
+own_key : (q k : ℕ) → k ≡ q → is_at (nat_cmp q) k ≡ true
+own_key q k e = grind (arith, nat_tests)
+
+put_at : {X : Type 0} (b : Bool) (value : X) (had : Option X) (k q : ℕ) → (b ≡ true → k ≡ q) → (k ≡ q → b ≡ true) → IsSome (cond b (Some value) had) ↔ (IsSome had ⊎ (k ≡ q))
+put_at true value had k q to from = (λ some. inr (to refl), λ h. refl)
+put_at false value had k q to from = (λ some. inl some, λ h. elim h [ inl some ↦ some | inr same ↦ let never : ⊥ = (let e : false ≡ true = from same in cc) in absurd never ])
+
+gone_at : {X : Type 0} (b : Bool) (had : Option X) (k q : ℕ) → IsSome (cond b None had) → IsSome had ⊎ (k ≡ q)
+gone_at true had k q some = let never : ⊥ = cc in absurd never
+gone_at false had k q some = inl some
+
+put_tracks : (b : Bool) (row : List ℕ) (had : Option (List ℕ)) (change : Option (Option (List ℕ))) (kept : Option (List ℕ)) → had ≡ patched change kept → cond b (Some row) had ≡ patched (cond b (Some (Some row)) change) kept
+put_tracks true row had change kept t = refl
+put_tracks false row had change kept t = t
+
+gone_tracks : (b : Bool) (had : Option (List ℕ)) (change : Option (Option (List ℕ))) (kept : Option (List ℕ)) → had ≡ patched change kept → cond b None had ≡ patched (cond b (Some None) change) kept
+gone_tracks true had change kept t = refl
+gone_tracks false had change kept t = t
+
+names_put : (old : State) (k : ℕ) (row : List ℕ) → Does old (named old k (Some row)) (λ q. k ≡ q)
+names_put old k row = record {
+  phase = refl;
+  named = λ q. subst (λ (o : Option (Option (List ℕ))). IsSome o ↔ (IsSome (map.get old.changes q) ⊎ (k ≡ q))) (sym (map.get-insert nat_cmp_total old.changes k (Some row) q))
+      (put_at (is_at (nat_cmp q) k) (Some row) (map.get old.changes q) k q (same_key q k) (own_key q k));
+  rows = λ q some. (put_at (is_at (nat_cmp q) k) row (map.get old.rows q) k q (same_key q k) (own_key q k)).0 (subst (λ (o : Option (List ℕ)). IsSome o) (map.get-insert nat_cmp_total old.rows k row q) some);
+  tracks = λ kept t q. map.get-insert nat_cmp_total old.rows k row q
+      ∙ put_tracks (is_at (nat_cmp q) k) row (map.get old.rows q) (map.get old.changes q) (map.get kept q) (t q)
+      ∙ ap (λ (o : Option (Option (List ℕ))). patched o (map.get kept q)) (sym (map.get-insert nat_cmp_total old.changes k (Some row) q));
+}
+
+names_gone : (old : State) (k : ℕ) → Does old (named old k None) (λ q. k ≡ q)
+names_gone old k = record {
+  phase = refl;
+  named = λ q. subst (λ (o : Option (Option (List ℕ))). IsSome o ↔ (IsSome (map.get old.changes q) ⊎ (k ≡ q))) (sym (map.get-insert nat_cmp_total old.changes k None q))
+      (put_at (is_at (nat_cmp q) k) None (map.get old.changes q) k q (same_key q k) (own_key q k));
+  rows = λ q some. gone_at (is_at (nat_cmp q) k) (map.get old.rows q) k q (subst (λ (o : Option (List ℕ)). IsSome o) (map.get-remove nat_cmp_total old.rows k q) some);
+  tracks = λ kept t q. map.get-remove nat_cmp_total old.rows k q
+      ∙ gone_tracks (is_at (nat_cmp q) k) (map.get old.rows q) (map.get old.changes q) (map.get kept q) (t q)
+      ∙ ap (λ (o : Option (Option (List ℕ))). patched o (map.get kept q)) (sym (map.get-insert nat_cmp_total old.changes k None q));
+}
+
+to_new : {old next : State} (st : State) {names : ℕ → Type 0} → next ≡ st → Does old st names → Does old next names
+to_new {old} {next} st {names} same does = subst (λ (s : State). Does old s names) (sym same) does
+
+announced : (old next : State) (k : ℕ) (providers : List ℕ) → Announces k providers old Nothing next → Does old next (λ q. k ≡ q)
+announced old next k providers a = to_new (named old k (Some a.row)) a.goes.new_is (names_put old k a.row)
+
+withdrawn : (old next : State) (k : ℕ) → Withdraws k old Nothing next → Does old next (λ q. k ≡ q)
+withdrawn old next k (inl there) = to_new (named old k None) there.1.new_is (names_gone old k)
+withdrawn old next k (inr none) = absurd (nothing_else none.1 (λ e. let never : ⊥ = cc in never))
+
+-- a relation by the phase, in either of the receiving phases
+at_phase : (rel : Phase → Type 0) (goal : Type 0) (phase : Phase) → IsReceiving phase → rel phase → (rel ReceivingWhole → goal) → (rel ReceivingChanges → goal) → goal
+unfolding IsReceiving
+at_phase rel goal phase (inl whole) h one other = one (subst (λ (p : Phase). rel p) whole h)
+at_phase rel goal phase (inr changes) h one other = other (subst (λ (p : Phase). rel p) changes h)
+
+not_nothing : {old next to : State} {goal : Type 0} (ending : Ending) → Goes old Nothing next (End ending) to → goal
+not_nothing ending goes = absurd (nothing_else goes (λ e. let never : ⊥ = cc in never))
+
+step : (old next : State) (pdu : Pdu) → IsReceiving old.phase → Client old pdu Nothing next → Does old next (λ q. Names pdu q)
+step old next (Notify session serial) at h = at_phase (λ p. OnNotify p session old Nothing next) (Does old next (λ q. ⊥)) old.phase at h (λ g. unnamed old next g.new_is) (λ g. unnamed old next g.new_is)
+step old next (SerialQuery session serial) at h = not_nothing _ h
+step old next ResetQuery at h = not_nothing _ h
+step old next (CacheResponse session) at h = at_phase (λ p. OnResponse p session old Nothing next) (Does old next (λ q. ⊥)) old.phase at h (λ g. not_nothing _ g) (λ g. not_nothing _ g)
+step old next (Passed kind) at h = at_phase (λ p. OnPassed p old Nothing next) (Does old next (λ q. ⊥)) old.phase at h (λ g. unnamed old next g.new_is) (λ g. unnamed old next g.new_is)
+step old next (EndOfData session serial) at h = at_phase (λ p. OnEnd p session serial old Nothing next) (Does old next (λ q. ⊥)) old.phase at h
+    (λ g. elim g [ inl is ↦ absurd (nothing_else is.1 (λ e. let never : ⊥ = cc in never)) | inr not ↦ not_nothing _ not.1 ])
+    (λ g. elim g [ inl is ↦ absurd (nothing_else is.1 (λ e. let never : ⊥ = cc in never)) | inr not ↦ not_nothing _ not.1 ])
+step old next CacheReset at h = at_phase (λ p. OnReset p old Nothing next) (Does old next (λ q. ⊥)) old.phase at h (λ g. not_nothing _ g) (λ g. not_nothing _ g)
+step old next (ErrorReport code) at h = not_nothing _ h
+step old next (Aspa true k providers) at h = at_phase (λ p. OnAnnounce p k providers old Nothing next) (Does old next (λ q. k ≡ q)) old.phase at h (announced old next k providers) (announced old next k providers)
+step old next (Aspa false k providers) at h = at_phase (λ p. OnWithdraw p k old Nothing next) (Does old next (λ q. k ≡ q)) old.phase at h (withdrawn old next k) (withdrawn old next k)
+
+-- ---- all of an answer
+
+both : (old mid new : State) (first more : ℕ → Type 0) → Does old mid first → Does mid new more → Does old new (λ q. first q ⊎ more q)
+both old mid new first more a b = record {
+  phase = b.phase ∙ a.phase;
+  named = λ q. (
+    λ some. elim ((b.named q).0 some) [ inl mid_some ↦ elim ((a.named q).0 mid_some) [ inl was ↦ inl was | inr is ↦ inr (inl is) ] | inr is ↦ inr (inr is) ],
+    λ h. elim h [ inl was ↦ (b.named q).1 (inl ((a.named q).1 (inl was))) | inr is ↦ elim is [ inl one ↦ (b.named q).1 (inl ((a.named q).1 (inr one))) | inr other ↦ (b.named q).1 (inr other) ] ],
+  );
+  rows = λ q some. elim (b.rows q some) [ inl mid_some ↦ elim (a.rows q mid_some) [ inl was ↦ inl was | inr is ↦ inr (inl is) ] | inr is ↦ inr (inr is) ];
+  tracks = λ kept t. b.tracks kept (a.tracks kept t);
+}
+
+still : (old next : State) → next.phase ≡ old.phase → IsReceiving old.phase → IsReceiving next.phase
+still old next same at = subst (λ (p : Phase). IsReceiving p) (sym same) at
+
+received : (pdus : List Pdu) (old new : State) → IsReceiving old.phase → Receives old pdus new → Does old new (λ q. AreNamed pdus q)
+received [] old new at h = unnamed old new h
+received (pdu ∷ more) old new at h =
+    let first = step old h.0 pdu at h.1 in
+    both old h.0 new (λ q. Names pdu q) (λ q. AreNamed more q) first (received more h.0 new (still old h.0 first.phase at) h.2)
+
+-- ---- the laws
+
+pub record Begun (asked begun : State) : Type 0 where
+  pub phase : begun.phase ≡ ReceivingChanges
+  pub rows : begun.rows ≡ asked.rows
+  pub changes : begun.changes ≡ map.empty
+
+begun_changes : (asked begun : State) (session : ℕ) → asked.phase ≡ AskedChanges → Client asked (CacheResponse session) Nothing begun → Begun asked begun
+begun_changes asked begun session phase h = elim (subst (λ (p : Phase). OnResponse p session asked Nothing begun) phase h) [
+  | inl is ↦ record { phase = ap (λ (s : State). s.phase) is.1.new_is; rows = ap (λ (s : State). s.rows) is.1.new_is; changes = ap (λ (s : State). s.changes) is.1.new_is }
+  | inr not ↦ not_nothing _ not.1
+]
+
+part_same : {one other : PatchMap} → Apply (Part one) ≡ Apply (Part other) → one ≡ other
+part_same e = cc
+
+whole_same : {one other : RowMap} → Apply (Whole one) ≡ Apply (Whole other) → one ≡ other
+whole_same e = cc
+
+ended_changes : (whole done : State) (session serial : ℕ) (patch : PatchMap) → whole.phase ≡ ReceivingChanges → Client whole (EndOfData session serial) (Apply (Part patch)) done → (patch ≡ whole.changes) × (done.rows ≡ whole.rows)
+ended_changes whole done session serial patch phase h = elim (subst (λ (p : Phase). OnEnd p session serial whole (Apply (Part patch)) done) phase h) [
+  | inl is ↦ (part_same is.1.act_is, ap (λ (s : State). s.rows) is.1.new_is)
+  | inr not ↦ let never : ⊥ = (let e = not.1.act_is in cc) in absurd never
+]
+
+no_change : (st : State) (q : ℕ) → st.changes ≡ map.empty → map.get st.changes q ≡ None
+no_change st q none = ap (λ (m : PatchMap). map.get m q) none ∙ map.get-empty nat_cmp q
+
+none_some : {X : Type 0} (o : Option X) → o ≡ None → IsSome o → ⊥
+none_some None e some = let never : ⊥ = cc in never
+none_some (Some x) e some = let never : ⊥ = cc in never
+
+pub patch_named : (asked done : State) (pdus : List Pdu) (patch : PatchMap) → AnswersChanges asked pdus patch done → IsPatchOf asked.rows pdus patch done.rows
+unfolding IsReceiving
+patch_named asked done pdus patch a =
+    let begun = begun_changes asked a.begun a.session a.phase a.begins in
+    let does = received pdus a.begun a.whole (inr begun.phase) a.comes in
+    let ended = ended_changes a.whole done a.last_session a.serial patch (does.phase ∙ begun.phase) a.ends in
+    let start : Tracks asked.rows a.begun = (λ q. ap (λ (m : RowMap). map.get m q) begun.rows ∙ ap (λ (o : Option (Option (List ℕ))). patched o (map.get asked.rows q)) (sym (no_change a.begun q begun.changes))) in
+    let now : (q : ℕ) → map.get done.rows q ≡ patched (map.get patch q) (map.get asked.rows q) = (λ q.
+    ap (λ (m : RowMap). map.get m q) ended.1 ∙ does.tracks asked.rows start q ∙ ap (λ (m : PatchMap). patched (map.get m q) (map.get asked.rows q)) (sym ended.0)) in
+    record {
+      customers = λ q. subst (λ (m : PatchMap). IsSome (map.get m q) ↔ AreNamed pdus q) (sym ended.0) (
+        λ some. elim ((does.named q).0 some) [ inl was ↦ absurd (none_some (map.get a.begun.changes q) (no_change a.begun q begun.changes) was) | inr is ↦ is ],
+        λ is. (does.named q).1 (inr is),
+      );
+      each = λ q row is. now q ∙ ap (λ (o : Option (Option (List ℕ))). patched o (map.get asked.rows q)) is;
+      patched = now;
+    }
+
+begun_whole : (asked begun : State) (session : ℕ) → asked.phase ≡ AskedWhole → Client asked (CacheResponse session) Nothing begun → (begun.phase ≡ ReceivingWhole) × (begun.rows ≡ map.empty)
+begun_whole asked begun session phase h =
+    let goes = subst (λ (p : Phase). OnResponse p session asked Nothing begun) phase h in
+    (ap (λ (s : State). s.phase) goes.new_is, ap (λ (s : State). s.rows) goes.new_is)
+
+ended_whole : (whole done : State) (session serial : ℕ) (rows : RowMap) → whole.phase ≡ ReceivingWhole → Client whole (EndOfData session serial) (Apply (Whole rows)) done → (rows ≡ whole.rows) × (done.rows ≡ whole.rows)
+ended_whole whole done session serial rows phase h = elim (subst (λ (p : Phase). OnEnd p session serial whole (Apply (Whole rows)) done) phase h) [
+  | inl is ↦ (whole_same is.1.act_is, ap (λ (s : State). s.rows) is.1.new_is)
+  | inr not ↦ let never : ⊥ = (let e = not.1.act_is in cc) in absurd never
+]
+
+pub whole_announced : (asked done : State) (pdus : List Pdu) (rows : RowMap) → AnswersWhole asked pdus rows done → (done.rows ≡ rows) × ((q : ℕ) → IsSome (map.get rows q) → AreNamed pdus q)
+unfolding IsReceiving
+whole_announced asked done pdus rows a =
+    let begun = begun_whole asked a.begun a.session a.phase a.begins in
+    let does = received pdus a.begun a.whole (inl begun.0) a.comes in
+    let ended = ended_whole a.whole done a.last_session a.serial rows (does.phase ∙ begun.0) a.ends in (
+      ended.1 ∙ sym ended.0,
+      λ q some. elim (does.rows q (subst (λ (m : RowMap). IsSome (map.get m q)) ended.0 some)) [
+        | inl was ↦ absurd (none_some (map.get a.begun.rows q) (ap (λ (m : RowMap). map.get m q) begun.1 ∙ map.get-empty nat_cmp q) was)
+        | inr is ↦ is
+      ],
+    )

@@ -1,0 +1,4 @@
+pub mod AnnounceLemmas
+pub mod AnswerLemmas
+pub mod CaseLemmas
+pub mod SetLemmas

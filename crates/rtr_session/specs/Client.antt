@@ -1,0 +1,130 @@
+-- The table of the router's client, one row for each PDU and phase (draft-ietf-sidrops-8210bis, section 8).
+use Rattle.std.specs.Prelude.{◌≡◌, ◌≢◌, ℕ, ◌==◌, ◌⊎◌, Bool, true, false, not, filter, List, IsSome}
+use Rattle.std.specs.declared.option.Option.{Option}
+use Rattle.std.specs.declared.option.Option.TheVariants.{Some, None}
+use Rattle.std.specs.FinMap as map
+use Rattle.path_model.specs.Sets.{IsSetOf}
+use Rattle.rtr_pdu.specs.declared.pdu.Pdu.{Pdu}
+use Rattle.rtr_pdu.specs.declared.pdu.Pdu.TheVariants.{Notify, SerialQuery, ResetQuery, CacheResponse, Passed, EndOfData, CacheReset, ErrorReport, Aspa}
+use Rattle.rtr_session.specs.declared.act.Phase.{Phase}
+use Rattle.rtr_session.specs.declared.act.Phase.TheVariants.{Fresh, AskedWhole, AskedChanges, ReceivingWhole, ReceivingChanges, Ready, Over}
+use Rattle.rtr_session.specs.declared.act.Query.{Query}
+use Rattle.rtr_session.specs.declared.act.Query.TheVariants.{Reset, Serial}
+use Rattle.rtr_session.specs.declared.act.Delta.TheVariants.{Whole, Part}
+use Rattle.rtr_session.specs.declared.act.Ending.{Ending}
+use Rattle.rtr_session.specs.declared.act.Ending.TheVariants.{Unexpected, UnknownWithdrawal, SessionChanged, PeerReported}
+use Rattle.rtr_session.specs.declared.act.Act.{Act}
+use Rattle.rtr_session.specs.declared.act.Act.TheVariants.{Nothing, Send, Apply, End}
+use Rattle.rtr_session.specs.State.{State}
+
+-- the code of the error report that an ending sends (draft-ietf-sidrops-8210bis, section 12)
+abbrev pub code_sent : Ending → Option ℕ
+code_sent Unexpected = Some 0
+code_sent UnknownWithdrawal = Some 6
+code_sent SessionChanged = Some 0
+code_sent PeerReported = None
+
+-- the providers that are written, less 0
+abbrev pub without_zero : List ℕ → List ℕ
+without_zero providers = filter (λ x. not (x == 0)) providers
+
+-- ---- what a row says
+
+-- this is done, and that is the state then
+pub record Goes (old : State) (act : Act) (new : State) (does : Act) (to : State) : Type 0 where
+  pub act_is : act ≡ does
+  pub new_is : new ≡ to
+
+abbrev pub Stays : State → Act → State → Type 0
+Stays old act new = Goes old act new Nothing old
+
+abbrev pub Ends : Ending → State → Act → State → Type 0
+Ends ending old act new = Goes old act new (End ending) (record old { phase = Over })
+
+-- one of two, by whether the PDU's session is the session's
+abbrev pub BySession : ℕ → ℕ → Type 0 → Type 0 → Type 0
+BySession one other same differ = ((one ≡ other) × same) ⊎ ((one ≢ other) × differ)
+
+-- the customer is named, and its pending row is this, or none
+abbrev pub named : State → ℕ → Option (List ℕ) → State
+named old customer (Some row) = record old { rows = map.insert old.rows customer row; changes = map.insert old.changes customer (Some row) }
+named old customer None = record old { rows = map.remove old.rows customer; changes = map.insert old.changes customer None }
+
+-- ---- one for each PDU
+
+-- a Serial Notify: only where the session is ready its session is tested
+abbrev pub OnNotify : Phase → ℕ → State → Act → State → Type 0
+OnNotify Ready session old act new = BySession session old.session (Stays old act new) (Ends SessionChanged old act new)
+OnNotify phase session old act new = Stays old act new
+
+-- a Cache Response: pending rows start empty for everything, and as the kept rows for changes; no customer is named yet
+abbrev pub OnResponse : Phase → ℕ → State → Act → State → Type 0
+OnResponse AskedWhole session old act new = Goes old act new Nothing (record old { phase = ReceivingWhole; session = session; rows = map.empty; changes = map.empty })
+OnResponse AskedChanges session old act new =
+    BySession session old.session (Goes old act new Nothing (record old { phase = ReceivingChanges; changes = map.empty })) (Ends SessionChanged old act new)
+OnResponse phase session old act new = Ends Unexpected old act new
+
+-- an announcement in an answer: the customer's pending row is the set of the providers less 0
+pub record Announces (customer : ℕ) (providers : List ℕ) (old : State) (act : Act) (new : State) : Type 0 where
+  pub row : List ℕ
+  pub is_set : IsSetOf (without_zero providers) row
+  pub goes : Goes old act new Nothing (named old customer (Some row))
+
+abbrev pub OnAnnounce : Phase → ℕ → List ℕ → State → Act → State → Type 0
+OnAnnounce ReceivingWhole customer providers old act new = Announces customer providers old act new
+OnAnnounce ReceivingChanges customer providers old act new = Announces customer providers old act new
+OnAnnounce phase customer providers old act new = Ends Unexpected old act new
+
+-- a withdrawal in an answer: the pending row is gone, and there must be one
+abbrev pub Withdraws : ℕ → State → Act → State → Type 0
+Withdraws customer old act new =
+    (IsSome (map.get old.rows customer) × Goes old act new Nothing (named old customer None))
+    ⊎ ((map.get old.rows customer ≡ None) × Ends UnknownWithdrawal old act new)
+
+abbrev pub OnWithdraw : Phase → ℕ → State → Act → State → Type 0
+OnWithdraw ReceivingWhole customer old act new = Withdraws customer old act new
+OnWithdraw ReceivingChanges customer old act new = Withdraws customer old act new
+OnWithdraw phase customer old act new = Ends Unexpected old act new
+
+abbrev pub OnAspa : Phase → Bool → ℕ → List ℕ → State → Act → State → Type 0
+OnAspa phase true customer providers old act new = OnAnnounce phase customer providers old act new
+OnAspa phase false customer providers old act new = OnWithdraw phase customer old act new
+
+-- a PDU that is passed over
+abbrev pub OnPassed : Phase → State → Act → State → Type 0
+OnPassed ReceivingWhole old act new = Stays old act new
+OnPassed ReceivingChanges old act new = Stays old act new
+OnPassed phase old act new = Ends Unexpected old act new
+
+-- an End of Data: the pending rows are kept, with the serial; all of them are handed out, or what was named
+abbrev pub OnEnd : Phase → ℕ → ℕ → State → Act → State → Type 0
+OnEnd ReceivingWhole session serial old act new =
+    BySession session old.session (Goes old act new (Apply (Whole old.rows)) (record old { phase = Ready; serial = serial; changes = map.empty })) (Ends SessionChanged old act new)
+OnEnd ReceivingChanges session serial old act new =
+    BySession session old.session (Goes old act new (Apply (Part old.changes)) (record old { phase = Ready; serial = serial; changes = map.empty })) (Ends SessionChanged old act new)
+OnEnd phase session serial old act new = Ends Unexpected old act new
+
+-- a Cache Reset: everything is asked for
+abbrev pub OnReset : Phase → State → Act → State → Type 0
+OnReset AskedChanges old act new = Goes old act new (Send Reset) (record old { phase = AskedWhole })
+OnReset phase old act new = Ends Unexpected old act new
+
+-- a session takes a PDU; each of the table's rows is a line here, or a line of what the line names
+abbrev pub Client : State → Pdu → Act → State → Type 0
+Client old (Notify session serial) act new = OnNotify old.phase session old act new
+Client old (SerialQuery session serial) act new = Ends Unexpected old act new
+Client old ResetQuery act new = Ends Unexpected old act new
+Client old (CacheResponse session) act new = OnResponse old.phase session old act new
+Client old (Passed kind) act new = OnPassed old.phase old act new
+Client old (EndOfData session serial) act new = OnEnd old.phase session serial old act new
+Client old CacheReset act new = OnReset old.phase old act new
+Client old (ErrorReport code) act new = Ends PeerReported old act new
+Client old (Aspa announce customer providers) act new = OnAspa old.phase announce customer providers old act new
+
+-- ---- asking
+
+-- a session's query, and the session then
+abbrev pub Asks : Phase → State → State → Option Query → Type 0
+Asks Fresh old new query = (query ≡ Some Reset) × (new ≡ record old { phase = AskedWhole })
+Asks Ready old new query = (query ≡ Some (Serial old.session old.serial)) × (new ≡ record old { phase = AskedChanges })
+Asks phase old new query = (query ≡ None) × (new ≡ old)

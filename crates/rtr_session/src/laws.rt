@@ -1,0 +1,22 @@
+//! Laws of the client: the contract of each function is the law, and its body does nothing.
+ghost use Rattle.rtr_session.specs.Laws.{EachPduHasOneCase, EachStateHasOneQuery, PatchIsWhatWasNamed, WholeAnswerIsWhatWasAnnounced};
+
+/// Every PDU has exactly one case in every state: one act, and one state behind it.
+pub fn each_pdu_has_one_case()
+    ensures { EachPduHasOneCase }
+{}
+
+/// Every state has exactly one query or none, and one state behind it.
+pub fn each_state_has_one_query()
+    ensures { EachStateHasOneQuery }
+{}
+
+/// An answer with changes gives a patch for exactly the customers that it named, and kept rows with that patch are the rows then.
+pub fn patch_is_what_was_named()
+    ensures { PatchIsWhatWasNamed }
+{}
+
+/// An answer with everything gives rows for customers that it named alone, whatever was kept before.
+pub fn whole_answer_is_what_was_announced()
+    ensures { WholeAnswerIsWhatWasAnnounced }
+{}

@@ -1,0 +1,78 @@
+-- What reading words of some form needs.
+use Rattle.std.proofs.Common.{◌≡◌, inl, inr, ℕ, ◌≤◌, List, [], ◌∷◌, length, decimal, IfOk, IfErr, refl, ap, ◌∙◌, arith}
+use Rattle.std.specs.declared.result.Result.{Result}
+use Rattle.std.specs.declared.result.Result.TheVariants.{Ok, Err}
+use Rattle.std.proofs.lemmas.List.{length-map}
+use Rattle.script_lines.specs.declared.command.Command.{Command}
+use Rattle.script_lines.specs.declared.command.Command.TheVariants.{Idle}
+use Rattle.script_lines.specs.declared.command.LineFault.{LineFault}
+use Rattle.script_lines.specs.declared.command.LineFault.TheVariants.{Long, Command as NoCommand, Words, Number, NoMemory}
+use Rattle.script_lines.specs.Kinds.{WordKind, NAME, TEXT, ROLE, NUMBER, ValueOf, Spells, HasForm}
+use Rattle.script_lines.specs.Forms.{AreAses, Form, end, ases, ◌then◌, Builds, IsSpelled, Fits}
+use Rattle.script_lines.specs.Fields.{AreSpelled, RefusesWord, RefusesWords, joined}
+
+-- a spelling has the form
+spelled-form : (kind : WordKind) (word : List ℕ) (value : ValueOf kind) → Spells kind word value → HasForm kind word
+spelled-form NAME word value is = (value, is)
+spelled-form TEXT word value is = (value, is)
+spelled-form ROLE word value is = (value, is)
+spelled-form (NUMBER least most) word value is = tt
+
+-- some command can be made
+some_build : (form : Form) → Builds form
+some_build end = Idle
+some_build (ases least) = λ ns. Idle
+some_build (kind then form) = λ value. some_build form
+
+-- words that spell values fit
+pub spelled-fits : (form : Form) (build : Builds form) (words : List (List ℕ)) (command : Command) → IsSpelled form build words command → Fits form words
+spelled-fits end made words command is = is.0
+spelled-fits (ases least) build words command is = let same : length words ≡ length is.0 = ap length is.2.1 ∙ length-map is.0 decimal in let long = is.1 in omega arith
+spelled-fits (kind then form) build [] command is = is
+spelled-fits (kind then form) build (word ∷ words) command is = (spelled-form kind word is.0 is.1, spelled-fits form (build is.0) words command is.2)
+
+-- a word is refused before those behind it, unless for its number alone
+then_refused : (kind : WordKind) (form : Form) (word : List ℕ) (words : List (List ℕ)) (one other : LineFault) →
+    RefusesWord kind word one → RefusesWords form words other → (A B : Type 0) → IfErr (joined {A = A} {B = B} (Err one) (Err other)) (RefusesWords (kind then form) (word ∷ words))
+then_refused kind form word words Words other first rest A B = λ fits. first fits.0
+then_refused kind form word words Number Words first rest A B = λ fits. rest fits.1
+then_refused kind form word words Number Number first rest A B = ((first.0, rest.0), inl first.1)
+then_refused kind form word words Number NoMemory first rest A B = tt
+then_refused kind form word words Number Long first rest A B = rest
+then_refused kind form word words Number NoCommand first rest A B = rest
+then_refused kind form word words NoMemory other first rest A B = tt
+then_refused kind form word words Long other first rest A B = first
+then_refused kind form word words NoCommand other first rest A B = first
+
+-- a word is refused where those behind it are spelled
+first_refused : (kind : WordKind) (form : Form) (word : List ℕ) (words : List (List ℕ)) (fault : LineFault) → RefusesWord kind word fault → Fits form words → RefusesWords (kind then form) (word ∷ words) fault
+first_refused kind form word words Words first fits = λ both. first both.0
+first_refused kind form word words Number first fits = ((first.0, fits), inl first.1)
+first_refused kind form word words NoMemory first fits = tt
+first_refused kind form word words Long first fits = first
+first_refused kind form word words NoCommand first fits = first
+
+-- words are refused behind one that is spelled
+rest_refused : (kind : WordKind) (form : Form) (word : List ℕ) (words : List (List ℕ)) (fault : LineFault) → HasForm kind word → RefusesWords form words fault → RefusesWords (kind then form) (word ∷ words) fault
+rest_refused kind form word words Words fits rest = λ both. rest both.1
+rest_refused kind form word words Number fits rest = ((fits, rest.0), inr rest.1)
+rest_refused kind form word words NoMemory fits rest = tt
+rest_refused kind form word words Long fits rest = rest
+rest_refused kind form word words NoCommand fits rest = rest
+
+-- a word and those behind it, read
+pub joined_refused : {A B : Type 0} (kind : WordKind) (form : Form) (word : List ℕ) (words : List (List ℕ)) (value : A → ValueOf kind) (build : B → Builds form → Command) (one : Result A LineFault) (other : Result B LineFault) →
+    IfOk one (λ v. Spells kind word (value v)) → IfErr one (RefusesWord kind word) →
+    IfOk other (λ vs. AreSpelled form (build vs) words) → IfErr other (RefusesWords form words) →
+    IfErr (joined one other) (RefusesWords (kind then form) (word ∷ words))
+joined_refused kind form word words value build (Ok a) (Ok b) spells first spelled rest = tt
+joined_refused kind form word words value build (Ok a) (Err fault) spells first spelled rest = rest_refused kind form word words fault (spelled-form kind word (value a) spells) rest
+joined_refused kind form word words value build (Err fault) (Ok b) spells first spelled rest =
+    first_refused kind form word words fault first (spelled-fits form (some_build form) words (build b (some_build form)) (spelled (some_build form)))
+joined_refused {A = A} {B = B} kind form word words value build (Err fault) (Err other) spells first spelled rest = then_refused kind form word words fault other first rest A B
+
+-- ASes that are read are spelled
+pub ases-spelled : (least : ℕ) (build : List ℕ → Command) (words : List (List ℕ)) (ns : List ℕ) → least ≤ length words → AreAses words ns → IsSpelled (ases least) build words (build ns)
+ases-spelled least build words ns long are = let as_long : length words ≡ length ns = ap length are.1 ∙ length-map ns decimal in (ns, omega arith, are, refl)
+
+pub ruleset ases_steps = (ases-spelled)

@@ -1,0 +1,32 @@
+-- The names of commands tell them apart.
+use Rattle.std.proofs.Common.{◌≡◌, ℕ, List, [], ◌∷◌, refl}
+use Rattle.path_model.proofs.Decide.{Decided}
+use Rattle.av_text.proofs.SpellingLemmas.{value_among, found_injective, found_or_none}
+use Rattle.script_lines.specs.declared.command.CommandName.{CommandName}
+use Rattle.script_lines.specs.declared.command.CommandName.TheVariants.{Aspa as AspaName, Aspa64 as Aspa64Name, Slurm as SlurmName, Filter as FilterName, Unfilter as UnfilterName, Assert as AssertName, Unassert as UnassertName, Judge as JudgeName}
+use Rattle.script_lines.specs.Commands.{name_text}
+use Rattle.script_lines.specs.Grammar.{IsCommandName}
+
+-- the command that a word could name
+name_of : List ℕ → CommandName
+name_of = value_among name_text JudgeName
+    (AspaName ∷ Aspa64Name ∷ SlurmName ∷ FilterName ∷ UnfilterName ∷ AssertName ∷ UnassertName ∷ [])
+
+name_of-name_text : (name : CommandName) → name_of (name_text name) ≡ name
+unfolding name_of value_among
+name_of-name_text AspaName = refl
+name_of-name_text Aspa64Name = refl
+name_of-name_text SlurmName = refl
+name_of-name_text FilterName = refl
+name_of-name_text UnfilterName = refl
+name_of-name_text AssertName = refl
+name_of-name_text UnassertName = refl
+name_of-name_text JudgeName = refl
+
+-- two commands with one name are one
+pub name_text_injective : (one other : CommandName) → name_text one ≡ name_text other → one ≡ other
+name_text_injective = found_injective name_text name_of name_of-name_text
+
+-- whether a word names a command
+pub decided_name : (word : List ℕ) → Decided (IsCommandName word)
+decided_name = found_or_none name_text name_of name_of-name_text

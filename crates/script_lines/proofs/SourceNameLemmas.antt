@@ -1,0 +1,66 @@
+-- The name that a command gives to a source is a name.
+use Rattle.std.proofs.Common.{inl, inr, ℕ, List, [], ◌∷◌, Ok, sym, subst}
+use Rattle.path_model.specs.Name.{IsName}
+use Rattle.script_lines.specs.declared.command.Command.{Command}
+use Rattle.script_lines.specs.declared.command.Command.TheVariants.{Idle, Aspa, Aspa64, Slurm, Filter, Unfilter, Assert, Unassert, Judge}
+use Rattle.script_lines.specs.declared.command.CommandName.{CommandName}
+use Rattle.script_lines.specs.declared.command.CommandName.TheVariants.{Aspa as AspaName, Aspa64 as Aspa64Name, Slurm as SlurmName, Filter as FilterName, Unfilter as UnfilterName, Assert as AssertName, Unassert as UnassertName, Judge as JudgeName}
+use Rattle.script_lines.specs.Kinds.{WordKind, NAME, TEXT, ROLE, NUMBER, ValueOf, Spells}
+use Rattle.script_lines.specs.Forms.{Form, end, ases, ◌then◌, Builds, IsSpelled}
+use Rattle.script_lines.specs.Commands.{form_of, made_by}
+use Rattle.script_lines.specs.Grammar.{IsReading}
+
+-- the command's name, if it has one, is a name
+abbrev pub IsNamed : Command → Type 0
+IsNamed Idle = Unit {0}
+IsNamed (Aspa name file) = IsName name
+IsNamed (Aspa64 name file) = IsName name
+IsNamed (Slurm file) = Unit {0}
+IsNamed (Filter customer) = Unit {0}
+IsNamed (Unfilter customer) = Unit {0}
+IsNamed (Assert customer providers) = Unit {0}
+IsNamed (Unassert customer) = Unit {0}
+IsNamed (Judge role neighbour path) = Unit {0}
+
+-- a value that its word may have
+abbrev IsValue : (kind : WordKind) → ValueOf kind → Type 0
+IsValue NAME name = IsName name
+IsValue TEXT text = Unit {0}
+IsValue ROLE role = Unit {0}
+IsValue (NUMBER least most) n = Unit {0}
+
+spelled_value : (kind : WordKind) (word : List ℕ) (value : ValueOf kind) → Spells kind word value → IsValue kind value
+spelled_value NAME word name is = subst IsName (sym is.1) is.0
+spelled_value TEXT word text is = tt
+spelled_value ROLE word role is = tt
+spelled_value (NUMBER least most) word n is = tt
+
+-- whatever the words' values, the command made of them is named so
+abbrev MakesNamed : (form : Form) → Builds form → Type 0
+MakesNamed end made = IsNamed made
+MakesNamed (ases least) build = (ns : List ℕ) → IsNamed (build ns)
+MakesNamed (kind then form) build = (value : ValueOf kind) → IsValue kind value → MakesNamed form (build value)
+
+makes_named : (name : CommandName) → MakesNamed (form_of name) (made_by name)
+makes_named AspaName = λ name is file any. is
+makes_named Aspa64Name = λ name is file any. is
+makes_named SlurmName = λ file any. tt
+makes_named FilterName = λ customer any. tt
+makes_named UnfilterName = λ customer any. tt
+makes_named AssertName = λ customer any providers. tt
+makes_named UnassertName = λ customer any. tt
+makes_named JudgeName = λ role any neighbour other path. tt
+
+spelled_named : (form : Form) (build : Builds form) (words : List (List ℕ)) (command : Command)
+    → MakesNamed form build → IsSpelled form build words command → IsNamed command
+spelled_named end made words command makes is = subst IsNamed (sym is.1) makes
+spelled_named (ases least) build words command makes is = subst IsNamed (sym is.3) (makes is.0)
+spelled_named (kind then form) build [] command makes is = absurd is
+spelled_named (kind then form) build (word ∷ words) command makes is =
+    spelled_named form (build is.0) words command (makes is.0 (spelled_value kind word is.0 is.1)) is.2
+
+-- so it is with the command that a line is
+pub reading_named : (line : List ℕ) (command : Command) → IsReading line (Ok command) → IsNamed command
+reading_named line command (inl idle) = subst IsNamed (sym idle.1) tt
+reading_named line command (inr (named, printable, spelled)) =
+    spelled_named (form_of named.name) (made_by named.name) named.words command (makes_named named.name) spelled

@@ -1,0 +1,152 @@
+-- Words spell values or don't, each at most one, kind by kind and form by form.
+use Rattle.std.proofs.Common.{◌≡◌, ◌⊎◌, inl, inr, ℕ, zero, suc, ◌≤◌, List, [], ◌∷◌, length, map, decimal, slice_get, Some, refl, sym, ap, ◌∙◌, arith, subst}
+use Rattle.std.specs.Bool.{IsTrue}
+use Rattle.std.specs.List.{All}
+use Rattle.std.proofs.lemmas.Bool.{cases_lt}
+use Rattle.std.proofs.lemmas.List.Elements.{All-head, All-tail, All-cons, All-nil}
+use Rattle.path_model.specs.Name.{IsName, is_name_byte}
+use Rattle.path_model.proofs.Decide.{Decided, decided_both, decided_true}
+use Rattle.av_text.specs.Number.{Is32Bit, IsNoNumber}
+use Rattle.av_text.proofs.NumberLemmas.{number_or_none, map-decimal_injective}
+use Rattle.av_text.proofs.SpellingLemmas.{role_text_injective, decided_role}
+use Rattle.script_lines.specs.declared.command.Command.{Command}
+use Rattle.script_lines.specs.Word.{IsVisible}
+use Rattle.script_lines.specs.Kinds.{WordKind, NAME, TEXT, ROLE, NUMBER, ValueOf, Spells, HasForm, LacksNumber}
+use Rattle.script_lines.specs.Forms.{Form, end, ases, ◌then◌, Builds, IsSpelled, Fits, SomeNoAs, SomeNoNumber}
+use Rattle.script_lines.proofs.AsLemmas.{no_as_first, no_as_later}
+use Rattle.script_lines.proofs.FormLemmas.{ases-spelled}
+use Rattle.script_lines.proofs.KindLemmas.{one_number, lacks-none, lacks-outside}
+
+-- whether one number is at most another
+pub decided_le : (m n : ℕ) → Decided (m ≤ n)
+decided_le m n = elim (cases_lt n m) [ inl less ↦ inr (λ most. omega arith) | inr most ↦ inl most ]
+
+-- whether each byte is so
+pub decided_all : (P : ℕ → Type 0) → ((byte : ℕ) → Decided (P byte)) → (bytes : List ℕ) → Decided (All P bytes)
+decided_all P decide [] = inl (All-nil P)
+decided_all P decide (byte ∷ bytes) =
+    elim (decide byte) [
+      | inl here ↦ elim (decided_all P decide bytes) [
+        | inl rest ↦ inl (All-cons P byte bytes here rest)
+        | inr not_rest ↦ inr (λ all. not_rest (All-tail P byte bytes all))
+      ]
+      | inr not_here ↦ inr (λ all. not_here (All-head P byte bytes all))
+    ]
+
+decided_name_byte : (byte : ℕ) → Decided (IsTrue (is_name_byte byte))
+decided_name_byte byte = decided_true (is_name_byte byte)
+
+-- whether a word is a name
+decided_is_name : (word : List ℕ) → Decided (IsName word)
+decided_is_name word =
+    elim (decided_both (decided_both (decided_le 1 (length word)) (decided_le (length word) 64))
+    (decided_all (λ byte. IsTrue (is_name_byte byte)) decided_name_byte word)) [
+      | inl is ↦ inl (record { some = is.0.0; short = is.0.1; bytes = is.1 })
+      | inr not ↦ inr (λ name. not ((name.some, name.short), name.bytes))
+    ]
+
+decided_visible : (byte : ℕ) → Decided (IsVisible byte)
+decided_visible byte = decided_both (decided_le 33 byte) (decided_le byte 126)
+
+-- a word that is so is the text of itself
+decided_itself : (P : Type 0) (word : List ℕ) → Decided P → Decided ((text : List ℕ) × (P × (text ≡ word)))
+decided_itself P word (inl is) = inl (word, (is, refl))
+decided_itself P word (inr not) = inr (λ some. not some.1.0)
+
+-- whether a word may stand there
+decided_kind : (kind : WordKind) (word : List ℕ) → Decided (HasForm kind word)
+decided_kind NAME word = decided_itself (IsName word) word (decided_is_name word)
+decided_kind TEXT word = decided_itself (All IsVisible word) word (decided_all IsVisible decided_visible word)
+decided_kind ROLE word = decided_role word
+decided_kind (NUMBER least most) word = inl tt
+
+-- a word that may stand there spells a value, or lacks a number
+value_or_lacks : (kind : WordKind) (word : List ℕ) → HasForm kind word → LacksNumber kind word ⊎ ((value : ValueOf kind) × Spells kind word value)
+value_or_lacks NAME word form = inr form
+value_or_lacks TEXT word form = inr form
+value_or_lacks ROLE word form = inr form
+value_or_lacks (NUMBER least most) word form =
+    elim (number_or_none word) [
+      | inl none ↦ inl (lacks-none least most word none)
+      | inr n ↦ elim (decided_both (decided_le least n.0) (decided_le n.0 most)) [
+        | inl inside ↦ inr (n.0, ((n.1, n.2), inside.0, inside.1))
+        | inr outside ↦ inl (lacks-outside least most n.0 word (n.1, n.2) (λ low high. outside (low, high)))
+      ]
+    ]
+
+-- a word spells one value,
+one_value : (kind : WordKind) (word : List ℕ) (one other : ValueOf kind) → Spells kind word one → Spells kind word other → one ≡ other
+one_value NAME word one other a b = a.1 ∙ sym b.1
+one_value TEXT word one other a b = a.1 ∙ sym b.1
+one_value ROLE word one other a b = role_text_injective one other (sym a ∙ b)
+one_value (NUMBER least most) word one other a b = one_number word one other a.0 b.0
+
+-- and then it lacks none
+no_lack : (kind : WordKind) (word : List ℕ) (value : ValueOf kind) → Spells kind word value → LacksNumber kind word → ⊥
+no_lack NAME word value is lacks = lacks
+no_lack TEXT word value is lacks = lacks
+no_lack ROLE word value is lacks = lacks
+no_lack (NUMBER least most) word value is lacks = lacks value is
+
+-- some of the words isn't an AS, or they are these ASes
+numbers_or_none : (words : List (List ℕ)) → SomeNoAs words ⊎ ((ns : List ℕ) × All Is32Bit ns × (words ≡ map decimal ns))
+numbers_or_none [] = inr ([], All-nil Is32Bit, refl)
+numbers_or_none (word ∷ more) =
+    elim (number_or_none word) [
+      | inl none ↦ inl (no_as_first word more none)
+      | inr n ↦ elim (numbers_or_none more) [
+        | inl some ↦ inl (no_as_later word more some)
+        | inr ns ↦ inr (n.0 ∷ ns.0, All-cons Is32Bit n.0 ns.0 n.1 ns.1, cc (n.2, ns.2))
+      ]
+    ]
+
+-- an AS's word is an AS
+number_at : (ns : List ℕ) (place : ℕ) (word : List ℕ) → All Is32Bit ns → slice_get (map decimal ns) place ≡ Some word → IsNoNumber word → ⊥
+number_at [] zero word small among no_number = cc
+number_at [] (suc k) word small among no_number = cc
+number_at (n ∷ ns) zero word small among no_number = no_number n (All-head Is32Bit n ns small) (cc)
+number_at (n ∷ ns) (suc k) word small among no_number = number_at ns k word (All-tail Is32Bit n ns small) among no_number
+
+-- whether words fit a form
+pub decided_fits : (form : Form) (words : List (List ℕ)) → Decided (Fits form words)
+decided_fits end [] = inl refl
+decided_fits end (word ∷ words) = inr (λ same. cc)
+decided_fits (ases least) words = decided_le least (length words)
+decided_fits (kind then form) [] = inr (λ no. no)
+decided_fits (kind then form) (word ∷ words) = decided_both (decided_kind kind word) (decided_fits form words)
+
+-- words that fit spell a command, or lack a number
+pub spelled_or_lacks : (form : Form) (build : Builds form) (words : List (List ℕ)) → Fits form words → SomeNoNumber form words ⊎ ((command : Command) × IsSpelled form build words command)
+spelled_or_lacks end made words fits = inr (made, (fits, refl))
+spelled_or_lacks (ases least) build words fits =
+    elim (numbers_or_none words) [
+      | inl some ↦ inl some
+      | inr ns ↦ inr (build ns.0, ases-spelled least build words ns.0 fits (ns.1, ns.2))
+    ]
+spelled_or_lacks (kind then form) build [] fits = absurd fits
+spelled_or_lacks (kind then form) build (word ∷ words) fits =
+    elim (value_or_lacks kind word fits.0) [
+      | inl lacks ↦ inl (inl lacks)
+      | inr v ↦ elim (spelled_or_lacks form (build v.0) words fits.1) [
+        | inl lacks ↦ inl (inr lacks)
+        | inr command ↦ inr (command.0, (v.0, v.1, command.1))
+      ]
+    ]
+
+-- words spell one command
+pub one_command : (form : Form) (build : Builds form) (words : List (List ℕ)) (one other : Command) → IsSpelled form build words one → IsSpelled form build words other → one ≡ other
+one_command end made words one other a b = a.1 ∙ sym b.1
+one_command (ases least) build words one other a b = a.3 ∙ ap build (map-decimal_injective a.0 b.0 a.2.0 b.2.0 (sym a.2.1 ∙ b.2.1)) ∙ sym b.3
+one_command (kind then form) build [] one other a b = absurd a
+one_command (kind then form) build (word ∷ words) one other a b =
+    let same : a.0 ≡ b.0 = one_value kind word a.0 b.0 a.1 b.1 in
+    let P : ValueOf kind → Type 0 = λ v. IsSpelled form (build v) words other in
+    one_command form (build a.0) words one other a.2 (subst P (sym same) b.2)
+
+-- words that spell a command lack no number
+pub lacks_none : (form : Form) (build : Builds form) (words : List (List ℕ)) (command : Command) → IsSpelled form build words command → SomeNoNumber form words → ⊥
+lacks_none end made words command is lacks = lacks
+lacks_none (ases least) build words command is some = number_at is.0 some.place some.word is.2.0 (ap (λ (ws : List (List ℕ)). slice_get ws some.place) (sym is.2.1) ∙ some.among) some.no_number
+lacks_none (kind then form) build [] command is lacks = lacks
+lacks_none (kind then form) build (word ∷ words) command is (inl here) = no_lack kind word is.0 is.1 here
+lacks_none (kind then form) build (word ∷ words) command is (inr later) = lacks_none form (build is.0) words command is.2 later

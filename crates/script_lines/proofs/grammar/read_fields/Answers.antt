@@ -1,0 +1,27 @@
+use Rattle.script_lines.specs.declared.command.CommandName.TheVariants.{Aspa as AspaName, Aspa64 as Aspa64Name, Slurm as SlurmName, Filter as FilterName, Unfilter as UnfilterName, Assert as AssertName, Unassert as UnassertName, Judge as JudgeName}
+use Rattle.script_lines.specs.Commands.{made_by}
+use Rattle.script_lines.proofs.grammar.read_fields.Goals as goal
+
+pub returns-in_ok-name-in-Aspa-clause-spelled : goal.returns-in_ok-name-in-Aspa-clause-spelled
+returns-in_ok-name-in-Aspa-clause-spelled c = rw c.in-Aspa.is (c.in_ok-name-in-Aspa.ensures.spelled (made_by AspaName))
+
+pub returns-in_ok-name-in-Aspa64-clause-spelled : goal.returns-in_ok-name-in-Aspa64-clause-spelled
+returns-in_ok-name-in-Aspa64-clause-spelled c = rw c.in-Aspa64.is (c.in_ok-name-in-Aspa64.ensures.spelled (made_by Aspa64Name))
+
+pub returns-in_ok-file-in-Slurm-clause-spelled : goal.returns-in_ok-file-in-Slurm-clause-spelled
+returns-in_ok-file-in-Slurm-clause-spelled c = rw c.in-Slurm.is (c.in_ok-file-in-Slurm.ensures.spelled (made_by SlurmName))
+
+pub returns-in_ok-customer-in-Filter-clause-spelled : goal.returns-in_ok-customer-in-Filter-clause-spelled
+returns-in_ok-customer-in-Filter-clause-spelled c = rw c.in-Filter.is (c.in_ok-customer-in-Filter.ensures.spelled (made_by FilterName))
+
+pub returns-in_ok-customer-in-Unfilter-clause-spelled : goal.returns-in_ok-customer-in-Unfilter-clause-spelled
+returns-in_ok-customer-in-Unfilter-clause-spelled c = rw c.in-Unfilter.is (c.in_ok-customer-in-Unfilter.ensures.spelled (made_by UnfilterName))
+
+pub returns-in_ok-customer-in-Assert-clause-spelled : goal.returns-in_ok-customer-in-Assert-clause-spelled
+returns-in_ok-customer-in-Assert-clause-spelled c = rw c.in-Assert.is (c.in_ok-customer-in-Assert.ensures.spelled (made_by AssertName))
+
+pub returns-in_ok-customer-in-Unassert-clause-spelled : goal.returns-in_ok-customer-in-Unassert-clause-spelled
+returns-in_ok-customer-in-Unassert-clause-spelled c = rw c.in-Unassert.is (c.in_ok-customer-in-Unassert.ensures.spelled (made_by UnassertName))
+
+pub returns-in_ok-role-in-Judge-clause-spelled : goal.returns-in_ok-role-in-Judge-clause-spelled
+returns-in_ok-role-in-Judge-clause-spelled c = rw c.in-Judge.is (c.in_ok-role-in-Judge.ensures.spelled (made_by JudgeName))

@@ -1,0 +1,53 @@
+-- The forms that the words behind a command's name may have.
+use Rattle.std.specs.Prelude.{◌≡◌, ◌⊎◌, ℕ, ◌≤◌, List, [], ◌∷◌, length, slice_get, map, All, decimal}
+use Rattle.std.specs.declared.option.Option.TheVariants.{Some}
+use Rattle.av_text.specs.Number.{Is32Bit, IsNoNumber}
+use Rattle.script_lines.specs.declared.command.Command.{Command}
+use Rattle.script_lines.specs.Kinds.{WordKind, ValueOf, Spells, HasForm, LacksNumber}
+
+infixr 5 ◌then◌
+-- no more words; any number of ASes, but at least so many; or a word of some kind, and then others
+pub data Form : Type 0 where
+  end : Form
+  ases : ℕ → Form
+  ◌then◌ : WordKind → Form → Form
+
+-- what makes a command of the words' values
+abbrev pub Builds : Form → Type 0
+Builds end = Command
+Builds (ases least) = List ℕ → Command
+Builds (kind then form) = ValueOf kind → Builds form
+
+-- the words are those of these ASes
+abbrev pub AreAses : List (List ℕ) → List ℕ → Type 0
+AreAses words ns = All Is32Bit ns × (words ≡ map decimal ns)
+
+-- the words spell the values of which the command is made
+abbrev pub IsSpelled : (form : Form) → Builds form → List (List ℕ) → Command → Type 0
+IsSpelled end made words command = (words ≡ []) × (command ≡ made)
+IsSpelled (ases least) build words command =
+    (ns : List ℕ) × (least ≤ length ns) × AreAses words ns × (command ≡ build ns)
+IsSpelled (kind then form) build [] command = ⊥
+IsSpelled (kind then form) build (word ∷ words) command =
+    (value : ValueOf kind) × Spells kind word value × IsSpelled form (build value) words command
+
+-- the words fit the form, in number and in spelling, but for those where a number must stand
+abbrev pub Fits : Form → List (List ℕ) → Type 0
+Fits end words = words ≡ []
+Fits (ases least) words = least ≤ length words
+Fits (kind then form) [] = ⊥
+Fits (kind then form) (word ∷ words) = HasForm kind word × Fits form words
+
+-- one of these words isn't an AS
+pub record SomeNoAs (words : List (List ℕ)) : Type 0 where
+  pub word : List ℕ
+  pub place : ℕ
+  pub among : slice_get words place ≡ Some word
+  pub no_number : IsNoNumber word
+
+-- where a number must stand, some word is none in its range
+abbrev pub SomeNoNumber : Form → List (List ℕ) → Type 0
+SomeNoNumber end words = ⊥
+SomeNoNumber (ases least) words = SomeNoAs words
+SomeNoNumber (kind then form) [] = ⊥
+SomeNoNumber (kind then form) (word ∷ words) = LacksNumber kind word ⊎ SomeNoNumber form words

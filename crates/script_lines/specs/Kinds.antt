@@ -1,0 +1,42 @@
+-- The kinds of words that a command's line may hold behind the command's name.
+use Rattle.std.specs.Prelude.{◌≡◌, ℕ, ◌≤◌, List, All}
+use Rattle.path_model.specs.declared.role.Role.{Role}
+use Rattle.path_model.specs.Name.{IsName}
+use Rattle.av_text.specs.RoleText.{role_text}
+use Rattle.av_text.specs.Number.{IsNumber}
+use Rattle.script_lines.specs.Word.{IsVisible}
+
+-- NAME, a text such as FILE, ROLE, and a number from a least one to a most
+pub data WordKind : Type 0 where
+  NAME : WordKind
+  TEXT : WordKind
+  ROLE : WordKind
+  NUMBER : ℕ → ℕ → WordKind
+
+-- what such a word stands for
+abbrev pub ValueOf : WordKind → Type 0
+ValueOf NAME = List ℕ
+ValueOf TEXT = List ℕ
+ValueOf ROLE = Role
+ValueOf (NUMBER least most) = ℕ
+
+-- the word is the one spelling of this value
+abbrev pub Spells : (kind : WordKind) → List ℕ → ValueOf kind → Type 0
+Spells NAME word name = IsName word × (name ≡ word)
+Spells TEXT word text = All IsVisible word × (text ≡ word)
+Spells ROLE word role = word ≡ role_text role
+Spells (NUMBER least most) word n = IsNumber word n × (least ≤ n) × (n ≤ most)
+
+-- The word may stand there. Where a number must stand, any word may: that it is no number in its range is another cause.
+abbrev pub HasForm : WordKind → List ℕ → Type 0
+HasForm NAME word = (name : List ℕ) × Spells NAME word name
+HasForm TEXT word = (text : List ℕ) × Spells TEXT word text
+HasForm ROLE word = (role : Role) × Spells ROLE word role
+HasForm (NUMBER least most) word = Unit {0}
+
+-- a number must stand there, and this word is none in its range
+abbrev pub LacksNumber : WordKind → List ℕ → Type 0
+LacksNumber NAME word = ⊥
+LacksNumber TEXT word = ⊥
+LacksNumber ROLE word = ⊥
+LacksNumber (NUMBER least most) word = (n : ℕ) → ¬ Spells (NUMBER least most) word n

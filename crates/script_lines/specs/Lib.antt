@@ -1,0 +1,7 @@
+pub mod Commands
+pub mod Fields
+pub mod Forms
+pub mod Grammar
+pub mod Kinds
+pub mod Laws
+pub mod Word

@@ -1,0 +1,72 @@
+//! The commands of a script, and the causes for which a line is refused.
+ghost use Rattle.std.specs.Prelude.{◌≡◌};
+ghost use Rattle.script_lines.specs.declared.command.LineFault.TheVariants.{NoMemory as OutOfMemory};
+
+use crate::word::Word;
+use av_base::NoMemory;
+use path_model::{AsList, Name, Role};
+use thiserror::Error;
+
+/// What a line of a script asks for. ASes and providers stand in the order written, with repeats.
+#[derive(Debug, Drop)]
+pub enum Command {
+    /// Nothing: a comment, or a line without words.
+    Idle,
+    /// `aspa NAME FILE`: the file's payloads are what the source of that name attests.
+    Aspa(Name, Word),
+    /// `aspa64 NAME FILE`: the same, from a file of base64 lines.
+    Aspa64(Name, Word),
+    /// `slurm FILE`: the file's filters and assertions are those in force.
+    Slurm(Word),
+    /// `filter AS`: what the sources attest of the customer is left out.
+    Filter(u32),
+    /// `unfilter AS`: that filter of the script is taken back.
+    Unfilter(u32),
+    /// `assert AS P..`: the customer attests these providers.
+    Assert(u32, AsList),
+    /// `unassert AS`: the script's assertions of the customer are taken back.
+    Unassert(u32),
+    /// `judge ROLE NEIGHBOUR AS..`: the verdict of the path, written neighbour first.
+    Judge(Role, u32, AsList),
+}
+
+/// A command, by the first word of its lines.
+#[derive(Clone, Copy)]
+pub(crate) enum CommandName {
+    Aspa,
+    Aspa64,
+    Slurm,
+    Filter,
+    Unfilter,
+    Assert,
+    Unassert,
+    Judge,
+}
+
+/// Why a line was refused, in the order of the tests, or that there was no memory to read it.
+#[derive(Clone, Copy, Debug, PartialEq, Eq, Error)]
+pub enum LineFault {
+    /// 31: the line has more than 4,096 bytes.
+    #[error("the line has more than 4,096 bytes")]
+    Long,
+    /// 32: the first word is no command.
+    #[error("the first word is no command")]
+    Command,
+    /// 33: a byte isn't printable, the number of words is wrong, or a word isn't spelled as what must stand there.
+    #[error("the number of words is wrong, or a byte or a word can't stand where it stands")]
+    Words,
+    /// 34: a word that must be a number isn't one in its range.
+    #[error("a word that must be a number isn't one in its range")]
+    Number,
+    /// There was no memory.
+    #[error("there was no memory")]
+    NoMemory,
+}
+
+impl From<NoMemory> for LineFault {
+    ghost from_gives = { λ _ e. e ≡ OutOfMemory };
+
+    fn from(_error: NoMemory) -> LineFault {
+        LineFault::NoMemory
+    }
+}

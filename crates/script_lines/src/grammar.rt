@@ -1,0 +1,116 @@
+//! What a line asks for, or why it is refused.
+ghost use Rattle.std.specs.Prelude.{◌≢◌, ◌↔◌, ◌≡◌, All, IfOk, IfErr, IfSome, IfNone, IsTrue};
+ghost use Rattle.av_text.specs.Words.{words_left};
+ghost use Rattle.script_lines.specs.Fields.{RefusesWords};
+ghost use Rattle.script_lines.specs.Commands.{name_text, form_of, SpellsCommand};
+ghost use Rattle.script_lines.specs.Grammar.{IsCommandName, IsComment, IsPrintable, IsReading};
+
+use crate::command::{Command, CommandName, LineFault};
+use crate::fields::{Ases, End, Fields, Then};
+use crate::kinds::{AsWord, NameWord, RoleWord, TextWord};
+use av_text::{Words, words};
+use std::alloc::Global;
+
+// The most bytes that a line may have, unless it is a comment.
+const MAX_LINE: usize = 4_096;
+
+/// Reads one line, which stands without its LF and without a CR before that LF.
+pub fn read(alloc: Global, line: &[u8]) -> Result<Command, LineFault>
+    ensures { result ≢ Err LineFault.NoMemory → IsReading line.now result }
+{
+    if is_comment(line) {
+        return Ok(Command::Idle);
+    }
+    if line.len() > MAX_LINE {
+        return Err(LineFault::Long);
+    }
+    let mut arguments = words(line);
+    let Some(first) = arguments.next() else {
+        return Ok(Command::Idle);
+    };
+    let Some(name) = command_name(first) else {
+        return Err(LineFault::Command);
+    };
+    if !is_printable(line) {
+        return Err(LineFault::Words);
+    }
+    read_fields(alloc, name, arguments)
+}
+
+// Whether a line does nothing, whatever it holds and however long it is.
+fn is_comment(line: &[u8]) -> bool
+    ensures { IsTrue result ↔ IsComment line.now }
+{
+    match line.first() {
+        Some(byte) => *byte == b'#',
+        None => false,
+    }
+}
+
+// Whether each byte is a tab or printable ASCII.
+fn is_printable(line: &[u8]) -> bool
+    ensures { IsTrue result ↔ All IsPrintable line.now }
+{
+    line.iter().all(|byte| matches!(*byte, b'\t' | b' '..=b'~'))
+}
+
+// The command that begins with this word.
+fn command_name(word: &[u8]) -> Option<CommandName>
+    ensures spelled { IfSome result (λ name. word.now ≡ name_text name) }
+    ensures none { IfNone result (¬ IsCommandName word.now) }
+{
+    match word {
+        b"aspa" => Some(CommandName::Aspa),
+        b"aspa64" => Some(CommandName::Aspa64),
+        b"slurm" => Some(CommandName::Slurm),
+        b"filter" => Some(CommandName::Filter),
+        b"unfilter" => Some(CommandName::Unfilter),
+        b"assert" => Some(CommandName::Assert),
+        b"unassert" => Some(CommandName::Unassert),
+        b"judge" => Some(CommandName::Judge),
+        _ => None,
+    }
+}
+
+// Reads the words behind a command's name.
+fn read_fields(alloc: Global, name: CommandName, words: Words<'_>) -> Result<Command, LineFault>
+    ensures spelled { IfOk result (SpellsCommand name (words_left words.entry)) }
+    ensures refused { IfErr result (RefusesWords (form_of name) (words_left words.entry)) }
+{
+    match name {
+        CommandName::Aspa => {
+            let (name, (file, ())) = <Then<NameWord, Then<TextWord, End>>>::read(alloc, words)?;
+            Ok(Command::Aspa(name, file))
+        }
+        CommandName::Aspa64 => {
+            let (name, (file, ())) = <Then<NameWord, Then<TextWord, End>>>::read(alloc, words)?;
+            Ok(Command::Aspa64(name, file))
+        }
+        CommandName::Slurm => {
+            let (file, ()) = <Then<TextWord, End>>::read(alloc, words)?;
+            Ok(Command::Slurm(file))
+        }
+        CommandName::Filter => {
+            let (customer, ()) = <Then<AsWord, End>>::read(alloc, words)?;
+            Ok(Command::Filter(customer))
+        }
+        CommandName::Unfilter => {
+            let (customer, ()) = <Then<AsWord, End>>::read(alloc, words)?;
+            Ok(Command::Unfilter(customer))
+        }
+        CommandName::Assert => {
+            let (customer, providers) = <Then<AsWord, Ases<1>>>::read(alloc, words)?;
+            Ok(Command::Assert(customer, providers))
+        }
+        CommandName::Unassert => {
+            let (customer, ()) = <Then<AsWord, End>>::read(alloc, words)?;
+            Ok(Command::Unassert(customer))
+        }
+        CommandName::Judge => {
+            let (role, (neighbour, path)) = <Then<RoleWord, Then<AsWord, Ases<0>>>>::read(
+                alloc, words,
+            )?;
+            Ok(Command::Judge(role, neighbour, path))
+        }
+    }
+}

@@ -1,0 +1,109 @@
+//! The kinds of words that a command's line may hold, each read as its value.
+ghost use Rattle.std.specs.Prelude.{IfOk, IfErr};
+
+use crate::command::LineFault;
+use crate::word::Word;
+use av_text::{read_name, read_role, read_u32};
+use path_model::{Name, Role};
+use std::alloc::Global;
+
+/// A kind of word.
+pub(crate) trait Kind {
+    ghost use Rattle.script_lines.specs.Kinds.{WordKind, ValueOf, Spells};
+    ghost use Rattle.script_lines.specs.Fields.{RefusesWord};
+
+    type Value: Drop;
+
+    ghost kind: { WordKind };
+
+    ghost value: { Self.Value → ValueOf kind };
+
+    /// Reads a word as one of this kind.
+    fn read(alloc: Global, word: &[u8]) -> Result<Self::Value, LineFault>
+        ensures spelled { IfOk result (λ v. Spells kind word.now (value v)) }
+        ensures refused { IfErr result (RefusesWord kind word.now) };
+}
+
+/// A NAME.
+pub(crate) struct NameWord;
+
+impl Kind for NameWord {
+    ghost use Rattle.script_lines.specs.Kinds.{NAME};
+
+    type Value = Name;
+
+    ghost kind = { NAME };
+
+    ghost value = { λ name. name };
+
+    fn read(alloc: Global, word: &[u8]) -> Result<Name, LineFault> {
+        match read_name(alloc, word)? {
+            Some(name) => Ok(name),
+            None => Err(LineFault::Words),
+        }
+    }
+}
+
+/// A FILE.
+pub(crate) struct TextWord;
+
+impl Kind for TextWord {
+    ghost use Rattle.script_lines.specs.Kinds.{TEXT};
+
+    type Value = Word;
+
+    ghost kind = { TEXT };
+
+    ghost value = { λ word. word };
+
+    fn read(alloc: Global, word: &[u8]) -> Result<Word, LineFault> {
+        match Word::new(alloc, word)? {
+            Some(word) => Ok(word),
+            None => Err(LineFault::Words),
+        }
+    }
+}
+
+/// A ROLE.
+pub(crate) struct RoleWord;
+
+impl Kind for RoleWord {
+    ghost use Rattle.script_lines.specs.Kinds.{ROLE};
+
+    type Value = Role;
+
+    ghost kind = { ROLE };
+
+    ghost value = { λ role. role };
+
+    fn read(_alloc: Global, word: &[u8]) -> Result<Role, LineFault> {
+        match read_role(word) {
+            Some(role) => Ok(role),
+            None => Err(LineFault::Words),
+        }
+    }
+}
+
+/// A number from `LEAST` to `MOST`.
+pub(crate) struct NumberWord<const LEAST: u32, const MOST: u32>;
+
+/// An AS.
+pub(crate) type AsWord = NumberWord<0, 4_294_967_295>;
+
+#[tactic(auto, using(crate::proofs::KindLemmas::number_steps))]
+impl<const LEAST: u32, const MOST: u32> Kind for NumberWord<LEAST, MOST> {
+    ghost use Rattle.script_lines.specs.Kinds.{NUMBER};
+
+    type Value = u32;
+
+    ghost kind = { NUMBER LEAST MOST };
+
+    ghost value = { λ n. n };
+
+    fn read(_alloc: Global, word: &[u8]) -> Result<u32, LineFault> {
+        match read_u32(word) {
+            Some(n) if LEAST <= n && n <= MOST => Ok(n),
+            _ => Err(LineFault::Number),
+        }
+    }
+}

@@ -1,0 +1,8 @@
+//! Laws of the definitions: the contract of each function is the law, and its body does nothing.
+ghost use Rattle.script_lines.specs.Laws.{EachLineHasOneReading};
+
+/// Each line is one command, or refused for one cause.
+#[tactic(auto, using(crate::proofs::LawLemmas::one_reading))]
+pub fn each_line_has_one_reading()
+    ensures { EachLineHasOneReading }
+{}

@@ -1,0 +1,223 @@
+-- Any tree has a form, or none; and any form comes to something, or to nothing.
+use Rattle.std.proofs.Common.{◌≡◌, ℕ, ◌^◌, ◌⊎◌, inl, inr, Bool, true, false, eqb, ltb, List, [], ◌∷◌, Option, Some, None, codes, refl, ap, ◌∙◌, subst}
+use Rattle.std.proofs.lemmas.Bool.{ltb-true, ltb-false, eqb-true, eqb-false}
+use Rattle.std.proofs.Common.{arith}
+use Rattle.serde_json.specs.Data.{Num, unsigned, negative, float, Data}
+use Rattle.serde_json.specs.Find.{get, as_number}
+use Rattle.path_model.specs.ComputedTable.{ascending_of}
+use Rattle.path_model.proofs.UnionLawLemmas.{some_set, some_union}
+use Rattle.slurm_rules.specs.Each.{Each}
+use Rattle.slurm_rules.specs.Object.{number_at, array_at, may_have_text, has_only, are_arrays}
+use Rattle.slurm_rules.specs.Form.{Assertion, Form, IsNumber, IsFilter, IsAssertion, HasArrays, ArrayIs, IsFilterPart, IsAssertionPart, MemberIs, IsFile}
+use Rattle.slurm_rules.specs.Numbers.{IsAsn, Attests, IsContent}
+use Rattle.slurm_rules.specs.Reading.{HasVersion}
+use Rattle.slurm_rules.specs.declared.draft.Version.{Version}
+use Rattle.slurm_rules.specs.declared.draft.Version.TheVariants.{One, Two}
+use Rattle.slurm_rules.proofs.OneLemmas.{same_some, unsigned_injective}
+
+-- something stands in this relation, or nothing does
+abbrev pub SomeOrNone : {A : Type 0} → (A → Type 0) → Type 0
+SomeOrNone {A} P = ((a : A) × P a) ⊎ ((a : A) → P a → ⊥)
+
+pub none_found : {A : Type 0} (o : Option A) (a : A) → o ≡ None → o ≡ Some a → ⊥
+none_found o a e f = cc
+
+pub clash : (b : Bool) → b ≡ true → b ≡ false → ⊥
+clash b e f = cc
+
+each_head : {D A : Type 0} (R : D → A → Type 0) (d : D) (ds : List D) (xs : List A) → ((a : A) → R d a → ⊥)
+    → Each R (d ∷ ds) xs → ⊥
+each_head R d ds [] none e = e
+each_head R d ds (x ∷ xs) none e = none x e.0
+
+each_tail : {D A : Type 0} (R : D → A → Type 0) (d : D) (ds : List D) (xs : List A) → ((more : List A) → Each R ds more → ⊥)
+    → Each R (d ∷ ds) xs → ⊥
+each_tail R d ds [] none e = e
+each_tail R d ds (x ∷ xs) none e = none xs e.1
+
+each_cons : {D A : Type 0} (R : D → A → Type 0) (d : D) (ds : List D) → SomeOrNone (R d) → SomeOrNone (Each R ds)
+    → SomeOrNone (Each R (d ∷ ds))
+each_cons R d ds (inl h) (inl more) = inl (h.0 ∷ more.0, (h.1, more.1))
+each_cons R d ds (inl h) (inr none) = inr (λ xs e. each_tail R d ds xs none e)
+each_cons R d ds (inr none) more = inr (λ xs e. each_head R d ds xs none e)
+
+each_or_none : {D A : Type 0} (R : D → A → Type 0) → ((d : D) → SomeOrNone (R d)) → (ds : List D) → SomeOrNone (Each R ds)
+each_or_none R dec [] = inl ([], tt)
+each_or_none R dec (d ∷ ds) = each_cons R d ds (dec d) (each_or_none R dec ds)
+
+-- ---- the form
+
+found_or_none : {A : Type 0} (o : Option A) → SomeOrNone (λ a. o ≡ Some a)
+found_or_none None = inr (λ a e. none_found None a refl e)
+found_or_none (Some a) = inl (a, refl)
+
+filter_by : (d : Data) (p q : Bool) → has_only (codes "comment" ∷ codes "customerAsn" ∷ []) d ≡ p
+    → may_have_text (codes "comment") d ≡ q → SomeOrNone (λ n. number_at (codes "customerAsn") d ≡ Some n)
+    → SomeOrNone (IsFilter d)
+filter_by d false q e f n = inr (λ a h. clash _ h.only e)
+filter_by d true false e f n = inr (λ a h. clash _ h.comment f)
+filter_by d true true e f (inl n) = inl (n.0, record { only = e; names = n.1; comment = f })
+filter_by d true true e f (inr none) = inr (λ a h. none a h.names)
+
+filter_or_none : (d : Data) → SomeOrNone (IsFilter d)
+filter_or_none d = filter_by d (has_only (codes "comment" ∷ codes "customerAsn" ∷ []) d) (may_have_text (codes "comment") d) refl refl (found_or_none (number_at (codes "customerAsn") d))
+
+number_or_none : (d : Data) → SomeOrNone (IsNumber d)
+number_or_none d = found_or_none (as_number d)
+
+array_by : {A : Type 0} (R : Data → A → Type 0) → ((d : Data) → SomeOrNone (R d)) → (name : List ℕ) (d : Data)
+    → SomeOrNone (λ items. array_at name d ≡ Some items) → SomeOrNone (ArrayIs R name d)
+array_by {A = A} R dec name d (inr none) = inr (λ list h. none h.items h.is)
+array_by {A = A} R dec name d (inl items) = by (each_or_none R dec items.0)
+  where
+    by : SomeOrNone (Each R items.0) → SomeOrNone (ArrayIs R name d)
+    by (inl list) = inl (list.0, record { items = items.0; is = items.1; each = list.1 })
+    by (inr none) = inr (λ list h. none list (subst (λ (ds : List Data). Each R ds list) (same_some _ h.items items.0 h.is items.1) h.each))
+
+array_or_none : {A : Type 0} (R : Data → A → Type 0) → ((d : Data) → SomeOrNone (R d)) → (name : List ℕ) (d : Data)
+    → SomeOrNone (ArrayIs R name d)
+array_or_none R dec name d = array_by R dec name d (found_or_none (array_at name d))
+
+-- the array of providers of an assertion
+assertion_by : (d : Data) (p q : Bool) → has_only (codes "comment" ∷ codes "customerAsn" ∷ codes "providerAsns" ∷ []) d ≡ p
+    → may_have_text (codes "comment") d ≡ q
+    → SomeOrNone (λ n. number_at (codes "customerAsn") d ≡ Some n) → SomeOrNone (ArrayIs IsNumber (codes "providerAsns") d)
+    → SomeOrNone (IsAssertion d)
+assertion_by d false q e f n ns = inr (λ a h. clash _ h.only e)
+assertion_by d true false e f n ns = inr (λ a h. clash _ h.comment f)
+assertion_by d true true e f (inr none) ns = inr (λ a h. none a.customer h.names)
+assertion_by d true true e f (inl n) (inr none) = inr (λ a h. none a.providers (record { items = h.providers; is = h.attests; each = h.numbers }))
+assertion_by d true true e f (inl n) (inl ns) =
+    inl (record { customer = n.0; providers = ns.0 }, record { only = e; names = n.1; providers = ns.1.items; attests = ns.1.is; numbers = ns.1.each; comment = f })
+
+assertion_or_none : (d : Data) → SomeOrNone (IsAssertion d)
+assertion_or_none d =
+    assertion_by d (has_only (codes "comment" ∷ codes "customerAsn" ∷ codes "providerAsns" ∷ []) d) (may_have_text (codes "comment") d) refl refl
+    (found_or_none (number_at (codes "customerAsn") d)) (array_or_none IsNumber number_or_none (codes "providerAsns") d)
+
+arrays_by : (names : List (List ℕ)) (d : Data) (p q : Bool) → has_only names d ≡ p → are_arrays names d ≡ q
+    → HasArrays names d ⊎ (HasArrays names d → ⊥)
+arrays_by names d false q e f = inr (λ h. clash _ h.only e)
+arrays_by names d true false e f = inr (λ h. clash _ h.arrays f)
+arrays_by names d true true e f = inl (record { only = e; arrays = f })
+
+arrays_or_not : (names : List (List ℕ)) (d : Data) → HasArrays names d ⊎ (HasArrays names d → ⊥)
+arrays_or_not names d = arrays_by names d (has_only names d) (are_arrays names d) refl refl
+
+empty_part : {A : Type 0} (P : Type 0) → P ⊎ (P → ⊥) → SomeOrNone (λ (list : List A). P × (list ≡ []))
+empty_part P (inl h) = inl ([], (h, refl))
+empty_part P (inr none) = inr (λ list h. none h.0)
+
+full_part : {A : Type 0} (P : Type 0) (Q : List A → Type 0) → P ⊎ (P → ⊥) → SomeOrNone Q
+    → SomeOrNone (λ (list : List A). P × Q list)
+full_part P Q (inl h) (inl list) = inl (list.0, (h, list.1))
+full_part P Q (inl h) (inr none) = inr (λ list k. none list k.1)
+full_part P Q (inr none) list = inr (λ xs h. none h.0)
+
+filters_or_none : (version : Version) (d : Data) → SomeOrNone (IsFilterPart version d)
+filters_or_none One d = empty_part (HasArrays (codes "bgpsecFilters" ∷ codes "prefixFilters" ∷ []) d) (arrays_or_not _ d)
+filters_or_none Two d =
+    full_part (HasArrays (codes "aspaFilters" ∷ codes "bgpsecFilters" ∷ codes "prefixFilters" ∷ []) d) (ArrayIs IsFilter (codes "aspaFilters") d)
+    (arrays_or_not _ d) (array_or_none IsFilter filter_or_none (codes "aspaFilters") d)
+
+assertions_or_none : (version : Version) (d : Data) → SomeOrNone (IsAssertionPart version d)
+assertions_or_none One d = empty_part (HasArrays (codes "bgpsecAssertions" ∷ codes "prefixAssertions" ∷ []) d) (arrays_or_not _ d)
+assertions_or_none Two d =
+    full_part (HasArrays (codes "aspaAssertions" ∷ codes "bgpsecAssertions" ∷ codes "prefixAssertions" ∷ []) d) (ArrayIs IsAssertion (codes "aspaAssertions") d)
+    (arrays_or_not _ d) (array_or_none IsAssertion assertion_or_none (codes "aspaAssertions") d)
+
+member_by : {A : Type 0} (R : Data → A → Type 0) → ((d : Data) → SomeOrNone (R d)) → (name : List ℕ) (d : Data)
+    → SomeOrNone (λ m. get name d ≡ Some m) → SomeOrNone (MemberIs R name d)
+member_by {A = A} R dec name d (inr none) = inr (λ a h. none h.member h.is)
+member_by {A = A} R dec name d (inl m) = by (dec m.0)
+  where
+    by : SomeOrNone (R m.0) → SomeOrNone (MemberIs R name d)
+    by (inl a) = inl (a.0, record { member = m.0; is = m.1; holds = a.1 })
+    by (inr none) = inr (λ a h. none a (subst (λ (x : Data). R x a) (same_some _ h.member m.0 h.is m.1) h.holds))
+
+member_or_none : {A : Type 0} (R : Data → A → Type 0) → ((d : Data) → SomeOrNone (R d)) → (name : List ℕ) (d : Data)
+    → SomeOrNone (MemberIs R name d)
+member_or_none R dec name d = member_by R dec name d (found_or_none (get name d))
+
+file_by : (version : Version) (d : Data) (p : Bool)
+    → has_only (codes "locallyAddedAssertions" ∷ codes "slurmVersion" ∷ codes "validationOutputFilters" ∷ []) d ≡ p
+    → SomeOrNone (MemberIs (IsFilterPart version) (codes "validationOutputFilters") d)
+    → SomeOrNone (MemberIs (IsAssertionPart version) (codes "locallyAddedAssertions") d) → SomeOrNone (IsFile version d)
+file_by version d false e fs as_ = inr (λ form h. clash _ h.only e)
+file_by version d true e (inr none) as_ = inr (λ form h. none form.filters h.filters)
+file_by version d true e (inl fs) (inr none) = inr (λ form h. none form.assertions h.assertions)
+file_by version d true e (inl fs) (inl as_) = inl (record { filters = fs.0; assertions = as_.0 }, record { only = e; filters = fs.1; assertions = as_.1 })
+
+pub file_or_none : (version : Version) (d : Data) → SomeOrNone (IsFile version d)
+file_or_none version d =
+    file_by version d (has_only (codes "locallyAddedAssertions" ∷ codes "slurmVersion" ∷ codes "validationOutputFilters" ∷ []) d) refl
+    (member_or_none (IsFilterPart version) (filters_or_none version) (codes "validationOutputFilters") d)
+    (member_or_none (IsAssertionPart version) (assertions_or_none version) (codes "locallyAddedAssertions") d)
+
+-- ---- the version
+
+version_two : (tree : Data) (k : ℕ) (q : Bool) → number_at (codes "slurmVersion") tree ≡ Some (unsigned k) → (k ≡ 1 → ⊥)
+    → eqb k 2 ≡ q → SomeOrNone (λ v. HasVersion v tree)
+version_two tree k true e other f = inl (Two, e ∙ ap (λ (n : ℕ). Some (unsigned n)) (eqb-true k 2 f))
+version_two tree k false e other f = inr none
+  where
+    none : (v : Version) → HasVersion v tree → ⊥
+    none One h = other (unsigned_injective k 1 (same_some _ (unsigned k) (unsigned 1) e h))
+    none Two h = eqb-false k 2 f (unsigned_injective k 2 (same_some _ (unsigned k) (unsigned 2) e h))
+
+version_one : (tree : Data) (k : ℕ) (p : Bool) → number_at (codes "slurmVersion") tree ≡ Some (unsigned k) → eqb k 1 ≡ p
+    → SomeOrNone (λ v. HasVersion v tree)
+version_one tree k true e f = inl (One, e ∙ ap (λ (n : ℕ). Some (unsigned n)) (eqb-true k 1 f))
+version_one tree k false e f = version_two tree k (eqb k 2) e (eqb-false k 1 f) refl
+
+not_negative : (z : _) (k : ℕ) → negative z ≡ unsigned k → ⊥
+not_negative z k e = cc
+
+not_float : (x : _) (k : ℕ) → float x ≡ unsigned k → ⊥
+not_float x k e = cc
+
+version_by : (tree : Data) → SomeOrNone (λ n. number_at (codes "slurmVersion") tree ≡ Some n)
+    → SomeOrNone (λ v. HasVersion v tree)
+version_by tree (inr none) = inr (λ v h. none _ h)
+version_by tree (inl (unsigned k, e)) = version_one tree k (eqb k 1) e refl
+version_by tree (inl (negative z, e)) = inr (λ v h. not_negative z _ (same_some _ (negative z) _ e h))
+version_by tree (inl (float x, e)) = inr (λ v h. not_float x _ (same_some _ (float x) _ e h))
+
+pub version_or_none : (tree : Data) → SomeOrNone (λ v. HasVersion v tree)
+version_or_none tree = version_by tree (found_or_none (number_at (codes "slurmVersion") tree))
+
+-- ---- the numbers
+
+asn_by : (k : ℕ) (p : Bool) → ltb k (2 ^ 32) ≡ p → SomeOrNone (IsAsn (unsigned k))
+asn_by k true e = inl (k, (refl, ltb-true _ _ e))
+asn_by k false e = inr (λ x h. let same = unsigned_injective k x h.0 in let small = h.1 in let big = ltb-false _ _ e in absurd (omega arith))
+
+asn_or_none : (n : Num) → SomeOrNone (IsAsn n)
+asn_or_none (unsigned k) = asn_by k (ltb k (2 ^ 32)) refl
+asn_or_none (negative z) = inr (λ x h. not_negative z x h.0)
+asn_or_none (float y) = inr (λ x h. not_float y x h.0)
+
+attests_by : (a : Assertion) → SomeOrNone (IsAsn a.customer) → SomeOrNone (Each IsAsn a.providers) → SomeOrNone (Attests a)
+attests_by a (inr none) ns = inr (λ x h. none x.customer h.customer)
+attests_by a (inl n) (inr none) = inr (λ x h. none x.providers h.providers)
+attests_by a (inl n) (inl ns) = inl (record { customer = n.0; providers = ns.0 }, record { customer = n.1; providers = ns.1 })
+
+attests_or_none : (a : Assertion) → SomeOrNone (Attests a)
+attests_or_none a = attests_by a (asn_or_none a.customer) (each_or_none IsAsn asn_or_none a.providers)
+
+content_by : (form : Form) → SomeOrNone (Each IsAsn form.filters) → SomeOrNone (Each Attests form.assertions)
+    → SomeOrNone (IsContent form)
+content_by form (inr none) xs = inr (λ slurm h. none h.filters.asns h.filters.each)
+content_by form (inl ns) (inr none) = inr (λ slurm h. none h.assertions.attestations h.assertions.each)
+content_by form (inl ns) (inl xs) =
+    let u = some_union xs.0 in
+    inl (
+      record { filters = ascending_of ns.0; assertions = u.0 },
+      record {
+        filters = record { asns = ns.0; each = ns.1; is_set = some_set ns.0 };
+        assertions = record { attestations = xs.0; each = xs.1; united = u.1 };
+      },
+    )
+
+pub content_or_none : (form : Form) → SomeOrNone (IsContent form)
+content_or_none form = content_by form (each_or_none IsAsn asn_or_none form.filters) (each_or_none Attests attests_or_none form.assertions)

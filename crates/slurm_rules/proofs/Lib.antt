@@ -1,0 +1,6 @@
+mod DecideLemmas
+mod EachLemmas
+pub mod LawLemmas
+mod NumbersLemmas
+mod ObjectLemmas
+mod OneLemmas

@@ -1,0 +1,51 @@
+//! Why a SLURM file is refused.
+ghost use Rattle.std.specs.Prelude.{◌≡◌};
+ghost use Rattle.slurm_rules.specs.declared.fault.SlurmFault.TheVariants.{NoMemory as OutOfMemory};
+
+use av_base::NoMemory;
+use std::alloc::{AllocError, AllocFailed};
+use thiserror::Error;
+
+/// Why a SLURM file is refused. The causes are tested in this order, each over the whole file.
+#[derive(Clone, Copy, Debug, PartialEq, Eq, Error)]
+pub enum SlurmFault {
+    /// The bytes aren't JSON.
+    #[error("no JSON")]
+    Json,
+    /// The file isn't an object, or its version isn't the whole number 1 or 2.
+    #[error("no known version")]
+    Version,
+    /// An object lacks a member, or has one that isn't listed or is of another kind.
+    #[error("another member")]
+    Member,
+    /// An AS number isn't a whole number from 0 to 4,294,967,295.
+    #[error("no AS number")]
+    Number,
+    /// There was no memory.
+    #[error("no memory")]
+    NoMemory,
+}
+
+impl From<AllocError> for SlurmFault {
+    ghost from_gives = { λ _ e. e ≡ OutOfMemory };
+
+    fn from(_: AllocError) -> SlurmFault {
+        SlurmFault::NoMemory
+    }
+}
+
+impl<T: Drop> From<AllocFailed<T>> for SlurmFault {
+    ghost from_gives = { λ _ e. e ≡ OutOfMemory };
+
+    fn from(_: AllocFailed<T>) -> SlurmFault {
+        SlurmFault::NoMemory
+    }
+}
+
+impl From<NoMemory> for SlurmFault {
+    ghost from_gives = { λ _ e. e ≡ OutOfMemory };
+
+    fn from(_: NoMemory) -> SlurmFault {
+        SlurmFault::NoMemory
+    }
+}

@@ -1,0 +1,10 @@
+pub mod AlteredLemmas
+pub mod ChangeLemmas
+pub mod CurrentLemmas
+pub mod MemberLemmas
+pub mod MovesLemmas
+pub mod NamingLemmas
+pub mod PatchLemmas
+pub mod SourcesLemmas
+pub mod UnitingLemmas
+pub mod VapsLemmas

@@ -1,0 +1,9 @@
+pub mod Change
+pub mod Codes
+pub mod Current
+pub mod Laws
+pub mod Moves
+pub mod Naming
+pub mod Sources
+pub mod Uniting
+pub mod Vaps

@@ -1,0 +1,115 @@
+//! The current table with its parts.
+ghost use Rattle.std.specs.Prelude.{◌≡◌, IfOk};
+ghost use Rattle.std.specs.Option.{option_copied};
+ghost use Rattle.std.specs.List.Sorted.{IsStrictlySortedBy};
+ghost use Rattle.std.specs.Ordering.{nat_cmp};
+ghost use Rattle.path_model.specs.Authority.{has};
+ghost use Rattle.path_model.specs.CurrentTable.{no_parts, IsCurrentRow};
+ghost use Rattle.path_model.specs.ComputedTable.{table_of};
+ghost use Rattle.vap_table.specs.Change.{Alters};
+ghost use Rattle.vap_table.specs.Moves.{AreMoves};
+ghost use Rattle.vap_table.specs.Vaps.{IsNumberOfRows};
+
+use crate::current::Current;
+use crate::parts::HeldParts;
+use crate::refreshing::refreshed;
+use crate::{Moves, TableChange};
+use av_base::NoMemory;
+use path_model::{AsList, Authority, Table};
+use std::alloc::Global;
+use std::marker::Model;
+
+/// The table of validated ASPA payloads (draft-ietf-sidrops-aspa-verification) with all its parts: named sources, the filters and assertions of
+/// a SLURM file (in the manner of RFC 8416), and those by hand. As a [`Table`] it is the current table of these parts.
+#[derive(Drop)]
+pub struct Vaps {
+    parts: HeldParts,
+    // the current rows, made from the parts
+    current: Current,
+}
+
+impl Model for Vaps {
+    ghost use Rattle.path_model.specs.CurrentTable.{Parts};
+    ghost use Rattle.vap_table.specs.Codes.{coded_parts};
+    ghost use Rattle.vap_table.specs.Current.{IsKept};
+
+    ghost Value = { Parts };
+
+    ghost coded = { coded_parts };
+
+    ghost view = { λ v. v.parts };
+
+    ghost invariant = { λ v. IsKept v.current v.parts };
+}
+
+impl Vaps {
+    /// No parts, and so no rows. It takes no memory.
+    pub fn new(alloc: Global) -> Vaps
+        ensures { result ≡ no_parts }
+    {
+        Vaps {
+            parts: HeldParts::new(alloc),
+            current: Current::new(alloc),
+        }
+    }
+
+    /// The table after a change, and the customers whose current row moved. It visits only the customers that the change names.
+    pub fn change(self, change: TableChange) -> Result<(Vaps, Moves), NoMemory>
+        ensures parts { IfOk result (λ r. Alters self change r.0) }
+        ensures moves { IfOk result (λ r. AreMoves (table_of self) (table_of r.0) r.1) }
+    {
+        let Vaps { parts, current } = self;
+        let names = parts.named(&change)?;
+        let before = current.rows_of(parts.alloc, &parts, &names)?;
+        let parts = parts.changed(change)?;
+        let (current, moves) = refreshed(&parts, current, &before, &names)?;
+        Ok((Vaps { parts, current }, moves))
+    }
+
+    /// The current row of a customer, strictly ascending; `None` exactly where it is silent.
+    pub fn row(&self, customer: u32) -> Option<&AsList>
+        ensures { IsCurrentRow self.now customer (option_copied result) }
+    {
+        self.kept(customer)
+    }
+
+    /// The number of customers that have a current row. It takes the same time for any table.
+    pub fn customers(&self) -> u64
+        ensures { IsNumberOfRows (table_of self.now) result }
+    {
+        self.current.customers.len() as u64
+    }
+
+    // The current row of a customer, as it is kept.
+    fn kept(&self, customer: u32) -> Option<&AsList>
+        ensures { option_copied result ≡ table_of self.now customer }
+    {
+        self.current.row(&self.parts, customer)
+    }
+}
+
+impl Table for Vaps {
+    ghost rows = { table_of };
+
+    /// It costs two ordered look-ups and a binary search at most.
+    fn authority(&self, customer: u32, provider: u32) -> Authority {
+        match self.kept(customer) {
+            None => Authority::Silent,
+            Some(row) => {
+                if holds(row.as_slice(), provider) {
+                    Authority::Provides
+                } else {
+                    Authority::Refuses
+                }
+            }
+        }
+    }
+}
+
+// Whether a rising list has a provider.
+fn holds(row: &[u32], provider: u32) -> bool
+    requires { IsStrictlySortedBy nat_cmp row.now }
+    ensures { result ≡ has row.now provider }
+{
+    row.binary_search(&provider).is_ok()
+}
