@@ -60,7 +60,7 @@ pub(crate) fn perform_line<F: Shelf, W: Sink, L: Ledger>(
     match read(alloc, line) {
         Ok(command) => perform_command(alloc, counted, command, shelf, out, text, steps),
         Err(LineFault::NoMemory) => Err(Stop::NoMemory),
-        Err(fault) => Ok(refuse(alloc, counted, Place::Line, line_cause(fault), text)?),
+        Err(fault) => Ok(refuse(counted, Place::Line, line_cause(fault), text)?),
     }
 }
 
@@ -141,14 +141,14 @@ fn load<F: Shelf>(
     ensures faults { F.faults shelf.old ≤ F.faults shelf.new }
 {
     match load_file(alloc, kind, file.text(), shelf)? {
-        Outcome::NoFile => Ok(refuse(alloc, working, Place::Line, 37, text)?),
-        Outcome::Long => Ok(refuse(alloc, working, Place::Line, 40, text)?),
+        Outcome::NoFile => Ok(refuse(working, Place::Line, 37, text)?),
+        Outcome::Long => Ok(refuse(working, Place::Line, 40, text)?),
         Outcome::Flawed(flaw) => {
             let place = Place::Unit {
                 name: kind.unit_name(),
                 unit: flaw.unit,
             };
-            Ok(refuse(alloc, working, place, flaw.cause, text)?)
+            Ok(refuse(working, place, flaw.cause, text)?)
         }
         Outcome::Good(made) => Ok(change(working, made)?),
     }
@@ -208,7 +208,6 @@ fn judge<L: Ledger>(
 
 // Reports a refused line, which changes nothing but the counts. The line is counted already.
 fn refuse(
-    alloc: Global,
     working: Working,
     place: Place<'_>,
     cause: u16,
@@ -221,7 +220,7 @@ fn refuse(
     ensures next { IfOk result (λ next. next ≡ record working { refused = working.refused + 1 }) }
     ensures err { OnErr result (text.new.items ≡ text.old.items) }
 {
-    put_refusal(alloc, text, working.lines, place, cause)?;
+    put_refusal(text, working.lines, place, cause)?;
     Ok(Working {
         refused: working.refused + 1,
         ..working

@@ -1,5 +1,5 @@
 //! The files of the system as a shelf.
-ghost use Rattle.std.specs.Prelude.{◌≡◌, ◌≢◌, ◌+◌, ◌-◌, ◌^◌, ◌<◌, ◌≤◌, [], None, Ok, Some, length, slice_get, IfErr, IfNone, IfOk, IfSome, IsErr, OnSome};
+ghost use Rattle.std.specs.Prelude.{◌≡◌, ◌≢◌, ◌+◌, ◌-◌, ◌^◌, ◌<◌, ◌≤◌, [], None, Ok, Some, length, slice_get, IfErr, IfNone, IfOk, IfSome, IsErr, OnErr, OnSome};
 ghost use Rattle.std.specs.Io.KnownBytes.{ReadConsumes};
 ghost use Rattle.std.specs.IoError.{error_kind};
 ghost use Rattle.std.specs.declared.io.ErrorKind.TheVariants.{NotFound};
@@ -35,6 +35,35 @@ impl<R: Files> FileShelf<R> {
         }
     }
 
+    /// What the system answered when a file was to be opened: its number, or `None` where its name isn't there. Each other error is a
+    /// fault, and so is a file over the 4,294,967,295th and one for which there is no memory.
+    pub fn answer(&mut self, opened: io::Result<R::File>) -> Result<Option<u32>, Fault>
+        ensures file { IfOk opened (λ _. IfOk result (λ number. number ≡ Some (length self.old.opened.items))) }
+        ensures missing { IfErr opened (λ error. error_kind error ≡ NotFound → result ≡ Ok None) }
+        ensures fault { IfErr opened (λ error. error_kind error ≢ NotFound → IsErr result) }
+        ensures kept { IfOk result (λ number. IfSome number (λ _.
+            length self.new.opened.items ≡ length self.old.opened.items + 1)) }
+        ensures room { IfOk result (λ number. IfSome number (λ _. length self.old.opened.items < 2 ^ 32 - 1)) }
+        ensures none { IfOk result (λ number. IfNone number (length self.new.opened.items ≡ length self.old.opened.items)) }
+        ensures err { OnErr result (length self.new.opened.items ≡ length self.old.opened.items) }
+        ensures cause { HasCause self.old.faults self.new.faults result }
+    {
+        match found(opened) {
+            Ok(Some(file)) => match self.keep(file) {
+                Some(number) => Ok(Some(number)),
+                None => {
+                    self.faults = self.faults.saturating_add(1);
+                    Err(Fault)
+                }
+            },
+            Ok(None) => Ok(None),
+            Err(Fault) => {
+                self.faults = self.faults.saturating_add(1);
+                Err(Fault)
+            }
+        }
+    }
+
     // Keeps a file, and answers its number. There is none where as many files were opened as have numbers, or where there is no memory.
     fn keep(&mut self, file: R::File) -> Option<u32>
         ensures number { IfSome result (λ number. number ≡ length self.old.opened.items) }
@@ -66,20 +95,8 @@ impl<R: Files> Shelf for FileShelf<R> {
     ghost numbered = { λ _. tt };
 
     fn open_file(&mut self, name: &str) -> Result<Option<u32>, Fault> {
-        match found(File::open(&self.runtime, name)) {
-            Ok(Some(file)) => match self.keep(file) {
-                Some(number) => Ok(Some(number)),
-                None => {
-                    self.faults = self.faults.saturating_add(1);
-                    Err(Fault)
-                }
-            },
-            Ok(None) => Ok(None),
-            Err(Fault) => {
-                self.faults = self.faults.saturating_add(1);
-                Err(Fault)
-            }
-        }
+        let opened = File::open(&self.runtime, name);
+        self.answer(opened)
     }
 
     fn read(&mut self, file: u32, buf: &mut [u8]) -> Result<usize, Fault>

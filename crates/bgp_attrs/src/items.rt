@@ -3,7 +3,6 @@ ghost use Rattle.std.specs.Prelude.{◌≡◌, IfOk, slice_get, length, IsTrue, 
 ghost use Rattle.std.specs.Option.{option_copied};
 
 use av_base::NoMemory;
-use std::alloc::Global;
 use std::marker::Model;
 
 /// An item of a path: what counts as one when the lengths of paths are compared.
@@ -60,11 +59,11 @@ impl Items {
     }
 
     /// The same items once more.
-    pub fn copy(&self, alloc: Global) -> Result<Items, NoMemory>
+    pub fn copy(&self) -> Result<Items, NoMemory>
         ensures { IfOk result (λ items. items ≡ self.now) }
     {
         Ok(Items {
-            items: Vec::from_slice(alloc, &self.items)?,
+            items: self.items.clone()?,
         })
     }
 }

@@ -3,7 +3,6 @@ ghost use Rattle.std.specs.Prelude.{◌≡◌, slice_get, length, IfOk, IsTrue, 
 
 use av_base::NoMemory;
 use path_model::Peer;
-use std::alloc::Global;
 use std::marker::Model;
 
 /// The peers of a dump, which its RIB records name by their places.
@@ -58,11 +57,11 @@ impl PeerTable {
     }
 
     /// The same table once more.
-    pub fn copy(&self, alloc: Global) -> Result<PeerTable, NoMemory>
+    pub fn copy(&self) -> Result<PeerTable, NoMemory>
         ensures { IfOk result (λ table. table ≡ self.now) }
     {
         Ok(PeerTable {
-            peers: Vec::from_slice(alloc, &self.peers)?,
+            peers: self.peers.clone()?,
         })
     }
 }

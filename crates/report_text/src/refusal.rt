@@ -12,7 +12,6 @@ use std::alloc::Global;
 /// Appends `! line L cause C WORD` or `! line L NAME unit K cause C WORD`, whole or not at all. Lines are numbered from 1, and the
 /// causes run from 5 to 40.
 pub fn put_refusal(
-    alloc: Global,
     out: &mut Vec<u8>,
     line: u64,
     place: Place<'_>,
@@ -22,7 +21,7 @@ pub fn put_refusal(
     ensures ok { OnOk result (out.new.items ≡ out.old.items ++ refusal_text line (place_of place.entry) cause) }
     ensures err { OnErr result (out.new.items ≡ out.old.items) }
 {
-    let whole = refusal(alloc, line, place, cause)?;
+    let whole = refusal(*out.allocator(), line, place, cause)?;
     out.extend_from_slice(&whole)?;
     Ok(())
 }

@@ -48,15 +48,6 @@ impl Word {
     {
         self.text.as_str()
     }
-
-    /// The same word once more.
-    pub fn copy(&self) -> Result<Word, NoMemory>
-        ensures { IfOk result (λ word. word ≡ self.now) }
-    {
-        Ok(Word {
-            text: self.text.clone()?,
-        })
-    }
 }
 
 // Whether each byte is printable ASCII other than a blank.

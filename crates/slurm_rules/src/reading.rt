@@ -30,6 +30,7 @@ pub fn read(alloc: Global, bytes: &[u8]) -> Result<Slurm, SlurmFault>
     };
     let version = read_version(&file).ok_or(SlurmFault::Version)?;
     let draft = read_file(alloc, version, &file)?;
+    drop(file);
     read_content(alloc, &draft)
 }
 

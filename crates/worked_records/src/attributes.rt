@@ -203,7 +203,7 @@ fn paths_are_merged(rt: HostRuntime) -> Result<(), NoMemory> {
         ) {
             (Ok(one), Ok(other)) => match (one.path(), other.path()) {
                 (Some(one), Some(other)) => {
-                    let items = merge4(alloc, &one, &other)?.copy(alloc)?;
+                    let items = merge4(alloc, &one, &other)?.copy()?;
                     assert_eq!(rt; items.as_slice(), want);
                     assert_eq!(rt; items.len(), want.len());
                     assert_eq!(rt; items.is_empty(), want.is_empty());

@@ -282,7 +282,7 @@ fn compare(
         (Ok(Body::Peers(table)), Some(Peers(len, first))) => {
             assert_eq!(rt; table.len(), *len);
             assert_eq!(rt; table.get(0), Some(*first));
-            let copy = table.copy(alloc)?;
+            let copy = table.copy()?;
             assert!(rt; !copy.is_empty());
             assert_eq!(rt; copy.as_slice().first(), Some(first));
             return Ok(Some(copy));

@@ -259,10 +259,11 @@ fn long_lines(rt: HostRuntime) -> Result<(), NoMemory> {
 }
 
 // A script of the most bytes ends with 0. Over the limit the lines that end within it are performed, and others aren't.
+// The script is one long comment in front of a few short lines: what is tried is the limit, not a count of lines.
 #[test]
 fn the_limit_of_a_script(rt: HostRuntime) -> Result<(), NoMemory> {
     let alloc = rt.alloc();
-    let mut script = vec![in alloc; b'\n'; SCRIPT_LIMIT]?;
+    let mut script = vec![in alloc; b'#'; SCRIPT_LIMIT]?;
     let (status, _) = outcome(alloc, &["run"], &script, &[], &[])?;
     assert_eq!(rt; status, 0);
     script.push(b'\n')?;
@@ -271,7 +272,8 @@ fn the_limit_of_a_script(rt: HostRuntime) -> Result<(), NoMemory> {
 
     // The last LF within the limit ends a line that is performed; the line that is cut by the limit isn't.
     let line = b"judge customer 1 1\n";
-    script.truncate(SCRIPT_LIMIT - line.len());
+    script.truncate(SCRIPT_LIMIT - line.len() - 1);
+    script.push(b'\n')?;
     script.extend_from_slice(line)?;
     script.extend_from_slice(line)?;
     let (status, written) = outcome(alloc, &["run"], &script, &[], &[])?;

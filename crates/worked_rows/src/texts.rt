@@ -223,9 +223,9 @@ fn puts_refusals(rt: HostRuntime) {
         name: "rrc-00.a_b",
         unit: 12,
     };
-    assert!(rt; put_refusal(alloc, &mut out, 1, Place::Line, 34).is_ok());
-    assert!(rt; put_refusal(alloc, &mut out, 2, slurm, 11).is_ok());
-    assert!(rt; put_refusal(alloc, &mut out, u64::MAX, dump, 27).is_ok());
+    assert!(rt; put_refusal(&mut out, 1, Place::Line, 34).is_ok());
+    assert!(rt; put_refusal(&mut out, 2, slurm, 11).is_ok());
+    assert!(rt; put_refusal(&mut out, u64::MAX, dump, 27).is_ok());
     assert_eq!(rt;
         out.as_slice(),
         b"! line 1 cause 34 Number
