@@ -1,15 +1,17 @@
 //! Tests over the libraries, of what no contract says: that the definitions mean what they should, and that a call succeeds.
 //!
-//! Each table has its expected values worked out by hand. `scripts` goes through [`aspa_top::run`] over the forms in memory,
-//! `readings` reads lines by themselves, `judgements` judges paths in a small world, with their witnesses, `long_chains` the longest path
-//! there is, `confirming` puts claims to the checker, `faults` lets each call of the outside fail in turn, `outside` and `texts` call the
-//! lower layers once each.
+//! Each table has its expected values worked out by hand. `scripts` goes through [`aspa_top::run`] over the forms in memory, and
+//! `file_scripts` likewise over a shelf with files; `readings` reads lines by themselves, `judgements` judges paths in a small world, with
+//! their witnesses, `long_chains` the longest path there is, `confirming` puts claims to the checker, `faults` lets each call of the
+//! outside fail in turn, `outside` and `texts` call the lower layers once each.
 #![tactic(auto)]
 
 #[cfg(test)]
 mod confirming;
 #[cfg(test)]
 mod faults;
+#[cfg(test)]
+mod file_scripts;
 #[cfg(test)]
 mod judgements;
 #[cfg(test)]

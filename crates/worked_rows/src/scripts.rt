@@ -6,7 +6,7 @@ use std::alloc::Global;
 use std::marker::Brand;
 use std::sync::ledger::{Blank, Ledger};
 
-/// The status of a run over the forms in memory, and what was written.
+/// The status of a run over the forms in memory without files, and what was written.
 pub fn outcome(
     alloc: Global,
     words: &[&str],
@@ -21,15 +21,33 @@ pub fn outcome(
     let mut source = MemSource::new(alloc, script, Plan::new(alloc, reads)?)?;
     let mut sink = MemSink::new(alloc, Plan::new(alloc, writes)?);
     let mut shelf = MemShelf::new(alloc, Plan::new(alloc, &[])?);
-    let status = run_counted::<Brand>(
-        alloc,
-        &owned,
-        &mut source,
-        &mut shelf,
-        &mut sink,
-        Blank::new(1),
-    );
+    let status = status_of(alloc, &owned, &mut source, &mut shelf, &mut sink);
     Ok((status, Vec::from_slice(alloc, sink.written())?))
+}
+
+/// The status of a run of this script over this shelf, and what was written.
+pub fn outcome_over(
+    alloc: Global,
+    script: &[u8],
+    mut shelf: MemShelf,
+) -> Result<(u8, Vec<u8>), NoMemory> {
+    let mut owned = Vec::new(alloc);
+    owned.push(String::from_str(alloc, "run")?)?;
+    let mut source = MemSource::new(alloc, script, Plan::new(alloc, &[])?)?;
+    let mut sink = MemSink::new(alloc, Plan::new(alloc, &[])?);
+    let status = status_of(alloc, &owned, &mut source, &mut shelf, &mut sink);
+    Ok((status, Vec::from_slice(alloc, sink.written())?))
+}
+
+// Runs with a counter that is made here.
+fn status_of(
+    alloc: Global,
+    words: &Vec<String>,
+    script: &mut MemSource,
+    shelf: &mut MemShelf,
+    sink: &mut MemSink,
+) -> u8 {
+    run_counted::<Brand>(alloc, words, script, shelf, sink, Blank::new(1))
 }
 
 // Runs with a counter of steps of its own.
