@@ -11,7 +11,7 @@ use Rattle.mrt_reader.specs.Coming.{Coming, Whole, TooLong, CutShort, End, IsCom
 use Rattle.mrt_reader.specs.Records.{Recorded, IsRecord, Head, head_at, limit}
 use Rattle.mrt_reader.proofs.RecordLemmas.{head_front, head_long, record_head, record_made, partial_short, partial_cut, one_record}
 
-not_too_long : (left : List ℕ) (it : Recorded) (rest : List ℕ) → Begins IsRecord left it rest → IsTooLong left → ⊥
+pub not_too_long : (left : List ℕ) (it : Recorded) (rest : List ℕ) → Begins IsRecord left it rest → IsTooLong left → ⊥
 not_too_long left it rest b long =
     let heads = same_Some (record { stamp = it.stamp; kind = it.kind; subkind = it.subkind; size = length it.body }) long.0 (sym (record_head left it rest b).0 ∙ long.1) in
     let size : length it.body ≡ long.0.size = ap (λ (h : Head). h.size) heads in
@@ -19,7 +19,7 @@ not_too_long left it rest b long =
     let over = long.2 in
     omega arith
 
-not_empty : (left : List ℕ) (it : Recorded) (rest : List ℕ) → Begins IsRecord left it rest → left ≡ [] → ⊥
+pub not_empty : (left : List ℕ) (it : Recorded) (rest : List ℕ) → Begins IsRecord left it rest → left ≡ [] → ⊥
 not_empty left it rest b empty = omega (arith, (record_head left it rest b).1, ap length empty)
 
 long_not_partial : (left : List ℕ) → IsTooLong left → IsPartial left → ⊥

@@ -1,8 +1,10 @@
 pub mod EntryLemmas
 pub mod LawLemmas
+pub mod MemoryLemmas
 pub mod PeerLemmas
 pub mod RecordLemmas
 pub mod RouteLemmas
 pub mod SameLemmas
 pub mod ShapeLemmas
 pub mod SomeLemmas
+pub mod UnitLemmas

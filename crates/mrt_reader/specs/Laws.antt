@@ -5,7 +5,7 @@ use Rattle.path_model.specs.declared.peer.Peer.{Peer}
 use Rattle.bgp_attrs.specs.Joined.{Begins}
 use Rattle.bgp_update.specs.Laws.{HasOne}
 use Rattle.mrt_reader.specs.Bodies.{IsReading}
-use Rattle.mrt_reader.specs.Coming.{IsComing, IsTooLong}
+use Rattle.mrt_reader.specs.Coming.{AreUnits, IsComing, IsTooLong}
 use Rattle.mrt_reader.specs.Records.{Recorded, IsRecord}
 
 -- no record begins another one: the first record of a stream and what is behind it are determined
@@ -15,6 +15,17 @@ NoRecordBeginsAnother = (bytes : List ℕ) (one other : Recorded) (rest more : L
 -- in each stream exactly one thing comes next
 abbrev pub OneThingComesNext : Type 0
 OneThingComesNext = (left : List ℕ) → HasOne (IsComing left)
+
+-- the records of a stream, and its rest
+pub record OneDivision (stream : List ℕ) : Type 0 where
+  pub records : List Recorded
+  pub rest : List ℕ
+  pub are : AreUnits stream records rest
+  pub only : (others : List Recorded) (other_rest : List ℕ) → AreUnits stream others other_rest
+      → (others ≡ records) × (other_rest ≡ rest)
+
+abbrev pub EachStreamHasItsUnits : Type 0
+EachStreamHasItsUnits = (stream : List ℕ) → OneDivision stream
 
 -- a length over the limit stays one, whatever comes behind it
 abbrev pub TooLongStays : Type 0

@@ -23,6 +23,9 @@ pub struct Record<'a> {
 }
 
 /// The bytes of a stream that came and that no record took yet.
+///
+/// Feed it only after `next` answered `None`: then less than a record is held, and with the piece less than a record and a piece. Fed
+/// before that, or after 26 TooLong, it grows by each piece.
 #[derive(Debug, Drop)]
 pub struct Framer {
     held: Vec<u8>,
@@ -54,8 +57,8 @@ impl Framer {
         }
     }
 
-    /// Appends a piece of the stream. What was taken before is dropped here, so that a byte is moved at most once before its record
-    /// is taken, and what is held is at most a record and a piece.
+    /// Appends a piece of the stream. What was taken before is dropped here, so that a byte of a record is moved at most once for each
+    /// piece that comes before the record is whole.
     pub fn feed(mut self, piece: &[u8]) -> Result<Framer, NoMemory>
         ensures { IfOk result (λ framer. framer ≡ self ++ piece.now) }
     {
