@@ -1,3 +1,4 @@
+pub mod DumpLemmas
 pub mod EvaluationLemmas
 pub mod JudgedLemmas
 pub mod LawLemmas
@@ -6,5 +7,8 @@ pub mod NamedLemmas
 pub mod OutcomeLemmas
 pub mod PerformingLemmas
 pub mod ProgramLemmas
+pub mod RowTextLemmas
 pub mod RunLemmas
+pub mod StandsLemmas
+pub mod TableLemmas
 pub mod TextLemmas

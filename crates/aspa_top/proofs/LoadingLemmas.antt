@@ -1,11 +1,10 @@
 -- A file that was opened, read whole and understood.
 use Rattle.std.proofs.Common.{◌≡◌, ℕ, ◌<◌, ◌≤◌, List, ◌++◌, None, Some, Ok, Err, IfOk, IfSome, length, refl, sym, ◌∙◌, ap, subst, arith, append_assoc, append-nil, length-append}
-use Rattle.std.specs.Option.{option_map}
 use Rattle.std.specs.Io.KnownBytes.{prepend_known, IsAtEnd}
 use Rattle.std.specs.declared.option.Option.{Option}
 use Rattle.std.specs.declared.result.Result.{Result}
 use Rattle.av_base.specs.declared.fault.NoMemory.{NoMemory as NoMemoryFault}
-use Rattle.av_base.specs.Files.{Files, Opens, left_of, opens, reads}
+use Rattle.av_base.specs.Files.{Files, Opens, left_of}
 use Rattle.av_base.proofs.FilesLemmas.{left_of-opens}
 use Rattle.path_model.specs.Rows.{RowMap}
 use Rattle.vap_table.specs.declared.change.TableChange.TheVariants.{Replace}
@@ -25,24 +24,6 @@ use Rattle.aspa_top.specs.declared.loading.Outcome.{Outcome}
 use Rattle.aspa_top.specs.declared.loading.Outcome.TheVariants.{NoFile, Long, Flawed, Good}
 use Rattle.aspa_top.specs.Loading.{Makes, Fails, IsWithin, IsBeyond, payload_cause, slurm_cause}
 use Rattle.aspa_top.specs.LoadingSteps.{ComesTold, IsRowsOutcome, Understands}
-use Rattle.aspa_top.specs.World.{names_of}
-
--- ---- the names of a shelf stay
-
-opens_same : (bytes : List ℕ) (old : Option Files) → names_of (option_map (opens bytes) old) ≡ names_of old
-opens_same bytes None = refl
-opens_same bytes (Some told) = refl
-
-pub opens_names : (old new : Option Files) (before after : ℕ) (name : List ℕ) (file : ℕ) → Opens old new before after name file
-    → names_of new ≡ names_of old
-opens_names old new before after name file opened = ap names_of opened.told ∙ opens_same opened.bytes old
-
-reads_same : (file n : ℕ) (old : Option Files) → names_of (option_map (reads file n) old) ≡ names_of old
-reads_same file n None = refl
-reads_same file n (Some told) = refl
-
-pub reads_names : (file n : ℕ) (old new : Option Files) → new ≡ option_map (reads file n) old → names_of new ≡ names_of old
-reads_names file n old new is = ap names_of is ∙ reads_same file n old
 
 -- ---- a file that was read whole
 

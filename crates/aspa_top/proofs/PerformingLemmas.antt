@@ -1,176 +1,144 @@
 -- One line performed.
-use Rattle.std.proofs.Common.{◌≡◌, ℕ, ◌+◌, List, [], ◌++◌, Ok, Err, refl, sym, ap, subst, ◌∙◌, arith}
-use Rattle.std.proofs.lemmas.List.{append-nil}
+use Rattle.std.proofs.Common.{◌≡◌, ℕ, ◌+◌, ◌≤◌, List, [], ◌++◌, Ok, Err, refl, sym, ap, subst, ◌∙◌, append-nil, arith}
 use Rattle.std.specs.declared.option.Option.{Option}
 use Rattle.std.specs.declared.result.Result.{Result}
 use Rattle.std.specs.Io.KnownBytes.{append_known}
 use Rattle.av_base.specs.Files.{Files}
-use Rattle.av_base.proofs.ToldLemmas.{append_known-nil, append_known-append}
-use Rattle.script_lines.proofs.LengthLemmas.{judged_short}
-use Rattle.vap_table.specs.declared.change.TableChange.{TableChange}
+use Rattle.av_base.specs.Told.{AppendsFront}
+use Rattle.av_base.proofs.ToldLemmas.{append_known-nil}
+use Rattle.path_model.specs.declared.key.Key.{Key}
 use Rattle.path_model.specs.declared.role.Role.{Role}
-use Rattle.script_lines.specs.declared.command.Command.{Command}
-use Rattle.script_lines.specs.declared.command.Command.TheVariants.{Idle, Aspa, Aspa64, Slurm, Filter, Unfilter, Assert, Unassert, Judge}
-use Rattle.script_lines.specs.declared.command.LineFault.{LineFault}
-use Rattle.aspa_top.specs.declared.working.Working.{Working}
-use Rattle.script_lines.specs.Grammar.{IsReading}
-use Rattle.aspa_top.specs.Evaluation.{State, Changes, Refuses, Takes, Loads, Does, line_cause}
-use Rattle.aspa_top.specs.Performing.{ChangesTable, HasShortPath, Judges, LoadsAs, Goes, GoesPart, PartBy, counted_in}
+use Rattle.path_model.specs.declared.verdict.Verdict.{Verdict}
 use Rattle.path_model.specs.CurrentTable.{Parts}
-use Rattle.vap_table.specs.Change.{Alters}
-use Rattle.report_text.specs.Refusals.{AnyPlace, of_line, refusal_text}
-use Rattle.aspa_top.specs.declared.loading.FileKind.{FileKind}
-use Rattle.aspa_top.specs.declared.loading.Outcome.{Outcome}
-use Rattle.aspa_top.specs.declared.loading.Outcome.TheVariants.{Good}
-use Rattle.aspa_top.specs.Loading.{ComesOf}
-use Rattle.aspa_top.specs.LoadingSteps.{ComesTold}
+use Rattle.rib_store.specs.State.{State as Analysis, AreRows}
+use Rattle.analyser.specs.declared.event.Event.{Event}
+use Rattle.analyser.specs.Events.{Happens}
+use Rattle.report_text.specs.Refusals.{of_line, refusal_text}
+use Rattle.script_lines.specs.declared.command.Command.{Command}
+use Rattle.script_lines.specs.declared.command.Command.TheVariants.{Idle, Aspa, Aspa64, Slurm, Filter, Unfilter, Assert, Unassert, Role as SetRole, RoleDefault, Open, Take, Judge, Report}
+use Rattle.script_lines.specs.declared.command.LineFault.{LineFault}
+use Rattle.script_lines.specs.Grammar.{IsReading}
+use Rattle.script_lines.proofs.LengthLemmas.{judged_short}
+use Rattle.script_lines.proofs.LawLemmas.{some_reading}
+use Rattle.script_lines.proofs.SourceNameLemmas.{reading_named}
+use Rattle.stream_lines.specs.Rows.{Reports as ReportsRows, ReportsFront, rows_text}
+use Rattle.stream_lines.proofs.FrameLemmas.{Leaves-refl}
+use Rattle.aspa_top.specs.declared.working.Working.{Working}
+use Rattle.aspa_top.specs.Evaluation.{State, Causes, Does, line_cause}
+use Rattle.aspa_top.specs.Performing.{Happened, HoldsOr, IsSound, IsWithinBounds, Judges, StandsFor, Goes, GoesPart, Steps, PartBy, counted_in, dump_in, most}
 use Rattle.aspa_top.specs.World.{World, Tells}
 use Rattle.aspa_top.proofs.EvaluationLemmas.{some_done}
-use Rattle.script_lines.proofs.LawLemmas.{some_reading}
+use Rattle.aspa_top.proofs.StandsLemmas.{added_text, refused_same, IsSound-kept}
 
--- a line is too short for a path that is too long
-pub HasShortPath-IsReading : (line : List ℕ) (command : Command) → IsReading line (Ok command) → HasShortPath command
-HasShortPath-IsReading line Idle is = tt
-HasShortPath-IsReading line (Aspa name file) is = tt
-HasShortPath-IsReading line (Aspa64 name file) is = tt
-HasShortPath-IsReading line (Slurm file) is = tt
-HasShortPath-IsReading line (Filter customer) is = tt
-HasShortPath-IsReading line (Unfilter customer) is = tt
-HasShortPath-IsReading line (Assert customer providers) is = tt
-HasShortPath-IsReading line (Unassert customer) is = tt
-HasShortPath-IsReading line (Judge role neighbour path) is = let short = judged_short line role neighbour path is in omega arith
+-- a line is too short for a path that is too long, and names no count over the most
+pub IsWithinBounds-IsReading : (line : List ℕ) (command : Command) → IsReading line (Ok command) → IsWithinBounds command
+IsWithinBounds-IsReading line Idle is = tt
+IsWithinBounds-IsReading line (Aspa name file) is = tt
+IsWithinBounds-IsReading line (Aspa64 name file) is = tt
+IsWithinBounds-IsReading line (Slurm file) is = tt
+IsWithinBounds-IsReading line (Filter customer) is = tt
+IsWithinBounds-IsReading line (Unfilter customer) is = tt
+IsWithinBounds-IsReading line (Assert customer providers) is = tt
+IsWithinBounds-IsReading line (Unassert customer) is = tt
+IsWithinBounds-IsReading line (SetRole asn role) is = tt
+IsWithinBounds-IsReading line (RoleDefault role) is = tt
+IsWithinBounds-IsReading line (Open name file) is = tt
+IsWithinBounds-IsReading line (Take name count) is = (reading_named line (Take name count) is).1
+IsWithinBounds-IsReading line (Judge role neighbour path) is = let short = judged_short line role neighbour path is in omega arith
+IsWithinBounds-IsReading line Report is = tt
 
--- a text that is added to what is held is added to all
-added : (written : Option (List ℕ)) (old new text : List ℕ) → new ≡ old ++ text
-    → append_known written new ≡ append_known (append_known written old) text
-added written old new text is = ap (append_known written) is ∙ sym (append_known-append written old text)
+module _ (working : Working) where
+  pub idle : (files : Option Files) (all : Option (List ℕ)) (ticks : ℕ) → Goes working (Ok Idle) files files all all ticks ticks working
+  idle files all ticks = λ world tells state stands.
+      record { text = []; after = state; does = (refl, refl); added = sym (append_known-nil all); stands = stands; ticked = refl }
 
--- what came of a told file comes in the world
-comes_world : (files : Option Files) (world : World) (kind : FileKind) (told name : List ℕ) (outcome : Outcome) → Tells files world → told ≡ name
-    → ComesTold files kind told outcome → ComesOf kind (world.named name) outcome
-comes_world files world kind told name outcome tells same comes =
-    subst (λ (n : List ℕ). ComesOf kind (world.named n) outcome) same
-    (subst (λ (named : List ℕ → Option (List ℕ)). ComesOf kind (named told) outcome) tells.named (comes tells.told tells.is))
-
-module _ (files : Option Files) (working : Working) where
-  -- ---- files
-
-  -- by the file the line is refused
-  pub load_refused : (kind : FileKind) (told name : List ℕ) (outcome : Outcome) (place : AnyPlace) (cause : ℕ) (text_old text_new : List ℕ) (next : Working)
-      → told ≡ name → ComesTold files kind told outcome
-      → ((state : State) (text : List ℕ) (after : State) → Refuses state place cause text after → Takes state kind outcome text after)
-      → text_new ≡ text_old ++ refusal_text working.lines place cause → next ≡ record working { refused = working.refused + 1 }
-      → LoadsAs files working kind name text_old text_new next
-  load_refused kind told name outcome place cause text_old text_new next same comes takes is next_is = λ world tells state stands.
-      let text : List ℕ = refusal_text state.lines place cause in
-      let after : State = record state { refused = state.refused + 1 } in
-      record {
-        text = text;
-        after = after;
-        loads = record { outcome = outcome; comes = comes_world files world kind told name outcome tells same comes; takes = takes state text after (refl, refl) };
-        added = is ∙ ap (λ (n : ℕ). text_old ++ refusal_text n place cause) stands.lines;
-        stands = rw next_is (record { parts = stands.parts; lines = stands.lines; refused = ap (λ (n : ℕ). n + 1) stands.refused });
-        judged = refl;
-      }
-
-  -- the file is good, and changes the table
-  pub load_changed : (kind : FileKind) (told name : List ℕ) (change : TableChange) (text_old text_new : List ℕ) (next : Working)
-      → told ≡ name → ComesTold files kind told (Good change) → ChangesTable working change next → text_new ≡ text_old
-      → LoadsAs files working kind name text_old text_new next
-  load_changed kind told name change text_old text_new next same comes changes kept = λ world tells state stands. record {
-    text = [];
-    after = record state { parts = changes.parts };
-    loads = record {
-      outcome = Good change;
-      comes = comes_world files world kind told name (Good change) tells same comes;
-      takes = record {
-        silent = refl;
-        parts = changes.parts;
-        altered = subst (λ (p : Parts). Alters p change changes.parts) stands.parts changes.altered;
-        left = refl;
-      };
-    };
-    added = kept ∙ sym (append-nil text_old);
-    stands = rw changes.left (record { parts = refl; lines = stands.lines; refused = stands.refused });
-    judged = refl;
-  }
-
-  -- so the command is performed that loads it
-  pub loaded : (kind : FileKind) (name : List ℕ) (reading : Result Command LineFault) (next : Working) (text_old text_new : List ℕ)
-      → ((world : World) (state : State) (text : List ℕ) (after : State) → Loads world state kind name text after → Does world state reading text after)
-      → LoadsAs files working kind name text_old text_new next → (written : Option (List ℕ)) (ticks : ℕ)
-      → Goes files working reading (append_known written text_old) (append_known written text_new) ticks ticks next
-  loaded kind name reading next text_old text_new does loads written ticks = λ world tells state stands.
-      let line = loads world tells state stands in
-      record {
-        text = line.text;
-        after = line.after;
-        does = does world state line.text line.after line.loads;
-        added = added written text_old text_new line.text line.added;
-        stands = line.stands;
-        ticked = ap (λ (n : ℕ). ticks + n) (sym line.judged);
-      }
-
-  -- ---- commands, and a refused line
-
-  pub idle : (all : Option (List ℕ)) (ticks : ℕ) → Goes files working (Ok Idle) all all ticks ticks working
-  idle all ticks = λ world tells state stands. record { text = []; after = state; does = (refl, refl); added = sym (append_known-nil all); stands = stands; ticked = refl }
-
-  -- the table is changed
-  pub changed : (change : TableChange) (reading : Result Command LineFault) (next : Working) → ChangesTable working change next
-      → ((world : World) (state : State) (text : List ℕ) (after : State) → Changes state change text after → Does world state reading text after)
-      → (all : Option (List ℕ)) (ticks : ℕ) → Goes files working reading all all ticks ticks next
-  changed change reading next changes does all ticks = λ world tells state stands.
-      let after : State = record state { parts = changes.parts } in
+  -- an event happened
+  pub happened : (event : Event) (reading : Result Command LineFault) (next : Working) → Happened working event next
+      → ((world : World) (state : State) (text : List ℕ) (after : State) → Causes state event text after → Does world state reading text after)
+      → (files : Option Files) (all : Option (List ℕ)) (ticks_old ticks_new : ℕ) → ticks_new ≡ ticks_old
+      → Goes working reading files files all all ticks_old ticks_new next
+  happened event reading next happens does files all ticks_old ticks_new same = λ world tells state stands.
+      let after : State = record state { analysis = happens.analysis } in
       record {
         text = [];
         after = after;
         does = does world state [] after (record {
           silent = refl;
-          parts = changes.parts;
-          altered = subst (λ (p : Parts). Alters p change changes.parts) stands.parts changes.altered;
+          analysis = happens.analysis;
+          happens = subst (λ (a : Analysis). Happens a event happens.analysis) stands.analysis happens.happens;
           left = refl;
         });
         added = sym (append_known-nil all);
-        stands = rw changes.left (record { parts = refl; lines = stands.lines; refused = stands.refused });
-        ticked = refl;
+        stands = rw happens.left (record {
+          analysis = refl;
+          sources = stands.sources;
+          dumps = stands.dumps;
+          lines = stands.lines;
+          passed = stands.passed;
+          refused = stands.refused;
+        });
+        ticked = ap (λ (n : ℕ). n + state.judgements) same;
       }
 
-  pub judged : (role : Role) (neighbour : ℕ) (path : List ℕ) (text_old text_new : List ℕ) (written : Option (List ℕ))
-      (ticks_old ticks_new : ℕ)
-      → Judges working.table role neighbour path text_old text_new → ticks_new ≡ ticks_old + 1
-      → Goes files working (Ok (Judge role neighbour path)) (append_known written text_old) (append_known written text_new) ticks_old ticks_new working
-  judged role neighbour path text_old text_new written ticks_old ticks_new judges ticked = λ world tells state stands.
-      let line = subst (λ (p : Parts). Judges p role neighbour path text_old text_new) stands.parts judges in
+  pub judged : (role : Role) (neighbour : ℕ) (path : List ℕ) (table : Parts) (files : Option Files) (text_old text_new : List ℕ) (written : Option (List ℕ))
+      (ticks_old ticks_new : ℕ) → table ≡ working.analyser.parts
+      → Judges table role neighbour path text_old text_new → ticks_new ≡ ticks_old + 1
+      → Goes working (Ok (Judge role neighbour path)) files files (append_known written text_old) (append_known written text_new) ticks_old ticks_new working
+  judged role neighbour path table files text_old text_new written ticks_old ticks_new is judges ticked = λ world tells state stands.
+      let line = subst (λ (p : Parts). Judges p role neighbour path text_old text_new) (is ∙ ap (λ (a : Analysis). a.parts) stands.analysis) judges in
       record {
         text = line.0;
         after = record state { judgements = state.judgements + 1 };
         does = (line.1, refl);
-        added = added written text_old text_new line.0 line.2;
-        stands = record { parts = stands.parts; lines = stands.lines; refused = stands.refused };
+        added = added_text written text_old text_new line.0 line.2;
+        stands = record {
+          analysis = stands.analysis;
+          sources = stands.sources;
+          dumps = stands.dumps;
+          lines = stands.lines;
+          passed = stands.passed;
+          refused = stands.refused;
+        };
         ticked = omega (arith, ticked);
       }
 
-  pub refused : (fault : LineFault) (next : Working) (text_old text_new : List ℕ)
-      → text_new ≡ text_old ++ refusal_text working.lines of_line (line_cause fault) → next ≡ record working { refused = working.refused + 1 }
-      → (written : Option (List ℕ)) (ticks : ℕ)
-      → Goes files working (Err fault) (append_known written text_old) (append_known written text_new) ticks ticks next
-  refused fault next text_old text_new is next_is written ticks = λ world tells state stands. record {
-    text = refusal_text state.lines of_line (line_cause fault);
-    after = record state { refused = state.refused + 1 };
-    does = (refl, refl);
-    added = added written text_old text_new (refusal_text state.lines of_line (line_cause fault)) (is ∙ ap (λ (n : ℕ). text_old ++ refusal_text n of_line (line_cause fault)) stands.lines);
-    stands = rw next_is (record { parts = stands.parts; lines = stands.lines; refused = ap (λ (n : ℕ). n + 1) stands.refused });
+  -- each route was reported
+  pub reported : (held : Analysis) (files : Option Files) (all_old all_new : Option (List ℕ)) (ticks : ℕ)
+      → held ≡ working.analyser → ReportsRows held all_old all_new → Goes working (Ok Report) files files all_old all_new ticks ticks working
+  reported held files all_old all_new ticks is reports = λ world tells state stands. record {
+    text = rows_text reports.rows;
+    after = state;
+    does = record { rows = reports.rows; are = subst (λ (a : Analysis). AreRows a reports.rows) (is ∙ stands.analysis) reports.are; text_is = refl; left = refl };
+    added = reports.added;
+    stands = stands;
     ticked = refl;
   }
+
+  -- some of them were
+  pub reported_part : (held : Analysis) (files : Option Files) (all_old all_new : Option (List ℕ))
+      → held ≡ working.analyser → ReportsFront held all_old all_new → GoesPart working (Ok Report) files all_old all_new
+  reported_part held files all_old all_new is reports = λ world tells state stands. record {
+    part = reports.front.before.front;
+    rest = reports.front.rest;
+    after = state;
+    does = record { rows = reports.rows; are = subst (λ (a : Analysis). AreRows a reports.rows) (is ∙ stands.analysis) reports.are; text_is = sym reports.front.before.whole; left = refl };
+    added = reports.front.before.told;
+  }
+
+  pub refused : (fault : LineFault) (next : Working) (files : Option Files) (text_old text_new : List ℕ)
+      → text_new ≡ text_old ++ refusal_text working.lines of_line (line_cause fault) → next ≡ record working { refused = working.refused + 1 }
+      → Steps working (Err fault) files files text_old text_new next
+  refused fault next files text_old text_new added is =
+      refused_same working next (Err fault) files files text_old text_new of_line (line_cause fault) (Leaves-refl (λ other. Unit {0}) files) (λ n d e. tt) added is
+      (λ world tells state stands. (refl, refl))
 
   -- ---- parts
 
   -- all of the line's text
-  pub part_whole : (next : Working) (reading : Result Command LineFault) (all_old all_new : Option (List ℕ))
+  pub part_whole : (next : Working) (reading : Result Command LineFault) (files_old files_new : Option Files) (all_old all_new : Option (List ℕ))
       (ticks_old ticks_new : ℕ)
-      → Goes files working reading all_old all_new ticks_old ticks_new next → GoesPart files working reading all_old all_new
-  part_whole next reading all_old all_new ticks_old ticks_new goes = λ world tells state stands.
+      → Goes working reading files_old files_new all_old all_new ticks_old ticks_new next → GoesPart working reading files_old all_old all_new
+  part_whole next reading files_old files_new all_old all_new ticks_old ticks_new goes = λ world tells state stands.
       let whole = goes world tells state stands in
       record {
         part = whole.text;
@@ -181,15 +149,23 @@ module _ (files : Option Files) (working : Working) where
       }
 
   -- nothing of it
-  pub part_none : (reading : Result Command LineFault) (all_old all_new : Option (List ℕ)) → all_new ≡ all_old
-      → GoesPart files working reading all_old all_new
-  part_none reading all_old all_new same = λ world tells state stands.
+  pub part_none : (reading : Result Command LineFault) (files : Option Files) (all_old all_new : Option (List ℕ)) → all_new ≡ all_old
+      → GoesPart working reading files all_old all_new
+  part_none reading files all_old all_new same = λ world tells state stands.
       let done = some_done world state reading in
       record { part = []; rest = done.text; after = done.next; does = done.does; added = same ∙ sym (append_known-nil all_old) }
 
+  -- an event leaves the dumps and the counts
+  pub IsSound-happened : (opened more fewer lines : ℕ) (event : Event) (next : Working) → fewer + 1 ≤ lines → opened ≤ more → IsSound opened fewer working
+      → Happened working event next → IsSound more lines next
+  IsSound-happened opened more fewer lines event next later within sound happens =
+      let passed : next.passed ≡ working.passed = ap (λ (w : Working). w.passed) happens.left in
+      let refused : next.refused ≡ working.refused = ap (λ (w : Working). w.refused) happens.left in
+      IsSound-kept opened more fewer lines working next later within sound (λ q. ap (λ (w : Working). dump_in w q) happens.left) (omega (arith, passed)) (omega (arith, refused))
+
 -- nothing of it, however the line reads
-pub part_read : (files : Option Files) (working : Working) (line : List ℕ) (all_old all_new : Option (List ℕ))
-    → all_new ≡ all_old → PartBy files working line all_old all_new
-part_read files working line all_old all_new same =
+pub part_read : (working : Working) (line : List ℕ) (files : Option Files) (all_old all_new : Option (List ℕ))
+    → all_new ≡ all_old → PartBy working line files all_old all_new
+part_read working line files all_old all_new same =
     let read = some_reading line in
-    record { reading = read.0; reads = read.1; holds = part_none files (counted_in working) read.0 all_old all_new same }
+    record { reading = read.0; reads = read.1; holds = part_none (counted_in working) read.0 files all_old all_new same }

@@ -11,11 +11,13 @@ use Rattle.script_lines.specs.declared.command.Command.{Command}
 use Rattle.script_lines.specs.declared.command.LineFault.{LineFault}
 use Rattle.script_lines.specs.Grammar.{IsReading}
 use Rattle.aspa_top.specs.declared.working.Working.{Working}
-use Rattle.aspa_top.specs.Evaluation.{State, start, counted, Performs, Evaluates, Begins, refusals_in}
+use Rattle.aspa_top.specs.Evaluation.{State, start, counted, Performs, Evaluates, Begins}
+use Rattle.stream_lines.specs.Counts.{refusals_in}
 use Rattle.aspa_top.specs.Performing.{StandsFor, Went, GoesBy, PartBy, UsesBy, counted_in, Performing}
 use Rattle.aspa_top.specs.Program.{BeginsNext, WentThrough, StopsAtFile, Ended, WritesPart}
 use Rattle.aspa_top.specs.World.{World, Tells, names_of}
 use Rattle.aspa_top.proofs.EvaluationLemmas.{begins_none, goes_on_behind}
+use Rattle.aspa_top.proofs.StandsLemmas.{counted_stands}
 use Rattle.aspa_top.proofs.TextLemmas.{Evaluates-refused}
 
 -- one more line is evaluated
@@ -39,9 +41,6 @@ Evaluates-push world before (first ∷ more) line text piece mid next evaluates 
   text_is = ap (λ (t : List ℕ). t ++ piece) evaluates.text_is ∙ append_assoc evaluates.first evaluates.rest piece;
 }
 
-counted_stands : (working : Working) (state : State) → StandsFor working state → StandsFor (counted_in working) (counted state)
-counted_stands working state stands = record { parts = stands.parts; lines = ap (λ (n : ℕ). n + 1) stands.lines; refused = stands.refused }
-
 -- the shelf names what it named before
 pub Tells-names : (old new : Option Files) (world : World) → names_of new ≡ names_of old → Tells old world → Tells new world
 Tells-names old None world same tells = let some : names_of old ≡ Some tells.told.named = ap names_of tells.is in absurd (let no : ⊥ = cc in no)
@@ -51,9 +50,9 @@ Tells-names old (Some told) world same tells =
     record { told = told; is = refl; named = named ∙ tells.named }
 
 -- writing what is held changes nothing
-pub part_same : (files : Option Files) (working : Working) (line : List ℕ) (all_old all_mid all_new : Option (List ℕ))
-    → PartBy files working line all_old all_mid → all_new ≡ all_mid → PartBy files working line all_old all_new
-part_same files working line all_old all_mid all_new by same = subst (λ all. PartBy files working line all_old all) (sym same) by
+pub part_same : (working : Working) (line : List ℕ) (files : Option Files) (all_old all_mid all_new : Option (List ℕ))
+    → PartBy working line files all_old all_mid → all_new ≡ all_mid → PartBy working line files all_old all_new
+part_same working line files all_old all_mid all_new by same = subst (λ all. PartBy working line files all_old all) (sym same) by
 
 -- the front of a line's text that was added
 begins_with : (world : World) (state : State) (line : List ℕ) (reading : Result Command LineFault)
@@ -82,9 +81,9 @@ pub record Reached (world : World) (lines : List (List ℕ)) (old all : Option (
 
 module _ (world : World) (lines : List (List ℕ)) (old : Option (List ℕ)) (ticks_old : ℕ) where
   -- before the first line
-  pub Performing-start : (working : Working) (text : List ℕ) → StandsFor working start → text ≡ []
-      → Performing world lines lines working old (append_known old text) ticks_old ticks_old
-  Performing-start working text stands none = record {
+  pub Performing-start : (files : Option Files) (working : Working) (text : List ℕ) → StandsFor files working start → text ≡ []
+      → Performing world lines lines files working old (append_known old text) ticks_old ticks_old
+  Performing-start files working text stands none = record {
     done = [];
     lines_are = refl;
     text = [];
@@ -96,13 +95,13 @@ module _ (world : World) (lines : List (List ℕ)) (old : Option (List ℕ)) (ti
   }
 
   -- after the next line
-  pub Performing-next : (files : Option Files) (left more : List (List ℕ)) (line : List ℕ) (working next : Working)
+  pub Performing-next : (files mid : Option Files) (left more : List (List ℕ)) (line : List ℕ) (working next : Working)
       (all_mid all_new : Option (List ℕ)) (ticks_mid ticks_new : ℕ)
-      → Performing world lines left working old all_mid ticks_old ticks_mid → left ≡ line ∷ more → Tells files world
-      → GoesBy files working line all_mid all_new ticks_mid ticks_new next
-      → Performing world lines more next old all_new ticks_old ticks_new
-  Performing-next files left more line working next all_mid all_new ticks_mid ticks_new so_far first tells by =
-      let advances = by.holds world tells (counted so_far.state) (counted_stands working so_far.state so_far.stands) in
+      → Performing world lines left files working old all_mid ticks_old ticks_mid → left ≡ line ∷ more → Tells files world
+      → GoesBy working line files mid all_mid all_new ticks_mid ticks_new next
+      → Performing world lines more mid next old all_new ticks_old ticks_new
+  Performing-next files mid left more line working next all_mid all_new ticks_mid ticks_new so_far first tells by =
+      let advances = by.holds world tells (counted so_far.state) (counted_stands files working so_far.state so_far.stands) in
       record {
         done = so_far.done ++ line ∷ [];
         lines_are = so_far.lines_are ∙ ap (λ (ls : List (List ℕ)). so_far.done ++ ls) first ∙ sym (append_assoc so_far.done (line ∷ []) more);
@@ -116,15 +115,15 @@ module _ (world : World) (lines : List (List ℕ)) (old : Option (List ℕ)) (ti
       }
 
   -- after some of what is held was written
-  pub Performing-same : (left : List (List ℕ)) (working : Working) (all_mid all_new : Option (List ℕ)) (ticks : ℕ)
-      → Performing world lines left working old all_mid ticks_old ticks → all_new ≡ all_mid
-      → Performing world lines left working old all_new ticks_old ticks
-  Performing-same left working all_mid all_new ticks so_far same = subst (λ all. Performing world lines left working old all ticks_old ticks) (sym same) so_far
+  pub Performing-same : (left : List (List ℕ)) (files : Option Files) (working : Working) (all_mid all_new : Option (List ℕ)) (ticks : ℕ)
+      → Performing world lines left files working old all_mid ticks_old ticks → all_new ≡ all_mid
+      → Performing world lines left files working old all_new ticks_old ticks
+  Performing-same left files working all_mid all_new ticks so_far same = subst (λ all. Performing world lines left files working old all ticks_old ticks) (sym same) so_far
 
   -- a run that stops between two lines
-  pub Reached-between : (left : List (List ℕ)) (working : Working) (all : Option (List ℕ)) (ticks : ℕ)
-      → Performing world lines left working old all ticks_old ticks → Reached world lines old all ticks_old ticks
-  Reached-between left working all ticks so_far = record {
+  pub Reached-between : (left : List (List ℕ)) (files : Option Files) (working : Working) (all : Option (List ℕ)) (ticks : ℕ)
+      → Performing world lines left files working old all ticks_old ticks → Reached world lines old all ticks_old ticks
+  Reached-between left files working all ticks so_far = record {
     done = so_far.done;
     left = left;
     lines_are = so_far.lines_are;
@@ -140,11 +139,11 @@ module _ (world : World) (lines : List (List ℕ)) (old : Option (List ℕ)) (ti
   -- a run that stops within a line
   pub Reached-within : (files : Option Files) (left more : List (List ℕ)) (line : List ℕ) (working : Working)
       (all_mid all_new : Option (List ℕ)) (ticks_mid ticks_new : ℕ)
-      → Performing world lines left working old all_mid ticks_old ticks_mid → left ≡ line ∷ more → Tells files world
-      → PartBy files working line all_mid all_new → ticks_new ≤ ticks_mid + 1
+      → Performing world lines left files working old all_mid ticks_old ticks_mid → left ≡ line ∷ more → Tells files world
+      → PartBy working line files all_mid all_new → ticks_new ≤ ticks_mid + 1
       → Reached world lines old all_new ticks_old ticks_new
   Reached-within files left more line working all_mid all_new ticks_mid ticks_new so_far first tells by ticked =
-      let went = by.holds world tells (counted so_far.state) (counted_stands working so_far.state so_far.stands) in
+      let went = by.holds world tells (counted so_far.state) (counted_stands files working so_far.state so_far.stands) in
       record {
         done = so_far.done;
         left = line ∷ more;
@@ -186,11 +185,11 @@ module _ (world : World) (lines : List (List ℕ)) (old : Option (List ℕ)) (ti
   -- a run that stops where the shelf failed, after all that is held was written
   pub Performing-stopped : (files : Option Files) (left more : List (List ℕ)) (line : List ℕ) (working : Working)
       (all_mid new : Option (List ℕ)) (held : List ℕ) (ticks_mid : ℕ)
-      → Performing world lines left working old all_mid ticks_old ticks_mid → left ≡ line ∷ more → Tells files world
-      → PartBy files working line all_mid (append_known new held) → UsesBy working line → held ≡ []
+      → Performing world lines left files working old all_mid ticks_old ticks_mid → left ≡ line ∷ more → Tells files world
+      → PartBy working line files all_mid (append_known new held) → UsesBy working line files → held ≡ []
       → StopsAtFile world lines old new
   Performing-stopped files left more line working all_mid new held ticks_mid so_far first tells by uses none =
-      let stands = counted_stands working so_far.state so_far.stands in
+      let stands = counted_stands files working so_far.state so_far.stands in
       let went = by.holds world tells (counted so_far.state) stands in
       record {
         done = so_far.done;
@@ -209,10 +208,10 @@ module _ (world : World) (lines : List (List ℕ)) (old : Option (List ℕ)) (ti
       }
 
   -- a run that performed all lines and wrote all text
-  pub Performing-ended : (left : List (List ℕ)) (working : Working) (new : Option (List ℕ)) (held : List ℕ) (ticks : ℕ)
-      → Performing world lines left working old (append_known new held) ticks_old ticks → left ≡ [] → held ≡ []
+  pub Performing-ended : (left : List (List ℕ)) (files : Option Files) (working : Working) (new : Option (List ℕ)) (held : List ℕ) (ticks : ℕ)
+      → Performing world lines left files working old (append_known new held) ticks_old ticks → left ≡ [] → held ≡ []
       → Ended world lines old new ticks_old ticks working.refused
-  Performing-ended left working new held ticks so_far none all =
+  Performing-ended left files working new held ticks so_far none all =
       let whole : lines ≡ so_far.done = so_far.lines_are ∙ ap (λ (ls : List (List ℕ)). so_far.done ++ ls) none ∙ append-nil so_far.done in
       record {
         text = so_far.text;

@@ -1,25 +1,31 @@
 -- The text of a script, by evaluating each line from scratch: from the world, what the lines before have left, and the line itself.
-use Rattle.std.specs.Prelude.{◌≡◌, ℕ, ◌+◌, nat_eq, false, List, [], ◌∷◌, ◌++◌, codes}
-use Rattle.std.specs.List.{slice_split, count_by, starts_with}
+use Rattle.std.specs.Prelude.{◌≡◌, ℕ, ◌+◌, nat_eq, Bool, true, false, is_some, cond, List, [], ◌∷◌, ◌++◌}
+use Rattle.std.specs.Cmp.Lexicographic.{pointwise}
+use Rattle.std.specs.declared.option.Option.{Option}
+use Rattle.std.specs.declared.option.Option.TheVariants.{Some, None}
 use Rattle.std.specs.declared.result.Result.{Result}
 use Rattle.std.specs.declared.result.Result.TheVariants.{Ok, Err}
+use Rattle.path_model.specs.declared.key.Key.{Key}
 use Rattle.path_model.specs.declared.role.Role.{Role}
 use Rattle.path_model.specs.declared.verdict.Verdict.{Verdict}
 use Rattle.path_model.specs.Trail.{path_of}
 use Rattle.path_model.specs.RightVerdict.{IsRight}
 use Rattle.path_model.specs.Authority.{Table}
-use Rattle.path_model.specs.CurrentTable.{Parts, no_parts, IsCurrentTable}
-use Rattle.vap_table.specs.declared.change.TableChange.{TableChange}
+use Rattle.path_model.specs.CurrentTable.{Parts, IsCurrentTable}
 use Rattle.vap_table.specs.declared.change.TableChange.TheVariants.{Filter as FilterByHand, Unfilter as UnfilterByHand, Assert as AssertByHand, Unassert as UnassertByHand}
-use Rattle.vap_table.specs.Change.{Alters}
+use Rattle.rib_store.specs.State.{State as Analysis, no_state, AreRows}
+use Rattle.analyser.specs.declared.event.Event.{Event}
+use Rattle.analyser.specs.declared.event.Event.TheVariants.{Table as TableEvent, Role as RoleEvent, DefaultRole}
+use Rattle.analyser.specs.Events.{Happens}
 use Rattle.av_text.specs.VerdictText.{verdict_text}
 use Rattle.script_lines.specs.declared.command.Command.{Command}
-use Rattle.script_lines.specs.declared.command.Command.TheVariants.{Idle, Aspa, Aspa64, Slurm, Filter, Unfilter, Assert, Unassert, Judge}
+use Rattle.script_lines.specs.declared.command.Command.TheVariants.{Idle, Aspa, Aspa64, Slurm, Filter, Unfilter, Assert, Unassert, Role as SetRole, RoleDefault, Open, Take, Judge, Report}
 use Rattle.script_lines.specs.declared.command.LineFault.{LineFault}
 use Rattle.script_lines.specs.declared.command.LineFault.TheVariants.{Long, Command as NoCommand, Words, Number, NoMemory}
 use Rattle.script_lines.specs.Grammar.{IsReading}
-use Rattle.av_text.specs.Lines.{is_lf}
 use Rattle.report_text.specs.Refusals.{AnyPlace, of_line, of_unit, refusal_text}
+use Rattle.stream_lines.specs.Rows.{rows_text}
+use Rattle.stream_lines.specs.Streams.{Dump, Taking, Asking, TakesUnits}
 use Rattle.aspa_top.specs.declared.loading.FileKind.{FileKind}
 use Rattle.aspa_top.specs.declared.loading.FileKind.TheVariants.{Payloads, PayloadLines, Slurm as SlurmFile}
 use Rattle.aspa_top.specs.declared.loading.Outcome.{Outcome}
@@ -27,16 +33,24 @@ use Rattle.aspa_top.specs.declared.loading.Outcome.TheVariants.{NoFile, Long as 
 use Rattle.aspa_top.specs.Loading.{ComesOf, unit_name}
 use Rattle.aspa_top.specs.World.{World}
 
--- What some lines have left: the parts of which the current table is made, and how many lines, refused lines and judgements there were.
+-- What some lines have left: the analysis, which names are those of attestation sources and which those of dumps, and how many lines,
+-- passed records, refused lines and judgements there were.
 pub record State : Type 0 where
-  pub parts : Parts
+  pub analysis : Analysis
+  pub sources : List ℕ → Bool
+  pub dumps : List ℕ → Option Dump
   pub lines : ℕ
+  pub passed : ℕ
   pub refused : ℕ
   pub judgements : ℕ
 
 -- before the first line
 abbrev pub start : State
-start = record { parts = no_parts; lines = 0; refused = 0; judgements = 0 }
+start = record { analysis = no_state; sources = λ name. false; dumps = λ name. None; lines = 0; passed = 0; refused = 0; judgements = 0 }
+
+-- whether two names are the same
+abbrev pub same_name : List ℕ → List ℕ → Bool
+same_name name other = pointwise nat_eq name other
 
 -- the number of the cause for which a line is refused; want of memory is none
 abbrev pub line_cause : LineFault → ℕ
@@ -46,6 +60,116 @@ line_cause Words = 33
 line_cause Number = 34
 line_cause NoMemory = 0
 
+-- the line is refused, at this place for this cause, and nothing else changes
+abbrev pub Refuses : State → AnyPlace → ℕ → List ℕ → State → Type 0
+Refuses state place cause text next =
+    (text ≡ refusal_text state.lines place cause) × (next ≡ record state { refused = state.refused + 1 })
+
+-- nothing is written, an event happens, and nothing else changes
+pub record Causes (state : State) (event : Event) (text : List ℕ) (next : State) : Type 0 where
+  pub silent : text ≡ []
+  pub analysis : Analysis
+  pub happens : Happens state.analysis event analysis
+  pub left : next ≡ record state { analysis = analysis }
+
+-- ---- `aspa NAME FILE`, `aspa64 NAME FILE`, `slurm FILE`
+
+-- whether the name that the file would go under is a dump's
+abbrev pub is_taken : State → FileKind → Bool
+is_taken state (Payloads name) = is_some (state.dumps name)
+is_taken state (PayloadLines name) = is_some (state.dumps name)
+is_taken state SlurmFile = false
+
+-- the names of sources with the one that a good file goes under
+abbrev pub with_name : FileKind → (List ℕ → Bool) → List ℕ → Bool
+with_name (Payloads name) sources other = cond (same_name name other) true (sources other)
+with_name (PayloadLines name) sources other = cond (same_name name other) true (sources other)
+with_name SlurmFile sources other = sources other
+
+-- a good file changes the table, and its name is in use
+pub record Holds (state : State) (kind : FileKind) (event : Event) (text : List ℕ) (next : State) : Type 0 where
+  pub silent : text ≡ []
+  pub analysis : Analysis
+  pub happens : Happens state.analysis event analysis
+  pub left : next ≡ record state { analysis = analysis; sources = with_name kind state.sources }
+
+-- What comes of a file is taken: a good one changes the table, and by another one the line is refused.
+abbrev pub TakesFile : State → FileKind → Outcome → List ℕ → State → Type 0
+TakesFile state kind NoFile text next = Refuses state of_line 37 text next
+TakesFile state kind FileLong text next = Refuses state of_line 40 text next
+TakesFile state kind (Flawed flaw) text next = Refuses state (of_unit (unit_name kind) flaw.unit) flaw.cause text next
+TakesFile state kind (Good change) text next = Holds state kind (TableEvent change) text next
+
+-- the file of this name is loaded
+pub record LoadsFile (world : World) (state : State) (kind : FileKind) (file text : List ℕ) (next : State) : Type 0 where
+  pub outcome : Outcome
+  pub comes : ComesOf kind (world.named file) outcome
+  pub takes : TakesFile state kind outcome text next
+
+-- unless its own name is taken
+abbrev pub LoadsUnless : Bool → World → State → FileKind → List ℕ → List ℕ → State → Type 0
+LoadsUnless true world state kind file text next = Refuses state of_line 35 text next
+LoadsUnless false world state kind file text next = LoadsFile world state kind file text next
+
+abbrev pub Loads : World → State → FileKind → List ℕ → List ℕ → State → Type 0
+Loads world state kind file text next = LoadsUnless (is_taken state kind) world state kind file text next
+
+-- ---- `open NAME FILE`
+
+-- a dump that was just opened
+abbrev pub new_dump : List ℕ → Dump
+new_dump bytes = record { left = bytes; taken = 0; peers = None; over = false }
+
+-- the dumps with this one under its name
+abbrev pub with_dump : List ℕ → Dump → (List ℕ → Option Dump) → List ℕ → Option Dump
+with_dump name dump dumps other = cond (same_name name other) (Some dump) (dumps other)
+
+-- whether a source has the name, the dump of that name, and what the world has under the file's name
+abbrev pub OpensNamed : Bool → Option Dump → Option (List ℕ) → State → List ℕ → List ℕ → State → Type 0
+OpensNamed true dump named state name text next = Refuses state of_line 35 text next
+OpensNamed false (Some dump) named state name text next = Refuses state of_line 35 text next
+OpensNamed false None None state name text next = Refuses state of_line 37 text next
+OpensNamed false None (Some bytes) state name text next =
+    (text ≡ []) × (next ≡ record state { dumps = with_dump name (new_dump bytes) state.dumps })
+
+abbrev pub Opens : World → State → List ℕ → List ℕ → List ℕ → State → Type 0
+Opens world state name file text next = OpensNamed (state.sources name) (state.dumps name) (world.named file) state name text next
+
+-- ---- `take NAME N`
+
+abbrev pub asking_of : State → List ℕ → Asking
+asking_of state name = record { line = state.lines; name = name }
+
+abbrev pub taking_of : State → Dump → Taking
+taking_of state dump = record { dump = dump; state = state.analysis; passed = state.passed; refused = state.refused }
+
+abbrev pub after_taking : State → List ℕ → Taking → State
+after_taking state name end = record state {
+  analysis = end.state;
+  dumps = with_dump name end.dump state.dumps;
+  passed = end.passed;
+  refused = end.refused;
+}
+
+-- so many units are taken from the dump, or all that come until it is over
+pub record TakesAll (state : State) (name : List ℕ) (count : ℕ) (dump : Dump) (text : List ℕ) (next : State) : Type 0 where
+  pub end : Taking
+  pub takes : TakesUnits (asking_of state name) count (taking_of state dump) text end
+  pub next_is : next ≡ after_taking state name end
+
+abbrev pub TakesOpen : Bool → State → List ℕ → ℕ → Dump → List ℕ → State → Type 0
+TakesOpen true state name count dump text next = Refuses state of_line 38 text next
+TakesOpen false state name count dump text next = TakesAll state name count dump text next
+
+abbrev pub TakesNamed : Option Dump → State → List ℕ → ℕ → List ℕ → State → Type 0
+TakesNamed None state name count text next = Refuses state of_line 36 text next
+TakesNamed (Some dump) state name count text next = TakesOpen dump.over state name count dump text next
+
+abbrev pub Takes : State → List ℕ → ℕ → List ℕ → State → Type 0
+Takes state name count text next = TakesNamed (state.dumps name) state name count text next
+
+-- ---- `judge ROLE NEIGHBOUR AS..` and `report`
+
 -- the text is the right verdict of the path by the current table of these parts
 pub record IsJudged (parts : Parts) (role : Role) (neighbour : ℕ) (path : List ℕ) (text : List ℕ) : Type 0 where
   pub table : Table
@@ -54,30 +178,14 @@ pub record IsJudged (parts : Parts) (role : Role) (neighbour : ℕ) (path : List
   pub right : IsRight table role neighbour (path_of false path) verdict
   pub text_is : text ≡ verdict_text verdict ++ 10 ∷ []
 
--- the line is refused, at this place for this cause, and nothing else changes
-abbrev pub Refuses : State → AnyPlace → ℕ → List ℕ → State → Type 0
-Refuses state place cause text next =
-    (text ≡ refusal_text state.lines place cause) × (next ≡ record state { refused = state.refused + 1 })
+-- the text has one line for each route in key order, with its current verdict
+pub record Reports (state : State) (text : List ℕ) (next : State) : Type 0 where
+  pub rows : List (Key × Verdict)
+  pub are : AreRows state.analysis rows
+  pub text_is : text ≡ rows_text rows
+  pub left : next ≡ state
 
--- nothing is written, the parts are changed, and nothing else changes
-pub record Changes (state : State) (change : TableChange) (text : List ℕ) (next : State) : Type 0 where
-  pub silent : text ≡ []
-  pub parts : Parts
-  pub altered : Alters state.parts change parts
-  pub left : next ≡ record state { parts = parts }
-
--- What comes of a file is taken: a good one changes the table, and by another one the line is refused.
-abbrev pub Takes : State → FileKind → Outcome → List ℕ → State → Type 0
-Takes state kind NoFile text next = Refuses state of_line 37 text next
-Takes state kind FileLong text next = Refuses state of_line 40 text next
-Takes state kind (Flawed flaw) text next = Refuses state (of_unit (unit_name kind) flaw.unit) flaw.cause text next
-Takes state kind (Good change) text next = Changes state change text next
-
--- the file of this name is loaded
-pub record Loads (world : World) (state : State) (kind : FileKind) (file text : List ℕ) (next : State) : Type 0 where
-  pub outcome : Outcome
-  pub comes : ComesOf kind (world.named file) outcome
-  pub takes : Takes state kind outcome text next
+-- ---- one line
 
 -- What a line that was read so writes, and what it leaves. The state counts the line already.
 abbrev pub Does : World → State → Result Command LineFault → List ℕ → State → Type 0
@@ -85,12 +193,17 @@ Does world state (Ok Idle) text next = (text ≡ []) × (next ≡ state)
 Does world state (Ok (Aspa name file)) text next = Loads world state (Payloads name) file text next
 Does world state (Ok (Aspa64 name file)) text next = Loads world state (PayloadLines name) file text next
 Does world state (Ok (Slurm file)) text next = Loads world state SlurmFile file text next
-Does world state (Ok (Filter customer)) text next = Changes state (FilterByHand customer) text next
-Does world state (Ok (Unfilter customer)) text next = Changes state (UnfilterByHand customer) text next
-Does world state (Ok (Assert customer providers)) text next = Changes state (AssertByHand customer providers) text next
-Does world state (Ok (Unassert customer)) text next = Changes state (UnassertByHand customer) text next
+Does world state (Ok (Filter customer)) text next = Causes state (TableEvent (FilterByHand customer)) text next
+Does world state (Ok (Unfilter customer)) text next = Causes state (TableEvent (UnfilterByHand customer)) text next
+Does world state (Ok (Assert customer providers)) text next = Causes state (TableEvent (AssertByHand customer providers)) text next
+Does world state (Ok (Unassert customer)) text next = Causes state (TableEvent (UnassertByHand customer)) text next
+Does world state (Ok (SetRole asn role)) text next = Causes state (RoleEvent asn role) text next
+Does world state (Ok (RoleDefault role)) text next = Causes state (DefaultRole role) text next
+Does world state (Ok (Open name file)) text next = Opens world state name file text next
+Does world state (Ok (Take name count)) text next = Takes state name count text next
 Does world state (Ok (Judge role neighbour path)) text next =
-    IsJudged state.parts role neighbour path text × (next ≡ record state { judgements = state.judgements + 1 })
+    IsJudged state.analysis.parts role neighbour path text × (next ≡ record state { judgements = state.judgements + 1 })
+Does world state (Ok Report) text next = Reports state text next
 Does world state (Err fault) text next = Refuses state of_line (line_cause fault) text next
 
 -- every line counts
@@ -135,9 +248,10 @@ UsesFile state (Ok (Filter customer)) = ⊥
 UsesFile state (Ok (Unfilter customer)) = ⊥
 UsesFile state (Ok (Assert customer providers)) = ⊥
 UsesFile state (Ok (Unassert customer)) = ⊥
+UsesFile state (Ok (SetRole asn role)) = ⊥
+UsesFile state (Ok (RoleDefault role)) = ⊥
+UsesFile state (Ok (Open name file)) = Unit {0}
+UsesFile state (Ok (Take name count)) = (dump : Dump) × (state.dumps name ≡ Some dump)
 UsesFile state (Ok (Judge role neighbour path)) = ⊥
+UsesFile state (Ok Report) = ⊥
 UsesFile state (Err fault) = ⊥
-
--- how many lines of a text begin with `! `
-abbrev pub refusals_in : List ℕ → ℕ
-refusals_in text = count_by (λ line. starts_with nat_eq line (codes "! ")) (slice_split is_lf text)

@@ -5,5 +5,4 @@ pub mod Loading
 pub mod LoadingSteps
 pub mod Performing
 pub mod Program
-pub mod Stops
 pub mod World

@@ -1,50 +1,131 @@
 -- How the program's working state stands for the evaluation of the lines so far; private contracts alone cite it.
-use Rattle.std.specs.Prelude.{◌≡◌, ℕ, ◌+◌, ◌≤◌, List, ◌++◌, length}
+use Rattle.std.specs.Prelude.{◌≡◌, ◌≢◌, ℕ, ◌+◌, ◌*◌, ◌<◌, ◌≤◌, nat_eq, is_some, Bool, true, false, cond, List, ◌++◌, length}
+use Rattle.std.specs.Cmp.Lexicographic.{pointwise}
 use Rattle.std.specs.declared.result.Result.{Result}
+use Rattle.std.specs.declared.result.Result.TheVariants.{Ok, Err}
 use Rattle.std.specs.declared.option.Option.{Option}
+use Rattle.std.specs.declared.option.Option.TheVariants.{Some, None}
 use Rattle.std.specs.Io.KnownBytes.{append_known}
+use Rattle.indexmap.specs.IndexMap.{IndexMap, get}
+use Rattle.indexmap.specs.IndexSet.{IndexSet, contains}
 use Rattle.av_base.specs.Files.{Files}
 use Rattle.script_lines.specs.declared.command.Command.{Command}
-use Rattle.script_lines.specs.declared.command.Command.TheVariants.{Idle, Aspa, Aspa64, Slurm, Filter, Unfilter, Assert, Unassert, Judge}
+use Rattle.script_lines.specs.declared.command.Command.TheVariants.{Idle, Aspa, Aspa64, Slurm, Filter, Unfilter, Assert, Unassert, Role as SetRole, RoleDefault, Open, Take, Judge, Report}
 use Rattle.script_lines.specs.declared.command.LineFault.{LineFault}
+use Rattle.script_lines.specs.Grammar.{IsReading}
 use Rattle.path_model.specs.declared.role.Role.{Role}
 use Rattle.path_model.specs.CurrentTable.{Parts}
 use Rattle.vap_table.specs.declared.change.TableChange.{TableChange}
-use Rattle.vap_table.specs.Change.{Alters}
-use Rattle.aspa_top.specs.declared.working.Working.{Working}
-use Rattle.script_lines.specs.Grammar.{IsReading}
-use Rattle.aspa_top.specs.World.{World, Tells}
+use Rattle.rib_store.specs.State.{State as Analysis}
+use Rattle.analyser.specs.declared.event.Event.{Event}
+use Rattle.analyser.specs.declared.event.Event.TheVariants.{Table as TableEvent}
+use Rattle.analyser.specs.Events.{Happens}
+use Rattle.stream_lines.specs.Held.{HeldDump}
+use Rattle.stream_lines.specs.Holding.{HoldsDump}
+use Rattle.stream_lines.specs.Streams.{Dump}
 use Rattle.aspa_top.specs.declared.loading.FileKind.{FileKind}
-use Rattle.aspa_top.specs.Evaluation.{State, start, IsJudged, Loads, Does, Evaluates, UsesFile}
+use Rattle.aspa_top.specs.declared.loading.FileKind.TheVariants.{Payloads, PayloadLines, Slurm as SlurmFile}
+use Rattle.aspa_top.specs.declared.working.Working.{Working}
+use Rattle.aspa_top.specs.World.{World, Tells}
+use Rattle.aspa_top.specs.Evaluation.{State, start, same_name, IsJudged, Loads, Does, Evaluates, UsesFile}
 
--- the path of a judgement isn't longer than a path can be
-abbrev pub HasShortPath : Command → Type 0
-HasShortPath Idle = Unit {0}
-HasShortPath (Aspa name file) = Unit {0}
-HasShortPath (Aspa64 name file) = Unit {0}
-HasShortPath (Slurm file) = Unit {0}
-HasShortPath (Filter customer) = Unit {0}
-HasShortPath (Unfilter customer) = Unit {0}
-HasShortPath (Assert customer providers) = Unit {0}
-HasShortPath (Unassert customer) = Unit {0}
-HasShortPath (Judge role neighbour path) = length path ≤ 65535
+-- the most units that a line takes
+abbrev pub most : ℕ
+most = 100000000
+
+-- the path of a judgement isn't longer than a path can be, and a line takes no more units than it may
+abbrev pub IsWithinBounds : Command → Type 0
+IsWithinBounds Idle = Unit {0}
+IsWithinBounds (Aspa name file) = Unit {0}
+IsWithinBounds (Aspa64 name file) = Unit {0}
+IsWithinBounds (Slurm file) = Unit {0}
+IsWithinBounds (Filter customer) = Unit {0}
+IsWithinBounds (Unfilter customer) = Unit {0}
+IsWithinBounds (Assert customer providers) = Unit {0}
+IsWithinBounds (Unassert customer) = Unit {0}
+IsWithinBounds (SetRole asn role) = Unit {0}
+IsWithinBounds (RoleDefault role) = Unit {0}
+IsWithinBounds (Open name file) = Unit {0}
+IsWithinBounds (Take name count) = count ≤ most
+IsWithinBounds (Judge role neighbour path) = length path ≤ 65535
+IsWithinBounds Report = Unit {0}
 
 -- the verdict of a path is added, by the table of these parts
 abbrev pub Judges : Parts → Role → ℕ → List ℕ → List ℕ → List ℕ → Type 0
 Judges parts role neighbour path text_old text_new =
     (text : List ℕ) × IsJudged parts role neighbour path text × (text_new ≡ text_old ++ text)
 
--- the table is changed, and nothing else
-pub record ChangesTable (working : Working) (change : TableChange) (next : Working) : Type 0 where
-  pub parts : Parts
-  pub altered : Alters working.table change parts
-  pub left : next ≡ record working { table = parts }
+-- an event happened, and nothing else
+pub record Happened (working : Working) (event : Event) (next : Working) : Type 0 where
+  pub analysis : Analysis
+  pub happens : Happens working.analyser event analysis
+  pub left : next ≡ record working { analyser = analysis }
+
+-- the dump that is open under a name
+abbrev pub dump_in : Working → List ℕ → Option HeldDump
+dump_in working name = get (pointwise nat_eq) working.dumps name
+
+-- whether a source has the name
+abbrev pub has_source : Working → List ℕ → Bool
+has_source working name = contains (pointwise nat_eq) working.sources name
+
+-- The name of a source is noted, and nothing else.
+pub record Names (working : Working) (name : List ℕ) (next : Working) : Type 0 where
+  pub sources : (other : List ℕ) → has_source next other ≡ cond (same_name name other) true (has_source working other)
+  pub left : next ≡ record working { sources = next.sources }
+
+-- a dump is kept under its name, and nothing else
+pub record NamesDump (working : Working) (name : List ℕ) (dump : HeldDump) (next : Working) : Type 0 where
+  pub dumps : (other : List ℕ) → dump_in next other ≡ cond (same_name name other) (Some dump) (dump_in working other)
+  pub left : next ≡ record working { dumps = next.dumps }
+
+-- the same where a good file goes under a name
+abbrev pub NamesBy : FileKind → Working → Working → Type 0
+NamesBy (Payloads name) working next = Names working name next
+NamesBy (PayloadLines name) working next = Names working name next
+NamesBy SlurmFile working next = next ≡ working
+
+-- the change of a good file is made, and its name is noted
+pub record Held (working : Working) (kind : FileKind) (change : TableChange) (next : Working) : Type 0 where
+  pub mid : Working
+  pub happened : Happened working (TableEvent change) mid
+  pub names : NamesBy kind mid next
+
+-- whether the name that a file would go under is a dump's
+abbrev pub IsTakenIn : Working → FileKind → Bool → Type 0
+IsTakenIn working (Payloads name) taken = taken ≡ is_some (dump_in working name)
+IsTakenIn working (PayloadLines name) taken = taken ≡ is_some (dump_in working name)
+IsTakenIn working SlurmFile taken = taken ≡ false
+
+-- a dump is open under the name, and not over
+pub record IsOpenIn (working : Working) (name : List ℕ) : Type 0 where
+  pub dump : HeldDump
+  pub here : dump_in working name ≡ Some dump
+  pub yet : dump.over ≡ false
+
+-- ---- What the working state stands for
+
+abbrev pub HoldsOr : Option Files → Option HeldDump → Option Dump → Type 0
+HoldsOr files None None = Unit {0}
+HoldsOr files None (Some dump) = ⊥
+HoldsOr files (Some kept) None = ⊥
+HoldsOr files (Some kept) (Some dump) = HoldsDump files kept dump
 
 -- the working state keeps what the evaluation has left
-pub record StandsFor (working : Working) (state : State) : Type 0 where
-  pub parts : working.table ≡ state.parts
+pub record StandsFor (files : Option Files) (working : Working) (state : State) : Type 0 where
+  pub analysis : working.analyser ≡ state.analysis
+  pub sources : (name : List ℕ) → has_source working name ≡ state.sources name
+  pub dumps : (name : List ℕ) → HoldsOr files (dump_in working name) (state.dumps name)
   pub lines : working.lines ≡ state.lines
+  pub passed : working.passed ≡ state.passed
   pub refused : working.refused ≡ state.refused
+
+-- Whatever the world: after so many lines each dump's file was opened, no two share one, and the counts are small.
+pub record IsSound (opened lines : ℕ) (working : Working) : Type 0 where
+  pub given : (name : List ℕ) (dump : HeldDump) → dump_in working name ≡ Some dump → (dump.file < opened) × (dump.taken ≤ lines * most)
+  pub apart : (one other : List ℕ) (a b : HeldDump) → one ≢ other → dump_in working one ≡ Some a → dump_in working other ≡ Some b → a.file ≢ b.file
+  pub passed : working.passed ≤ lines * most
+  pub refused : working.refused ≤ lines * most
 
 -- the line is counted
 abbrev pub counted_in : Working → Working
@@ -53,34 +134,41 @@ counted_in working = record working { lines = working.lines + 1 }
 -- ---- One line. `all` is what was written, and behind it what is held.
 
 -- a line that was read so is performed: its text is added, each judgement ticks, and the working state goes on
-pub record Advances (world : World) (state : State) (reading : Result Command LineFault) (all_old all_new : Option (List ℕ))
-    (ticks_old ticks_new : ℕ) (next : Working) : Type 0 where
+pub record Advances (world : World) (state : State) (reading : Result Command LineFault) (files : Option Files)
+    (all_old all_new : Option (List ℕ)) (ticks_old ticks_new : ℕ) (next : Working) : Type 0 where
   pub text : List ℕ
   pub after : State
   pub does : Does world state reading text after
   pub added : all_new ≡ append_known all_old text
-  pub stands : StandsFor next after
+  pub stands : StandsFor files next after
   pub ticked : ticks_new + state.judgements ≡ ticks_old + after.judgements
 
 -- in whatever world the shelf tells, and from whatever evaluation the working state stands for
-abbrev pub Goes : Option Files → Working → Result Command LineFault → Option (List ℕ) → Option (List ℕ) → ℕ → ℕ → Working → Type 0
-Goes files working reading all_old all_new ticks_old ticks_new next =
-    (world : World) → Tells files world → (state : State) → StandsFor working state
-    → Advances world state reading all_old all_new ticks_old ticks_new next
+abbrev pub Goes : Working → Result Command LineFault → Option Files → Option Files → Option (List ℕ) → Option (List ℕ) → ℕ → ℕ → Working
+    → Type 0
+Goes working reading files_old files_new all_old all_new ticks_old ticks_new next =
+    (world : World) → Tells files_old world → (state : State) → StandsFor files_old working state
+    → Advances world state reading files_new all_old all_new ticks_old ticks_new next
+
+-- the same for a line whose text is held in memory, whatever was written before
+abbrev pub Steps : Working → Result Command LineFault → Option Files → Option Files → List ℕ → List ℕ → Working → Type 0
+Steps working reading files_old files_new text_old text_new next = (written : Option (List ℕ)) (ticks : ℕ)
+    → Goes working reading files_old files_new (append_known written text_old) (append_known written text_new) ticks ticks next
 
 -- a file is loaded: the text is added to what is held, and the working state goes on
-pub record Loaded (world : World) (state : State) (kind : FileKind) (file text_old text_new : List ℕ) (next : Working) : Type 0 where
+pub record Loaded (world : World) (state : State) (kind : FileKind) (file : List ℕ) (files : Option Files)
+    (text_old text_new : List ℕ) (next : Working) : Type 0 where
   pub text : List ℕ
   pub after : State
   pub loads : Loads world state kind file text after
   pub added : text_new ≡ text_old ++ text
-  pub stands : StandsFor next after
+  pub stands : StandsFor files next after
   pub judged : after.judgements ≡ state.judgements
 
-abbrev pub LoadsAs : Option Files → Working → FileKind → List ℕ → List ℕ → List ℕ → Working → Type 0
-LoadsAs files working kind file text_old text_new next =
-    (world : World) → Tells files world → (state : State) → StandsFor working state
-    → Loaded world state kind file text_old text_new next
+abbrev pub LoadsAs : Working → FileKind → List ℕ → Option Files → Option Files → List ℕ → List ℕ → Working → Type 0
+LoadsAs working kind file files_old files_new text_old text_new next =
+    (world : World) → Tells files_old world → (state : State) → StandsFor files_old working state
+    → Loaded world state kind file files_new text_old text_new next
 
 -- a line that was read so went some way: a front of its own text was added
 pub record Went (world : World) (state : State) (reading : Result Command LineFault) (all_old all_new : Option (List ℕ)) : Type 0 where
@@ -90,13 +178,13 @@ pub record Went (world : World) (state : State) (reading : Result Command LineFa
   pub does : Does world state reading (part ++ rest) after
   pub added : all_new ≡ append_known all_old part
 
-abbrev pub GoesPart : Option Files → Working → Result Command LineFault → Option (List ℕ) → Option (List ℕ) → Type 0
-GoesPart files working reading all_old all_new =
-    (world : World) → Tells files world → (state : State) → StandsFor working state → Went world state reading all_old all_new
+abbrev pub GoesPart : Working → Result Command LineFault → Option Files → Option (List ℕ) → Option (List ℕ) → Type 0
+GoesPart working reading files all_old all_new =
+    (world : World) → Tells files world → (state : State) → StandsFor files working state → Went world state reading all_old all_new
 
 -- a line that was read so opens or reads a file
-abbrev pub Uses : Working → Result Command LineFault → Type 0
-Uses working reading = (state : State) → StandsFor working state → UsesFile state reading
+abbrev pub Uses : Working → Result Command LineFault → Option Files → Type 0
+Uses working reading files = (state : State) → StandsFor files working state → UsesFile state reading
 
 -- a line was read, and of what it was read as this holds
 pub record ReadAs (line : List ℕ) (P : Result Command LineFault → Type 0) : Type 0 where
@@ -105,20 +193,20 @@ pub record ReadAs (line : List ℕ) (P : Result Command LineFault → Type 0) : 
   pub holds : P reading
 
 -- a line is read, and performed as it was read, once it is counted
-abbrev pub GoesBy : Option Files → Working → List ℕ → Option (List ℕ) → Option (List ℕ) → ℕ → ℕ → Working → Type 0
-GoesBy files working line all_old all_new ticks_old ticks_new next =
-    ReadAs line (λ reading. Goes files (counted_in working) reading all_old all_new ticks_old ticks_new next)
+abbrev pub GoesBy : Working → List ℕ → Option Files → Option Files → Option (List ℕ) → Option (List ℕ) → ℕ → ℕ → Working → Type 0
+GoesBy working line files_old files_new all_old all_new ticks_old ticks_new next =
+    ReadAs line (λ reading. Goes (counted_in working) reading files_old files_new all_old all_new ticks_old ticks_new next)
 
-abbrev pub PartBy : Option Files → Working → List ℕ → Option (List ℕ) → Option (List ℕ) → Type 0
-PartBy files working line all_old all_new = ReadAs line (λ reading. GoesPart files (counted_in working) reading all_old all_new)
+abbrev pub PartBy : Working → List ℕ → Option Files → Option (List ℕ) → Option (List ℕ) → Type 0
+PartBy working line files all_old all_new = ReadAs line (λ reading. GoesPart (counted_in working) reading files all_old all_new)
 
-abbrev pub UsesBy : Working → List ℕ → Type 0
-UsesBy working line = ReadAs line (λ reading. Uses (counted_in working) reading)
+abbrev pub UsesBy : Working → List ℕ → Option Files → Type 0
+UsesBy working line files = ReadAs line (λ reading. Uses (counted_in working) reading files)
 
 -- ---- All lines.
 
 -- the lines so far were evaluated, and all their text is written or held
-pub record Performing (world : World) (lines left : List (List ℕ)) (working : Working) (old all : Option (List ℕ))
+pub record Performing (world : World) (lines left : List (List ℕ)) (files : Option Files) (working : Working) (old all : Option (List ℕ))
     (ticks_old ticks_now : ℕ) : Type 0 where
   pub done : List (List ℕ)
   pub lines_are : lines ≡ done ++ left
@@ -126,5 +214,5 @@ pub record Performing (world : World) (lines left : List (List ℕ)) (working : 
   pub state : State
   pub evaluates : Evaluates world start done text state
   pub added : all ≡ append_known old text
-  pub stands : StandsFor working state
+  pub stands : StandsFor files working state
   pub ticked : ticks_now ≡ ticks_old + state.judgements

@@ -1,8 +1,8 @@
 -- What a run meets outside: what the shelf names.
 use Rattle.std.specs.Prelude.{◌≡◌, ℕ, List, Some}
-use Rattle.std.specs.Option.{option_map}
 use Rattle.std.specs.declared.option.Option.{Option}
 use Rattle.av_base.specs.Files.{Files}
+pub use Rattle.stream_lines.specs.Frames.{names_of}
 
 -- The outside as a run's text depends on it. No line changes it: the bytes of each name stay as they are while the run lasts.
 pub record World : Type 0 where
@@ -13,10 +13,6 @@ pub record Tells (files : Option Files) (world : World) : Type 0 where
   pub told : Files
   pub is : files ≡ Some told
   pub named : told.named ≡ world.named
-
--- what each name holds, where the shelf tells it
-abbrev pub names_of : Option Files → Option (List ℕ → Option (List ℕ))
-names_of files = option_map (λ told. told.named) files
 
 -- the world of a shelf that tells these files
 abbrev pub world_of : Files → World

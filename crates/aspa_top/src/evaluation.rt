@@ -6,12 +6,12 @@ ghost use Rattle.aspa_top.specs.Program.{Ended, StopsAtFile, WentThrough, Writes
 ghost use Rattle.aspa_top.specs.World.{Tells, World, names_of};
 
 use crate::performing::perform_line;
-use crate::stop::Stop;
 use crate::working::Working;
 use av_base::{Shelf, Sink, Steps, pour, pour_piece};
 use av_text::next_line;
 use std::alloc::Global;
 use std::sync::ledger::Ledger;
+use stream_lines::Stop;
 
 /// Performs the lines of a whole script, or of the front of one, and answers how many were refused. Their text is held, and written in
 /// pieces. Where the shelf fails, the text before that is written first.
@@ -23,7 +23,7 @@ pub(crate) fn evaluate<F: Shelf, W: Sink, L: Ledger>(
     out: &mut W,
     steps: &mut Steps<L>,
 ) -> Result<u64, Stop>
-    requires { length script.now < 2 ^ 62 }
+    requires { length script.now < 2 ^ 31 }
     ensures ended { IfOk result (λ refusals. (world : World) → Tells (F.files shelf.old) world
         → Ended world (lines_in whole script.now) (W.written out.old) (W.written out.new)
         steps.old steps.new refusals) }

@@ -7,13 +7,16 @@
 //! Begin reading there.
 #![tactic(auto)]
 
+mod acting;
+mod dumps;
 mod evaluation;
+mod judging;
 mod laws;
 mod loading;
 mod performing;
 mod program;
 mod script;
-mod stop;
+mod tables;
 mod working;
 
 pub use laws::{each_script_has_one_text, runs_write_fronts};

@@ -1,19 +1,19 @@
 //! Files that a line names: read whole, and understood.
-ghost use Rattle.std.specs.Prelude.{◌≡◌, ◌+◌, ◌^◌, ◌<◌, ◌≤◌, length, IfOk, IsErrOf};
+ghost use Rattle.std.specs.Prelude.{◌≡◌, ◌≢◌, ◌+◌, ◌^◌, ◌<◌, ◌≤◌, length, IfOk, IsErrOf};
 ghost use Rattle.std.specs.Io.KnownBytes.{prepend_known, IsAtEnd};
 ghost use Rattle.av_base.specs.Files.{left_of};
 ghost use Rattle.av_base.specs.Told.{Rose};
 ghost use Rattle.report_text.specs.Refusals.{IsCause};
 ghost use Rattle.aspa_top.specs.Loading.{unit_name, payload_cause as number_of_payload, slurm_cause as number_of_slurm};
 ghost use Rattle.aspa_top.specs.LoadingSteps.{ComesTold, HasKnownCause, IsRowsOutcome, Understands};
-ghost use Rattle.aspa_top.specs.World.{names_of};
+ghost use Rattle.stream_lines.specs.Frames.{Leaves};
 
-use crate::script::ReadFault;
 use aspa_payload::{FileFault, PayloadFault, read_lines, read_many};
 use av_base::{NoMemory, PIECE, Shelf};
 use path_model::{Name, Rows};
 use slurm_rules::{Slurm, SlurmFault};
 use std::alloc::Global;
+use stream_lines::ReadFault;
 use vap_table::TableChange;
 
 /// The most bytes that a file may have.
@@ -72,7 +72,8 @@ pub(crate) fn load_file<F: Shelf>(
 ) -> Result<Outcome, ReadFault>
     ensures comes { IfOk result (ComesTold (F.files shelf.old) kind.now name.now) }
     ensures known { IfOk result HasKnownCause }
-    ensures names { names_of (F.files shelf.new) ≡ names_of (F.files shelf.old) }
+    ensures others { Leaves (λ other. other < F.opened shelf.old) (F.files shelf.old) (F.files shelf.new) }
+    ensures opened { F.opened shelf.old ≤ F.opened shelf.new }
     ensures cause { IsErrOf result ReadFault.Source → Rose (F.faults shelf.old) (F.faults shelf.new) }
     ensures faults { F.faults shelf.old ≤ F.faults shelf.new }
 {
@@ -87,7 +88,8 @@ pub(crate) fn load_file<F: Shelf>(
     Ok(outcome)
 }
 
-// Reads a file to its end, or to one byte past the limit.
+// Reads a file to its end, or to one byte past the limit. Its buffer must not be cleared wherever it is called from.
+#[inline(never)]
 fn read_whole<F: Shelf>(
     alloc: Global,
     file: u32,
@@ -100,7 +102,8 @@ fn read_whole<F: Shelf>(
         ≡ prepend_known bytes.items (left_of (F.files shelf.new) file)) }
     ensures bound { IfOk result (λ bytes. length bytes.items ≤ limit + 1) }
     ensures ended { IfOk result (λ bytes. length bytes.items ≤ limit → IsAtEnd (left_of (F.files shelf.new) file)) }
-    ensures names { names_of (F.files shelf.new) ≡ names_of (F.files shelf.old) }
+    ensures others { Leaves (λ other. other ≢ file) (F.files shelf.old) (F.files shelf.new) }
+    ensures opened { F.opened shelf.new ≡ F.opened shelf.old }
     ensures cause { IsErrOf result ReadFault.Source → Rose (F.faults shelf.old) (F.faults shelf.new) }
     ensures faults { F.faults shelf.old ≤ F.faults shelf.new }
 {

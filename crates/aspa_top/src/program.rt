@@ -7,11 +7,11 @@ ghost use Rattle.aspa_top.specs.Program.{Completes, IsEnding, IsRun, IsStatus, R
 ghost use Rattle.aspa_top.specs.World.{Tells, World, names_of};
 
 use crate::evaluation::evaluate;
-use crate::script::{ReadFault, read_all};
-use crate::stop::Stop;
+use crate::script::read_all;
 use av_base::{Links, Shelf, Sink, Source, Steps};
 use std::alloc::Global;
 use std::sync::ledger::Ledger;
+use stream_lines::{ReadFault, Stop};
 
 /// The most bytes that a script may have.
 pub const SCRIPT_LIMIT: usize = 67_108_864;

@@ -2,45 +2,13 @@
 ghost use Rattle.std.specs.Prelude.{◌≡◌, ℕ, ◌+◌, ◌^◌, ◌<◌, ◌≤◌, length, IfOk, IsErrOf};
 ghost use Rattle.std.specs.Io.KnownBytes.{prepend_known, IsAtEnd};
 ghost use Rattle.av_base.specs.Told.{Rose};
-ghost use Rattle.aspa_top.specs.declared.script.ReadFault.TheVariants.{Source as SourceFault, NoMemory as OutOfMemory};
 
-use av_base::{Fault, NoMemory, PIECE, Source};
-use std::alloc::{AllocError, Global};
-
-/// Why reading a source, or a file of the shelf, ended early.
-#[derive(Clone, Copy, Debug, PartialEq, Eq)]
-pub(crate) enum ReadFault {
-    /// The source or the shelf failed, and counted it.
-    Source,
-    /// There was no memory.
-    NoMemory,
-}
-
-impl From<Fault> for ReadFault {
-    ghost from_gives = { λ _ e. e ≡ SourceFault };
-
-    fn from(_fault: Fault) -> ReadFault {
-        ReadFault::Source
-    }
-}
-
-impl From<AllocError> for ReadFault {
-    ghost from_gives = { λ _ e. e ≡ OutOfMemory };
-
-    fn from(_error: AllocError) -> ReadFault {
-        ReadFault::NoMemory
-    }
-}
-
-impl From<NoMemory> for ReadFault {
-    ghost from_gives = { λ _ e. e ≡ OutOfMemory };
-
-    fn from(_error: NoMemory) -> ReadFault {
-        ReadFault::NoMemory
-    }
-}
+use av_base::{PIECE, Source};
+use std::alloc::Global;
+use stream_lines::ReadFault;
 
 /// Reads a source to its end, or to one byte past the limit.
+#[inline(never)]
 pub(crate) fn read_all<S: Source>(
     alloc: Global,
     source: &mut S,

@@ -1,5 +1,5 @@
 //! The files of the system as a shelf.
-ghost use Rattle.std.specs.Prelude.{◌≡◌, ◌≢◌, ◌+◌, ◌-◌, ◌^◌, ◌<◌, ◌≤◌, [], None, Ok, Some, length, slice_get, IfErr, IfNone, IfOk, IfSome, IsErr, OnErr, OnSome};
+ghost use Rattle.std.specs.Prelude.{◌≡◌, ◌≢◌, ◌++◌, ◌∷◌, ℕ, ◌+◌, ◌-◌, ◌^◌, ◌<◌, ◌≤◌, [], None, Ok, Some, length, slice_get, IfErr, IfNone, IfOk, IfSome, IsErr, OnErr, OnSome};
 ghost use Rattle.std.specs.Io.KnownBytes.{ReadConsumes};
 ghost use Rattle.std.specs.IoError.{error_kind};
 ghost use Rattle.std.specs.declared.io.ErrorKind.TheVariants.{NotFound};
@@ -41,11 +41,11 @@ impl<R: Files> FileShelf<R> {
         ensures file { IfOk opened (λ _. IfOk result (λ number. number ≡ Some (length self.old.opened.items))) }
         ensures missing { IfErr opened (λ error. error_kind error ≡ NotFound → result ≡ Ok None) }
         ensures fault { IfErr opened (λ error. error_kind error ≢ NotFound → IsErr result) }
-        ensures kept { IfOk result (λ number. IfSome number (λ _.
-            length self.new.opened.items ≡ length self.old.opened.items + 1)) }
+        ensures kept { IfOk opened (λ file. IfOk result (λ _.
+            self.new.opened.items ≡ self.old.opened.items ++ record { reader = Some file } ∷ [])) }
         ensures room { IfOk result (λ number. IfSome number (λ _. length self.old.opened.items < 2 ^ 32 - 1)) }
-        ensures none { IfOk result (λ number. IfNone number (length self.new.opened.items ≡ length self.old.opened.items)) }
-        ensures err { OnErr result (length self.new.opened.items ≡ length self.old.opened.items) }
+        ensures none { IfOk result (λ number. IfNone number (self.new.opened.items ≡ self.old.opened.items)) }
+        ensures err { OnErr result (self.new.opened.items ≡ self.old.opened.items) }
         ensures cause { HasCause self.old.faults self.new.faults result }
     {
         match found(opened) {
@@ -68,8 +68,9 @@ impl<R: Files> FileShelf<R> {
     fn keep(&mut self, file: R::File) -> Option<u32>
         ensures number { IfSome result (λ number. number ≡ length self.old.opened.items) }
         ensures room { OnSome result (length self.old.opened.items < 2 ^ 32 - 1) }
-        ensures kept { OnSome result (length self.new.opened.items ≡ length self.old.opened.items + 1) }
-        ensures none { IfNone result (length self.new.opened.items ≡ length self.old.opened.items) }
+        ensures kept { OnSome result (self.new.opened.items
+            ≡ self.old.opened.items ++ record { reader = Some file } ∷ []) }
+        ensures none { IfNone result (self.new.opened.items ≡ self.old.opened.items) }
         ensures faults { self.new.faults ≡ self.old.faults }
     {
         let Ok(number) = u32::try_from(self.opened.len()) else {
@@ -105,6 +106,10 @@ impl<R: Files> Shelf for FileShelf<R> {
         ensures bound { IfOk result (λ n. n ≤ length buf.new) }
         ensures opened { length self.new.opened.items ≡ length self.old.opened.items }
         ensures cause { HasCause self.old.faults self.new.faults result }
+
+        // The other files stay as they are.
+        ensures others { (other : ℕ) → other ≢ file
+            → slice_get self.new.opened.items other ≡ slice_get self.old.opened.items other }
 
         // Bytes that the file knows are given as they are, 0 comes only at their end, and at a fault none is lost.
         ensures known { IfSome (slice_get self.old.opened.items file) (λ old.

@@ -1,3 +1,7 @@
+pub mod Change
 pub mod Laws
 pub mod Places
 pub mod Refusals
+pub mod Rows
+pub mod Summary
+pub mod Why

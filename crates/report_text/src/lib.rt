@@ -1,15 +1,27 @@
 //! The lines that the program reports with.
 //!
-//! The layer above uses one contract: **[`put_refusal`] appends the one line that reports a refusal, or leaves the text as it was.**
-//! `refusal_text` of `specs/Refusals.antt` is that line: begin there, with the table of causes and their words. Whatever is refused, the
-//! line is one line that begins with `! ` (`laws`), so who reads the program's output finds each refusal by its first two bytes.
+//! The layer above uses one contract: **each `put_` call appends the one line that it names, whole, or leaves the text as it was.**
+//! [`put_refusal`] reports a refusal, [`put_row`] a route's verdict, [`put_change`] a route whose verdict changed, [`put_changed`] how
+//! many changed, [`put_why`] why a path has its verdict, and [`put_summary`] how many there are of each. `refusal_text` of
+//! `specs/Refusals.antt` and the `.._text` of `Rows`, `Change`, `Why` and `Summary` are those lines: begin there, with the table of
+//! causes and their words. Whatever is refused, the line is one line that begins with `! ` (`laws`), so who reads the program's output
+//! finds each refusal by its first two bytes.
 #![tactic(auto)]
 
 mod cause;
+mod change;
+mod count;
 mod laws;
 mod place;
 mod refusal;
+mod row;
+mod summary;
+mod why;
 
+pub use change::{put_change, put_changed};
 pub use laws::each_refusal_is_one_line;
 pub use place::Place;
 pub use refusal::put_refusal;
+pub use row::put_row;
+pub use summary::{Summary, put_summary};
+pub use why::put_why;

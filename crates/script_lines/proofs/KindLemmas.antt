@@ -1,8 +1,8 @@
--- What reading a number in a range needs.
-use Rattle.std.proofs.Common.{◌≡◌, ℕ, List, ◌≤◌, arith, sym, ◌∙◌}
+-- What reading a number in a range needs, and an AS or `default`.
+use Rattle.std.proofs.Common.{◌≡◌, ◌≢◌, ℕ, List, ◌≤◌, Option, Some, None, codes, arith, sym, ◌∙◌}
 use Rattle.std.proofs.lemmas.Fmt.{decimal_injective}
 use Rattle.av_text.specs.Number.{IsNumber, IsNoNumber}
-use Rattle.script_lines.specs.Kinds.{NUMBER, Spells}
+use Rattle.script_lines.specs.Kinds.{NUMBER, WHOM, Spells}
 
 -- two numbers of one word are one
 pub one_number : (word : List ℕ) (m n : ℕ) → IsNumber word m → IsNumber word n → m ≡ n
@@ -18,5 +18,12 @@ lacks-outside least most m word is outside n spells =
     let same : m ≡ n = one_number word m n is spells.0 in
     let low = spells.1 in let high = spells.2 in
     outside (omega arith) (omega arith)
+
+-- a word that is neither `default` nor a number
+pub lacks-whom : (word : List ℕ) → word ≢ codes "default" → IsNoNumber word → (whom : Option ℕ) → Spells WHOM word whom → ⊥
+lacks-whom word other none None is = other is
+lacks-whom word other none (Some asn) is = none asn is.0 is.1
+
+pub ruleset whom_steps = (lacks-whom)
 
 pub ruleset number_steps = (lacks-none, lacks-outside)

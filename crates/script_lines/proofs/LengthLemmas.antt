@@ -1,15 +1,15 @@
 -- What the length of a line says of the command that it spells.
-use Rattle.std.proofs.Common.{◌≡◌, inl, inr, ℕ, ◌≤◌, List, [], ◌∷◌, length, decimal, Ok, refl, sym, ap, ◌∙◌, arith}
+use Rattle.std.proofs.Common.{◌≡◌, inl, inr, ℕ, ◌≤◌, List, [], ◌∷◌, length, decimal, Option, Some, None, Ok, refl, sym, ap, ◌∙◌, arith}
 use Rattle.std.proofs.lemmas.List.{length-map}
 use Rattle.path_model.specs.declared.role.Role.{Role}
 use Rattle.av_text.proofs.WordLemmas.{length-words_of}
 use Rattle.script_lines.specs.declared.command.Command.{Command}
 use Rattle.script_lines.specs.declared.command.Command.TheVariants.{Judge}
 use Rattle.script_lines.specs.declared.command.CommandName.{CommandName}
-use Rattle.script_lines.specs.declared.command.CommandName.TheVariants.{Aspa as AspaName, Aspa64 as Aspa64Name, Slurm as SlurmName, Filter as FilterName, Unfilter as UnfilterName, Assert as AssertName, Unassert as UnassertName, Judge as JudgeName}
+use Rattle.script_lines.specs.declared.command.CommandName.TheVariants.{Aspa as AspaName, Aspa64 as Aspa64Name, Slurm as SlurmName, Filter as FilterName, Unfilter as UnfilterName, Assert as AssertName, Unassert as UnassertName, Role as RoleName, Open as OpenName, Take as TakeName, Judge as JudgeName, Report as ReportName}
 use Rattle.script_lines.specs.Kinds.{ValueOf}
 use Rattle.script_lines.specs.Forms.{Form, end, ases, ◌then◌, Builds, IsSpelled}
-use Rattle.script_lines.specs.Commands.{form_of, made_by}
+use Rattle.script_lines.specs.Commands.{form_of, sets_role, made_by}
 use Rattle.script_lines.specs.Grammar.{IsReading}
 
 -- a command judges no path of more ASes than so many
@@ -22,6 +22,11 @@ MakesShort end made = JudgesWithin 0 made
 MakesShort (ases least) build = (ns : List ℕ) → JudgesWithin (length ns) (build ns)
 MakesShort (kind then form) build = (value : ValueOf kind) → MakesShort form (build value)
 
+-- a `role` line judges none
+sets_no_path : (whom : Option ℕ) (given : Role) → JudgesWithin 0 (sets_role whom given)
+sets_no_path None given = λ role neighbour path is. cc
+sets_no_path (Some asn) given = λ role neighbour path is. cc
+
 -- so it is with each command
 makes_short : (name : CommandName) → MakesShort (form_of name) (made_by name)
 makes_short AspaName = λ name file role neighbour path is. cc
@@ -31,7 +36,11 @@ makes_short FilterName = λ customer role neighbour path is. cc
 makes_short UnfilterName = λ customer role neighbour path is. cc
 makes_short AssertName = λ customer providers role neighbour path is. cc
 makes_short UnassertName = λ customer role neighbour path is. cc
+makes_short RoleName = λ whom given role neighbour path is. sets_no_path whom given role neighbour path is
+makes_short OpenName = λ name file role neighbour path is. cc
+makes_short TakeName = λ name count role neighbour path is. cc
 makes_short JudgeName = λ role neighbour path r n p is. let same : path ≡ p = cc in let as_long : length path ≡ length p = ap length same in omega (arith, as_long)
+makes_short ReportName = λ role neighbour path is. cc
 
 -- a path has no more ASes than its line has words
 spelled_within : (form : Form) (build : Builds form) (words : List (List ℕ)) (command : Command)

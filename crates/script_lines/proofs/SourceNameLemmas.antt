@@ -1,16 +1,17 @@
--- The name that a command gives to a source is a name.
-use Rattle.std.proofs.Common.{inl, inr, ℕ, List, [], ◌∷◌, Ok, sym, subst}
+-- The name that a command gives to a source or a stream is a name, and the number of units that it takes isn't over the most.
+use Rattle.std.proofs.Common.{inl, inr, ℕ, ◌≤◌, List, [], ◌∷◌, Option, Some, None, Ok, sym, subst}
+use Rattle.path_model.specs.declared.role.Role.{Role as RoleOf}
 use Rattle.path_model.specs.Name.{IsName}
 use Rattle.script_lines.specs.declared.command.Command.{Command}
-use Rattle.script_lines.specs.declared.command.Command.TheVariants.{Idle, Aspa, Aspa64, Slurm, Filter, Unfilter, Assert, Unassert, Judge}
+use Rattle.script_lines.specs.declared.command.Command.TheVariants.{Idle, Aspa, Aspa64, Slurm, Filter, Unfilter, Assert, Unassert, Role, RoleDefault, Open, Take, Judge, Report}
 use Rattle.script_lines.specs.declared.command.CommandName.{CommandName}
-use Rattle.script_lines.specs.declared.command.CommandName.TheVariants.{Aspa as AspaName, Aspa64 as Aspa64Name, Slurm as SlurmName, Filter as FilterName, Unfilter as UnfilterName, Assert as AssertName, Unassert as UnassertName, Judge as JudgeName}
-use Rattle.script_lines.specs.Kinds.{WordKind, NAME, TEXT, ROLE, NUMBER, ValueOf, Spells}
+use Rattle.script_lines.specs.declared.command.CommandName.TheVariants.{Aspa as AspaName, Aspa64 as Aspa64Name, Slurm as SlurmName, Filter as FilterName, Unfilter as UnfilterName, Assert as AssertName, Unassert as UnassertName, Role as RoleName, Open as OpenName, Take as TakeName, Judge as JudgeName, Report as ReportName}
+use Rattle.script_lines.specs.Kinds.{WordKind, NAME, TEXT, ROLE, NUMBER, WHOM, ValueOf, Spells}
 use Rattle.script_lines.specs.Forms.{Form, end, ases, ◌then◌, Builds, IsSpelled}
-use Rattle.script_lines.specs.Commands.{form_of, made_by}
+use Rattle.script_lines.specs.Commands.{form_of, sets_role, made_by}
 use Rattle.script_lines.specs.Grammar.{IsReading}
 
--- the command's name, if it has one, is a name
+-- the command's name, if it has one, is a name, and its number of units, if it has one, isn't over the most
 abbrev pub IsNamed : Command → Type 0
 IsNamed Idle = Unit {0}
 IsNamed (Aspa name file) = IsName name
@@ -20,20 +21,32 @@ IsNamed (Filter customer) = Unit {0}
 IsNamed (Unfilter customer) = Unit {0}
 IsNamed (Assert customer providers) = Unit {0}
 IsNamed (Unassert customer) = Unit {0}
+IsNamed (Role asn role) = Unit {0}
+IsNamed (RoleDefault role) = Unit {0}
+IsNamed (Open name file) = IsName name
+IsNamed (Take name count) = IsName name × (count ≤ 100000000)
 IsNamed (Judge role neighbour path) = Unit {0}
+IsNamed Report = Unit {0}
 
 -- a value that its word may have
 abbrev IsValue : (kind : WordKind) → ValueOf kind → Type 0
 IsValue NAME name = IsName name
 IsValue TEXT text = Unit {0}
 IsValue ROLE role = Unit {0}
-IsValue (NUMBER least most) n = Unit {0}
+IsValue (NUMBER least most) n = n ≤ most
+IsValue WHOM whom = Unit {0}
 
 spelled_value : (kind : WordKind) (word : List ℕ) (value : ValueOf kind) → Spells kind word value → IsValue kind value
 spelled_value NAME word name is = subst IsName (sym is.1) is.0
 spelled_value TEXT word text is = tt
 spelled_value ROLE word role is = tt
-spelled_value (NUMBER least most) word n is = tt
+spelled_value (NUMBER least most) word n is = is.2
+spelled_value WHOM word whom is = tt
+
+-- the command of a `role` line has no name
+sets_unnamed : (whom : Option ℕ) (role : RoleOf) → IsNamed (sets_role whom role)
+sets_unnamed None role = tt
+sets_unnamed (Some asn) role = tt
 
 -- whatever the words' values, the command made of them is named so
 abbrev MakesNamed : (form : Form) → Builds form → Type 0
@@ -49,7 +62,11 @@ makes_named FilterName = λ customer any. tt
 makes_named UnfilterName = λ customer any. tt
 makes_named AssertName = λ customer any providers. tt
 makes_named UnassertName = λ customer any. tt
+makes_named RoleName = λ whom any role other. sets_unnamed whom role
+makes_named OpenName = λ name is file any. is
+makes_named TakeName = λ name is count within. (is, within)
 makes_named JudgeName = λ role any neighbour other path. tt
+makes_named ReportName = tt
 
 spelled_named : (form : Form) (build : Builds form) (words : List (List ℕ)) (command : Command)
     → MakesNamed form build → IsSpelled form build words command → IsNamed command

@@ -1,5 +1,5 @@
 -- Words spell values or don't, each at most one, kind by kind and form by form.
-use Rattle.std.proofs.Common.{◌≡◌, ◌⊎◌, inl, inr, ℕ, zero, suc, ◌≤◌, List, [], ◌∷◌, length, map, decimal, slice_get, Some, refl, sym, ap, ◌∙◌, arith, subst}
+use Rattle.std.proofs.Common.{◌≡◌, ◌⊎◌, inl, inr, ℕ, zero, suc, ◌<◌, ◌≤◌, ◌^◌, List, [], ◌∷◌, length, map, codes, decimal, slice_get, Option, Some, None, lit<, lit≤, refl, sym, ap, ◌∙◌, arith, subst}
 use Rattle.std.specs.Bool.{IsTrue}
 use Rattle.std.specs.List.{All}
 use Rattle.std.proofs.lemmas.Bool.{cases_lt}
@@ -7,15 +7,15 @@ use Rattle.std.proofs.lemmas.List.Elements.{All-head, All-tail, All-cons, All-ni
 use Rattle.path_model.specs.Name.{IsName, is_name_byte}
 use Rattle.path_model.proofs.Decide.{Decided, decided_both, decided_true}
 use Rattle.av_text.specs.Number.{Is32Bit, IsNoNumber}
-use Rattle.av_text.proofs.NumberLemmas.{number_or_none, map-decimal_injective}
-use Rattle.av_text.proofs.SpellingLemmas.{role_text_injective, decided_role}
+use Rattle.av_text.proofs.NumberLemmas.{number_or_none, no_number-other, map-decimal_injective}
+use Rattle.av_text.proofs.SpellingLemmas.{decided_text, role_text_injective, decided_role}
 use Rattle.script_lines.specs.declared.command.Command.{Command}
 use Rattle.script_lines.specs.Word.{IsVisible}
-use Rattle.script_lines.specs.Kinds.{WordKind, NAME, TEXT, ROLE, NUMBER, ValueOf, Spells, HasForm, LacksNumber}
+use Rattle.script_lines.specs.Kinds.{WordKind, NAME, TEXT, ROLE, NUMBER, WHOM, ValueOf, Spells, HasForm, LacksNumber}
 use Rattle.script_lines.specs.Forms.{Form, end, ases, ◌then◌, Builds, IsSpelled, Fits, SomeNoAs, SomeNoNumber}
 use Rattle.script_lines.proofs.AsLemmas.{no_as_first, no_as_later}
 use Rattle.script_lines.proofs.FormLemmas.{ases-spelled}
-use Rattle.script_lines.proofs.KindLemmas.{one_number, lacks-none, lacks-outside}
+use Rattle.script_lines.proofs.KindLemmas.{one_number, lacks-none, lacks-outside, lacks-whom}
 
 -- whether one number is at most another
 pub decided_le : (m n : ℕ) → Decided (m ≤ n)
@@ -59,6 +59,7 @@ decided_kind NAME word = decided_itself (IsName word) word (decided_is_name word
 decided_kind TEXT word = decided_itself (All IsVisible word) word (decided_all IsVisible decided_visible word)
 decided_kind ROLE word = decided_role word
 decided_kind (NUMBER least most) word = inl tt
+decided_kind WHOM word = inl tt
 
 -- a word that may stand there spells a value, or lacks a number
 value_or_lacks : (kind : WordKind) (word : List ℕ) → HasForm kind word → LacksNumber kind word ⊎ ((value : ValueOf kind) × Spells kind word value)
@@ -73,6 +74,25 @@ value_or_lacks (NUMBER least most) word form =
         | inr outside ↦ inl (lacks-outside least most n.0 word (n.1, n.2) (λ low high. outside (low, high)))
       ]
     ]
+value_or_lacks WHOM word form =
+    elim (decided_text word (codes "default")) [
+      | inl same ↦ inr (None, same)
+      | inr other ↦ elim (number_or_none word) [
+        | inl none ↦ inl (lacks-whom word other none)
+        | inr n ↦ inr (Some n.0, (n.1, n.2))
+      ]
+    ]
+
+-- `default` is no number
+default_no_number : (n : ℕ) → n < 2 ^ 32 → codes "default" ≡ decimal n → ⊥
+default_no_number = no_number-other (codes "default") 0 (lit< tt) (lit≤ tt)
+
+-- a word is that of one AS alone, or `default`
+one_whom : (word : List ℕ) (one other : Option ℕ) → Spells WHOM word one → Spells WHOM word other → one ≡ other
+one_whom word None None a b = refl
+one_whom word None (Some n) a b = absurd (default_no_number n b.0 (sym a ∙ b.1))
+one_whom word (Some m) None a b = absurd (default_no_number m a.0 (sym b ∙ a.1))
+one_whom word (Some m) (Some n) a b = ap Some (one_number word m n a b)
 
 -- a word spells one value,
 one_value : (kind : WordKind) (word : List ℕ) (one other : ValueOf kind) → Spells kind word one → Spells kind word other → one ≡ other
@@ -80,6 +100,7 @@ one_value NAME word one other a b = a.1 ∙ sym b.1
 one_value TEXT word one other a b = a.1 ∙ sym b.1
 one_value ROLE word one other a b = role_text_injective one other (sym a ∙ b)
 one_value (NUMBER least most) word one other a b = one_number word one other a.0 b.0
+one_value WHOM word one other a b = one_whom word one other a b
 
 -- and then it lacks none
 no_lack : (kind : WordKind) (word : List ℕ) (value : ValueOf kind) → Spells kind word value → LacksNumber kind word → ⊥
@@ -87,6 +108,7 @@ no_lack NAME word value is lacks = lacks
 no_lack TEXT word value is lacks = lacks
 no_lack ROLE word value is lacks = lacks
 no_lack (NUMBER least most) word value is lacks = lacks value is
+no_lack WHOM word value is lacks = lacks value is
 
 -- some of the words isn't an AS, or they are these ASes
 numbers_or_none : (words : List (List ℕ)) → SomeNoAs words ⊎ ((ns : List ℕ) × All Is32Bit ns × (words ≡ map decimal ns))

@@ -1,15 +1,21 @@
 -- The commands of a script: three lines each.
 use Rattle.std.specs.Prelude.{ℕ, List, codes}
+use Rattle.std.specs.declared.option.Option.{Option}
+use Rattle.std.specs.declared.option.Option.TheVariants.{Some, None}
+use Rattle.path_model.specs.declared.role.Role.{Role as RoleOf}
 use Rattle.script_lines.specs.declared.command.Command.{Command}
-use Rattle.script_lines.specs.declared.command.Command.TheVariants.{Aspa, Aspa64, Slurm, Filter, Unfilter, Assert, Unassert, Judge}
+use Rattle.script_lines.specs.declared.command.Command.TheVariants.{Aspa, Aspa64, Slurm, Filter, Unfilter, Assert, Unassert, Role, RoleDefault, Open, Take, Judge, Report}
 use Rattle.script_lines.specs.declared.command.CommandName.{CommandName}
-use Rattle.script_lines.specs.declared.command.CommandName.TheVariants.{Aspa as AspaName, Aspa64 as Aspa64Name, Slurm as SlurmName, Filter as FilterName, Unfilter as UnfilterName, Assert as AssertName, Unassert as UnassertName, Judge as JudgeName}
-use Rattle.script_lines.specs.Kinds.{WordKind, NAME, TEXT, ROLE, NUMBER}
+use Rattle.script_lines.specs.declared.command.CommandName.TheVariants.{Aspa as AspaName, Aspa64 as Aspa64Name, Slurm as SlurmName, Filter as FilterName, Unfilter as UnfilterName, Assert as AssertName, Unassert as UnassertName, Role as RoleName, Open as OpenName, Take as TakeName, Judge as JudgeName, Report as ReportName}
+use Rattle.script_lines.specs.Kinds.{WordKind, NAME, TEXT, ROLE, NUMBER, WHOM}
 use Rattle.script_lines.specs.Forms.{Form, end, ases, ◌then◌, Builds, IsSpelled}
 
--- an AS
+-- an AS, and how many units of a stream
 abbrev pub AS : WordKind
 AS = NUMBER 0 4294967295
+
+abbrev pub COUNT : WordKind
+COUNT = NUMBER 1 100000000
 
 -- the first word of a command's lines,
 abbrev pub name_text : CommandName → List ℕ
@@ -20,7 +26,11 @@ name_text FilterName = codes "filter"
 name_text UnfilterName = codes "unfilter"
 name_text AssertName = codes "assert"
 name_text UnassertName = codes "unassert"
+name_text RoleName = codes "role"
+name_text OpenName = codes "open"
+name_text TakeName = codes "take"
 name_text JudgeName = codes "judge"
+name_text ReportName = codes "report"
 
 -- the words behind it,
 abbrev pub form_of : CommandName → Form
@@ -31,7 +41,16 @@ form_of FilterName = AS then end
 form_of UnfilterName = AS then end
 form_of AssertName = AS then ases 1
 form_of UnassertName = AS then end
+form_of RoleName = WHOM then ROLE then end
+form_of OpenName = NAME then TEXT then end
+form_of TakeName = NAME then COUNT then end
 form_of JudgeName = ROLE then AS then ases 0
+form_of ReportName = end
+
+-- a role is that of one AS, or of all ASes without one of their own
+abbrev pub sets_role : Option ℕ → RoleOf → Command
+sets_role (Some asn) role = Role asn role
+sets_role None role = RoleDefault role
 
 -- and the command that their values make
 abbrev pub made_by : (name : CommandName) → Builds (form_of name)
@@ -42,7 +61,11 @@ made_by FilterName = λ customer. Filter customer
 made_by UnfilterName = λ customer. Unfilter customer
 made_by AssertName = λ customer providers. Assert customer providers
 made_by UnassertName = λ customer. Unassert customer
+made_by RoleName = λ whom role. sets_role whom role
+made_by OpenName = λ name file. Open name file
+made_by TakeName = λ name count. Take name count
 made_by JudgeName = λ role neighbour path. Judge role neighbour path
+made_by ReportName = Report
 
 -- the words behind a command's name spell this command
 abbrev pub SpellsCommand : CommandName → List (List ℕ) → Command → Type 0

@@ -1,17 +1,20 @@
 -- The kinds of words that a command's line may hold behind the command's name.
-use Rattle.std.specs.Prelude.{◌≡◌, ℕ, ◌≤◌, List, All}
+use Rattle.std.specs.Prelude.{◌≡◌, ℕ, ◌≤◌, List, codes, All}
+use Rattle.std.specs.declared.option.Option.{Option}
+use Rattle.std.specs.declared.option.Option.TheVariants.{Some, None}
 use Rattle.path_model.specs.declared.role.Role.{Role}
 use Rattle.path_model.specs.Name.{IsName}
 use Rattle.av_text.specs.RoleText.{role_text}
 use Rattle.av_text.specs.Number.{IsNumber}
 use Rattle.script_lines.specs.Word.{IsVisible}
 
--- NAME, a text such as FILE, ROLE, and a number from a least one to a most
+-- NAME, a text such as FILE, ROLE, a number from a least one to a most, and whom a role is given: an AS or all others
 pub data WordKind : Type 0 where
   NAME : WordKind
   TEXT : WordKind
   ROLE : WordKind
   NUMBER : ℕ → ℕ → WordKind
+  WHOM : WordKind
 
 -- what such a word stands for
 abbrev pub ValueOf : WordKind → Type 0
@@ -19,6 +22,12 @@ ValueOf NAME = List ℕ
 ValueOf TEXT = List ℕ
 ValueOf ROLE = Role
 ValueOf (NUMBER least most) = ℕ
+ValueOf WHOM = Option ℕ
+
+-- the word `default`, or an AS
+abbrev pub IsWhom : List ℕ → Option ℕ → Type 0
+IsWhom word None = word ≡ codes "default"
+IsWhom word (Some asn) = IsNumber word asn
 
 -- the word is the one spelling of this value
 abbrev pub Spells : (kind : WordKind) → List ℕ → ValueOf kind → Type 0
@@ -26,6 +35,7 @@ Spells NAME word name = IsName word × (name ≡ word)
 Spells TEXT word text = All IsVisible word × (text ≡ word)
 Spells ROLE word role = word ≡ role_text role
 Spells (NUMBER least most) word n = IsNumber word n × (least ≤ n) × (n ≤ most)
+Spells WHOM word whom = IsWhom word whom
 
 -- The word may stand there. Where a number must stand, any word may: that it is no number in its range is another cause.
 abbrev pub HasForm : WordKind → List ℕ → Type 0
@@ -33,6 +43,7 @@ HasForm NAME word = (name : List ℕ) × Spells NAME word name
 HasForm TEXT word = (text : List ℕ) × Spells TEXT word text
 HasForm ROLE word = (role : Role) × Spells ROLE word role
 HasForm (NUMBER least most) word = Unit {0}
+HasForm WHOM word = Unit {0}
 
 -- a number must stand there, and this word is none in its range
 abbrev pub LacksNumber : WordKind → List ℕ → Type 0
@@ -40,3 +51,4 @@ LacksNumber NAME word = ⊥
 LacksNumber TEXT word = ⊥
 LacksNumber ROLE word = ⊥
 LacksNumber (NUMBER least most) word = (n : ℕ) → ¬ Spells (NUMBER least most) word n
+LacksNumber WHOM word = (whom : Option ℕ) → ¬ Spells WHOM word whom

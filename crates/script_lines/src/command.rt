@@ -26,8 +26,18 @@ pub enum Command {
     Assert(u32, AsList),
     /// `unassert AS`: the script's assertions of the customer are taken back.
     Unassert(u32),
+    /// `role AS ROLE`: routes of peers in the AS are judged as learned from a neighbour in this role.
+    Role(u32, Role),
+    /// `role default ROLE`: so are those of peers in any AS without a role of its own.
+    RoleDefault(Role),
+    /// `open NAME FILE`: the file's records are a stream of that name.
+    Open(Name, Word),
+    /// `take NAME N`: at most so many more records of the stream, 1 to 100,000,000.
+    Take(Name, u32),
     /// `judge ROLE NEIGHBOUR AS..`: the verdict of the path, written neighbour first.
     Judge(Role, u32, AsList),
+    /// `report`: each route of the table, with the verdict of its path.
+    Report,
 }
 
 /// A command, by the first word of its lines.
@@ -40,7 +50,11 @@ pub(crate) enum CommandName {
     Unfilter,
     Assert,
     Unassert,
+    Role,
+    Open,
+    Take,
     Judge,
+    Report,
 }
 
 /// Why a line was refused, in the order of the tests, or that there was no memory to read it.

@@ -2,13 +2,14 @@
 ghost use Rattle.std.specs.Prelude.{◌≢◌, ◌↔◌, ◌≡◌, All, IfOk, IfErr, IfSome, IfNone, IsTrue};
 ghost use Rattle.av_text.specs.Words.{words_left};
 ghost use Rattle.script_lines.specs.Fields.{RefusesWords};
-ghost use Rattle.script_lines.specs.Commands.{name_text, form_of, SpellsCommand};
+ghost use Rattle.script_lines.specs.Commands.{name_text, form_of, sets_role, SpellsCommand};
 ghost use Rattle.script_lines.specs.Grammar.{IsCommandName, IsComment, IsPrintable, IsReading};
 
 use crate::command::{Command, CommandName, LineFault};
 use crate::fields::{Ases, End, Fields, Then};
-use crate::kinds::{AsWord, NameWord, RoleWord, TextWord};
+use crate::kinds::{AsWord, CountWord, NameWord, RoleWord, TextWord, WhomWord};
 use av_text::{Words, words};
+use path_model::Role;
 use std::alloc::Global;
 
 // The most bytes that a line may have, unless it is a comment.
@@ -67,7 +68,11 @@ fn command_name(word: &[u8]) -> Option<CommandName>
         b"unfilter" => Some(CommandName::Unfilter),
         b"assert" => Some(CommandName::Assert),
         b"unassert" => Some(CommandName::Unassert),
+        b"role" => Some(CommandName::Role),
+        b"open" => Some(CommandName::Open),
+        b"take" => Some(CommandName::Take),
         b"judge" => Some(CommandName::Judge),
+        b"report" => Some(CommandName::Report),
         _ => None,
     }
 }
@@ -106,11 +111,37 @@ fn read_fields(alloc: Global, name: CommandName, words: Words<'_>) -> Result<Com
             let (customer, ()) = <Then<AsWord, End>>::read(alloc, words)?;
             Ok(Command::Unassert(customer))
         }
+        CommandName::Role => {
+            let (whom, (role, ())) = <Then<WhomWord, Then<RoleWord, End>>>::read(alloc, words)?;
+            Ok(role_command(whom, role))
+        }
+        CommandName::Open => {
+            let (name, (file, ())) = <Then<NameWord, Then<TextWord, End>>>::read(alloc, words)?;
+            Ok(Command::Open(name, file))
+        }
+        CommandName::Take => {
+            let (name, (count, ())) = <Then<NameWord, Then<CountWord, End>>>::read(alloc, words)?;
+            Ok(Command::Take(name, count))
+        }
         CommandName::Judge => {
             let (role, (neighbour, path)) = <Then<RoleWord, Then<AsWord, Ases<0>>>>::read(
                 alloc, words,
             )?;
             Ok(Command::Judge(role, neighbour, path))
         }
+        CommandName::Report => {
+            End::read(alloc, words)?;
+            Ok(Command::Report)
+        }
+    }
+}
+
+// The command that gives an AS its role, or all ASes without one of their own.
+fn role_command(whom: Option<u32>, role: Role) -> Command
+    ensures { result ≡ sets_role whom role }
+{
+    match whom {
+        Some(asn) => Command::Role(asn, role),
+        None => Command::RoleDefault(role),
     }
 }

@@ -1,5 +1,5 @@
 //! The kinds of words that a command's line may hold, each read as its value.
-ghost use Rattle.std.specs.Prelude.{IfOk, IfErr};
+ghost use Rattle.std.specs.Prelude.{◌≡◌, ◌↔◌, codes, IfOk, IfErr, IsTrue};
 
 use crate::command::LineFault;
 use crate::word::Word;
@@ -90,6 +90,9 @@ pub(crate) struct NumberWord<const LEAST: u32, const MOST: u32>;
 /// An AS.
 pub(crate) type AsWord = NumberWord<0, 4_294_967_295>;
 
+/// How many units of a stream are taken.
+pub(crate) type CountWord = NumberWord<1, 100_000_000>;
+
 #[tactic(auto, using(crate::proofs::KindLemmas::number_steps))]
 impl<const LEAST: u32, const MOST: u32> Kind for NumberWord<LEAST, MOST> {
     ghost use Rattle.script_lines.specs.Kinds.{NUMBER};
@@ -106,4 +109,35 @@ impl<const LEAST: u32, const MOST: u32> Kind for NumberWord<LEAST, MOST> {
             _ => Err(LineFault::Number),
         }
     }
+}
+
+/// The word `default`, or an AS.
+pub(crate) struct WhomWord;
+
+#[tactic(auto, using(crate::proofs::KindLemmas::whom_steps))]
+impl Kind for WhomWord {
+    ghost use Rattle.script_lines.specs.Kinds.{WHOM};
+
+    type Value = Option<u32>;
+
+    ghost kind = { WHOM };
+
+    ghost value = { λ whom. whom };
+
+    fn read(_alloc: Global, word: &[u8]) -> Result<Option<u32>, LineFault> {
+        if is_default(word) {
+            return Ok(None);
+        }
+        match read_u32(word) {
+            Some(asn) => Ok(Some(asn)),
+            None => Err(LineFault::Number),
+        }
+    }
+}
+
+// Whether a word is `default`.
+fn is_default(word: &[u8]) -> bool
+    ensures { IsTrue result ↔ (word.now ≡ codes "default") }
+{
+    matches!(word, b"default")
 }

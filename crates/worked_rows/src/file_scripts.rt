@@ -7,6 +7,7 @@ use std::alloc::Global;
 
 // Customer 64496 attests the provider 64497, and the same customer 64498.
 const ONE: &[u8] = b"\x30\x11\xa0\x03\x02\x01\x01\x02\x03\x00\xfb\xf0\x30\x05\x02\x03\x00\xfb\xf1";
+
 const OTHER: &[u8] =
     b"\x30\x11\xa0\x03\x02\x01\x01\x02\x03\x00\xfb\xf0\x30\x05\x02\x03\x00\xfb\xf2";
 
@@ -15,7 +16,8 @@ const LONG_NUMBER: &[u8] =
     b"\x30\x12\xa0\x03\x02\x01\x01\x02\x04\x00\x00\xfb\xf0\x30\x05\x02\x03\x00\xfb\xf1";
 
 // A SLURM file that filters customer 64496 and asserts its provider 64499.
-const SLURM: &[u8] = b"{\"slurmVersion\":2,\"validationOutputFilters\":{\"prefixFilters\":[],\"bgpsecFilters\":[],\"aspaFilters\":[{\"customerAsn\":64496}]},\"locallyAddedAssertions\":{\"prefixAssertions\":[],\"bgpsecAssertions\":[],\"aspaAssertions\":[{\"customerAsn\":64496,\"providerAsns\":[64499]}]}}";
+const SLURM: &[u8] =
+    b"{\"slurmVersion\":2,\"validationOutputFilters\":{\"prefixFilters\":[],\"bgpsecFilters\":[],\"aspaFilters\":[{\"customerAsn\":64496}]},\"locallyAddedAssertions\":{\"prefixAssertions\":[],\"bgpsecAssertions\":[],\"aspaAssertions\":[{\"customerAsn\":64496,\"providerAsns\":[64499]}]}}";
 
 // The most bytes that a file may have.
 const LIMIT: usize = 67_108_864;
@@ -29,12 +31,7 @@ fn shelf_of(alloc: Global, f: &[u8], g: &[u8], steps: &[PlanStep]) -> Result<Mem
 }
 
 // What a script over these files writes and its status.
-fn outcome_of(
-    alloc: Global,
-    script: &[u8],
-    f: &[u8],
-    g: &[u8],
-) -> Result<(u8, Vec<u8>), NoMemory> {
+fn outcome_of(alloc: Global, script: &[u8], f: &[u8], g: &[u8]) -> Result<(u8, Vec<u8>), NoMemory> {
     let shelf = shelf_of(alloc, f, g, &[])?;
     outcome_over(alloc, script, shelf)
 }
@@ -52,7 +49,8 @@ fn a_payload_file(rt: HostRuntime) -> Result<(), NoMemory> {
 
 #[test]
 fn a_payload_line(rt: HostRuntime) -> Result<(), NoMemory> {
-    let script = b"aspa64 a f\njudge customer 64497 64497 64496\njudge customer 64498 64498 64496\n";
+    let script =
+        b"aspa64 a f\njudge customer 64497 64497 64496\njudge customer 64498 64498 64496\n";
     let line = b"MBGgAwIBAQIDAPvwMAUCAwD78Q==\n";
     let (status, written) = outcome_of(rt.alloc(), script, line, b"")?;
     assert_eq!(rt; status, 0);
@@ -80,7 +78,8 @@ fn a_refused_payload_file(rt: HostRuntime) -> Result<(), NoMemory> {
 // Sources are united, filters leave assertions alone, and a filter can be taken back.
 #[test]
 fn two_sources_and_amendments(rt: HostRuntime) -> Result<(), NoMemory> {
-    let script = b"aspa a f\naspa b g\njudge customer 64498 64498 64496\nfilter 64496\njudge customer 64498 64498 64496\nassert 64496 64499\njudge customer 64498 64498 64496\njudge customer 64499 64499 64496\nunfilter 64496\njudge customer 64497 64497 64496\n";
+    let script =
+        b"aspa a f\naspa b g\njudge customer 64498 64498 64496\nfilter 64496\njudge customer 64498 64498 64496\nassert 64496 64499\njudge customer 64498 64498 64496\njudge customer 64499 64499 64496\nunfilter 64496\njudge customer 64497 64497 64496\n";
     let (status, written) = outcome_of(rt.alloc(), script, ONE, OTHER)?;
     assert_eq!(rt; status, 0);
     let text = b"valid\nunknown\ninvalid\nvalid\nvalid\n";
@@ -88,7 +87,8 @@ fn two_sources_and_amendments(rt: HostRuntime) -> Result<(), NoMemory> {
     Ok(())
 }
 
-const AMENDED: &[u8] = b"aspa a f\nslurm g\njudge customer 64499 64499 64496\njudge customer 64497 64497 64496\n";
+const AMENDED: &[u8] =
+    b"aspa a f\nslurm g\njudge customer 64499 64499 64496\njudge customer 64497 64497 64496\n";
 
 #[test]
 fn a_slurm_file(rt: HostRuntime) -> Result<(), NoMemory> {
@@ -119,11 +119,17 @@ fn the_limit_of_a_file(rt: HostRuntime) -> Result<(), NoMemory> {
     let mut bytes = vec![in alloc; b'\n'; LIMIT]?;
     let (status, written) = outcome_of(alloc, b"aspa a f\n", &bytes, b"")?;
     assert_eq!(rt; status, 1);
-    assert_eq!(rt; written.as_slice(), b"! line 1 a unit 1 cause 5 NotDer\n".as_slice());
+    assert_eq!(rt;
+        written.as_slice(),
+        b"! line 1 a unit 1 cause 5 NotDer\n".as_slice()
+    );
     bytes.push(b'\n')?;
     let (status, written) = outcome_of(alloc, b"aspa a f\n", &bytes, b"")?;
     assert_eq!(rt; status, 1);
-    assert_eq!(rt; written.as_slice(), b"! line 1 cause 40 FileLong\n".as_slice());
+    assert_eq!(rt;
+        written.as_slice(),
+        b"! line 1 cause 40 FileLong\n".as_slice()
+    );
     Ok(())
 }
 
@@ -150,7 +156,11 @@ fn each_call_of_the_shelf_fails_in_turn(rt: HostRuntime) -> Result<(), NoMemory>
         if status == 0 {
             assert_eq!(rt; written.as_slice(), whole.as_slice());
         } else {
-            assert_eq!(rt; (status, written.as_slice()), (3, b"valid\n".as_slice()), "at call {k}");
+            assert_eq!(rt;
+                (status, written.as_slice()),
+                (3, b"valid\n".as_slice()),
+                "at call {k}"
+            );
         }
     }
     assert_eq!(rt; whole.as_slice(), b"valid\nvalid\n".as_slice());

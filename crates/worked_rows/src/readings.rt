@@ -13,11 +13,16 @@ enum Reading {
     Unfilter(u32),
     Assert(u32, &'static [u32]),
     Unassert(u32),
+    Role(u32, Role),
+    RoleDefault(Role),
+    Open(&'static str, &'static str),
+    Take(&'static str, u32),
     Judge(Role, u32, &'static [u32]),
+    Report,
     Refused(LineFault),
 }
 
-const ROWS: [(&'static [u8], Reading); 58] = [
+const ROWS: [(&'static [u8], Reading); 73] = [
     (b"", Reading::Idle),
     (b" \t", Reading::Idle),
     (b"#", Reading::Idle),
@@ -71,6 +76,25 @@ const ROWS: [(&'static [u8], Reading); 58] = [
     (b"unassert", Reading::Refused(LineFault::Words)),
     (b"unassert 64500 1", Reading::Refused(LineFault::Words)),
     (b"unassert 064500", Reading::Refused(LineFault::Number)),
+    (
+        b"role 64501 customer",
+        Reading::Role(64_501, Role::Customer),
+    ),
+    (
+        b"role default rs-client",
+        Reading::RoleDefault(Role::RsClient),
+    ),
+    (b"role 1 nobody", Reading::Refused(LineFault::Words)),
+    (b"role default", Reading::Refused(LineFault::Words)),
+    (b"role x nobody", Reading::Refused(LineFault::Words)),
+    (b"role x customer", Reading::Refused(LineFault::Number)),
+    (b"open d updates.mrt", Reading::Open("d", "updates.mrt")),
+    (b"open d", Reading::Refused(LineFault::Words)),
+    (b"take d 1", Reading::Take("d", 1)),
+    (b"take d 100000000", Reading::Take("d", 100_000_000)),
+    (b"take d", Reading::Refused(LineFault::Words)),
+    (b"take d 0", Reading::Refused(LineFault::Number)),
+    (b"take d 100000001", Reading::Refused(LineFault::Number)),
     (b"judge rs-client 5", Reading::Judge(Role::RsClient, 5, &[])),
     (
         b"judge mutual 2 2 1 1",
@@ -92,6 +116,8 @@ const ROWS: [(&'static [u8], Reading); 58] = [
     (b"judge peer 1 -1", Reading::Refused(LineFault::Number)),
     (b"judge peer 1 1 1.", Reading::Refused(LineFault::Number)),
     (b"judge peer 00 1", Reading::Refused(LineFault::Number)),
+    (b"report", Reading::Report),
+    (b"report now", Reading::Refused(LineFault::Words)),
 ];
 
 // Whether a line was read so.
@@ -111,6 +137,17 @@ fn is_read_so(read: &Result<Command, LineFault>, reading: Reading) -> bool {
         (Ok(Command::Assert(customer, providers)), Reading::Assert(wanted, all)) => {
             *customer == wanted && providers.as_slice() == all
         }
+        (Ok(Command::Role(asn, role)), Reading::Role(wanted, of)) => {
+            *asn == wanted && *role == of
+        }
+        (Ok(Command::RoleDefault(role)), Reading::RoleDefault(of)) => *role == of,
+        (Ok(Command::Open(name, file)), Reading::Open(called, of)) => {
+            name.text() == called && file.text() == of
+        }
+        (Ok(Command::Take(name, count)), Reading::Take(called, wanted)) => {
+            name.text() == called && *count == wanted
+        }
+        (Ok(Command::Report), Reading::Report) => true,
         (Ok(Command::Judge(role, neighbour, path)), Reading::Judge(of, wanted, all)) => {
             *role == of && *neighbour == wanted && path.as_slice() == all
         }

@@ -1,11 +1,13 @@
-//! Numbers, roles, addresses, prefixes, peers, names and words as text.
+//! Numbers, roles, addresses, prefixes, peers, names and words as text, and the lines that the program reports with.
 use av_base::NoMemory;
 use av_text::{
     next_line, put_addr, put_peer, put_prefix, put_u64, put_verdict, read_addr, read_name,
     read_prefix, read_role, read_u32, words,
 };
-use path_model::{Addr, Peer, Prefix, Role, Verdict};
-use report_text::{Place, put_refusal};
+use path_model::{Addr, Key, Peer, Prefix, Role, Verdict, Witness};
+use report_text::{
+    Place, Summary, put_change, put_changed, put_refusal, put_row, put_summary, put_why,
+};
 use std::test::Fail;
 
 #[test]
@@ -234,4 +236,140 @@ fn puts_refusals(rt: HostRuntime) {
 "
             .as_slice()
     );
+}
+
+#[test]
+fn puts_rows(rt: HostRuntime) -> Result<(), NoMemory> {
+    let mut out = Vec::new(rt.alloc());
+    let peer = Peer {
+        addr: Addr::V4(0xc000_0201),
+        asn: 64_501,
+    };
+    for (addr, len) in [(Addr::V4(0xc633_6400), 24), (Addr::V6(DOCUMENTED), 32)] {
+        if let Some(prefix) = Prefix::new(addr, len) {
+            put_row(&mut out, &Key { peer, prefix }, Verdict::Valid)?;
+        }
+    }
+    assert_eq!(rt;
+        out.as_slice(),
+        b"192.0.2.1 64501 198.51.100.0/24 valid
+192.0.2.1 64501 2001:0db8:0000:0000:0000:0000:0000:0000/32 valid
+"
+            .as_slice()
+    );
+    Ok(())
+}
+
+#[test]
+fn puts_changes(rt: HostRuntime) -> Result<(), NoMemory> {
+    let mut out = Vec::new(rt.alloc());
+    let peer = Peer {
+        addr: Addr::V4(0xc000_0201),
+        asn: 64_501,
+    };
+    if let Some(prefix) = Prefix::new(Addr::V4(0xc633_6400), 24) {
+        let key = Key { peer, prefix };
+        put_change(&mut out, &key, None, Some(Verdict::Valid))?;
+        put_change(&mut out, &key, Some(Verdict::Valid), Some(Verdict::Unknown))?;
+        put_change(&mut out, &key, Some(Verdict::Invalid), None)?;
+    }
+    put_changed(&mut out, 3)?;
+    assert_eq!(rt;
+        out.as_slice(),
+        b"192.0.2.1 64501 198.51.100.0/24 none valid
+192.0.2.1 64501 198.51.100.0/24 valid unknown
+192.0.2.1 64501 198.51.100.0/24 invalid none
+changed 3
+"
+            .as_slice()
+    );
+    Ok(())
+}
+
+#[test]
+fn puts_summaries(rt: HostRuntime) -> Result<(), NoMemory> {
+    let mut out = Vec::new(rt.alloc());
+    let two = Summary {
+        routes: 2,
+        valid: 2,
+        unknown: 0,
+        invalid: 0,
+        customers: 0,
+        passed: 0,
+        refused: 0,
+    };
+    let seven = Summary {
+        routes: 12,
+        valid: 5,
+        unknown: 4,
+        invalid: 3,
+        customers: 6,
+        passed: 7,
+        refused: u64::MAX,
+    };
+    put_summary(&mut out, two)?;
+    put_summary(&mut out, seven)?;
+    assert_eq!(rt;
+        out.as_slice(),
+        b"summary routes 2 valid 2 unknown 0 invalid 0 customers 0 passed 0 refused 0
+summary routes 12 valid 5 unknown 4 invalid 3 customers 6 passed 7 refused 18446744073709551615
+"
+            .as_slice()
+    );
+    Ok(())
+}
+
+#[test]
+fn puts_witnesses(rt: HostRuntime) -> Result<(), NoMemory> {
+    let mut out = Vec::new(rt.alloc());
+    let climb = Witness::Valid {
+        climbs: 1,
+        free: 0,
+        descents: 0,
+    };
+    let upstream = Witness::Unsettled {
+        first: 1,
+        last: None,
+        climbs: 1,
+        free: 0,
+        descents: 0,
+    };
+    let downstream = Witness::Unsettled {
+        first: 2,
+        last: Some(3),
+        climbs: 4,
+        free: 1,
+        descents: 5,
+    };
+    let table = [
+        (Verdict::Valid, climb),
+        (Verdict::Unknown, upstream),
+        (Verdict::Unknown, downstream),
+        (Verdict::Invalid, blocked(None)),
+        (Verdict::Invalid, blocked(Some(2))),
+        (Verdict::Invalid, Witness::Empty),
+        (Verdict::Invalid, Witness::Set),
+        (Verdict::Invalid, Witness::Neighbour),
+    ];
+    for (verdict, witness) in table {
+        put_why(&mut out, verdict, witness)?;
+    }
+    assert_eq!(rt;
+        out.as_slice(),
+        b"valid climbs 1 free 0 descents 0
+unknown unsettled 1 climbs 1 free 0 descents 0
+unknown unsettled 2 3 climbs 4 free 1 descents 5
+invalid blocked 1
+invalid blocked 1 2
+invalid empty
+invalid set
+invalid neighbour
+"
+            .as_slice()
+    );
+    Ok(())
+}
+
+fn blocked(last: Option<u32>) -> Witness {
+    Witness::Blocked { first: 1, last }
 }

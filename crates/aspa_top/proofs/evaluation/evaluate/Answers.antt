@@ -1,4 +1,5 @@
-use Rattle.std.proofs.Common.{◌≡◌, Err, refl, ap, ◌∙◌, arith}
+use Rattle.std.proofs.Common.{◌≡◌, ℕ, Err, refl, sym, ap, subst, ◌∙◌, arith}
+use Rattle.aspa_top.specs.Performing.{IsSound}
 use Rattle.av_base.proofs.PouringLemmas.{Grows-refl, Grows-trans}
 use Rattle.aspa_top.proofs.RunLemmas.{Tells-names, part_same, Performing-start, Performing-next, Performing-same, Reached-between, Reached-within, Reached-went, Reached-cut, Performing-stopped, Performing-ended}
 use Rattle.aspa_top.proofs.evaluation.evaluate.Goals as goal
@@ -6,28 +7,27 @@ use Rattle.aspa_top.proofs.evaluation.evaluate.Goals as goal
 pub loop-line-init : goal.loop-line-init
 loop-line-init g c =
     let none : c.new-working.result.lines ≡ 0 = c.new-working.ensures.lines in
-    let no_refused : c.new-working.result.refused ≡ 0 = c.new-working.ensures.refused in
     record {
-      so_far = λ world tells. Performing-start _ _ _ _ _ _ c.new-working.ensures c.new-text.ensures.items;
+      so_far = λ world tells. Performing-start _ _ _ _ _ _ _ (c.new-working.ensures.stands _) c.new-text.ensures.items;
       names = refl;
       shelf_faults = omega arith;
       grows = Grows-refl _;
       sink_faults = omega arith;
       count = omega (arith, none);
-      fewer = omega (arith, none, no_refused);
+      sound = subst (λ (n : ℕ). IsSound (g.F.Shelf.opened c.args.shelf.now) n c.new-working.result) (sym none) (c.new-working.ensures.sound (g.F.Shelf.opened c.args.shelf.now));
     }
 
 pub loop-line-preserved : goal.loop-line-preserved
 loop-line-preserved g c = record {
-  so_far = λ world tells. Performing-same _ _ _ _ _ _ _ _ _
-      (Performing-next _ _ _ _ _ _ _ _ _ _ _ _ _ _ (c.loop-line.invariant.so_far world tells) c.in-Some.ensures.first
+  so_far = λ world tells. Performing-same _ _ _ _ _ _ _ _ _ _
+      (Performing-next _ _ _ _ _ _ _ _ _ _ _ _ _ _ _ (c.loop-line.invariant.so_far world tells) c.in-Some.ensures.first
       (Tells-names _ _ world c.loop-line.invariant.names tells) c.in-Ok.ensures.goes) c.pour_piece.ensures.same;
   names = c.perform_line.ensures.names ∙ c.loop-line.invariant.names;
   shelf_faults = omega (arith, c.loop-line.invariant.shelf_faults, c.perform_line.ensures.shelf_faults);
   grows = Grows-trans c.loop-line.invariant.grows (Grows-trans c.perform_line.ensures.grows c.pour_piece.ensures.grows);
   sink_faults = omega (arith, c.loop-line.invariant.sink_faults, c.perform_line.ensures.sink_faults, c.pour_piece.ensures.cause.later);
-  count = omega (arith, c.loop-line.invariant.count, c.in-Some.ensures.less, c.in-Ok.ensures.counts.0);
-  fewer = c.in-Ok.ensures.counts.1;
+  count = omega (arith, c.loop-line.invariant.count, c.in-Some.ensures.less, c.in-Ok.ensures.lines);
+  sound = c.in-Ok.ensures.sound;
 }
 
 pub returns-in_err-pour-in-Err-Shelf-clause-went : goal.returns-in_err-pour-in-Err-Shelf-clause-went
@@ -68,28 +68,28 @@ returns-in-Err-NoMemory-clause-went g c = λ world tells.
 
 pub returns-in_err-pour_piece-clause-went : goal.returns-in_err-pour_piece-clause-went
 returns-in_err-pour_piece-clause-went g c = λ world tells.
-    Reached-went _ _ _ _ _ _ _ (Reached-between _ _ _ _ _ _ _ _ (Performing-same _ _ _ _ _ _ _ _ _
-    (Performing-next _ _ _ _ _ _ _ _ _ _ _ _ _ _ (c.loop-line.invariant.so_far world tells) c.in-Some.ensures.first
+    Reached-went _ _ _ _ _ _ _ (Reached-between _ _ _ _ _ _ _ _ _ (Performing-same _ _ _ _ _ _ _ _ _ _
+    (Performing-next _ _ _ _ _ _ _ _ _ _ _ _ _ _ _ (c.loop-line.invariant.so_far world tells) c.in-Some.ensures.first
     (Tells-names _ _ world c.loop-line.invariant.names tells) c.in-Ok.ensures.goes) c.pour_piece.ensures.same)) (Grows-trans c.loop-line.invariant.grows (Grows-trans c.perform_line.ensures.grows c.pour_piece.ensures.grows))
 
 pub returns-in_err-pour_piece-clause-cut : goal.returns-in_err-pour_piece-clause-cut
 returns-in_err-pour_piece-clause-cut g c = λ failed world tells.
-    Reached-cut _ _ _ _ _ _ _ (Reached-between _ _ _ _ _ _ _ _ (Performing-same _ _ _ _ _ _ _ _ _
-    (Performing-next _ _ _ _ _ _ _ _ _ _ _ _ _ _ (c.loop-line.invariant.so_far world tells) c.in-Some.ensures.first
+    Reached-cut _ _ _ _ _ _ _ (Reached-between _ _ _ _ _ _ _ _ _ (Performing-same _ _ _ _ _ _ _ _ _ _
+    (Performing-next _ _ _ _ _ _ _ _ _ _ _ _ _ _ _ (c.loop-line.invariant.so_far world tells) c.in-Some.ensures.first
     (Tells-names _ _ world c.loop-line.invariant.names tells) c.in-Ok.ensures.goes) c.pour_piece.ensures.same)) (Grows-trans c.loop-line.invariant.grows (Grows-trans c.perform_line.ensures.grows c.pour_piece.ensures.grows)) c.in_err-pour_piece.ensures.err
 
 pub returns-in_err-pour-clause-went : goal.returns-in_err-pour-clause-went
 returns-in_err-pour-clause-went g c = λ world tells.
-    Reached-went _ _ _ _ _ _ _ (Reached-between _ _ _ _ _ _ _ _ (Performing-same _ _ _ _ _ _ _ _ _ (c.loop-line.invariant.so_far world tells) c.pour-2.ensures.same)) (Grows-trans c.loop-line.invariant.grows c.pour-2.ensures.grows)
+    Reached-went _ _ _ _ _ _ _ (Reached-between _ _ _ _ _ _ _ _ _ (Performing-same _ _ _ _ _ _ _ _ _ _ (c.loop-line.invariant.so_far world tells) c.pour-2.ensures.same)) (Grows-trans c.loop-line.invariant.grows c.pour-2.ensures.grows)
 
 pub returns-in_err-pour-clause-cut : goal.returns-in_err-pour-clause-cut
 returns-in_err-pour-clause-cut g c = λ failed world tells.
-    Reached-cut _ _ _ _ _ _ _ (Reached-between _ _ _ _ _ _ _ _ (Performing-same _ _ _ _ _ _ _ _ _ (c.loop-line.invariant.so_far world tells) c.pour-2.ensures.same)) (Grows-trans c.loop-line.invariant.grows c.pour-2.ensures.grows) c.in_err-pour.ensures.err
+    Reached-cut _ _ _ _ _ _ _ (Reached-between _ _ _ _ _ _ _ _ _ (Performing-same _ _ _ _ _ _ _ _ _ _ (c.loop-line.invariant.so_far world tells) c.pour-2.ensures.same)) (Grows-trans c.loop-line.invariant.grows c.pour-2.ensures.grows) c.in_err-pour.ensures.err
 
 pub returns-clause-ended : goal.returns-clause-ended
 returns-clause-ended g c = λ world tells.
-    Performing-ended _ _ _ _ _ _ _ _ _ (Performing-same _ _ _ _ _ _ _ _ _ (c.loop-line.invariant.so_far world tells) c.pour-2.ensures.same) c.in_default.ensures.none c.in_ok-pour.ensures.ok
+    Performing-ended _ _ _ _ _ _ _ _ _ _ (Performing-same _ _ _ _ _ _ _ _ _ _ (c.loop-line.invariant.so_far world tells) c.pour-2.ensures.same) c.in_default.ensures.none c.in_ok-pour.ensures.ok
 
 pub returns-clause-went : goal.returns-clause-went
 returns-clause-went g c = λ world tells.
-    Reached-went _ _ _ _ _ _ _ (Reached-between _ _ _ _ _ _ _ _ (Performing-same _ _ _ _ _ _ _ _ _ (c.loop-line.invariant.so_far world tells) c.pour-2.ensures.same)) (Grows-trans c.loop-line.invariant.grows c.pour-2.ensures.grows)
+    Reached-went _ _ _ _ _ _ _ (Reached-between _ _ _ _ _ _ _ _ _ (Performing-same _ _ _ _ _ _ _ _ _ _ (c.loop-line.invariant.so_far world tells) c.pour-2.ensures.same)) (Grows-trans c.loop-line.invariant.grows c.pour-2.ensures.grows)

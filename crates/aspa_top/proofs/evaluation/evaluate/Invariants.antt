@@ -2,20 +2,20 @@ use Rattle.std.proofs.Common.{◌≡◌, ◌+◌, ◌≤◌, length}
 use Rattle.std.specs.Io.KnownBytes.{append_known}
 use Rattle.av_base.specs.Told.{Grows}
 use Rattle.av_text.specs.Lines.{lines_in}
-use Rattle.aspa_top.specs.Performing.{Performing}
+use Rattle.aspa_top.specs.Performing.{IsSound, Performing}
 use Rattle.aspa_top.specs.World.{Tells, World, names_of}
 use Rattle.aspa_top.proofs.evaluation.evaluate.Given as goal
 
 abbrev pub invariant-loop-line : goal.invariant-loop-line
 invariant-loop-line g l = record {
-  so_far : (world : World) → Tells (g.F.Shelf.files l.fn.shelf) world → Performing world (lines_in l.whole l.script) (lines_in l.whole l.left) l.working
+  so_far : (world : World) → Tells (g.F.Shelf.files l.fn.shelf) world → Performing world (lines_in l.whole l.script) (lines_in l.whole l.left) (g.F.Shelf.files l.shelf) l.working
       (g.W.Sink.written l.fn.out) (append_known (g.W.Sink.written l.out) l.text.items) l.fn.steps l.steps;
   names : names_of (g.F.Shelf.files l.shelf) ≡ names_of (g.F.Shelf.files l.fn.shelf);
   shelf_faults : g.F.Shelf.faults l.fn.shelf ≤ g.F.Shelf.faults l.shelf;
   grows : Grows (g.W.Sink.written l.fn.out) (g.W.Sink.written l.out);
   sink_faults : g.W.Sink.faults l.fn.out ≤ g.W.Sink.faults l.out;
   count : l.working.lines + length l.left ≤ length l.script;
-  fewer : l.working.refused ≤ l.working.lines;
+  sound : IsSound (g.F.Shelf.opened l.shelf) l.working.lines l.working;
 }
 
 abbrev pub decreases-loop-line : goal.decreases-loop-line

@@ -1,31 +1,20 @@
-use Rattle.std.proofs.Common.{◌≡◌, Ok, Err, refl, ap, arith, rules}
+use Rattle.std.proofs.Common.{◌≡◌, ◌+◌, ◌≤◌, Ok, Err, refl, ap, arith, rules}
 use Rattle.std.specs.Io.KnownBytes.{append_known}
 use Rattle.script_lines.specs.declared.command.LineFault.TheVariants.{NoMemory}
 use Rattle.av_base.proofs.PouringLemmas.{Grows-refl}
-use Rattle.aspa_top.proofs.PerformingLemmas.{HasShortPath-IsReading, part_read, part_whole, refused}
+use Rattle.aspa_top.proofs.PerformingLemmas.{IsWithinBounds-IsReading, part_read, part_whole, refused}
+use Rattle.aspa_top.proofs.StandsLemmas.{IsSound-begun, IsSound-counted, IsSound-same}
+use Rattle.aspa_top.specs.declared.working.Working.{Working}
 use Rattle.aspa_top.proofs.performing.perform_line.Goals as goal
 
-pub perform_command-requires-clause-short : goal.perform_command-requires-clause-short
-perform_command-requires-clause-short g c = HasShortPath-IsReading c.args.line.now c.in-Ok.command (c.in-Ok.ensures (λ none. cc))
+pub perform_command-requires-clause-within : goal.perform_command-requires-clause-within
+perform_command-requires-clause-within g c = IsWithinBounds-IsReading c.args.line.now c.in-Ok.command (c.in-Ok.ensures (λ none. cc))
 
 pub returns-in-Ok-clause-uses : goal.returns-in-Ok-clause-uses
 returns-in-Ok-clause-uses g c = λ failed. record { reading = Ok c.in-Ok.command; reads = c.in-Ok.ensures (λ none. cc); holds = c.perform_command.ensures.uses failed }
 
-pub returns-in_err-refuse-in-Err : goal.returns-in_err-refuse-in-Err
-returns-in_err-refuse-in-Err g c = record {
-  goes = search rules;
-  counts = search rules;
-  part = part_read _ _ _ _ _ (ap (append_known (g.W.Sink.written c.args.out.now)) c.in_err-refuse-in-Err.ensures.err);
-  grows = Grows-refl _;
-  ticks = omega arith;
-  names = refl;
-  shelf_faults = omega arith;
-  sink_faults = omega arith;
-  uses = search rules;
-  shelf_cause = search rules;
-  held = search rules;
-  sink_cause = search rules;
-}
+pub returns-in_err-refuse-in-Err-clause-part : goal.returns-in_err-refuse-in-Err-clause-part
+returns-in_err-refuse-in-Err-clause-part g c = part_read _ _ _ _ _ (ap (append_known (g.W.Sink.written c.args.out.now)) c.in_err-refuse-in-Err.ensures.err)
 
 pub returns-in-Err-NoMemory-clause-part : goal.returns-in-Err-NoMemory-clause-part
 returns-in-Err-NoMemory-clause-part g c = part_read _ _ _ _ _ refl
@@ -33,11 +22,13 @@ returns-in-Err-NoMemory-clause-part g c = part_read _ _ _ _ _ refl
 pub returns-in_ok-refuse-in-Err : goal.returns-in_ok-refuse-in-Err
 returns-in_ok-refuse-in-Err g c =
     let other : c.in-Err.fault ≡ NoMemory → ⊥ = search rules in
-    let goes = refused _ _ c.in-Err.fault _ _ _ (rw c.line_cause.ensures.number at c.in_ok-refuse-in-Err.ensures.text) c.in_ok-refuse-in-Err.ensures.next (g.W.Sink.written c.args.out.now) c.args.steps.now in
+    let lines = ap (λ (w : Working). w.lines) c.in_ok-refuse-in-Err.ensures.next in
+    let goes = refused _ c.in-Err.fault _ _ _ _ (rw c.line_cause.ensures.number at c.in_ok-refuse-in-Err.ensures.text) c.in_ok-refuse-in-Err.ensures.next (g.W.Sink.written c.args.out.now) c.args.steps.now in
     record {
       goes = record { reading = Err c.in-Err.fault; reads = c.in-Err.ensures (λ none. other cc); holds = goes };
-      counts = search rules;
-      part = record { reading = Err c.in-Err.fault; reads = c.in-Err.ensures (λ none. other cc); holds = part_whole _ _ _ _ _ _ _ _ goes };
+      sound = IsSound-same _ _ c.args.working.lines c.in_ok-refuse-in-Err.field-0.lines _ _ (omega (arith, lines)) (omega arith) (IsSound-counted _ c.args.working c.requires.sound) c.in_ok-refuse-in-Err.ensures.next;
+      lines = search rules;
+      part = record { reading = Err c.in-Err.fault; reads = c.in-Err.ensures (λ none. other cc); holds = part_whole _ _ _ _ _ _ _ _ _ goes };
       grows = Grows-refl _;
       ticks = omega arith;
       names = refl;
@@ -48,3 +39,6 @@ returns-in_ok-refuse-in-Err g c =
       held = search rules;
       sink_cause = search rules;
     }
+
+pub perform_command-requires-clause-sound : goal.perform_command-requires-clause-sound
+perform_command-requires-clause-sound g c = IsSound-begun _ c.args.working c.requires.sound

@@ -1,4 +1,4 @@
-use Rattle.script_lines.specs.declared.command.CommandName.TheVariants.{Aspa as AspaName, Aspa64 as Aspa64Name, Slurm as SlurmName, Filter as FilterName, Unfilter as UnfilterName, Assert as AssertName, Unassert as UnassertName, Judge as JudgeName}
+use Rattle.script_lines.specs.declared.command.CommandName.TheVariants.{Aspa as AspaName, Aspa64 as Aspa64Name, Slurm as SlurmName, Filter as FilterName, Unfilter as UnfilterName, Assert as AssertName, Unassert as UnassertName, Role as RoleName, Open as OpenName, Take as TakeName, Judge as JudgeName, Report as ReportName}
 use Rattle.script_lines.specs.Commands.{made_by}
 use Rattle.script_lines.proofs.grammar.read_fields.Goals as goal
 
@@ -23,5 +23,17 @@ returns-in_ok-customer-in-Assert-clause-spelled c = rw c.in-Assert.is (c.in_ok-c
 pub returns-in_ok-customer-in-Unassert-clause-spelled : goal.returns-in_ok-customer-in-Unassert-clause-spelled
 returns-in_ok-customer-in-Unassert-clause-spelled c = rw c.in-Unassert.is (c.in_ok-customer-in-Unassert.ensures.spelled (made_by UnassertName))
 
+pub returns-in_ok-whom-in-Role-clause-spelled : goal.returns-in_ok-whom-in-Role-clause-spelled
+returns-in_ok-whom-in-Role-clause-spelled c = rw (c.in-Role.is, c.role_command.ensures) (c.in_ok-whom-in-Role.ensures.spelled (made_by RoleName))
+
+pub returns-in_ok-name-in-Open-clause-spelled : goal.returns-in_ok-name-in-Open-clause-spelled
+returns-in_ok-name-in-Open-clause-spelled c = rw c.in-Open.is (c.in_ok-name-in-Open.ensures.spelled (made_by OpenName))
+
+pub returns-in_ok-name-in-Take-clause-spelled : goal.returns-in_ok-name-in-Take-clause-spelled
+returns-in_ok-name-in-Take-clause-spelled c = rw c.in-Take.is (c.in_ok-name-in-Take.ensures.spelled (made_by TakeName))
+
 pub returns-in_ok-role-in-Judge-clause-spelled : goal.returns-in_ok-role-in-Judge-clause-spelled
 returns-in_ok-role-in-Judge-clause-spelled c = rw c.in-Judge.is (c.in_ok-role-in-Judge.ensures.spelled (made_by JudgeName))
+
+pub returns-in_ok-read-in-Report-clause-spelled : goal.returns-in_ok-read-in-Report-clause-spelled
+returns-in_ok-read-in-Report-clause-spelled c = rw c.in-Report.is (c.in_ok-read-in-Report.ensures.spelled (made_by ReportName))

@@ -1,0 +1,62 @@
+//! The analysis, from event to event.
+ghost use Rattle.std.specs.Prelude.{◌≡◌, IfOk};
+ghost use Rattle.analyser.specs.Events.{Happens};
+ghost use Rattle.rib_store.specs.State.{no_state};
+
+use crate::Event;
+use av_base::{NoMemory, Steps};
+use rib_store::RibStore;
+use std::alloc::Global;
+use std::marker::Model;
+use std::sync::ledger::Ledger;
+
+/// What an analysis has come to, by all events so far.
+#[derive(Drop)]
+pub struct Analyser {
+    store: RibStore,
+}
+
+/// A contract sees the state.
+impl Model for Analyser {
+    ghost use Rattle.rib_store.specs.Codes.{coded_state};
+    ghost use Rattle.rib_store.specs.State.{State};
+
+    ghost Value = { State };
+
+    ghost coded = { coded_state };
+
+    ghost view = { λ a. a.store.state };
+}
+
+impl Analyser {
+    /// Nothing has happened yet. It takes no memory.
+    pub fn new(alloc: Global) -> Analyser
+        ensures { result ≡ no_state }
+    {
+        Analyser {
+            store: RibStore::new(alloc),
+        }
+    }
+
+    /// The analysis after one more event, with the judgements that it took as steps.
+    pub fn step<L: Ledger>(self, event: Event, steps: &mut Steps<L>) -> Result<Analyser, NoMemory>
+        ensures state { IfOk result (λ next. Happens self event next) }
+        ensures ticks { steps.new ≡ steps.old }
+    {
+        let Analyser { store } = self;
+        let store = match event {
+            Event::Routes(changes) => store.apply_routes(changes, steps)?,
+            Event::Table(change) => store.apply_table(change, steps)?,
+            Event::Role(asn, role) => store.set_role(asn, role, steps)?,
+            Event::DefaultRole(role) => store.set_default(role, steps)?,
+        };
+        Ok(Analyser { store })
+    }
+
+    /// The store, for what is read of it.
+    pub fn store(&self) -> &RibStore
+        ensures { result.now.state ≡ self.now }
+    {
+        &self.store
+    }
+}

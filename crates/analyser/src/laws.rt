@@ -1,0 +1,7 @@
+//! Laws of events: the contract of each function is the law, and its body does nothing.
+ghost use Rattle.analyser.specs.Laws.{EventsHaveOneOutcome};
+
+/// Each event has exactly one outcome from any state.
+pub fn events_have_one_outcome()
+    ensures { EventsHaveOneOutcome }
+{}

@@ -1,0 +1,14 @@
+//! The analysis: a store of all that attests, the roles and the routes, and what each event makes of it.
+//!
+//! The layer above uses one contract, that of [`Analyser::step`]: after an event the state is what `Happens` of `specs/Events.antt`
+//! says, and by the law [`events_have_one_outcome`] there is exactly one such state. What the state is, is defined in `rib_store`
+//! (`State`). Begin reading in `specs/Events.antt`.
+#![tactic(auto)]
+
+mod analysis;
+mod event;
+mod laws;
+
+pub use analysis::Analyser;
+pub use event::Event;
+pub use laws::events_have_one_outcome;

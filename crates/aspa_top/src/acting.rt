@@ -1,0 +1,48 @@
+//! What a line does to the working state, whatever it asks for.
+ghost use Rattle.std.specs.Prelude.{◌≡◌, ◌+◌, ◌^◌, ◌<◌, ◌++◌, IfOk, OnOk, OnErr};
+ghost use Rattle.report_text.specs.Places.{place_of};
+ghost use Rattle.report_text.specs.Refusals.{IsCause, refusal_text};
+ghost use Rattle.aspa_top.specs.Performing.{Happened};
+
+use crate::working::Working;
+use analyser::Event;
+use av_base::{NoMemory, Steps};
+use report_text::{Place, put_refusal};
+use std::sync::ledger::Ledger;
+
+/// Reports a refused line, which changes nothing but the counts. The line is counted already.
+pub(crate) fn refuse(
+    working: Working,
+    place: Place<'_>,
+    cause: u16,
+    text: &mut Vec<u8>,
+) -> Result<Working, NoMemory>
+    requires room { working.refused < 2 ^ 62 }
+    requires cause { IsCause cause }
+    ensures text { OnOk result (text.new.items
+        ≡ text.old.items ++ refusal_text working.lines (place_of place.entry) cause) }
+    ensures next { IfOk result (λ next. next ≡ record working { refused = working.refused + 1 }) }
+    ensures err { OnErr result (text.new.items ≡ text.old.items) }
+{
+    put_refusal(text, working.lines, place, cause)?;
+    Ok(Working {
+        refused: working.refused + 1,
+        ..working
+    })
+}
+
+/// Lets an event happen, and writes nothing.
+pub(crate) fn happen<L: Ledger>(
+    working: Working,
+    event: Event,
+    steps: &mut Steps<L>,
+) -> Result<Working, NoMemory>
+    ensures happened { IfOk result (Happened working event) }
+    ensures ticks { steps.new ≡ steps.old }
+{
+    let analyser = working.analyser.step(event, steps)?;
+    Ok(Working {
+        analyser,
+        ..working
+    })
+}

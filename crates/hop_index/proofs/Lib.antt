@@ -1,0 +1,4 @@
+pub mod HopLemmas
+pub mod IndexLemmas
+pub mod LegLemmas
+pub mod ThroughLemmas

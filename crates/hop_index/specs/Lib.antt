@@ -1,0 +1,6 @@
+pub mod Hops
+pub mod Index
+pub mod Laws
+pub mod Legs
+pub mod Steps
+pub mod Through

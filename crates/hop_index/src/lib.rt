@@ -1,0 +1,17 @@
+//! Which stored cases have a hop between two ASes, so that a change of one AS's attestations finds the cases that it may touch.
+//!
+//! The layer above uses one contract: **[`HopIndex::through`] gives exactly the cases that were added and not removed with a hop between
+//! x and some y, by rising y and then by rising case.** `specs/Hops.antt` says what the hops of a chain are, and `specs/Index.antt` what
+//! it is that an index has a hop: begin there. Each hop is held in both orders, since what a change of x does to a hop doesn't depend on
+//! which of its two ASes is nearer to the origin.
+#![tactic(auto)]
+
+mod index;
+mod laws;
+mod leg;
+mod legs;
+mod through;
+
+pub use index::HopIndex;
+pub use laws::{ends_reach_cases, hops_join_neighbours, removal_undoes_addition};
+pub use through::Through;

@@ -1,0 +1,4 @@
+pub mod CountLemmas
+pub mod HeldLemmas
+pub mod ReportLemmas
+pub mod RowLemmas

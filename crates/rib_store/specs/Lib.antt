@@ -1,0 +1,9 @@
+pub mod Altered
+pub mod Codes
+pub mod Counts
+pub mod Held
+pub mod Laws
+pub mod Rows
+pub mod Shown
+pub mod State
+pub mod Stored

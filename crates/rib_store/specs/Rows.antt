@@ -1,0 +1,27 @@
+-- The rows of a report, made of its routes, and what an iterator over them has left.
+use Rattle.std.specs.Prelude.{ℕ, List, map}
+use Rattle.path_model.specs.declared.key.Key.{Key}
+use Rattle.path_model.specs.declared.role.Role.{Role}
+use Rattle.path_model.specs.declared.verdict.Verdict.{Verdict}
+use Rattle.path_model.specs.Authority.{Table}
+use Rattle.path_model.specs.ComputedTable.{table_of}
+use Rattle.path_model.specs.CurrentTable.{Parts}
+use Rattle.path_model.specs.Roles.{Relations, role_of}
+use Rattle.path_model.specs.Trail.{Path}
+use Rattle.path_model.proofs.LawLemmas.{one_right}
+use Rattle.rib_store.specs.declared.rib.Rib.{Rib}
+
+-- the right verdict of a case: the one that the law of verdicts gives
+unfoldable pub verdict_of : Table → Role → ℕ → Path → Verdict
+verdict_of table role neighbour path = (one_right table role neighbour path).verdict
+
+-- the right verdict of a key's path, by the table that the parts make and the role of the peer's AS
+abbrev pub current_verdict : Parts → Relations → Key → Path → Verdict
+current_verdict parts relations key path = verdict_of (table_of parts) (role_of relations key.peer.asn) key.peer.asn path
+
+-- a row for each of these routes
+abbrev pub rows_of : Parts → Relations → List (Key × Path) → List (Key × Verdict)
+rows_of parts relations routes = map (λ e. (e.0, current_verdict parts relations e.0 e.1)) routes
+
+abbrev pub rows_left : Rib → List (Key × Verdict)
+rows_left rib = rows_of rib.table.now rib.roles.now rib.rest

@@ -1,0 +1,20 @@
+//! The store of an analysis: all that attests, the roles, and the routes. It judges a route when it is asked.
+//!
+//! The layer above uses the contracts of [`RibStore`]: each change of it gives the state that `specs/State.antt` and
+//! `path_model` (`Routes`, `Roles`) name, and [`RibStore::rows`] lists each route with its current verdict in key order. They speak
+//! of the `state` of the store's value alone, so that they stay word for word where a store keeps more. Begin reading in
+//! `specs/State.antt`, and then in `store`.
+//!
+//! `held` keeps the routes, `rib` lists and judges them, and `counts` counts the verdicts.
+#![tactic(auto)]
+
+mod counts;
+mod held;
+mod laws;
+mod rib;
+mod store;
+
+pub use counts::Counts;
+pub use laws::each_state_has_one_report;
+pub use rib::{Rib, Shown};
+pub use store::RibStore;

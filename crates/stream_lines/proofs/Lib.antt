@@ -1,0 +1,7 @@
+pub mod FrameLemmas
+pub mod LawLemmas
+pub mod NextLemmas
+pub mod RefusalLemmas
+pub mod RowsLemmas
+pub mod TakingLemmas
+pub mod UnitsLemmas

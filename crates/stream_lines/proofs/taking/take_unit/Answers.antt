@@ -1,0 +1,38 @@
+use Rattle.std.proofs.Common.{ap, refl, ◌∙◌}
+use Rattle.std.specs.declared.result.Result.{Result}
+use Rattle.mrt_reader.specs.declared.body.Body.{Body}
+use Rattle.mrt_reader.specs.declared.fault.BodyFault.{BodyFault}
+use Rattle.stream_lines.specs.declared.dump.Next.TheVariants.{Record}
+use Rattle.stream_lines.specs.Taking.{asking_of}
+use Rattle.stream_lines.proofs.TakingLemmas.{took_body, took_refused, took_too_long, took_cut_short, took_end}
+use Rattle.stream_lines.proofs.taking.take_unit.Goals as goal
+
+pub returns-in_ok-take_body-in-Record-Ok-clause-took : goal.returns-in_ok-take_body-in-Record-Ok-clause-took
+returns-in_ok-take_body-in-Record-Ok-clause-took g c =
+    took_body (asking_of c.args.asking) c.args.dump.now c.args.progress (g.F.Shelf.files c.args.shelf.now) (g.F.Shelf.files c.next.new.shelf) c.next.new.self.held c.in_ok-body.field-0
+    c.in_ok-body.ensures.next c.in-Record-Ok.body c.next.new.self c.take_body.new.dump c.in_ok-take_body-in-Record-Ok.field-0 c.args.text.now.items c.args.text.now.items
+    (c.in-Record-Ok.is ∙ ap (λ (r : Result Body BodyFault). Record r) c.in-Record-Ok.field-0-is) c.in_ok-body.ensures.held c.in_ok-take_body-in-Record-Ok.ensures.took refl
+
+pub returns-in_ok-report-in-Record-Err-clause-took : goal.returns-in_ok-report-in-Record-Err-clause-took
+returns-in_ok-report-in-Record-Err-clause-took g c =
+    took_refused (asking_of c.args.asking) c.args.dump.now c.args.progress (g.F.Shelf.files c.args.shelf.now) (g.F.Shelf.files c.next.new.shelf) c.next.new.self.held c.in_ok-body.field-0
+    c.in_ok-body.ensures.next c.in-Record-Err.fault c.next.new.self c.pass.new.self c.refused_once.result c.taken.result c.in_ok-cause-in-Record-Err.cause c.args.text.now.items c.report.new.text.items
+    (c.in-Record-Err.is ∙ ap (λ (r : Result Body BodyFault). Record r) c.in-Record-Err.field-0-is) c.in_ok-body.ensures.held c.pass.ensures c.refused_once.ensures
+    c.taken.ensures c.in_ok-cause-in-Record-Err.ensures.number c.in_ok-cause-in-Record-Err.ensures.known c.in_ok-report-in-Record-Err.ensures.ok
+
+pub returns-in_ok-report-in-TooLong-clause-took : goal.returns-in_ok-report-in-TooLong-clause-took
+returns-in_ok-report-in-TooLong-clause-took g c =
+    took_too_long (asking_of c.args.asking) c.args.dump.now c.args.progress (g.F.Shelf.files c.args.shelf.now) (g.F.Shelf.files c.next.new.shelf) c.next.new.self.held c.in_ok-body.field-0
+    c.in_ok-body.ensures.next c.next.new.self c.end.new.self c.refused_once-in-TooLong.result c.taken-in-TooLong.result c.args.text.now.items c.report-in-TooLong.new.text.items
+    c.in-TooLong.is c.in_ok-body.ensures.held c.end.ensures c.refused_once-in-TooLong.ensures c.taken-in-TooLong.ensures c.in_ok-report-in-TooLong.ensures.ok
+
+pub returns-in_ok-report-in-CutShort-clause-took : goal.returns-in_ok-report-in-CutShort-clause-took
+returns-in_ok-report-in-CutShort-clause-took g c =
+    took_cut_short (asking_of c.args.asking) c.args.dump.now c.args.progress (g.F.Shelf.files c.args.shelf.now) (g.F.Shelf.files c.next.new.shelf) c.next.new.self.held c.in_ok-body.field-0
+    c.in_ok-body.ensures.next c.next.new.self c.end-in-CutShort.new.self c.refused_once-in-CutShort.result c.taken-in-CutShort.result c.args.text.now.items c.report-in-CutShort.new.text.items
+    c.in-CutShort.is c.in_ok-body.ensures.held c.end-in-CutShort.ensures c.refused_once-in-CutShort.ensures c.taken-in-CutShort.ensures c.in_ok-report-in-CutShort.ensures.ok
+
+pub returns-in-End-clause-took : goal.returns-in-End-clause-took
+returns-in-End-clause-took g c =
+    took_end (asking_of c.args.asking) c.args.dump.now c.args.progress (g.F.Shelf.files c.args.shelf.now) (g.F.Shelf.files c.next.new.shelf) c.next.new.self.held c.in_ok-body.field-0
+    c.in_ok-body.ensures.next c.next.new.self c.end-in-End.new.self c.args.text.now.items c.in-End.is c.in_ok-body.ensures.held c.end-in-End.ensures

@@ -1,0 +1,75 @@
+use Rattle.std.proofs.Common.{◌≡◌, ◌≢◌, ℕ, ap, refl, sym, ◌∙◌, arith, subst}
+use Rattle.std.specs.Io.KnownBytes.{append_known}
+use Rattle.av_base.proofs.PouringLemmas.{Grows-refl, Grows-trans}
+use Rattle.stream_lines.specs.Frames.{Leaves}
+use Rattle.stream_lines.proofs.FrameLemmas.{Leaves-refl, Leaves-trans}
+use Rattle.stream_lines.proofs.UnitsLemmas.{TookUnits-start, TookUnits-next, TookUnits-over, TookUnits-some}
+use Rattle.stream_lines.proofs.taking.take_units.Goals as goal
+
+pub loop-turn-init : goal.loop-turn-init
+loop-turn-init g c = record {
+  took = TookUnits-start _ _ _ _ _;
+  within = omega arith;
+  file = refl;
+  few = record { taken = omega arith; passed = omega arith; refused = omega arith };
+  ticks = refl;
+  others = Leaves-refl _ _;
+  opened = refl;
+  shelf_faults = omega arith;
+  grows = Grows-refl _;
+  sink_faults = omega arith;
+}
+
+pub returns-then-is_over-clause-took : goal.returns-then-is_over-clause-took
+returns-then-is_over-clause-took g c =
+    let over = (sym c.is_over.ensures ∙ c.if-is_over.true) in
+    TookUnits-over _ _ _ _ _ c.loop-turn._turn _ _ _ _ _ c.loop-turn.invariant.within c.loop-turn.invariant.took over
+
+pub returns-then-is_over-clause-some : goal.returns-then-is_over-clause-some
+returns-then-is_over-clause-some g c = TookUnits-some _ _ _ _ _ c.loop-turn._turn _ _ _ _ _ _ c.loop-turn.invariant.within c.loop-turn.invariant.took refl
+
+pub returns-in_err-progress-clause-some : goal.returns-in_err-progress-clause-some
+returns-in_err-progress-clause-some g c =
+    TookUnits-some _ _ _ _ _ c.loop-turn._turn _ _ _ _ _ _ c.loop-turn.invariant.within c.loop-turn.invariant.took
+    (ap (append_known (g.W.Sink.written c.loop-turn.out)) c.in_err-progress.ensures.err)
+
+pub returns-in_err-pour_piece-clause-some : goal.returns-in_err-pour_piece-clause-some
+returns-in_err-pour_piece-clause-some g c =
+    TookUnits-some _ _ _ _ _ _ _ _ _ _ (append_known (g.W.Sink.written c.loop-turn.out) c.take_unit.new.text.items) _ (omega arith)
+    (TookUnits-next _ _ _ _ _ c.loop-turn._turn _ _ _ _ _ _ _ _ (g.W.Sink.written c.loop-turn.out) _ _ c.loop-turn.invariant.took (sym c.is_over.ensures ∙ c.if-is_over.false) c.in_ok-progress.ensures.took refl refl)
+    c.pour_piece.ensures.same
+
+pub returns-in_err-pour_piece-clause-others : goal.returns-in_err-pour_piece-clause-others
+returns-in_err-pour_piece-clause-others g c =
+    Leaves-trans c.loop-turn.invariant.others
+    (subst (λ (file : ℕ). Leaves (λ other. other ≢ file) (g.F.Shelf.files c.loop-turn.shelf) (g.F.Shelf.files c.take_unit.new.shelf)) c.loop-turn.invariant.file c.take_unit.ensures.others)
+
+pub returns-in_err-pour_piece-clause-grows : goal.returns-in_err-pour_piece-clause-grows
+returns-in_err-pour_piece-clause-grows g c = Grows-trans c.loop-turn.invariant.grows c.pour_piece.ensures.grows
+
+pub loop-turn-preserved : goal.loop-turn-preserved
+loop-turn-preserved g c = record {
+  took = TookUnits-next _ _ _ _ _ c.loop-turn._turn _ _ _ _ _ _ _ _ (g.W.Sink.written c.loop-turn.out) _ _ c.loop-turn.invariant.took (sym c.is_over.ensures ∙ c.if-is_over.false) c.in_ok-progress.ensures.took refl c.pour_piece.ensures.same;
+  within = omega arith;
+  file = c.take_unit.ensures.file ∙ c.loop-turn.invariant.file;
+  few = record {
+    taken = omega (arith, c.in_ok-progress.ensures.few.taken, c.loop-turn.invariant.few.taken);
+    passed = omega (arith, c.in_ok-progress.ensures.few.passed, c.loop-turn.invariant.few.passed);
+    refused = omega (arith, c.in_ok-progress.ensures.few.refused, c.loop-turn.invariant.few.refused);
+  };
+  ticks = c.take_unit.ensures.ticks ∙ c.loop-turn.invariant.ticks;
+  others = Leaves-trans c.loop-turn.invariant.others
+      (subst (λ (file : ℕ). Leaves (λ other. other ≢ file) (g.F.Shelf.files c.loop-turn.shelf) (g.F.Shelf.files c.take_unit.new.shelf)) c.loop-turn.invariant.file c.take_unit.ensures.others);
+  opened = c.take_unit.ensures.opened ∙ c.loop-turn.invariant.opened;
+  shelf_faults = omega (arith, c.take_unit.ensures.faults, c.loop-turn.invariant.shelf_faults);
+  grows = Grows-trans c.loop-turn.invariant.grows c.pour_piece.ensures.grows;
+  sink_faults = omega (arith, c.pour_piece.ensures.cause.later, c.loop-turn.invariant.sink_faults);
+}
+
+pub returns-clause-took : goal.returns-clause-took
+returns-clause-took g c =
+    let e : c.loop-turn._turn ≡ c.args.asking.count = omega arith in
+    rw e at c.loop-turn.invariant.took
+
+pub returns-clause-some : goal.returns-clause-some
+returns-clause-some g c = TookUnits-some _ _ _ _ _ c.loop-turn._turn _ _ _ _ _ _ c.loop-turn.invariant.within c.loop-turn.invariant.took refl

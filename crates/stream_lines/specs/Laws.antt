@@ -1,0 +1,20 @@
+-- Laws of the definitions, each the contract of a public function of the module `laws`.
+use Rattle.std.specs.Prelude.{◌≡◌, ℕ, ◌+◌, List, ◌++◌}
+use Rattle.av_text.specs.Spellings.{IsInLine}
+use Rattle.stream_lines.specs.Counts.{refusals_in}
+use Rattle.stream_lines.specs.Streams.{Asking, Taking, TakesUnits}
+
+-- so many units of a dump have one text, and leave one state
+pub record HasOneOutcome (asking : Asking) (count : ℕ) (old : Taking) : Type 0 where
+  pub text : List ℕ
+  pub new : Taking
+  pub takes : TakesUnits asking count old text new
+  pub only : (other : List ℕ) (last : Taking) → TakesUnits asking count old other last → (other ≡ text) × (last ≡ new)
+
+abbrev pub UnitsHaveOneOutcome : Type 0
+UnitsHaveOneOutcome = (asking : Asking) (count : ℕ) (old : Taking) → HasOneOutcome asking count old
+
+-- Where the dump's name has no line feed, as many refusals are counted as the text reports, whatever text comes behind.
+abbrev pub RefusedUnitsAreCounted : Type 0
+RefusedUnitsAreCounted = (asking : Asking) (count : ℕ) (old new : Taking) (text rest : List ℕ) → IsInLine asking.name
+    → TakesUnits asking count old text new → new.refused + refusals_in rest ≡ old.refused + refusals_in (text ++ rest)

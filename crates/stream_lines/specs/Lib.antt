@@ -1,0 +1,11 @@
+pub mod Counts
+pub mod Frames
+pub mod Held
+pub mod Holding
+pub mod Laws
+pub mod Next
+pub mod Rows
+pub mod Stops
+pub mod Streams
+pub mod Taking
+pub mod TakingSteps

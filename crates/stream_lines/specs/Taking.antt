@@ -1,0 +1,56 @@
+-- How the units that a call took stand for the definition's.
+use Rattle.std.specs.Prelude.{◌≡◌, ℕ, ◌+◌, ◌≤◌, List}
+use Rattle.std.specs.Io.KnownBytes.{append_known}
+use Rattle.std.specs.declared.option.Option.{Option}
+use Rattle.av_base.specs.Files.{Files}
+use Rattle.stream_lines.specs.declared.taking.Asked.{Asked}
+use Rattle.stream_lines.specs.declared.taking.Progress.{Progress}
+use Rattle.stream_lines.specs.Held.{HeldDump}
+use Rattle.stream_lines.specs.Holding.{HoldsDump}
+use Rattle.stream_lines.specs.Streams.{Asking, Dump, Taking, TakesUnits}
+
+-- the line that takes, and the dump's name
+abbrev pub asking_of : Asked → Asking
+asking_of asked = record { line = asked.line; name = asked.name.now }
+
+-- what the next unit is taken from
+abbrev pub taking : Dump → Progress → Taking
+taking dump progress = record { dump = dump; state = progress.analyser; passed = progress.passed; refused = progress.refused }
+
+-- what is held of the dump, the analyser and the counts stand for this
+pub record StandsAt (files : Option Files) (dump : HeldDump) (progress : Progress) (new : Taking) : Type 0 where
+  pub holds : HoldsDump files dump new.dump
+  pub state : progress.analyser ≡ new.state
+  pub passed : progress.passed ≡ new.passed
+  pub refused : progress.refused ≡ new.refused
+
+-- so many units were taken; `all` is what was written and then what is held
+pub record TookMany (asking : Asking) (count : ℕ) (old new : Taking) (all_old all_new : Option (List ℕ)) : Type 0 where
+  pub text : List ℕ
+  pub takes : TakesUnits asking count old text new
+  pub added : all_new ≡ append_known all_old text
+
+-- So many units were taken, or all that came until the dump was over, from whatever dump the open one stood for; what is open, the
+-- analyser and the counts stand for what they left.
+abbrev pub TookUnits : Asking → ℕ → HeldDump → HeldDump → Progress → Option Files → Option Files
+    → Option (List ℕ) → Option (List ℕ) → Progress → Type 0
+TookUnits asking count dump_old dump_new progress files_old files_new all_old all_new next =
+    (state : Dump) → HoldsDump files_old dump_old state
+    → (new : Taking) × StandsAt files_new dump_new next new × TookMany asking count (taking state progress) new all_old all_new
+
+-- Some first of these units were taken, perhaps none and perhaps all, and their text was added.
+pub record TookFirst (asking : Asking) (count : ℕ) (old : Taking) (all_old all_new : Option (List ℕ)) : Type 0 where
+  pub first : ℕ
+  pub within : first ≤ count
+  pub new : Taking
+  pub took : TookMany asking first old new all_old all_new
+
+abbrev pub TookSome : Asking → ℕ → HeldDump → Progress → Option Files → Option (List ℕ) → Option (List ℕ) → Type 0
+TookSome asking count dump progress files all_old all_new =
+    (state : Dump) → HoldsDump files dump state → TookFirst asking count (taking state progress) all_old all_new
+
+-- the counts grew by at most so many
+pub record GrewBy (count : ℕ) (dump_old dump_new : HeldDump) (progress next : Progress) : Type 0 where
+  pub taken : dump_new.taken ≤ dump_old.taken + count
+  pub passed : next.passed ≤ progress.passed + count
+  pub refused : next.refused ≤ progress.refused + count

@@ -1,0 +1,72 @@
+//! What the body of a record makes of a dump, of the analysis and of the counts.
+ghost use Rattle.std.specs.Prelude.{◌≡◌, ◌<◌, ◌^◌, IfOk};
+ghost use Rattle.report_text.specs.Refusals.{IsCause};
+ghost use Rattle.stream_lines.specs.Streams.{body_cause as number_of_fault};
+ghost use Rattle.stream_lines.specs.Taking.{GrewBy};
+ghost use Rattle.stream_lines.specs.TakingSteps.{TookBody};
+
+use crate::dump::OpenDump;
+use crate::taking::Progress;
+use analyser::Event;
+use av_base::{NoMemory, Steps};
+use mrt_reader::{Body, BodyFault};
+use std::sync::ledger::Ledger;
+
+/// Takes a record that says this.
+pub(crate) fn take_body<L: Ledger>(
+    dump: &mut OpenDump,
+    body: Body,
+    progress: Progress,
+    steps: &mut Steps<L>,
+) -> Result<Progress, NoMemory>
+    requires few_taken { dump.old.taken < 2 ^ 63 }
+    requires few_passed { progress.passed < 2 ^ 63 }
+    ensures took { IfOk result (TookBody body dump.old dump.new progress) }
+    ensures file { dump.new.file ≡ dump.old.file }
+    ensures few { IfOk result (GrewBy 1 dump.old dump.new progress) }
+    ensures ticks { steps.new ≡ steps.old }
+{
+    match body {
+        Body::Peers(table) => {
+            dump.accept(table);
+            Ok(progress)
+        }
+        Body::Routes(changes) => {
+            let Progress {
+                analyser,
+                passed,
+                refused,
+            } = progress;
+            let analyser = analyser.step(Event::Routes(changes), steps)?;
+            dump.pass();
+            Ok(Progress {
+                analyser,
+                passed,
+                refused,
+            })
+        }
+        Body::Passed => {
+            dump.pass();
+            Ok(Progress {
+                passed: progress.passed + 1,
+                ..progress
+            })
+        }
+    }
+}
+
+/// The number of the cause for which a record's body is refused; want of memory is none.
+pub(crate) fn body_cause(fault: BodyFault) -> Result<u16, NoMemory>
+    ensures number { IfOk result (λ cause. cause ≡ number_of_fault fault) }
+    ensures known { IfOk result IsCause }
+{
+    match fault {
+        BodyFault::Attributes => Ok(23),
+        BodyFault::Message => Ok(24),
+        BodyFault::NoPath => Ok(25),
+        BodyFault::Body => Ok(28),
+        BodyFault::NoPeerTable => Ok(29),
+        BodyFault::PeerIndex => Ok(30),
+        BodyFault::NoMemory => Err(NoMemory),
+    }
+}

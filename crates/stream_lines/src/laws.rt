@@ -1,0 +1,12 @@
+//! Laws of the definitions: the contract of each function is the law, and its body does nothing.
+ghost use Rattle.stream_lines.specs.Laws.{UnitsHaveOneOutcome, RefusedUnitsAreCounted};
+
+/// From each dump any number of units has exactly one text, and leaves exactly one state.
+pub fn units_have_one_outcome()
+    ensures { UnitsHaveOneOutcome }
+{}
+
+/// As many refusals are counted as the text of the units has lines that begin with `! `.
+pub fn refused_units_are_counted()
+    ensures { RefusedUnitsAreCounted }
+{}

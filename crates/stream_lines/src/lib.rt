@@ -1,0 +1,26 @@
+//! What one line of a script does with a dump.
+//!
+//! The layer above uses one contract, that of [`take_units`]: it takes the next units of a dump that was opened, or all that come
+//! until the dump is over, and adds their text to what was written and is held. What a unit makes of a dump, of the analysis and of
+//! the counts is defined in `specs/Streams.antt`, over what is left of the dump's file: begin reading there, and then in
+//! `specs/Holding.antt`, how an [`OpenDump`] stands for such a dump. From each dump any number of units has exactly one text and
+//! outcome, and as many refusals are counted as that text has (`laws`).
+//!
+//! `dump` reads the file piece by piece and takes off what comes next. `taking` performs it, and `body` a record by what it says.
+//! `rows` writes a report of the routes, line by line, and `stop` says why a line, or the reading of a file, ends early. Lemmas for
+//! the proofs above are in `proofs/`: `FrameLemmas` for the files that a call leaves as they were, `LawLemmas` and `UnitsLemmas` for
+//! units, and `RefusalLemmas` for the refusals in a text.
+#![tactic(auto)]
+
+mod body;
+mod dump;
+mod laws;
+mod rows;
+mod stop;
+mod taking;
+
+pub use dump::OpenDump;
+pub use laws::{refused_units_are_counted, units_have_one_outcome};
+pub use rows::put_rows;
+pub use stop::{ReadFault, Stop};
+pub use taking::{Asked, Progress, take_units};

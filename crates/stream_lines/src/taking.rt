@@ -1,0 +1,171 @@
+//! The units that a line takes from a dump.
+ghost use Rattle.std.specs.Prelude.{◌≡◌, ◌<◌, ◌≤◌, ◌≢◌, ◌+◌, ◌++◌, ◌^◌, ℕ, IfOk, OnOk, OnErr, IsErrOf, length};
+ghost use Rattle.std.specs.Io.KnownBytes.{append_known};
+ghost use Rattle.av_base.specs.Told.{Grows, Rose};
+ghost use Rattle.report_text.specs.Refusals.{IsCause, of_unit, refusal_text};
+ghost use Rattle.stream_lines.specs.Frames.{Leaves, names_of};
+ghost use Rattle.stream_lines.specs.Taking.{GrewBy, TookSome, TookUnits, asking_of};
+ghost use Rattle.stream_lines.specs.TakingSteps.{TookUnit};
+
+use crate::body::{body_cause, take_body};
+use crate::dump::{Next, OpenDump};
+use crate::stop::{ReadFault, Stop};
+use analyser::Analyser;
+use av_base::{NoMemory, Shelf, Sink, Steps, pour_piece};
+use report_text::{Place, put_refusal};
+use std::alloc::Global;
+use std::sync::ledger::Ledger;
+
+/// The line that takes: its number, the dump's name, and the most units that it takes.
+#[derive(Clone, Copy, Debug)]
+pub struct Asked<'a> {
+    /// The number of the line, from 1.
+    pub line: u64,
+    /// The dump's name.
+    pub name: &'a str,
+    /// The most units that are taken.
+    pub count: u32,
+}
+
+/// What the units so far have made of the routes, and what they have counted.
+#[derive(Drop)]
+pub struct Progress {
+    /// The analysis.
+    pub analyser: Analyser,
+    /// How many records were passed over unread.
+    pub passed: u64,
+    /// How many units and lines were refused.
+    pub refused: u64,
+}
+
+/// Takes the next units of a dump, or all that come until it is over. A refused unit is reported by a line. The text is held, and
+/// written in pieces.
+pub fn take_units<F: Shelf, W: Sink, L: Ledger>(
+    alloc: Global,
+    dump: &mut OpenDump,
+    asking: Asked<'_>,
+    progress: Progress,
+    shelf: &mut F,
+    out: &mut W,
+    text: &mut Vec<u8>,
+    steps: &mut Steps<L>,
+) -> Result<Progress, Stop>
+    requires given { dump.old.file < F.opened shelf.old }
+    requires few_taken { dump.old.taken < 2 ^ 62 }
+    requires few_passed { progress.passed < 2 ^ 62 }
+    requires few_refused { progress.refused < 2 ^ 62 }
+    ensures took { IfOk result (TookUnits (asking_of asking.entry) asking.entry.count
+        dump.old dump.new progress
+        (F.files shelf.old) (F.files shelf.new)
+        (append_known (W.written out.old) text.old.items)
+        (append_known (W.written out.new) text.new.items)) }
+
+    // Whether it ended early or not.
+    ensures some { TookSome (asking_of asking.entry) asking.entry.count
+        dump.old progress (F.files shelf.old)
+        (append_known (W.written out.old) text.old.items)
+        (append_known (W.written out.new) text.new.items) }
+    ensures file { dump.new.file ≡ dump.old.file }
+    ensures few { IfOk result (GrewBy asking.entry.count dump.old dump.new progress) }
+    ensures ticks { steps.new ≡ steps.old }
+    ensures others { Leaves (λ other. other ≢ dump.old.file)
+        (F.files shelf.old) (F.files shelf.new) }
+    ensures names { names_of (F.files shelf.new) ≡ names_of (F.files shelf.old) }
+    ensures opened { F.opened shelf.new ≡ F.opened shelf.old }
+    ensures shelf_cause { IsErrOf result Stop.Shelf
+        → Rose (F.faults shelf.old) (F.faults shelf.new) }
+    ensures shelf_faults { F.faults shelf.old ≤ F.faults shelf.new }
+    ensures held { IsErrOf result Stop.Sink → 0 < length text.new.items }
+    ensures sink_cause { IsErrOf result Stop.Sink → Rose (W.faults out.old) (W.faults out.new) }
+    ensures sink_faults { W.faults out.old ≤ W.faults out.new }
+    ensures grows { Grows (W.written out.old) (W.written out.new) }
+{
+    let mut progress = progress;
+    for _turn in 0..asking.count {
+        if dump.is_over() {
+            return Ok(progress);
+        }
+        progress = take_unit(alloc, dump, asking, progress, shelf, text, steps)?;
+        pour_piece(out, text)?;
+    }
+    Ok(progress)
+}
+
+// Takes what comes next in a dump that isn't over.
+fn take_unit<F: Shelf, L: Ledger>(
+    alloc: Global,
+    dump: &mut OpenDump,
+    asking: Asked<'_>,
+    progress: Progress,
+    shelf: &mut F,
+    text: &mut Vec<u8>,
+    steps: &mut Steps<L>,
+) -> Result<Progress, ReadFault>
+    requires given { dump.old.file < F.opened shelf.old }
+    requires few_taken { dump.old.taken < 2 ^ 63 }
+    requires few_passed { progress.passed < 2 ^ 63 }
+    requires few_refused { progress.refused < 2 ^ 63 }
+    ensures took { IfOk result (TookUnit (asking_of asking.entry) dump.old dump.new progress
+        (F.files shelf.old) (F.files shelf.new) text.old.items text.new.items) }
+    ensures err { OnErr result (text.new.items ≡ text.old.items) }
+    ensures file { dump.new.file ≡ dump.old.file }
+    ensures few { IfOk result (GrewBy 1 dump.old dump.new progress) }
+    ensures ticks { steps.new ≡ steps.old }
+    ensures others { Leaves (λ other. other ≢ dump.old.file)
+        (F.files shelf.old) (F.files shelf.new) }
+    ensures opened { F.opened shelf.new ≡ F.opened shelf.old }
+    ensures cause { IsErrOf result ReadFault.Source
+        → Rose (F.faults shelf.old) (F.faults shelf.new) }
+    ensures faults { F.faults shelf.old ≤ F.faults shelf.new }
+{
+    match dump.next(alloc, shelf)? {
+        Next::Record(Ok(body)) => Ok(take_body(dump, body, progress, steps)?),
+        Next::Record(Err(fault)) => {
+            let cause = body_cause(fault)?;
+            report(text, asking, dump.taken(), cause)?;
+            dump.pass();
+            Ok(refused_once(progress))
+        }
+        Next::TooLong => {
+            report(text, asking, dump.taken(), 26)?;
+            dump.end();
+            Ok(refused_once(progress))
+        }
+        Next::CutShort => {
+            report(text, asking, dump.taken(), 27)?;
+            dump.end();
+            Ok(refused_once(progress))
+        }
+        Next::End => {
+            dump.end();
+            Ok(progress)
+        }
+    }
+}
+
+// One refusal is counted.
+fn refused_once(progress: Progress) -> Progress
+    requires { progress.refused < 2 ^ 63 }
+    ensures { result ≡ record progress { refused = progress.refused + 1 } }
+{
+    Progress {
+        refused: progress.refused + 1,
+        ..progress
+    }
+}
+
+// Reports the unit behind those that were taken.
+fn report(text: &mut Vec<u8>, asking: Asked<'_>, taken: u64, cause: u16) -> Result<(), NoMemory>
+    requires few { taken < 2 ^ 63 }
+    requires known { IsCause cause }
+    ensures ok { OnOk result (text.new.items
+        ≡ text.old.items
+        ++ refusal_text asking.entry.line (of_unit asking.entry.name.now (taken + 1)) cause) }
+    ensures err { OnErr result (text.new.items ≡ text.old.items) }
+{
+    let place = Place::Unit {
+        name: asking.name,
+        unit: taken + 1,
+    };
+    put_refusal(text, asking.line, place, cause)
+}
