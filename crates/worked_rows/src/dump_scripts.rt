@@ -1,6 +1,7 @@
 //! Scripts over a shelf with dumps.
 ghost use Rattle.std.specs.Prelude.{◌≡◌};
 
+use crate::file_scripts::failing_at;
 use crate::scripts::outcome_over;
 use av_base::{MemShelf, NoMemory, Plan, PlanStep};
 use std::alloc::Global;
@@ -161,7 +162,8 @@ fn cut_records(rt: HostRuntime) -> Result<(), NoMemory> {
         assert_eq!(rt; status, 1);
         assert_eq!(rt; written.as_slice(), cut.as_slice(), "at {k}");
     }
-    let (status, written) = outcome_of(alloc, ALL, &whole[..first], &[])?;
+    let front = joined(alloc, &[PEERS, ROUTE])?;
+    let (status, written) = outcome_of(alloc, ALL, &front, &[])?;
     assert_eq!(rt; status, 0);
     assert_eq!(rt; written.as_slice(), VALID);
     Ok(())
@@ -174,11 +176,7 @@ fn each_call_fails_in_turn(rt: HostRuntime) -> Result<(), NoMemory> {
     let f = joined(alloc, &[PEERS, BAD_INDEX, ROUTE, &[0; 5]])?;
     let (_, whole) = outcome_of(alloc, ALL, &f, &[])?;
     for k in 0..300 {
-        let mut steps = Vec::new(alloc);
-        for i in 0..k {
-            steps.push(PlanStep::AtMost(1 + (i % 3) as u32))?;
-        }
-        steps.push(PlanStep::Fail)?;
+        let steps = failing_at(alloc, k)?;
         let (status, written) = outcome_of(alloc, ALL, &f, &steps)?;
         if status == 1 {
             assert_eq!(rt; written.as_slice(), whole.as_slice());

@@ -133,8 +133,8 @@ fn the_limit_of_a_file(rt: HostRuntime) -> Result<(), NoMemory> {
     Ok(())
 }
 
-// Calls that move a few bytes each, and then one that fails.
-fn failing_at(alloc: Global, k: usize) -> Result<Vec<PlanStep>, NoMemory> {
+/// Calls that move a few bytes each, and then one that fails.
+pub fn failing_at(alloc: Global, k: usize) -> Result<Vec<PlanStep>, NoMemory> {
     let mut steps = Vec::new(alloc);
     for i in 0..k {
         steps.push(PlanStep::AtMost(1 + (i % 3) as u32))?;

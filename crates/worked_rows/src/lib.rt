@@ -3,12 +3,10 @@
 //! Each table has its expected values worked out by hand. `scripts` goes through [`aspa_top::run`] over the forms in memory;
 //! `file_scripts` likewise over a shelf with files of attestations, and `dump_scripts` with dumps. `readings` reads lines by themselves,
 //! `judgements` judges paths in a small world, with their witnesses, `long_chains` the longest path there is, `confirming` puts claims to
-//! the checker, `faults` lets each call of the outside fail in turn, and `outside`, `texts`, `hops` and `analyses` call the lower layers
-//! once each.
+//! the checker, `faults` lets each call of the outside fail in turn, and `outside`, `texts` and `hops` call the lower layers once
+//! each.
 #![tactic(auto)]
 
-#[cfg(test)]
-mod analyses;
 #[cfg(test)]
 mod confirming;
 #[cfg(test)]
