@@ -8,13 +8,13 @@ use Rattle.path_model.specs.Trail.{Path}
 use Rattle.hop_index.specs.Index.{Entries}
 use Rattle.shared_cases.specs.declared.case_name.CaseName.{CaseName}
 use Rattle.shared_cases.specs.Cases.{Slots, at, IsStoredAs, IsIndexOf, is_of_peer, IsSettled}
-use Rattle.shared_cases.specs.Names.{name, name_cmp}
+use Rattle.shared_cases.specs.Names.{name_of, name_cmp}
 use Rattle.shared_cases.specs.Numbers.{has}
 use Rattle.shared_cases.specs.Peers.{Members, is_member}
 
 -- the number that is found under a name
 abbrev pub numbered : List (CaseName × ℕ) → ℕ → Path → Option ℕ
-numbered names asn path = lookup (is_at (name_cmp (name asn path))) names
+numbered names asn path = lookup (is_at (name_cmp (name_of asn path))) names
 
 -- the names are those of the cases, the hops those of their paths, and the members of an AS its cases
 pub record AreIndexed (cases : Slots) (names : List (CaseName × ℕ)) (index : Entries) (peers : Members) : Type 0 where

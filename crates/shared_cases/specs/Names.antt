@@ -16,8 +16,8 @@ unfoldable pub word_of : ℕ → Path → ℕ
 word_of asn path = mixed_into (asn * 2 + (if path.set then 1 else 0)) path.chain
 
 -- the name of the case of an AS and a path
-abbrev pub name : ℕ → Path → CaseName
-name asn path = record { word = word_of asn path; asn = asn; trail = path }
+abbrev pub name_of : ℕ → Path → CaseName
+name_of asn path = record { word = word_of asn path; asn = asn; trail = path }
 
 -- a name as one list of numbers
 abbrev pub numbers_of : CaseName → List ℕ

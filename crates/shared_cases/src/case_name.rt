@@ -2,7 +2,7 @@
 ghost use Rattle.std.specs.Prelude.{◌≡◌, nat_eq, Some, refl};
 ghost use Rattle.std.specs.Cmp.Lexicographic.{pointwise, nat_list_cmp_total, nat_list_eq_equiv, texts_ties};
 ghost use Rattle.std.specs.Cmp.{on_equiv, on_total, partial_equiv_from_equiv, partial_order_from_agreeing_total};
-ghost use Rattle.shared_cases.specs.Names.{name, name_cmp, numbers_of, word_of};
+ghost use Rattle.shared_cases.specs.Names.{name_of, name_cmp, numbers_of, word_of};
 
 use path_model::Trail;
 use std::cmp::Ordering;
@@ -22,7 +22,7 @@ pub(crate) struct CaseName {
 impl CaseName {
     // The name of the case of this AS and path. It takes no memory.
     pub(crate) fn new(asn: u32, trail: Trail) -> CaseName
-        ensures { result ≡ name asn trail }
+        ensures { result ≡ name_of asn trail }
     {
         let word = mixed(asn, &trail);
         CaseName { word, asn, trail }

@@ -2,7 +2,7 @@
 ghost use Rattle.std.specs.Prelude.{◌≡◌, ◌≤◌, ◌+◌, ℕ, true, false, [], None, Some, IfOk, IfNone, IfSome, IsTrue};
 ghost use Rattle.shared_cases.specs.Cases.{at, verdict_or, marked_or, marked_now, Rewrites, IsAbsent, IsStoredAs, AreDistinct, IsIndexOf, IsSettled, IsShown};
 ghost use Rattle.shared_cases.specs.Grounds.{grounds};
-ghost use Rattle.shared_cases.specs.Names.{name};
+ghost use Rattle.shared_cases.specs.Names.{name_of};
 ghost use Rattle.shared_cases.specs.Numbers.{has};
 ghost use Rattle.shared_cases.specs.Taking.{is_shared, left, lowered, raised, new_case, Takes};
 
@@ -192,7 +192,7 @@ impl SharedCases {
 
     // The number of the case of this name.
     fn find(&self, name: &CaseName) -> Option<u32>
-        requires { name.now ≡ name name.now.asn name.now.trail }
+        requires { name.now ≡ name_of name.now.asn name.now.trail }
         ensures some { IfSome result (λ n. IsStoredAs (at self.now n) name.now.asn name.now.trail) }
         ensures none { IfNone result (IsAbsent self.now name.now.asn name.now.trail) }
     {
@@ -224,7 +224,7 @@ impl SharedCases {
 
     // A new case.
     fn add(self, name: CaseName, judged: Judged) -> Result<(SharedCases, u32), NoMemory>
-        requires named { name ≡ name name.asn name.trail }
+        requires named { name ≡ name_of name.asn name.trail }
         requires absent { IsAbsent self name.asn name.trail }
         ensures vacant { IfOk result (λ r. at self r.1 ≡ None) }
         ensures added { IfOk result (λ r.
@@ -293,15 +293,23 @@ impl SharedCases {
             alloc,
             mut slab,
             mut names,
-            mut index,
-            mut peers,
+            index,
+            peers,
             noted,
         } = self;
-        if let Some(case) = slab.try_remove(number as usize) {
-            index = index.remove(number as usize, case.trail.chain());
-            peers = peers.remove(case.asn, number as usize);
-            names.remove(&CaseName::new(case.asn, case.trail));
-        }
+        let Some(case) = slab.try_remove(number as usize) else {
+            return SharedCases {
+                alloc,
+                slab,
+                names,
+                index,
+                peers,
+                noted,
+            };
+        };
+        let index = index.remove(number as usize, case.trail.chain());
+        let peers = peers.remove(case.asn, number as usize);
+        names.remove(&CaseName::new(case.asn, case.trail));
         SharedCases {
             alloc,
             slab,
