@@ -1,6 +1,6 @@
 -- How the names and the indexes keep to the cases.
 use Rattle.std.proofs.Common.{◌≡◌, ◌≢◌, ℕ, zero, suc, nat_eq, ◌+◌, ◌<◌, Bool, true, false, cond, not, ◌||◌, ◌&&◌, List, [], ◌∷◌, length, None, Some, refl, ap, sym, subst, ◌∙◌, arith, true≢false, slice_index_or, slice_set, ◌⊎◌, inl, inr}
-use Rattle.std.proofs.lemmas.List.{get_or-set_same, get_or-set_other}
+use Rattle.std.proofs.lemmas.List.{get_or-set_same}
 use Rattle.std.proofs.lemmas.Map.Views.{exact_unsigned_eq}
 use Rattle.std.specs.declared.option.Option.{Option}
 use Rattle.std.specs.BTreeMap.{is_at}
@@ -77,6 +77,16 @@ same_at old new n m v writes same (inr other) =
 pub rewritten : (old new : Slots) (n : ℕ) (v : Option StoredCase) (names : List (CaseName × ℕ)) (index : Entries) (peers : Members)
     → Rewrites old new n v → IsSameName (at old n) v → AreIndexed old names index peers → AreIndexed new names index peers
 rewritten old new n v names index peers writes same kept = same_names old new names index peers (λ m. same_at old new n m v writes same (decide_eq m n)) kept
+
+-- a number with a case is within the list
+within_cases : (cases : Slots) (n : ℕ) (c : StoredCase) → at cases n ≡ Some c → n < length cases
+within_cases [] n c e = absurd (cc)
+within_cases (x ∷ xs) zero c e = omega arith
+within_cases (x ∷ xs) (suc n) c e = omega (arith, within_cases xs n c e)
+
+-- what is written over a case stands there
+pub written_here : (cases : Slots) (n : ℕ) (c : StoredCase) (v : Option StoredCase) → at cases n ≡ Some c → at (slice_set cases n v) n ≡ v
+written_here cases n c v here = get_or-set_same cases n v None (within_cases cases n c here)
 
 false_by : (n m : ℕ) → n ≢ m → (b : Bool) → nat_eq n m ≡ b → nat_eq n m ≡ false
 false_by n m other true e = absurd (other (exact_unsigned_eq n m e))

@@ -6,4 +6,4 @@ use Rattle.shared_cases.proofs.case_name.mixed.Goals as goal
 
 pub returns : goal.returns
 unfolding word_of
-returns c = ap (mixed_into c.loop-x.word) (sym (drop_all c.loop-x.x-index c.as_slice-x-items.result.now ?)) ∙ c.loop-x.invariant
+returns c = ap (mixed_into c.loop-x.word) (sym (drop_all c.loop-x.x-index c.as_slice-x-items.result.now c.loop-x-test.false)) ∙ c.loop-x.invariant
