@@ -122,7 +122,7 @@ same_case_name None (Some d) same = absurd same
 same_case_name (Some c) None same = absurd same
 same_case_name (Some c) (Some d) same = (same.0, same.1)
 
-neither : (a b : Bool) → (a || b) ≡ false → (a ≡ false) × (b ≡ false)
+pub neither : (a b : Bool) → (a || b) ≡ false → (a ≡ false) × (b ≡ false)
 neither true b e = absurd (true≢false e)
 neither false b e = (refl, e)
 

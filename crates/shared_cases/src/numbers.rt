@@ -44,7 +44,8 @@ impl Numbers {
 
     // Those of another set more.
     pub(crate) fn insert_all(&mut self, other: &Numbers) -> Result<(), NoMemory>
-        ensures { OnOk result ((n : ℕ) → has self.new n ≡ (has self.old n || has other.now n)) }
+        ensures members { OnOk result ((n : ℕ) → has self.new n ≡ (has self.old n || has other.now n)) }
+        ensures rising { IsStrictlySortedBy nat_cmp other.now }
     {
         for number in other.iter() {
             self.insert(*number)?;

@@ -1,5 +1,7 @@
 //! Cases judged anew, where another table or other roles touch them.
 ghost use Rattle.std.specs.Prelude.{◌≡◌, ◌≤◌, ◌+◌, ◌-◌, ℕ, true, false, length, IfOk};
+ghost use Rattle.std.specs.List.Sorted.{IsStrictlySortedBy};
+ghost use Rattle.std.specs.Ordering.{nat_cmp};
 ghost use Rattle.path_model.specs.Authority.{Table};
 ghost use Rattle.path_model.specs.ComputedTable.{table_of};
 ghost use Rattle.path_model.specs.Roles.{Relations};
@@ -101,6 +103,7 @@ impl SharedCases {
         ensures others { IfOk result (λ cases. (n : ℕ) → has touched.now n ≡ false
             → at cases n ≡ at self n) }
         ensures same { IfOk result (λ cases. AreSameCases self cases) }
+        ensures rising { IsStrictlySortedBy nat_cmp touched.now }
         ensures ticks { steps.new ≤ steps.old + length touched.now }
     {
         let SharedCases {

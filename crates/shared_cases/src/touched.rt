@@ -1,5 +1,5 @@
 //! Which cases a change touches.
-ghost use Rattle.std.specs.Prelude.{◌≡◌, ◌≢◌, ◌↔◌, true, ℕ, ◌||◌, IfOk, IsTrue, OnOk};
+ghost use Rattle.std.specs.Prelude.{◌≡◌, ◌↔◌, true, false, ℕ, ◌||◌, IfOk, IsTrue, OnOk};
 ghost use Rattle.std.specs.Option.{option_copied};
 ghost use Rattle.path_model.specs.Authority.{said_by};
 ghost use Rattle.path_model.specs.Roles.{role_of};
@@ -37,8 +37,8 @@ pub(crate) fn touched_by_roles(
     before: &Roles,
     after: &Roles,
 ) -> Result<Numbers, NoMemory>
-    ensures all { IfOk result (λ touched. (asn n : ℕ) → is_member peers.now asn n ≡ true
-        → role_of before.now asn ≢ role_of after.now asn → has touched n ≡ true) }
+    ensures others { IfOk result (λ touched. (asn n : ℕ) → is_member peers.now asn n ≡ true
+        → has touched n ≡ false → role_of before.now asn ≡ role_of after.now asn) }
     ensures only { IfOk result (λ touched. (n : ℕ) → has touched n ≡ true
         → HasMovedMember peers.now before.now after.now n) }
 {
