@@ -1,12 +1,14 @@
 -- How the names and the indexes keep to the cases.
-use Rattle.std.proofs.Common.{◌≡◌, ◌≢◌, ℕ, zero, suc, nat_eq, ◌+◌, ◌<◌, Bool, true, false, cond, not, ◌||◌, ◌&&◌, List, [], ◌∷◌, length, None, Some, refl, ap, sym, subst, ◌∙◌, arith, true≢false, slice_index_or, slice_set, ◌⊎◌, inl, inr}
+use Rattle.std.proofs.Common.{◌≡◌, ◌≢◌, ℕ, zero, suc, nat_eq, ◌<◌, Bool, true, false, cond, not, ◌||◌, ◌&&◌, List, [], ◌∷◌, length, None, Some, refl, ap, sym, subst, ◌∙◌, arith, true≢false, slice_set, ◌⊎◌, inl, inr}
+use Rattle.std.specs.Option.{unwrap_or}
+use Rattle.std.proofs.Math.Bool.{and-true, or-false}
+use Rattle.std.proofs.lemmas.Bool.{false_from_ne_true}
 use Rattle.std.proofs.lemmas.List.{get_or-set_same}
 use Rattle.std.proofs.lemmas.Map.Views.{exact_unsigned_eq}
 use Rattle.std.specs.declared.option.Option.{Option}
 use Rattle.std.specs.BTreeMap.{is_at}
 use Rattle.std.specs.Cmp.{nat_eq_equiv}
 use Rattle.std.specs.Map.{lookup}
-use Rattle.std.specs.Option.{unwrap_or}
 use Rattle.path_model.specs.Trail.{Path}
 use Rattle.hop_index.specs.Hops.{has_hop}
 use Rattle.hop_index.specs.Index.{Entries, has, Adds, Removes}
@@ -88,12 +90,8 @@ within_cases (x ∷ xs) (suc n) c e = omega (arith, within_cases xs n c e)
 pub written_here : (cases : Slots) (n : ℕ) (c : StoredCase) (v : Option StoredCase) → at cases n ≡ Some c → at (slice_set cases n v) n ≡ v
 written_here cases n c v here = get_or-set_same cases n v None (within_cases cases n c here)
 
-false_by : (n m : ℕ) → n ≢ m → (b : Bool) → nat_eq n m ≡ b → nat_eq n m ≡ false
-false_by n m other true e = absurd (other (exact_unsigned_eq n m e))
-false_by n m other false e = e
-
 pub nat_eq-other : (n m : ℕ) → n ≢ m → nat_eq n m ≡ false
-nat_eq-other n m other = false_by n m other (nat_eq n m) refl
+nat_eq-other n m other = false_from_ne_true (nat_eq n m) (λ e. other (exact_unsigned_eq n m e))
 
 cond_none : (b : Bool) (v : Option ℕ) (m : ℕ) → cond b None v ≡ Some m → (b ≡ false) × (v ≡ Some m)
 cond_none true v m e = absurd (cc)
@@ -108,20 +106,12 @@ as_named : (c : Option StoredCase) (d : StoredCase) (asn : ℕ) (path : Path) �
 as_named c d asn path e same =
     subst (λ (o : Option StoredCase). IsStoredAs o asn path) (sym e) (ap (λ (q : CaseName). q.asn) same, ap (λ (q : CaseName). q.trail) same)
 
-some_inj : (x y : ℕ) → Some x ≡ Some y → x ≡ y
-some_inj x y e = ap (λ (o : Option ℕ). unwrap_or o 0) e
+pub some_inj : (m n : ℕ) → Some m ≡ Some n → m ≡ n
+some_inj m n e = ap (λ (o : Option ℕ). unwrap_or o 0) e
 
 not_both : (b : Bool) → (b && not (true && b)) ≡ false
 not_both true = refl
 not_both false = refl
-
-and_true : (b : Bool) → (b && true) ≡ b
-and_true true = refl
-and_true false = refl
-
-or_false : (b : Bool) → (b || false) ≡ b
-or_false true = refl
-or_false false = refl
 
 -- what comes under a name, or goes
 abbrev pub Names : Type 0
@@ -139,7 +129,7 @@ module _ (old new : Slots) (names names' : Names) (index index' : Entries) (peer
       let was : IsStoredAs (at old m) asn path = subst (λ (o : Option StoredCase). IsStoredAs o asn path) (writes.others m other) stored in
       let got = kept.named m asn path was in
       let differ : name_of c.asn c.trail ≡ name_of asn path → ⊥ = λ e.
-          other (some_inj m n (sym got ∙ ap (λ (q : CaseName). lookup (is_at (name_cmp q)) names) (sym e) ∙ kept.named n c.asn c.trail (as_named (at old n) c c.asn c.trail here refl))) in
+      other (some_inj m n (sym got ∙ ap (λ (q : CaseName). lookup (is_at (name_cmp q)) names) (sym e) ∙ kept.named n c.asn c.trail (as_named (at old n) c c.asn c.trail here refl))) in
       ns (name_of asn path) ∙ ap (λ (b : Bool). cond b None (numbered names asn path)) (apart_names (name_of c.asn c.trail) (name_of asn path) differ) ∙ got
 
   gone_stored : at old n ≡ Some c → Rewrites old new n None → HasAt names (name_of c.asn c.trail) None names'
@@ -158,7 +148,7 @@ module _ (old new : Slots) (names names' : Names) (index index' : Entries) (peer
       ∙ ap (λ (b : Bool). has_hop c.trail.chain x y && not (b && has_hop c.trail.chain x y)) (nat_eq_equiv.refl n) ∙ not_both (has_hop c.trail.chain x y)
       ∙ ap (λ (o : Option StoredCase). hops_of o x y) (sym writes.here))
   gone_hops here writes hs x y m (inr other) =
-      hs x y m ∙ ap (λ (b : Bool). has index x y m && not (b && has_hop c.trail.chain x y)) (nat_eq-other m n other) ∙ and_true (has index x y m) ∙ kept.indexed x y m
+      hs x y m ∙ ap (λ (b : Bool). has index x y m && not (b && has_hop c.trail.chain x y)) (nat_eq-other m n other) ∙ and-true (has index x y m) ∙ kept.indexed x y m
       ∙ ap (λ (o : Option StoredCase). hops_of o x y) (sym (writes.others m other))
 
   gone_member : at old n ≡ Some c → Rewrites old new n None → RemovesMember peers c.asn n peers' → (asn m : ℕ) → (m ≡ n) ⊎ (m ≢ n) → is_member peers' asn m ≡ is_of_peer (at new m) asn
@@ -166,16 +156,16 @@ module _ (old new : Slots) (names names' : Names) (index index' : Entries) (peer
       (ms asn n ∙ ap (λ (b : Bool). b && not (nat_eq asn c.asn && nat_eq n n)) (kept.members asn n ∙ ap (λ (o : Option StoredCase). is_of_peer o asn) here)
       ∙ ap (λ (b : Bool). nat_eq asn c.asn && not (nat_eq asn c.asn && b)) (nat_eq_equiv.refl n) ∙ not_itself (nat_eq asn c.asn)
       ∙ ap (λ (o : Option StoredCase). is_of_peer o asn) (sym writes.here)) where
-    not_itself : (b : Bool) → (b && not (b && true)) ≡ false
-    not_itself true = refl
-    not_itself false = refl
+        not_itself : (b : Bool) → (b && not (b && true)) ≡ false
+        not_itself true = refl
+        not_itself false = refl
   gone_member here writes ms asn m (inr other) =
       ms asn m ∙ ap (λ (b : Bool). is_member peers asn m && not (nat_eq asn c.asn && b)) (nat_eq-other m n other) ∙ not_other (is_member peers asn m) (nat_eq asn c.asn) ∙ kept.members asn m
       ∙ ap (λ (o : Option StoredCase). is_of_peer o asn) (sym (writes.others m other)) where
-    not_other : (a b : Bool) → (a && not (b && false)) ≡ a
-    not_other true true = refl
-    not_other true false = refl
-    not_other false b = refl
+        not_other : (a b : Bool) → (a && not (b && false)) ≡ a
+        not_other true true = refl
+        not_other true false = refl
+        not_other false b = refl
 
   pub case_gone : at old n ≡ Some c → Rewrites old new n None → HasAt names (name_of c.asn c.trail) None names' → Removes index n c.trail.chain index' → RemovesMember peers c.asn n peers'
       → AreIndexed new names' index' peers'
@@ -191,12 +181,12 @@ module _ (old new : Slots) (names names' : Names) (index index' : Entries) (peer
       → (m asn : ℕ) (path : Path) → IsStoredAs (at new m) asn path → (m ≡ n) ⊎ (m ≢ n) → numbered names' asn path ≡ Some m
   come_named here writes ns absent m asn path stored (inl e) =
       ns (name_of asn path) ∙ ap (λ (b : Bool). cond b (Some n) (numbered names asn path))
-        (ap (is_at (name_cmp (name_of c.asn c.trail))) (sym (stored_name (at new n) c asn path writes.here (subst (λ (k : ℕ). IsStoredAs (at new k) asn path) e stored))) ∙ at_itself (name_of c.asn c.trail))
+      (ap (is_at (name_cmp (name_of c.asn c.trail))) (sym (stored_name (at new n) c asn path writes.here (subst (λ (k : ℕ). IsStoredAs (at new k) asn path) e stored))) ∙ at_itself (name_of c.asn c.trail))
       ∙ ap Some (sym e)
   come_named here writes ns absent m asn path stored (inr other) =
       let was : IsStoredAs (at old m) asn path = subst (λ (o : Option StoredCase). IsStoredAs o asn path) (writes.others m other) stored in
       ns (name_of asn path) ∙ ap (λ (b : Bool). cond b (Some n) (numbered names asn path))
-        (apart_names (name_of c.asn c.trail) (name_of asn path) (λ e. absent m (subst (λ (q : CaseName). IsStoredAs (at old m) q.asn q.trail) (sym e) was)))
+      (apart_names (name_of c.asn c.trail) (name_of asn path) (λ e. absent m (subst (λ (q : CaseName). IsStoredAs (at old m) q.asn q.trail) (sym e) was)))
       ∙ kept.named m asn path was
 
   come_stored : at old n ≡ None → Rewrites old new n (Some c) → HasAt names (name_of c.asn c.trail) (Some n) names'
@@ -214,21 +204,21 @@ module _ (old new : Slots) (names names' : Names) (index index' : Entries) (peer
       (hs x y n ∙ ap (λ (b : Bool). b || (nat_eq n n && has_hop c.trail.chain x y)) (kept.indexed x y n ∙ ap (λ (o : Option StoredCase). hops_of o x y) here)
       ∙ ap (λ (b : Bool). b && has_hop c.trail.chain x y) (nat_eq_equiv.refl n) ∙ ap (λ (o : Option StoredCase). hops_of o x y) (sym writes.here))
   come_hops here writes hs x y m (inr other) =
-      hs x y m ∙ ap (λ (b : Bool). has index x y m || (b && has_hop c.trail.chain x y)) (nat_eq-other m n other) ∙ or_false (has index x y m) ∙ kept.indexed x y m
+      hs x y m ∙ ap (λ (b : Bool). has index x y m || (b && has_hop c.trail.chain x y)) (nat_eq-other m n other) ∙ or-false (has index x y m) ∙ kept.indexed x y m
       ∙ ap (λ (o : Option StoredCase). hops_of o x y) (sym (writes.others m other))
 
   come_member : at old n ≡ None → Rewrites old new n (Some c) → AddsMember peers c.asn n peers' → (asn m : ℕ) → (m ≡ n) ⊎ (m ≢ n) → is_member peers' asn m ≡ is_of_peer (at new m) asn
   come_member here writes ms asn m (inl e) = subst (λ (k : ℕ). is_member peers' asn k ≡ is_of_peer (at new k) asn) (sym e)
       (ms asn n ∙ ap (λ (b : Bool). b || (nat_eq asn c.asn && nat_eq n n)) (kept.members asn n ∙ ap (λ (o : Option StoredCase). is_of_peer o asn) here)
-      ∙ ap (λ (b : Bool). nat_eq asn c.asn && b) (nat_eq_equiv.refl n) ∙ and_true (nat_eq asn c.asn)
+      ∙ ap (λ (b : Bool). nat_eq asn c.asn && b) (nat_eq_equiv.refl n) ∙ and-true (nat_eq asn c.asn)
       ∙ ap (λ (o : Option StoredCase). is_of_peer o asn) (sym writes.here))
   come_member here writes ms asn m (inr other) =
       ms asn m ∙ ap (λ (b : Bool). is_member peers asn m || (nat_eq asn c.asn && b)) (nat_eq-other m n other) ∙ or_other (is_member peers asn m) (nat_eq asn c.asn) ∙ kept.members asn m
       ∙ ap (λ (o : Option StoredCase). is_of_peer o asn) (sym (writes.others m other)) where
-    or_other : (a b : Bool) → (a || (b && false)) ≡ a
-    or_other true b = refl
-    or_other false true = refl
-    or_other false false = refl
+        or_other : (a b : Bool) → (a || (b && false)) ≡ a
+        or_other true b = refl
+        or_other false true = refl
+        or_other false false = refl
 
   pub case_come : at old n ≡ None → Rewrites old new n (Some c) → HasAt names (name_of c.asn c.trail) (Some n) names' → IsAbsent old c.asn c.trail → Adds index n c.trail.chain index'
       → AddsMember peers c.asn n peers' → AreIndexed new names' index' peers'

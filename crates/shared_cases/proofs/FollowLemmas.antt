@@ -1,8 +1,7 @@
 -- What is judged anew, and that it is enough.
-use Rattle.std.proofs.Common.{◌≡◌, ◌≢◌, ℕ, ◌≤◌, Bool, true, false, ◌||◌, List, [], length, Some, refl, ap, sym, subst, ◌∙◌, ◌⊎◌, inl, inr, true≢false}
+use Rattle.std.proofs.Common.{◌≡◌, ◌≢◌, ℕ, ◌≤◌, Bool, true, false, ◌||◌, List, [], length, refl, ap, sym, subst, ◌∙◌, ◌⊎◌, inl, inr, true≢false}
 use Rattle.std.specs.declared.option.Option.{Option}
 use Rattle.std.specs.List.Sorted.{IsStrictlySortedBy}
-use Rattle.std.specs.Option.{unwrap_or}
 use Rattle.std.specs.Ordering.{nat_cmp}
 use Rattle.path_model.specs.Authority.{Table}
 use Rattle.path_model.specs.Roles.{Relations, role_of}
@@ -17,7 +16,7 @@ use Rattle.shared_cases.specs.Numbers.{has}
 use Rattle.shared_cases.specs.Peers.{Members, is_member, HasMovedMember}
 use Rattle.shared_cases.specs.Touched.{AreWithinTouched, IsRoleMove}
 use Rattle.shared_cases.specs.Touching.{is_touched_by}
-use Rattle.shared_cases.proofs.CaseLemmas.{Names, decide_eq}
+use Rattle.shared_cases.proofs.CaseLemmas.{Names, decide_eq, some_inj}
 use Rattle.shared_cases.proofs.MoveLemmas.{still_judged, moves_touch}
 use Rattle.shared_cases.proofs.RoleLemmas.{same_role_judged, other_role_touches}
 use Rattle.shared_cases.proofs.TouchLemmas.{within_touched}
@@ -25,7 +24,7 @@ use Rattle.shared_cases.proofs.TouchLemmas.{within_touched}
 -- the cases have distinct names
 pub distinct_from : (cases : Slots) (names : Names) (index : Entries) (peers : Members) → AreIndexed cases names index peers → AreDistinct cases
 distinct_from cases names index peers kept m n asn path one other =
-    ap (λ (o : Option ℕ). unwrap_or o 0) (sym (kept.named m asn path one) ∙ kept.named n asn path other)
+    some_inj m n (sym (kept.named m asn path one) ∙ kept.named n asn path other)
 
 -- a case is judged anew, or keeps its right judgement
 followed_by : (old new : Grounds) (before after : Slots) (n : ℕ) (b : Bool) → (b ≡ true → IsJudged new (at after n)) → (b ≡ false → at after n ≡ at before n)

@@ -1,14 +1,17 @@
 -- What is kept of the cases when one of them changes.
-use Rattle.std.proofs.Common.{◌≡◌, ◌≢◌, ℕ, Bool, true, false, cond, List, [], ◌∷◌, None, Some, refl, ap, sym, subst, ◌∙◌, ◌⊎◌, inl, inr, true≢false, ◌||◌}
+use Rattle.std.proofs.Common.{◌≡◌, ◌≢◌, ℕ, Bool, true, false, List, [], ◌∷◌, None, Some, refl, ap, sym, subst, ◌∙◌, ◌⊎◌, inl, inr, true≢false, ◌||◌}
 use Rattle.std.specs.declared.option.Option.{Option}
+use Rattle.std.proofs.lemmas.Bool.{or_parts}
 use Rattle.path_model.specs.declared.verdict.Verdict.{Verdict}
+use Rattle.path_model.specs.Trail.{Path}
+use Rattle.ramps.specs.Judgement.{Judgement}
 use Rattle.hop_index.specs.Index.{Entries}
 use Rattle.shared_cases.specs.declared.case.StoredCase.{StoredCase}
 use Rattle.shared_cases.specs.Cases.{Slots, at, Rewrites, IsSettled, IsSameCase, AreSameCases, marked_now}
-use Rattle.shared_cases.specs.Kept.{AreIndexed, AreKept}
+use Rattle.shared_cases.specs.Kept.{AreKept}
 use Rattle.shared_cases.specs.Numbers.{has}
 use Rattle.shared_cases.specs.Peers.{Members}
-use Rattle.shared_cases.specs.Taking.{lowered, raised}
+use Rattle.shared_cases.specs.Taking.{lowered, new_case, raised}
 use Rattle.shared_cases.proofs.CaseLemmas.{IsSameName, Names, decide_eq, rewritten, same_names}
 use Rattle.shared_cases.proofs.NumberLemmas.{has_cases, has_first, has_later}
 
@@ -26,6 +29,12 @@ pub still_settled : (old new : Slots) (n : ℕ) (v : Option StoredCase) (noted :
     → ((m : ℕ) → has noted m ≡ false → IsSettled (at old m)) → (m : ℕ) → has noted m ≡ false → IsSettled (at new m)
 still_settled old new n v noted writes here settled m absent = settled_at old new n m v writes here (settled m absent) (decide_eq m n)
 
+-- what is stored of a new case
+pub same_new : (slot : Option StoredCase) (asn : ℕ) (copy path : Path) (verdict : Verdict) (judgement : Judgement)
+    → slot ≡ Some (record { trail = copy; users = 1; judged = judgement; asn = asn; marked = verdict }) → copy ≡ path → verdict ≡ judgement.verdict → slot ≡ Some (new_case asn path judgement)
+same_new slot asn copy path verdict judgement here same_path same_verdict =
+    here ∙ (λ i. Some (record { trail = same_path i; users = 1; judged = judgement; asn = asn; marked = same_verdict i }))
+
 module _ (old new : Slots) (n : ℕ) (names : Names) (index : Entries) (peers : Members) (noted : List ℕ) (kept : AreKept old names index peers noted) where
   -- a case with another number of users
   rewrite_kept : (v : Option StoredCase) → Rewrites old new n v → IsSameName (at old n) v → (IsSettled (at old n) → IsSettled v) → AreKept new names index peers noted
@@ -39,6 +48,7 @@ module _ (old new : Slots) (n : ℕ) (names : Names) (index : Entries) (peers : 
     same : (c : Option StoredCase) → IsSameName c (raised c)
     same None = tt
     same (Some c) = (refl, refl)
+
     keeps : (c : Option StoredCase) → IsSettled c → IsSettled (raised c)
     keeps None settled = tt
     keeps (Some c) settled = settled
@@ -48,6 +58,7 @@ module _ (old new : Slots) (n : ℕ) (names : Names) (index : Entries) (peers : 
     same : (c : Option StoredCase) → IsSameName c (lowered c)
     same None = tt
     same (Some c) = (refl, refl)
+
     keeps : (c : Option StoredCase) → IsSettled c → IsSettled (lowered c)
     keeps None settled = tt
     keeps (Some c) settled = settled
@@ -122,14 +133,10 @@ same_case_name None (Some d) same = absurd same
 same_case_name (Some c) None same = absurd same
 same_case_name (Some c) (Some d) same = (same.0, same.1)
 
-pub neither : (a b : Bool) → (a || b) ≡ false → (a ≡ false) × (b ≡ false)
-neither true b e = absurd (true≢false e)
-neither false b e = (refl, e)
-
 pub rejudged_kept : (old new : Slots) (names : Names) (index : Entries) (peers : Members) (noted noted' touched : List ℕ) → AreKept old names index peers noted → AreSameCases old new
     → ((n : ℕ) → has noted' n ≡ (has noted n || has touched n)) → ((n : ℕ) → has touched n ≡ false → at new n ≡ at old n) → AreKept new names index peers noted'
 rejudged_kept old new names index peers noted noted' touched kept same notes others = record {
   indexed = same_names old new names index peers (λ n. same_case_name (at old n) (at new n) (same n)) kept.indexed;
-  settled = λ n absent. let both = neither (has noted n) (has touched n) (sym (notes n) ∙ absent) in
+  settled = λ n absent. let both = or_parts (has noted n) (has touched n) (sym (notes n) ∙ absent) in
       subst (λ (o : Option StoredCase). IsSettled o) (sym (others n both.1)) (kept.settled n both.0);
 }

@@ -1,10 +1,10 @@
 -- Names of cases as lists of numbers.
-use Rattle.std.proofs.Common.{◌≡◌, ℕ, Bool, true, false, List, [], ◌∷◌, refl, ap, sym, ◌∙◌, cond, nat_eq, ◌⊎◌, inl, inr}
+use Rattle.std.proofs.Common.{◌≡◌, ℕ, Bool, true, false, List, [], ◌∷◌, refl, ap, sym, ◌∙◌, cond, nat_eq}
 use Rattle.std.specs.BTreeMap.{is_at}
-use Rattle.std.specs.Ordering.{nat_cmp}
 use Rattle.std.specs.Cmp.{IsTotalOrder, on_total, eq_by_cmp_equiv, Equal-is}
 use Rattle.std.specs.Cmp.Lexicographic.{nat_list_cmp_total}
 use Rattle.std.specs.FinMap.{slice_cmp-IsAntisymmetric, nat_cmp-IsAntisymmetric}
+use Rattle.std.proofs.lemmas.Bool.{false_from_ne_true}
 use Rattle.std.proofs.lemmas.Map.Lookups.{CmpEqualImpliesEq}
 use Rattle.path_model.specs.Trail.{Path}
 use Rattle.shared_cases.specs.declared.case_name.CaseName.{CaseName}
@@ -46,12 +46,8 @@ at_itself q = (eq_by_cmp_equiv names_total).refl q
 pub same_name : (q k : CaseName) → is_at (name_cmp q) k ≡ true → q ≡ k
 same_name q k e = exact_names q k ((Equal-is (name_cmp q k)).0 e)
 
-apart_by : (q k : CaseName) → (q ≡ k → ⊥) → (b : Bool) → is_at (name_cmp q) k ≡ b → is_at (name_cmp q) k ≡ false
-apart_by q k differ true e = absurd (differ (same_name q k e))
-apart_by q k differ false e = e
-
 pub apart_names : (q k : CaseName) → (q ≡ k → ⊥) → is_at (name_cmp q) k ≡ false
-apart_names q k differ = apart_by q k differ (is_at (name_cmp q) k) refl
+apart_names q k differ = false_from_ne_true (is_at (name_cmp q) k) (λ e. differ (same_name q k e))
 
 pub equal_names : (a b : ℕ) (p q : Path) → a ≡ b → p ≡ q → name_of a p ≡ name_of b q
 equal_names a b p q e f = λ i. name_of (e i) (f i)

@@ -1,5 +1,5 @@
 -- What another role touches, and what it doesn't.
-use Rattle.std.proofs.Common.{◌≡◌, ◌≢◌, ℕ, nat_eq, true, None, Some, sym, subst, inl, true≢false}
+use Rattle.std.proofs.Common.{◌≡◌, ◌≢◌, ℕ, true, None, Some, sym, subst, inl, true≢false}
 use Rattle.std.specs.Cmp.{nat_eq_equiv}
 use Rattle.std.specs.declared.option.Option.{Option}
 use Rattle.std.proofs.lemmas.Map.Views.{exact_unsigned_eq}

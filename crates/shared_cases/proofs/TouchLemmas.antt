@@ -1,5 +1,5 @@
 -- Each judgement is that of another touched case.
-use Rattle.std.proofs.Common.{◌≡◌, ◌≢◌, ℕ, nat_eq, ◌≤◌, Bool, true, false, ◌||◌, List, [], ◌∷◌, length, None, Some, Less, refl, ap, sym, subst, ◌∙◌, arith, true≢false}
+use Rattle.std.proofs.Common.{◌≡◌, ◌≢◌, ℕ, ◌≤◌, true, false, List, [], ◌∷◌, length, None, Some, Less, refl, ap, sym, subst, ◌∙◌, arith, true≢false}
 use Rattle.std.specs.Prelude.{map, All}
 use Rattle.std.specs.declared.option.Option.{Option}
 use Rattle.std.specs.Cmp.{nat_eq_equiv, unsigned_tied}
@@ -61,9 +61,10 @@ module _ (old new : Grounds) (cases : Slots) (distinct : AreDistinct cases) wher
 
   all_apart : (ns : List ℕ) → IsStrictlySortedBy nat_cmp ns → ((n : ℕ) → has ns n ≡ true → IsTouchedAt n) → AreApart (map pair_at ns)
   all_apart [] rising each = tt
-  all_apart (x ∷ xs) rising each =
-      (apart_from x xs (each x (has_first x x xs refl)) (λ n later. each n (has_later n x xs later)) (sorted_head nat_cmp x xs rising),
-        all_apart xs (sorted_tail nat_cmp x xs rising) (λ n later. each n (has_later n x xs later)))
+  all_apart (x ∷ xs) rising each = (
+    apart_from x xs (each x (has_first x x xs refl)) (λ n later. each n (has_later n x xs later)) (sorted_head nat_cmp x xs rising),
+    all_apart xs (sorted_tail nat_cmp x xs rising) (λ n later. each n (has_later n x xs later)),
+  )
 
   all_touched : (ns : List ℕ) → ((n : ℕ) → has ns n ≡ true → IsTouchedAt n) → All (IsTouchedCase old new cases) (map pair_at ns)
   all_touched [] each = All-nil (IsTouchedCase old new cases)

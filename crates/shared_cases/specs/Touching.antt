@@ -3,13 +3,10 @@ use Rattle.std.specs.Prelude.{ℕ, nat_eq, Bool, true, false, not, ◌&&◌, Lis
 use Rattle.std.specs.List.{list_any}
 use Rattle.path_model.specs.declared.authority.Authority.{Authority}
 use Rattle.path_model.specs.declared.authority.Authority.TheVariants.{Silent, Refuses, Provides}
-use Rattle.path_model.specs.declared.role.Role.{Role}
 use Rattle.path_model.specs.Authority.{said_by}
-use Rattle.path_model.specs.Roles.{Relations, role_of, parts_of_role}
 use Rattle.hop_index.specs.Index.{Entries, found}
 use Rattle.hop_index.specs.Through.{ends_of}
 use Rattle.vap_table.specs.declared.moves.RowMove.{RowMove}
-use Rattle.shared_cases.specs.Peers.{Members, is_member}
 
 abbrev pub same_authority : Authority → Authority → Bool
 same_authority Silent Silent = true

@@ -323,8 +323,10 @@ impl SharedCases {
 
 // The verdicts of these cases become the marked ones.
 fn mark_all(slab: &mut Slab<StoredCase>, noted: &Numbers)
-    ensures marked { (n : ℕ) → has noted.now n ≡ true → at slab.new.slots n ≡ marked_now (at slab.old.slots n) }
-    ensures others { (n : ℕ) → has noted.now n ≡ false → at slab.new.slots n ≡ at slab.old.slots n }
+    ensures marked { (n : ℕ) → has noted.now n ≡ true
+        → at slab.new.slots n ≡ marked_now (at slab.old.slots n) }
+    ensures others { (n : ℕ) → has noted.now n ≡ false
+        → at slab.new.slots n ≡ at slab.old.slots n }
 {
     for number in noted.iter() {
         slots::mark(slab, *number);

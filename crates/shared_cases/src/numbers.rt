@@ -35,7 +35,8 @@ impl Numbers {
 
     // One more.
     pub(crate) fn insert(&mut self, number: usize) -> Result<(), NoMemory>
-        ensures members { OnOk result ((n : ℕ) → has self.new n ≡ (has self.old n || nat_eq n number)) }
+        ensures members { OnOk result ((n : ℕ)
+            → has self.new n ≡ (has self.old n || nat_eq n number)) }
         ensures some { OnOk result (self.new ≢ []) }
     {
         self.numbers.insert(number)?;
@@ -44,7 +45,8 @@ impl Numbers {
 
     // Those of another set more.
     pub(crate) fn insert_all(&mut self, other: &Numbers) -> Result<(), NoMemory>
-        ensures members { OnOk result ((n : ℕ) → has self.new n ≡ (has self.old n || has other.now n)) }
+        ensures members { OnOk result ((n : ℕ)
+            → has self.new n ≡ (has self.old n || has other.now n)) }
         ensures rising { IsStrictlySortedBy nat_cmp other.now }
     {
         for number in other.iter() {

@@ -97,7 +97,8 @@ fn insert(
 fn take_out(members: &mut BTreeMap<u32, Numbers>, asn: u32, number: usize) -> bool
     ensures removed { RemovesMember members.old.entries asn number members.new.entries }
     ensures emptied { IsTrue result ↔ (found members.new.entries asn ≡ Some []) }
-    ensures others { (a : ℕ) → a ≢ asn → found members.new.entries a ≡ found members.old.entries a }
+    ensures others { (a : ℕ) → a ≢ asn
+        → found members.new.entries a ≡ found members.old.entries a }
 {
     match members.get_mut(&asn) {
         None => false,

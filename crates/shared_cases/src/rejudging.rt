@@ -39,7 +39,7 @@ impl SharedCases {
             → IsJudged (grounds table.now roles.now) (at cases n)) }
         ensures ticks { (before : Table) → AreMoves before (table_of table.now) moves.now
             → AreWithinTouched (by_table before roles.now) (grounds table.now roles.now) self
-              (steps.new - steps.old) }
+            (steps.new - steps.old) }
     {
         let touched = touched_by_moves(self.alloc, &self.index, moves)?;
         let cases = self.rejudge(&touched, table, roles, steps)?;
@@ -61,7 +61,7 @@ impl SharedCases {
             → IsJudged (grounds table.now roles.now) (at cases n)) }
         ensures ticks { (before : Relations) → IsRoleMove asn before roles.now
             → AreWithinTouched (grounds table.now before) (grounds table.now roles.now) self
-              (steps.new - steps.old) }
+            (steps.new - steps.old) }
     {
         let mut touched = Numbers::new(self.alloc);
         touch_members(&self.peers, asn, &mut touched)?;

@@ -31,7 +31,8 @@ fn is_same_trail(one: &Trail, other: &Trail) -> bool
 
 // One user more.
 pub(crate) fn raise(slab: &mut Slab<StoredCase>, number: usize) -> Result<(), NoMemory>
-    ensures { OnOk result (Rewrites slab.old.slots slab.new.slots number (raised (at slab.old.slots number))) }
+    ensures { OnOk result
+        (Rewrites slab.old.slots slab.new.slots number (raised (at slab.old.slots number))) }
 {
     let Some(case) = slab.get_mut(number) else {
         return Ok(());

@@ -21,7 +21,8 @@ pub(crate) fn touched_by_moves(
     index: &HopIndex,
     moves: &Moves,
 ) -> Result<Numbers, NoMemory>
-    ensures { IfOk result (λ touched. (n : ℕ) → has touched n ≡ is_touched_by index.now moves.now n) }
+    ensures { IfOk result (λ touched. (n : ℕ)
+        → has touched n ≡ is_touched_by index.now moves.now n) }
 {
     let mut touched = Numbers::new(alloc);
     for row_move in moves.as_slice() {
@@ -44,16 +45,18 @@ pub(crate) fn touched_by_roles(
 {
     let mut touched = Numbers::new(alloc);
     for asn in peers.ases() {
-        if !is_same_role(before.of(*asn), after.of(*asn)) {
-            touch_members(peers, *asn, &mut touched)?;
+        if is_same_role(before.of(*asn), after.of(*asn)) {
+            continue;
         }
+        touch_members(peers, *asn, &mut touched)?;
     }
     Ok(touched)
 }
 
 // The cases of an AS come to the others.
 pub(crate) fn touch_members(peers: &Peers, asn: u32, touched: &mut Numbers) -> Result<(), NoMemory>
-    ensures { OnOk result ((n : ℕ) → has touched.new n ≡ (has touched.old n || is_member peers.now asn n)) }
+    ensures { OnOk result ((n : ℕ)
+        → has touched.new n ≡ (has touched.old n || is_member peers.now asn n)) }
 {
     match peers.of(asn) {
         None => Ok(()),

@@ -13,13 +13,13 @@ loop-asn-init c = record {
   only = λ n there. absurd (true≢false (sym there ∙ ap (λ (numbers : List ℕ). has numbers n) c.new-touched.ensures));
 }
 
-pub loop-asn-preserved-in-Continue-1 : goal.loop-asn-preserved-in-Continue-1
-loop-asn-preserved-in-Continue-1 c =
+pub loop-asn-preserved : goal.loop-asn-preserved
+loop-asn-preserved c =
     let e : c.loop-asn.asn-iterator ≡ c.in-Some.asn.now ∷ c.next.new.self = rest_more deref c.loop-asn.asn-iterator c.next.new.self c.next.result c.in-Some.asn c.in-Some.is c.next.ensures.steps in
     record {
       others = others_next c.args.peers.now c.args.before.now c.args.after.now c.loop-asn.touched c.touch_members.new.touched c.next.new.self c.in-Some.asn.now
           (subst (λ (ases : List ℕ). (asn n : ℕ) → is_member c.args.peers.now asn n ≡ true → has c.loop-asn.touched n ≡ false → has ases asn ≡ false → role_of c.args.before.now asn ≡ role_of c.args.after.now asn) e c.loop-asn.invariant.others)
           c.in_ok-touch_members.ensures;
       only = only_next c.args.peers.now c.args.before.now c.args.after.now c.loop-asn.touched c.touch_members.new.touched c.next.new.self c.in-Some.asn.now c.loop-asn.invariant.only c.in_ok-touch_members.ensures
-          (λ same. true≢false (sym (c.is_same_role.ensures.1 (c.of.ensures ∙ same ∙ sym c.of-in-loop-asn.ensures)) ∙ c.if-not-is_same_role.true));
+          (λ same. true≢false (sym (c.is_same_role.ensures.1 (c.of.ensures ∙ same ∙ sym c.of-in-loop-asn.ensures)) ∙ c.if-is_same_role.false));
     }

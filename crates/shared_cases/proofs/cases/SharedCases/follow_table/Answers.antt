@@ -1,4 +1,4 @@
-use Rattle.std.proofs.Common.{ℕ, ◌-◌, ◌≤◌, length, subst, arith}
+use Rattle.std.proofs.Common.{◌-◌, subst, arith}
 use Rattle.path_model.specs.ComputedTable.{table_of}
 use Rattle.shared_cases.specs.Cases.{Slots}
 use Rattle.shared_cases.specs.Kept.{AreIndexed}

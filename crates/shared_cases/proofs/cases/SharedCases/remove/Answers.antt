@@ -1,4 +1,4 @@
-use Rattle.std.proofs.Common.{◌≡◌, ℕ, List, None, sym, subst, ◌∙◌}
+use Rattle.std.proofs.Common.{ℕ, List, None, sym, subst, ◌∙◌}
 use Rattle.hop_index.specs.Index.{Removes}
 use Rattle.shared_cases.specs.declared.case_name.CaseName.{CaseName}
 use Rattle.shared_cases.proofs.CaseLemmas.{HasAt, case_gone}

@@ -1,4 +1,4 @@
-use Rattle.std.proofs.Common.{inr, sym, subst}
+use Rattle.std.proofs.Common.{inr, subst}
 use Rattle.path_model.specs.declared.role.Role.{Role}
 use Rattle.path_model.specs.Roles.{role_of}
 use Rattle.path_model.specs.ComputedTable.{table_of}
