@@ -8,3 +8,4 @@ pub mod PeerLemmas
 pub mod ReportLemmas
 pub mod RowLemmas
 pub mod ScanLemmas
+pub mod ShownLemmas

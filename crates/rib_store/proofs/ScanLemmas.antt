@@ -12,7 +12,7 @@ use Rattle.std.specs.FinMap.Entries.{find-where_key, is_sorted-where_key}
 use Rattle.std.specs.List.{AllByRecursion}
 use Rattle.std.specs.List.Sorted.{IsStrictlySortedBy}
 use Rattle.std.specs.Map.{lookup, keys_of}
-use Rattle.std.specs.Option.{IsSome}
+use Rattle.std.specs.Option.{IsSome, is_some}
 use Rattle.std.specs.Ordering.{is_eq, is_gt, is_le, ordering_reverse}
 use Rattle.std.proofs.lemmas.Map.Keys.{sorted_head, sorted_tail}
 use Rattle.path_model.specs.declared.key.Key.{Key}
@@ -27,6 +27,18 @@ use Rattle.rib_store.specs.Holding.{at, HasNoRouteFrom, IsFirstRouteFrom}
 use Rattle.rib_store.proofs.KeyLemmas.{Below, same_key, below_less, sorted_keys, sorted_entries, find_lookup, none_below}
 use Rattle.rib_store.proofs.PartLemmas.{part_of, get_part}
 use Rattle.rib_store.proofs.PeerLemmas.{between}
+
+pub not_true : (b : Bool) → not b ≡ true → b ≡ false
+not_true true e = absurd (true≢false (sym e))
+not_true false e = refl
+
+pub not_false : (b : Bool) → not b ≡ false → b ≡ true
+not_false true e = refl
+not_false false e = absurd (true≢false e)
+
+pub not_some : (path : Option Path) → is_some path ≡ false → path ≡ None
+not_some None e = refl
+not_some (Some path) e = absurd (true≢false e)
 
 abbrev trail_of : Option Held → Option Path
 trail_of held = part_of (λ h. h.trail) held

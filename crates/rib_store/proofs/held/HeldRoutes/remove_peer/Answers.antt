@@ -9,9 +9,9 @@ loop-key-smaller c = subst (λ (m : Routes). fin.len m < fin.len c.loop-key.self
 
 pub loop-key-preserved : goal.loop-key-preserved
 loop-key-preserved c = record {
-  clearing = clear_next c.args.self.old.routes c.loop-key.self.routes c.remove.new.self.routes c.args.peer.now c.loop-key.place c.in-Some.key c.loop-key.invariant.clearing c.in-Some.ensures.some c.remove.ensures.routes;
+  clearing = clear_next c.args.self.now.routes c.loop-key.self.routes c.remove.new.self.routes c.args.peer.now c.loop-key.place c.in-Some.key c.loop-key.invariant.clearing c.in-Some.ensures.some c.remove.ensures.routes;
   marked = c.remove.ensures.marked ∙ c.loop-key.invariant.marked;
 }
 
 pub returns-clause-routes : goal.returns-clause-routes
-returns-clause-routes c = clear_end c.args.self.old.routes c.loop-key.self.routes c.args.peer.now c.loop-key.place c.loop-key.invariant.clearing c.in_default.ensures.none
+returns-clause-routes c = clear_end c.args.self.now.routes c.loop-key.self.routes c.args.peer.now c.loop-key.place c.loop-key.invariant.clearing c.in_default.ensures.none
