@@ -2,12 +2,10 @@
 use Rattle.std.proofs.Common.{◌≡◌, ◌≢◌, Bool, true, false, cond, T, List, [], ◌∷◌, ◌++◌, None, Some, refl, ap, sym, subst, ◌∙◌, ◌⊎◌, inl, inr}
 use Rattle.std.specs.Prelude.{map, All}
 use Rattle.std.specs.declared.option.Option.{Option}
-use Rattle.std.specs.BTreeMap.{is_at}
 use Rattle.std.specs.FinMap as fin
 use Rattle.std.specs.FinMap.Entries.{is_sorted, same_entries}
 use Rattle.std.specs.List.Sorted.{IsStrictlySortedBy}
 use Rattle.std.specs.Map.{keys_of}
-use Rattle.std.specs.Option.{unwrap_or}
 use Rattle.std.specs.Ordering.{eq_by_cmp}
 use Rattle.std.specs.Cmp.{eq_by_cmp_equiv}
 use Rattle.std.proofs.lemmas.List.Elements.{All-nil, All-cons, All-head, All-tail}
@@ -15,7 +13,6 @@ use Rattle.path_model.specs.declared.key.Key.{Key}
 use Rattle.path_model.specs.declared.verdict.Verdict.{Verdict}
 use Rattle.path_model.specs.Key.{key_cmp}
 use Rattle.path_model.specs.Order.{key_total}
-use Rattle.path_model.specs.Routes.{Routes}
 use Rattle.path_model.specs.Trail.{Path}
 use Rattle.path_model.proofs.OrderLemmas.{key_exact}
 use Rattle.rib_store.specs.declared.held.Held.{Held}
@@ -85,7 +82,7 @@ pub one_list : (state : State) (one other : List ChangedKey) → AreChanges stat
 one_list state one other a b =
     sym (changes_by_key other)
     ∙ ap (map (λ (e : Key × ChangedKey). e.1)) (same_entries key_cmp key_total key_exact (by_key other) (by_key one) (by_key_sorted other b.ascending) (by_key_sorted one a.ascending)
-      (λ q. by q (found_or_not state q other b.each) (found_or_not state q one a.each)))
+    (λ q. by q (found_or_not state q other b.each) (found_or_not state q one a.each)))
     ∙ changes_by_key one where
       by : (q : Key) → ((fin.find key_cmp q (by_key other) ≡ None) × All (λ (c : ChangedKey). c.key ≢ q) other) ⊎ ((change : ChangedKey) × IsFound state q (fin.find key_cmp q (by_key other)) change)
           → ((fin.find key_cmp q (by_key one) ≡ None) × All (λ (c : ChangedKey). c.key ≢ q) one) ⊎ ((change : ChangedKey) × IsFound state q (fin.find key_cmp q (by_key one)) change)

@@ -1,13 +1,13 @@
 -- The changes that are made of what is held.
 use Rattle.std.proofs.Common.{◌≡◌, ◌≢◌, ◌≤◌, Bool, true, false, cond, List, [], ◌∷◌, length, None, Some, refl, ap, sym, subst, ◌∙◌, true≢false}
-use Rattle.std.specs.Prelude.{map, All}
+use Rattle.std.specs.Prelude.{All}
 use Rattle.std.specs.declared.option.Option.{Option}
 use Rattle.std.specs.BTreeMap.{is_at}
 use Rattle.std.specs.FinMap as fin
-use Rattle.std.specs.List.{AllByRecursion, cons_option}
+use Rattle.std.specs.List.{cons_option}
 use Rattle.std.specs.List.Sorted.{IsStrictlySortedBy}
-use Rattle.std.specs.Map.{lookup, keys_of}
-use Rattle.std.specs.Option.{option_map, unwrap_or}
+use Rattle.std.specs.Map.{keys_of}
+use Rattle.std.specs.Option.{unwrap_or}
 use Rattle.std.proofs.lemmas.List.Elements.{All-nil, All-cons, All-head, All-tail}
 use Rattle.path_model.specs.declared.key.Key.{Key}
 use Rattle.path_model.specs.declared.verdict.Verdict.{Verdict}
@@ -15,11 +15,10 @@ use Rattle.path_model.specs.declared.verdict.Verdict.TheVariants.{Valid, Unknown
 use Rattle.path_model.specs.CurrentTable.{Parts}
 use Rattle.path_model.specs.Key.{key_cmp}
 use Rattle.path_model.specs.Roles.{Relations}
-use Rattle.path_model.specs.Trail.{Path}
 use Rattle.rib_store.specs.declared.held.Held.{Held}
 use Rattle.rib_store.specs.declared.journal.ChangedKey.{ChangedKey}
 use Rattle.rib_store.specs.Changes.{StandsAs, IsChange, AreChanges}
-use Rattle.rib_store.specs.ChangesLeft.{present_verdict, are_same, change_between, change_at, changes_in}
+use Rattle.rib_store.specs.ChangesLeft.{present_verdict, are_same, change_at, changes_in}
 use Rattle.rib_store.specs.Held.{RoutesAndMarks, held_in, paths_in, marks_in}
 use Rattle.rib_store.specs.Holding.{at}
 use Rattle.rib_store.specs.State.{State}

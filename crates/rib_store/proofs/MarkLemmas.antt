@@ -1,11 +1,10 @@
 -- What marking makes of what is held, and of a state.
-use Rattle.std.proofs.Common.{◌≡◌, ℕ, Bool, true, false, cond, List, [], ◌∷◌, None, Some, refl, ap, sym, subst, ◌∙◌}
+use Rattle.std.proofs.Common.{◌≡◌, Bool, true, false, cond, List, [], ◌∷◌, None, Some, refl, ap, sym, subst, ◌∙◌}
 use Rattle.std.specs.declared.option.Option.{Option}
-use Rattle.std.specs.BTreeMap.{is_at}
 use Rattle.std.specs.FinMap as fin
-use Rattle.std.specs.List.{cons_option, filter_map}
+use Rattle.std.specs.List.{cons_option}
 use Rattle.std.specs.List.Sorted.{IsStrictlySortedBy}
-use Rattle.std.specs.Map.{lookup, keys_of}
+use Rattle.std.specs.Map.{keys_of}
 use Rattle.std.specs.Map.Calls.{RetainsPairs}
 use Rattle.std.specs.Option.{option_map}
 use Rattle.std.specs.Ordering.{eq_by_cmp}
@@ -25,7 +24,7 @@ use Rattle.rib_store.specs.Held.{RoutesAndMarks, paths_in, marks_in}
 use Rattle.rib_store.specs.Holding.{IsRemarked, remarked, all_remarked}
 use Rattle.rib_store.specs.Laws.{HasOneMarking}
 use Rattle.rib_store.specs.Rows.{current_verdict, current_verdicts, rows_of}
-use Rattle.rib_store.specs.State.{State, IsCurrent, Marked}
+use Rattle.rib_store.specs.State.{State, Marked}
 use Rattle.rib_store.proofs.KeyLemmas.{same_key, entries_whole}
 use Rattle.rib_store.proofs.PartLemmas.{parts_sorted}
 use Rattle.rib_store.proofs.ReportLemmas.{one_current}
@@ -52,7 +51,7 @@ paths_remarked parts relations [] = refl
 paths_remarked parts relations (e ∷ es) = by (paths_remarked parts relations es) e.1.trail where
   by : paths_in (all_remarked parts relations es) ≡ paths_in es → (o : Option Path)
       → paths_in (cons_option (option_map (λ path. (e.0, record { trail = Some path; marked = Some (current_verdict parts relations e.0 path) })) o) (all_remarked parts relations es))
-        ≡ cons_option (option_map (λ v. (e.0, v)) o) (paths_in es)
+      ≡ cons_option (option_map (λ v. (e.0, v)) o) (paths_in es)
   by ih None = ih
   by ih (Some path) = ap (λ (ps : List (Key × Path)). (e.0, path) ∷ ps) ih
 
@@ -61,7 +60,7 @@ marks_remarked parts relations [] = refl
 marks_remarked parts relations (e ∷ es) = by (marks_remarked parts relations es) e.1.trail where
   by : marks_in (all_remarked parts relations es) ≡ rows_of parts relations (paths_in es) → (o : Option Path)
       → marks_in (cons_option (option_map (λ path. (e.0, record { trail = Some path; marked = Some (current_verdict parts relations e.0 path) })) o) (all_remarked parts relations es))
-        ≡ rows_of parts relations (cons_option (option_map (λ v. (e.0, v)) o) (paths_in es))
+      ≡ rows_of parts relations (cons_option (option_map (λ v. (e.0, v)) o) (paths_in es))
   by ih None = ih
   by ih (Some path) = ap (λ (ms : List (Key × Verdict)). (e.0, current_verdict parts relations e.0 path) ∷ ms) ih
 

@@ -3,11 +3,10 @@ use Rattle.std.proofs.Common.{◌≡◌, ◌≤◌, Bool, true, false, cond, Lis
 use Rattle.std.specs.Prelude.{map}
 use Rattle.std.specs.declared.option.Option.{Option}
 use Rattle.std.specs.declared.cmp.Ordering.{Ordering}
-use Rattle.std.specs.declared.cmp.Ordering.TheVariants.{Less, Equal, Greater}
 use Rattle.std.specs.BTreeMap.{is_at}
 use Rattle.std.specs.Cmp.{eq_by_cmp_equiv}
-use Rattle.std.specs.FinMap.{FinMap, get, insert, remove, from_entries, get-insert, get-remove, same_map}
-use Rattle.std.specs.List.{AllByRecursion, filter_map, cons_option}
+use Rattle.std.specs.FinMap.{get, insert, remove, from_entries, get-insert, get-remove, same_map}
+use Rattle.std.specs.List.{filter_map, cons_option}
 use Rattle.std.specs.List.Sorted.{IsStrictlySortedBy}
 use Rattle.std.specs.Map.{lookup, keys_of}
 use Rattle.std.specs.Option.{option_map, unwrap_or}
@@ -82,6 +81,7 @@ module _ {A : Type 0} (part : Held → Option A) where
     or_none : (o : Option A) (r : Option A) → r ≡ None → elim o [ None ↦ r | Some v ↦ Some v ] ≡ o
     or_none None r n = n
     or_none (Some v) r n = refl
+
     by : lookup (is_at (key_cmp q)) (parts part es) ≡ part_of part (at q es) → (b : Bool) → is_at (key_cmp q) e.0 ≡ b
         → cond b (elim (part e.1) [ None ↦ lookup (is_at (key_cmp q)) (parts part es) | Some v ↦ Some v ]) (lookup (is_at (key_cmp q)) (parts part es)) ≡ part_of part (cond b (Some e.1) (at q es))
     by ih true t = or_none (part e.1) _ (below_none q e.0 es (same_key q e.0 t) (sorted_head key_cmp e.0 (keys_of es) sorted))

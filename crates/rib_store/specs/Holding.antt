@@ -19,7 +19,6 @@ use Rattle.path_model.specs.Key.{key_cmp}
 use Rattle.path_model.specs.Prefix.{Subnet}
 use Rattle.path_model.specs.Roles.{Relations}
 use Rattle.path_model.specs.Routes.{Routes, is_of_peer}
-use Rattle.path_model.specs.Trail.{Path}
 use Rattle.rib_store.specs.declared.held.Held.{Held}
 use Rattle.rib_store.specs.Rows.{current_verdict}
 

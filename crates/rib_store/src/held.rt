@@ -77,13 +77,11 @@ impl HeldRoutes {
     {
         let marked = mark_of(&self.held, &key);
         let _ordered = self.held.len();
-        self.held.insert(
-            key,
-            Held {
-                trail: Some(trail),
-                marked,
-            },
-        )?;
+        let entry = Held {
+            trail: Some(trail),
+            marked,
+        };
+        self.held.insert(key, entry)?;
         Ok(())
     }
 

@@ -1,7 +1,6 @@
-use Rattle.std.proofs.Common.{◌≡◌, Some, refl, ap, ◌∙◌}
+use Rattle.std.proofs.Common.{Some, refl, ap, ◌∙◌}
 use Rattle.std.specs.FinMap as fin
 use Rattle.rib_store.specs.Held.{RoutesAndMarks}
-use Rattle.rib_store.specs.Holding.{Holds}
 use Rattle.rib_store.proofs.PartLemmas.{part_put, marks_kept}
 use Rattle.rib_store.proofs.held.HeldRoutes.announce.Goals as goal
 

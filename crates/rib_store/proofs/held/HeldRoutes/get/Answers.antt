@@ -1,8 +1,6 @@
-use Rattle.std.proofs.Common.{◌≡◌, ap, sym, ◌∙◌}
-use Rattle.std.specs.declared.option.Option.{Option}
+use Rattle.std.proofs.Common.{ap, sym, ◌∙◌}
 use Rattle.std.specs.FinMap as fin
 use Rattle.std.specs.Option.{option_copied}
-use Rattle.rib_store.specs.declared.held.Held.{Held}
 use Rattle.rib_store.specs.Held.{RoutesAndMarks}
 use Rattle.rib_store.proofs.PartLemmas.{get_part, part_of}
 use Rattle.rib_store.proofs.held.HeldRoutes.get.Goals as goal

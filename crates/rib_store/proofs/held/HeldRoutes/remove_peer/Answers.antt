@@ -1,4 +1,4 @@
-use Rattle.std.proofs.Common.{◌<◌, ap, sym, subst, ◌∙◌}
+use Rattle.std.proofs.Common.{◌<◌, sym, subst, ◌∙◌}
 use Rattle.std.specs.FinMap as fin
 use Rattle.path_model.specs.Routes.{Routes}
 use Rattle.rib_store.proofs.PeerLemmas.{clear_next, clear_end, one_fewer}

@@ -1,7 +1,6 @@
 use Rattle.std.proofs.Common.{arith, subst}
 use Rattle.rib_store.specs.Changes.{AreChanges}
 use Rattle.rib_store.specs.ChangesLeft.{changes_in}
-use Rattle.rib_store.specs.State.{State}
 use Rattle.rib_store.specs.Stored.{Stored}
 use Rattle.rib_store.proofs.ChangeLemmas.{changes_held, changes_fewer}
 use Rattle.rib_store.proofs.store.RibStore.changes.Goals as goal

@@ -1,8 +1,6 @@
 use Rattle.std.proofs.Common.{◌≡◌, Some, ap, sym, ◌∙◌}
 use Rattle.std.specs.Option.{option_copied}
 use Rattle.std.specs.FinMap as fin
-use Rattle.path_model.specs.Roles.{role_of}
-use Rattle.rib_store.specs.State.{State}
 use Rattle.rib_store.specs.Stored.{Stored}
 use Rattle.rib_store.proofs.ShownLemmas.{shown_by_parts}
 use Rattle.rib_store.proofs.store.RibStore.look.Goals as goal

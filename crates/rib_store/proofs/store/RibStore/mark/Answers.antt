@@ -1,4 +1,4 @@
-use Rattle.std.proofs.Common.{subst, ap, ◌∙◌}
+use Rattle.std.proofs.Common.{subst}
 use Rattle.rib_store.specs.Changes.{IsMarked}
 use Rattle.rib_store.specs.Stored.{Stored}
 use Rattle.rib_store.proofs.MarkLemmas.{marked_as}

@@ -1,6 +1,4 @@
-use Rattle.std.proofs.Common.{arith, ap, subst, ◌∙◌}
-use Rattle.std.specs.FinMap as fin
-use Rattle.path_model.specs.Routes.{Routes}
+use Rattle.std.proofs.Common.{arith, ap, subst}
 use Rattle.rib_store.specs.Held.{RoutesAndMarks, paths_in}
 use Rattle.rib_store.specs.Rows.{rows_of}
 use Rattle.rib_store.specs.State.{State, AreRows}
