@@ -76,7 +76,8 @@ impl HeldRoutes {
         ensures marked { OnOk result (self.new.marked ≡ self.old.marked) }
     {
         let marked = mark_of(&self.held, &key);
-        let _ordered = self.held.len();
+        // it comes with the order of the keys
+        let _length = self.held.len();
         let entry = Held {
             trail: Some(trail),
             marked,
@@ -117,7 +118,8 @@ impl HeldRoutes {
     pub(crate) fn get(&self, key: &Key) -> Option<&Trail>
         ensures { option_copied result ≡ fin.get self.now.routes key.now }
     {
-        let _ordered = self.held.len();
+        // it comes with the order of the keys
+        let _length = self.held.len();
         let held = self.held.get(key)?;
         held.trail.as_ref()
     }
