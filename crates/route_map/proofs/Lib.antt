@@ -1,0 +1,5 @@
+pub mod BlockLemmas
+pub mod CountLemmas
+pub mod FamilyLemmas
+pub mod FlatLemmas
+pub mod HeldLemmas

@@ -1,0 +1,84 @@
+//! The values of one peer's routes.
+ghost use Rattle.std.specs.Prelude.{◌≡◌, ◌≢◌, ◌↔◌, [], IfOk, OnOk, OnErr, IsTrue, option_copied};
+ghost use Rattle.std.specs.BTreeMap.{insert_entry, is_at};
+ghost use Rattle.std.specs.Map.{lookup, remove_entry};
+ghost use Rattle.path_model.specs.Prefix.{subnet_cmp};
+
+use crate::ipv4_subnet::Ipv4Subnet;
+use av_base::NoMemory;
+use path_model::Prefix;
+use std::alloc::Global;
+use std::collections::BTreeMap;
+use std::marker::Model;
+
+// The value of each prefix that one peer has a route to.
+#[derive(Drop)]
+pub struct PeerRoutes<V> {
+    // an IPv4 prefix takes 8 bytes, and an IPv6 prefix 24
+    v4: BTreeMap<Ipv4Subnet, V>,
+    v6: BTreeMap<Prefix, V>,
+}
+
+impl<V> Model for PeerRoutes<V> {
+    ghost use Rattle.std.specs.Prelude.{List, ◌++◌};
+    ghost use Rattle.path_model.specs.Prefix.{Subnet};
+    ghost use Rattle.route_map.specs.Families.{AreByFamily};
+
+    ghost Value = { List (Subnet × V) };
+
+    ghost view = { λ r. r.v4.entries ++ r.v6.entries };
+
+    ghost invariant = { λ r. AreByFamily r.v4.entries r.v6.entries };
+}
+
+impl<V: Drop> PeerRoutes<V> {
+    // None at all. It takes no memory.
+    pub(crate) fn new(alloc: Global) -> PeerRoutes<V>
+        ensures { result ≡ [] }
+    {
+        PeerRoutes {
+            v4: BTreeMap::new(alloc),
+            v6: BTreeMap::new(alloc),
+        }
+    }
+
+    // Whether there are none.
+    pub(crate) fn is_empty(&self) -> bool
+        ensures { IsTrue result ↔ (self.now ≡ []) }
+    {
+        self.v4.is_empty() && self.v6.is_empty()
+    }
+
+    // The value of a prefix.
+    pub(crate) fn get(&self, prefix: &Prefix) -> Option<&V>
+        ensures { option_copied result ≡ lookup (is_at (subnet_cmp prefix.now)) self.now }
+    {
+        match Ipv4Subnet::of(prefix) {
+            Some(subnet) => self.v4.get(&subnet),
+            None => self.v6.get(prefix),
+        }
+    }
+
+    // Gives a prefix a value, and answers the one that it had. Where there was no memory nothing changed.
+    pub(crate) fn insert(&mut self, prefix: Prefix, value: V) -> Result<Option<V>, NoMemory>
+        ensures before { IfOk result (λ before. before ≡ lookup (is_at (subnet_cmp prefix)) self.old) }
+        ensures inserted { OnOk result (self.new ≡ insert_entry subnet_cmp self.old prefix value) }
+        ensures same { OnErr result (self.new ≡ self.old) }
+    {
+        match Ipv4Subnet::of(&prefix) {
+            Some(subnet) => Ok(self.v4.insert(subnet, value)?),
+            None => Ok(self.v6.insert(prefix, value)?),
+        }
+    }
+
+    // Takes the value of a prefix out, where it has one. It takes no memory.
+    pub(crate) fn remove(&mut self, prefix: &Prefix) -> Option<V>
+        ensures before { result ≡ lookup (is_at (subnet_cmp prefix.now)) self.old }
+        ensures removed { self.new ≡ remove_entry (is_at (subnet_cmp prefix.now)) self.old }
+    {
+        match Ipv4Subnet::of(prefix) {
+            Some(subnet) => self.v4.remove(&subnet),
+            None => self.v6.remove(prefix),
+        }
+    }
+}
