@@ -3,3 +3,4 @@ pub mod CountLemmas
 pub mod FamilyLemmas
 pub mod FlatLemmas
 pub mod HeldLemmas
+pub mod PartLemmas

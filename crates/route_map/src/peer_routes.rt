@@ -3,10 +3,13 @@ ghost use Rattle.std.specs.Prelude.{◌≡◌, ◌≢◌, ◌↔◌, [], IfOk, O
 ghost use Rattle.std.specs.BTreeMap.{insert_entry, is_at};
 ghost use Rattle.std.specs.Map.{lookup, remove_entry};
 ghost use Rattle.path_model.specs.Prefix.{subnet_cmp};
+ghost use Rattle.route_map.specs.Flat.{of_peer};
 
 use crate::ipv4_subnet::Ipv4Subnet;
+use crate::peer_iter::PeerIter;
+use crate::prefix_iter::PrefixIter;
 use av_base::NoMemory;
-use path_model::Prefix;
+use path_model::{Peer, Prefix};
 use std::alloc::Global;
 use std::collections::BTreeMap;
 use std::marker::Model;
@@ -31,7 +34,7 @@ impl<V> Model for PeerRoutes<V> {
     ghost invariant = { λ r. AreByFamily r.v4.entries r.v6.entries };
 }
 
-impl<V: Drop> PeerRoutes<V> {
+impl<V> PeerRoutes<V> {
     // None at all. It takes no memory.
     pub(crate) fn new(alloc: Global) -> PeerRoutes<V>
         ensures { result ≡ [] }
@@ -59,6 +62,21 @@ impl<V: Drop> PeerRoutes<V> {
         }
     }
 
+    // All in order, as routes of this peer.
+    pub(crate) fn iter_of(&self, peer: Peer) -> PeerIter<'_, V>
+        ensures { result ≡ of_peer peer self.now }
+    {
+        PeerIter {
+            peer,
+            routes: Some(PrefixIter {
+                v4: self.v4.iter(),
+                v6: self.v6.iter(),
+            }),
+        }
+    }
+}
+
+impl<V: Drop> PeerRoutes<V> {
     // Gives a prefix a value, and answers the one that it had. Where there was no memory nothing changed.
     pub(crate) fn insert(&mut self, prefix: Prefix, value: V) -> Result<Option<V>, NoMemory>
         ensures before { IfOk result (λ before. before ≡ lookup (is_at (subnet_cmp prefix)) self.old) }

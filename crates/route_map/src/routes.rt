@@ -1,12 +1,18 @@
 //! The values of all peers' routes.
-ghost use Rattle.std.specs.Prelude.{◌≡◌, ◌↔◌, ◌<◌, ◌^◌, [], Some, length, IfOk, OnOk, OnErr, IsTrue, option_copied};
+ghost use Rattle.std.specs.Prelude.{◌≡◌, ◌↔◌, ◌<◌, ◌^◌, [], Some, length, nat_eq, IfSome, IfNone, IfOk, OnOk, OnErr, IsTrue, option_copied};
 ghost use Rattle.std.specs.BTreeMap.{insert_entry, is_at};
+ghost use Rattle.std.specs.List.{filter};
 ghost use Rattle.std.specs.List.Sorted.{IsStrictlySortedBy};
 ghost use Rattle.std.specs.Map.{keys_of, lookup, remove_entry};
 ghost use Rattle.path_model.specs.Key.{key_cmp};
+ghost use Rattle.path_model.specs.Routes.{is_of_peer};
 ghost use Rattle.route_map.specs.Flat.{flat};
 ghost use Rattle.route_map.specs.Held.{found, found_at, HaveRoutes, Puts, TakesOut};
+ghost use Rattle.route_map.specs.OfPeer.{HasNoRouteOf, IsRouteOf};
 
+use crate::as_iter::AsIter;
+use crate::iter::Iter;
+use crate::peer_iter::PeerIter;
 use crate::peer_routes::PeerRoutes;
 use av_base::NoMemory;
 use path_model::{Key, Peer};
@@ -30,7 +36,8 @@ pub struct RouteMap<V> {
 impl<V> Model for RouteMap<V> {
     ghost use Rattle.std.specs.Prelude.{List};
     ghost use Rattle.path_model.specs.declared.key.Key.{Key};
-    ghost use Rattle.route_map.specs.Flat.{flat};
+    ghost use Rattle.path_model.specs.Routes.{is_of_peer};
+ghost use Rattle.route_map.specs.Flat.{flat};
     ghost use Rattle.route_map.specs.Held.{AreHeld};
 
     ghost Value = { List (Key × V) };
@@ -40,7 +47,7 @@ impl<V> Model for RouteMap<V> {
     ghost invariant = { λ m. AreHeld m.peers.entries m.len };
 }
 
-impl<V: Drop> RouteMap<V> {
+impl<V> RouteMap<V> {
     /// A map of no routes. It takes no memory.
     pub fn new(alloc: Global) -> RouteMap<V>
         ensures { result ≡ [] }
@@ -73,6 +80,56 @@ impl<V: Drop> RouteMap<V> {
         }
     }
 
+    /// All routes, in key order.
+    pub fn iter(&self) -> Iter<'_, V>
+        ensures whole { result ≡ self.now }
+        ensures few { length result < 2 ^ 63 }
+        ensures in_order { IsStrictlySortedBy key_cmp (keys_of self.now) }
+    {
+        Iter {
+            first: None,
+            others: self.peers.iter(),
+        }
+    }
+
+    /// The routes of one peer, in key order. It costs one look-up among the peers, and then what these routes cost.
+    pub fn of_peer(&self, peer: &Peer) -> PeerIter<'_, V>
+        ensures { result ≡ filter (λ e. is_of_peer peer.now e.0) self.now }
+    {
+        let _peers = self.peers.len();
+        match self.peers.get(peer) {
+            None => PeerIter {
+                peer: *peer,
+                routes: None,
+            },
+            Some(routes) => routes.iter_of(*peer),
+        }
+    }
+
+    /// The routes of all peers of one AS, in key order. It costs a step for each peer of another AS, and then what these routes cost.
+    pub fn of_as(&self, asn: u32) -> AsIter<'_, V>
+        ensures { result ≡ filter (λ e. nat_eq e.0.peer.asn asn) self.now }
+    {
+        AsIter {
+            asn,
+            first: None,
+            others: self.peers.iter(),
+        }
+    }
+
+    /// The first route of one peer; `None` exactly where it has none.
+    pub fn first_of(&self, peer: &Peer) -> Option<Key>
+        ensures none { IfNone result (HasNoRouteOf self.now peer.now) }
+        ensures some { IfSome result (IsRouteOf self.now peer.now) }
+    {
+        match self.of_peer(peer).next() {
+            None => None,
+            Some((key, _)) => Some(key),
+        }
+    }
+}
+
+impl<V: Drop> RouteMap<V> {
     /// Gives a route a value, and answers the one that it had. Where there was no memory, nothing changed.
     pub fn insert(&mut self, key: Key, value: V) -> Result<Option<V>, NoMemory>
         ensures before { IfOk result (λ before. before ≡ lookup (is_at (key_cmp key)) self.old) }
