@@ -1,17 +1,20 @@
 -- The routes of one peer: IPv4 prefixes come before IPv6 prefixes.
-use Rattle.std.proofs.Common.{◌≡◌, Bool, true, false, List, [], ◌∷◌, ◌++◌, None, Some, refl, ap, sym, ◌∙◌, true≢false}
+use Rattle.std.proofs.Common.{◌≡◌, Bool, true, false, List, [], ◌∷◌, ◌++◌, None, Some, refl, ap, sym, subst, ◌∙◌, true≢false}
 use Rattle.std.specs.declared.option.Option.{Option}
 use Rattle.std.specs.declared.cmp.Ordering.{Ordering}
 use Rattle.std.specs.declared.cmp.Ordering.TheVariants.{Less, Equal, Greater}
-use Rattle.std.specs.BTreeMap.{insert_entry, is_at}
+use Rattle.std.specs.BTreeMap.{BTreeMap, insert_entry, is_at, get, IsOrdered}
 use Rattle.std.specs.List.{AllByRecursion}
 use Rattle.std.specs.Map.{lookup, remove_entry}
 use Rattle.std.specs.Ordering.{nat_cmp, ordering_then, is_eq}
 use Rattle.std.proofs.lemmas.Map.{NonePasses}
+use Rattle.std.proofs.lemmas.Map.Lookups.{btree_map_from_get}
 use Rattle.path_model.specs.declared.addr.Addr.{Addr}
 use Rattle.path_model.specs.declared.addr.Addr.TheVariants.{V4, V6}
 use Rattle.path_model.specs.Halves.{is_six}
 use Rattle.path_model.specs.Prefix.{Subnet, addr_cmp, subnet_cmp}
+use Rattle.path_model.specs.Order.{subnet_total}
+use Rattle.path_model.proofs.OrderLemmas.{subnet_exact}
 use Rattle.route_map.specs.Families.{four_of, AreOf, AreByFamily}
 use Rattle.route_map.proofs.BlockLemmas.{all_more, all_inserted, all_removed, lookup_first, lookup_second, remove_first, remove_second, insert_first, insert_second}
 
@@ -86,6 +89,10 @@ module _ {V : Type 0} (fours sixes : List (Subnet × V)) (families : AreByFamily
     six = all_inserted (λ e. is_six e.0.addr ≡ true) subnet_cmp q v (four_none q is) (λ e family. family) sixes families.six;
   }
 
+  -- ---- other trees of the same routes
+  pub families_of : (v4 v6 : BTreeMap Subnet V) → v4.entries ≡ fours → v6.entries ≡ sixes → AreByFamily v4.entries v6.entries
+  families_of v4 v6 four six = subst (λ (es : List (Subnet × V)). AreByFamily es v6.entries) (sym four) (subst (λ (es : List (Subnet × V)). AreByFamily fours es) (sym six) families)
+
   -- ---- one route less
   pub remove_four : (q s : Subnet) → four_of q ≡ Some s → remove_entry (is_at (subnet_cmp s)) fours ++ sixes ≡ remove_entry (is_at (subnet_cmp q)) (fours ++ sixes)
   remove_four q s is = let four = four_is q s is in
@@ -98,3 +105,7 @@ module _ {V : Type 0} (fours sixes : List (Subnet × V)) (families : AreByFamily
   families_without s q = (
     record { four = all_removed (λ e. is_six e.0.addr ≡ false) (is_at (subnet_cmp s)) fours families.four; six = families.six },
     record { four = families.four; six = all_removed (λ e. is_six e.0.addr ≡ true) (is_at (subnet_cmp q)) sixes families.six })
+
+-- a tree with the same value at each prefix has the same routes
+pub same_routes : {V : Type 0} (old new : BTreeMap Subnet V) → IsOrdered subnet_cmp old → IsOrdered subnet_cmp new → ((q : Subnet) → get subnet_cmp new q ≡ get subnet_cmp old q) → new.entries ≡ old.entries
+same_routes old new was is same = btree_map_from_get subnet_total new old is was same subnet_exact

@@ -2,6 +2,7 @@
 #![tactic(auto)]
 
 mod as_iter;
+mod filling;
 mod ipv4_subnet;
 mod iter;
 mod peer_iter;

@@ -5,6 +5,7 @@ ghost use Rattle.std.specs.Map.{lookup, remove_entry};
 ghost use Rattle.path_model.specs.Prefix.{subnet_cmp};
 ghost use Rattle.route_map.specs.Flat.{of_peer};
 
+use crate::filling::{FIRST_FILLED, fill};
 use crate::ipv4_subnet::Ipv4Subnet;
 use crate::peer_iter::PeerIter;
 use crate::prefix_iter::PrefixIter;
@@ -20,6 +21,9 @@ pub struct PeerRoutes<V> {
     // an IPv4 prefix takes 8 bytes, and an IPv6 prefix 24
     v4: BTreeMap<Ipv4Subnet, V>,
     v6: BTreeMap<Prefix, V>,
+    // how many there are when the leaves are filled next
+    fill_v4_at: usize,
+    fill_v6_at: usize,
 }
 
 impl<V> Model for PeerRoutes<V> {
@@ -42,6 +46,8 @@ impl<V> PeerRoutes<V> {
         PeerRoutes {
             v4: BTreeMap::new(alloc),
             v6: BTreeMap::new(alloc),
+            fill_v4_at: FIRST_FILLED,
+            fill_v6_at: FIRST_FILLED,
         }
     }
 
@@ -98,5 +104,15 @@ impl<V: Drop> PeerRoutes<V> {
             Some(subnet) => self.v4.remove(&subnet),
             None => self.v6.remove(prefix),
         }
+    }
+}
+
+impl<V: Copy> PeerRoutes<V> {
+    // Fills the leaves of a tree that has doubled since the last time. The routes stay.
+    pub(crate) fn fill(&mut self, alloc: Global)
+        ensures { self.new ≡ self.old }
+    {
+        fill(&mut self.v4, &mut self.fill_v4_at, alloc);
+        fill(&mut self.v6, &mut self.fill_v6_at, alloc);
     }
 }

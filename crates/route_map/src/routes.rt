@@ -129,7 +129,7 @@ impl<V> RouteMap<V> {
     }
 }
 
-impl<V: Drop> RouteMap<V> {
+impl<V: Copy> RouteMap<V> {
     /// Gives a route a value, and answers the one that it had. Where there was no memory, nothing changed.
     pub fn insert(&mut self, key: Key, value: V) -> Result<Option<V>, NoMemory>
         ensures before { IfOk result (λ before. before ≡ lookup (is_at (key_cmp key)) self.old) }
@@ -158,7 +158,7 @@ impl<V: Drop> RouteMap<V> {
 }
 
 // Gives a route a value among those of its peer, and answers the one that it had.
-fn put<V: Drop>(
+fn put<V: Copy>(
     peers: &mut BTreeMap<Peer, PeerRoutes<V>>,
     alloc: Global,
     key: Key,
@@ -169,7 +169,9 @@ fn put<V: Drop>(
     ensures same { OnErr result (peers.new.entries ≡ peers.old.entries) }
 {
     if let Some(routes) = peers.get_mut(&key.peer) {
-        return routes.insert(key.prefix, value);
+        let before = routes.insert(key.prefix, value)?;
+        routes.fill(alloc);
+        return Ok(before);
     }
     let mut routes = PeerRoutes::new(alloc);
     routes.insert(key.prefix, value)?;
