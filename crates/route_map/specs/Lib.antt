@@ -1,0 +1,4 @@
+pub mod Families
+pub mod Flat
+pub mod Held
+pub mod OfPeer
