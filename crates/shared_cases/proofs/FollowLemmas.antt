@@ -1,8 +1,9 @@
 -- What is judged anew, and that it is enough.
-use Rattle.std.proofs.Common.{◌≡◌, ◌≢◌, ℕ, ◌≤◌, Bool, true, false, ◌||◌, List, [], length, refl, ap, sym, subst, ◌∙◌, ◌⊎◌, inl, inr, true≢false}
+use Rattle.std.proofs.Common.{◌≡◌, ◌≢◌, ℕ, ◌≤◌, Bool, true, false, List, length, refl, ap, sym, subst, ◌∙◌, ◌⊎◌, inl, inr}
 use Rattle.std.specs.declared.option.Option.{Option}
 use Rattle.std.specs.List.Sorted.{IsStrictlySortedBy}
 use Rattle.std.specs.Ordering.{nat_cmp}
+use Rattle.path_model.specs.declared.role.Role.{Role}
 use Rattle.path_model.specs.Authority.{Table}
 use Rattle.path_model.specs.Roles.{Relations, role_of}
 use Rattle.hop_index.specs.Index.{Entries}
@@ -13,7 +14,7 @@ use Rattle.shared_cases.specs.Cases.{Slots, at, AreDistinct}
 use Rattle.shared_cases.specs.Grounds.{Grounds, by_table, IsJudged}
 use Rattle.shared_cases.specs.Kept.{AreIndexed}
 use Rattle.shared_cases.specs.Numbers.{has}
-use Rattle.shared_cases.specs.Peers.{Members, is_member, HasMovedMember}
+use Rattle.shared_cases.specs.Peers.{Members, is_member, HasMovedMember, IsMovedMember}
 use Rattle.shared_cases.specs.Touched.{AreWithinTouched, IsRoleMove}
 use Rattle.shared_cases.specs.Touching.{is_touched_by}
 use Rattle.shared_cases.proofs.CaseLemmas.{Names, decide_eq, some_inj}
@@ -54,19 +55,19 @@ module _ (cases after : Slots) (names : Names) (index : Entries) (peers : Member
 
     pub roles_touch : (ticks : ℕ) → IsStrictlySortedBy nat_cmp touched → ticks ≤ length touched → AreWithinTouched (by_table table old) (by_table table new) cases ticks
     roles_touch ticks rising few = within_touched (by_table table old) (by_table table new) cases (distinct_from cases names index peers kept) touched ticks rising
-        (λ n there. let moved = only n there in other_role_touches table old new (at cases n) moved.0 (sym (kept.members moved.0 n) ∙ moved.1) moved.2) few
+        (λ n there. let moved = only n there in other_role_touches table old new (at cases n) moved.0 (sym (kept.members moved.0 n) ∙ moved.1.0) moved.1.1) few
 
 -- ---- the cases of one AS
-module _ (peers : Members) (asn : ℕ) (touched none : List ℕ) (old new : Relations) (empty : none ≡ []) (found : (n : ℕ) → has touched n ≡ (has none n || is_member peers asn n)) (move : IsRoleMove asn old new) where
-  is_found : (n : ℕ) → has touched n ≡ is_member peers asn n
-  is_found n = found n ∙ ap (λ (numbers : List ℕ). has numbers n || is_member peers asn n) empty
+module _ (peers : Members) (asn : ℕ) (touched : List ℕ) (before after : Role) (old new : Relations) (move : IsRoleMove asn before old new) (is_after : after ≡ role_of new asn) where
+  others_by : ((n : ℕ) → is_member peers asn n ≡ true → has touched n ≡ false → before ≡ after)
+      → (a n : ℕ) → is_member peers a n ≡ true → has touched n ≡ false → (a ≡ asn) ⊎ (a ≢ asn) → role_of old a ≡ role_of new a
+  others_by others a n there absent (inl e) = ap (role_of old) e ∙ move.here
+      ∙ others n (sym (ap (λ (k : ℕ). is_member peers k n) e) ∙ there) absent ∙ is_after ∙ ap (role_of new) (sym e)
+  others_by others a n there absent (inr other) = move.others a other
 
-  others_by : (a n : ℕ) → is_member peers a n ≡ true → has touched n ≡ false → (a ≡ asn) ⊎ (a ≢ asn) → role_of old a ≡ role_of new a
-  others_by a n there absent (inl e) = absurd (true≢false (sym there ∙ ap (λ (k : ℕ). is_member peers k n) e ∙ sym (is_found n) ∙ absent))
-  others_by a n there absent (inr other) = move.others a other
+  pub role_others : ((n : ℕ) → is_member peers asn n ≡ true → has touched n ≡ false → before ≡ after)
+      → (a n : ℕ) → is_member peers a n ≡ true → has touched n ≡ false → role_of old a ≡ role_of new a
+  role_others others a n there absent = others_by others a n there absent (decide_eq a asn)
 
-  pub role_others : (a n : ℕ) → is_member peers a n ≡ true → has touched n ≡ false → role_of old a ≡ role_of new a
-  role_others a n there absent = others_by a n there absent (decide_eq a asn)
-
-  pub role_only : (n : ℕ) → has touched n ≡ true → HasMovedMember peers old new n
-  role_only n there = (asn, sym (is_found n) ∙ there, move.here)
+  pub role_only : ((n : ℕ) → has touched n ≡ true → IsMovedMember peers asn before after n) → (n : ℕ) → has touched n ≡ true → HasMovedMember peers old new n
+  role_only only n there = let moved = only n there in (asn, (moved.0, λ same. moved.1 (sym move.here ∙ same ∙ sym is_after)))

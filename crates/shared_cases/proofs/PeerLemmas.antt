@@ -39,5 +39,5 @@ module _ (members : Members) (old new : Relations) (before after rest : List ℕ
       → (n : ℕ) → has after n ≡ true → HasMovedMember members old new n
   only_next so_far adds other n there = elim (or_cases (has before n) (is_member members x n) (sym (adds n) ∙ there)) [
     | inl was ↦ so_far n was
-    | inr member ↦ (x, member, other)
+    | inr member ↦ (x, (member, other))
   ]

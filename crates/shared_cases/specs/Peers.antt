@@ -5,6 +5,7 @@ use Rattle.std.specs.declared.option.Option.TheVariants.{Some, None}
 use Rattle.std.specs.BTreeMap.{is_at}
 use Rattle.std.specs.Map.{lookup}
 use Rattle.std.specs.Ordering.{nat_cmp}
+use Rattle.path_model.specs.declared.role.Role.{Role}
 use Rattle.path_model.specs.Roles.{Relations, role_of}
 use Rattle.shared_cases.specs.Numbers.{has}
 
@@ -42,7 +43,11 @@ RemovesMember before asn number after =
 abbrev pub HaveMembers : Members → Type 0
 HaveMembers members = (asn : ℕ) → found members asn ≢ Some []
 
+-- the number is one of the AS, whose role is another one
+abbrev pub IsMovedMember : Members → ℕ → Role → Role → ℕ → Type 0
+IsMovedMember members asn before after n = (is_member members asn n ≡ true) × (before ≢ after)
+
 -- the number is one of an AS whose role is another one
 abbrev pub HasMovedMember : Members → Relations → Relations → ℕ → Type 0
 HasMovedMember members before after n =
-    (asn : ℕ) × (is_member members asn n ≡ true) × (role_of before asn ≢ role_of after asn)
+    (asn : ℕ) × IsMovedMember members asn (role_of before asn) (role_of after asn) n

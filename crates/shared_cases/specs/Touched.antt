@@ -1,5 +1,6 @@
 -- Which cases another table or other roles touch.
 use Rattle.std.specs.Prelude.{◌≡◌, ◌≢◌, ◌≤◌, ⊤, ℕ, List, [], ◌∷◌, length, All, ◌⊎◌}
+use Rattle.path_model.specs.declared.role.Role.{Role}
 use Rattle.path_model.specs.Authority.{Table, authority_of}
 use Rattle.path_model.specs.Roles.{Relations, role_of}
 use Rattle.path_model.specs.Trail.{Path}
@@ -37,7 +38,7 @@ pub record AreWithinTouched (old new : Grounds) (cases : Slots) (ticks : ℕ) : 
   pub each : All (IsTouchedCase old new cases) pairs
   pub within : ticks ≤ length pairs
 
--- only the role of this AS is another one
-pub record IsRoleMove (asn : ℕ) (old new : Relations) : Type 0 where
-  pub here : role_of old asn ≢ role_of new asn
+-- this AS had this role, and the role of no other AS is another one
+pub record IsRoleMove (asn : ℕ) (before : Role) (old new : Relations) : Type 0 where
+  pub here : role_of old asn ≡ before
   pub others : (other : ℕ) → other ≢ asn → role_of old other ≡ role_of new other

@@ -15,9 +15,9 @@ use crate::SharedCases;
 use crate::case::StoredCase;
 use crate::numbers::Numbers;
 use crate::slots::judge_anew;
-use crate::touched::{touch_members, touched_by_moves, touched_by_roles};
+use crate::touched::{touched_by_moves, touched_by_role, touched_by_roles};
 use av_base::{NoMemory, Steps};
-use path_model::Roles;
+use path_model::{Role, Roles};
 use slab::Slab;
 use std::sync::ledger::Ledger;
 use vap_table::{Moves, Vaps};
@@ -46,25 +46,26 @@ impl SharedCases {
         Ok(cases)
     }
 
-    /// The role of one AS is another one from now on. It judges anew, once each, the cases of that AS, and takes the time of one look-up
-    /// and of these cases.
+    /// The role of one AS, which was `before`, is that of `roles` from now on. Where these differ it judges anew, once each, the cases of
+    /// that AS. It takes the time of one look-up and of these cases.
     pub fn follow_role<L: Ledger>(
         self,
         asn: u32,
+        before: Role,
         table: &Vaps,
         roles: &Roles,
         steps: &mut Steps<L>,
     ) -> Result<SharedCases, NoMemory>
         ensures same { IfOk result (λ cases. AreSameCases self cases) }
-        ensures judged { IfOk result (λ cases. (before : Relations) → IsRoleMove asn before roles.now
-            → (n : ℕ) → IsJudged (grounds table.now before) (at self n)
+        ensures judged { IfOk result (λ cases. (old : Relations)
+            → IsRoleMove asn before old roles.now
+            → (n : ℕ) → IsJudged (grounds table.now old) (at self n)
             → IsJudged (grounds table.now roles.now) (at cases n)) }
-        ensures ticks { (before : Relations) → IsRoleMove asn before roles.now
-            → AreWithinTouched (grounds table.now before) (grounds table.now roles.now) self
+        ensures ticks { (old : Relations) → IsRoleMove asn before old roles.now
+            → AreWithinTouched (grounds table.now old) (grounds table.now roles.now) self
             (steps.new - steps.old) }
     {
-        let mut touched = Numbers::new(self.alloc);
-        touch_members(&self.peers, asn, &mut touched)?;
+        let touched = touched_by_role(self.alloc, &self.peers, asn, before, roles.of(asn))?;
         let cases = self.rejudge(&touched, table, roles, steps)?;
         Ok(cases)
     }

@@ -4,7 +4,7 @@ ghost use Rattle.std.specs.Option.{option_copied};
 ghost use Rattle.path_model.specs.Authority.{said_by};
 ghost use Rattle.path_model.specs.Roles.{role_of};
 ghost use Rattle.shared_cases.specs.Numbers.{has};
-ghost use Rattle.shared_cases.specs.Peers.{is_member, HasMovedMember};
+ghost use Rattle.shared_cases.specs.Peers.{is_member, HasMovedMember, IsMovedMember};
 ghost use Rattle.shared_cases.specs.Touching.{differs, is_touched, is_touched_by, same_authority};
 
 use crate::numbers::Numbers;
@@ -53,8 +53,29 @@ pub(crate) fn touched_by_roles(
     Ok(touched)
 }
 
+// The cases of an AS, if its role is another one. It takes the time of a look-up, and of what is found.
+pub(crate) fn touched_by_role(
+    alloc: Global,
+    peers: &Peers,
+    asn: u32,
+    before: Role,
+    after: Role,
+) -> Result<Numbers, NoMemory>
+    ensures others { IfOk result (λ touched. (n : ℕ) → is_member peers.now asn n ≡ true
+        → has touched n ≡ false → before ≡ after) }
+    ensures only { IfOk result (λ touched. (n : ℕ) → has touched n ≡ true
+        → IsMovedMember peers.now asn before after n) }
+{
+    let mut touched = Numbers::new(alloc);
+    if is_same_role(before, after) {
+        return Ok(touched);
+    }
+    touch_members(peers, asn, &mut touched)?;
+    Ok(touched)
+}
+
 // The cases of an AS come to the others.
-pub(crate) fn touch_members(peers: &Peers, asn: u32, touched: &mut Numbers) -> Result<(), NoMemory>
+fn touch_members(peers: &Peers, asn: u32, touched: &mut Numbers) -> Result<(), NoMemory>
     ensures { OnOk result ((n : ℕ)
         → has touched.new n ≡ (has touched.old n || is_member peers.now asn n)) }
 {
