@@ -1,11 +1,11 @@
 pub mod ChangeLemmas
 pub mod ChangeLawLemmas
 pub mod CountLemmas
+pub mod CountedLemmas
 pub mod KeyLemmas
 pub mod MarkLemmas
+pub mod OfPeerLemmas
 pub mod PartLemmas
-pub mod PeerLemmas
 pub mod ReportLemmas
 pub mod RowLemmas
-pub mod ScanLemmas
 pub mod ShownLemmas

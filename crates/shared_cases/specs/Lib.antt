@@ -1,4 +1,5 @@
 pub mod Cases
+pub mod Codes
 pub mod Grounds
 pub mod Kept
 pub mod Names
