@@ -17,7 +17,7 @@ use std::marker::Model;
 
 // The value of each prefix that one peer has a route to.
 #[derive(Drop)]
-pub struct PeerRoutes<V> {
+pub(crate) struct PeerRoutes<V> {
     // an IPv4 prefix takes 8 bytes, and an IPv6 prefix 24
     v4: BTreeMap<Ipv4Subnet, V>,
     v6: BTreeMap<Prefix, V>,

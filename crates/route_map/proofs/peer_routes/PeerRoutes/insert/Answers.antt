@@ -1,8 +1,4 @@
-use Rattle.std.proofs.Common.{◌≡◌, List, ◌++◌, ap, sym, subst, ◌∙◌}
-use Rattle.std.specs.BTreeMap.{insert_entry, is_at}
-use Rattle.std.specs.Map.{lookup}
-use Rattle.path_model.specs.Prefix.{Subnet, subnet_cmp}
-use Rattle.route_map.specs.Families.{AreByFamily}
+use Rattle.std.proofs.Common.{sym, ◌∙◌}
 use Rattle.route_map.proofs.FamilyLemmas.{lookup_four, lookup_six, insert_four, insert_six, families_with_four, families_with_six}
 use Rattle.route_map.proofs.peer_routes.PeerRoutes.insert.Goals as goal
 

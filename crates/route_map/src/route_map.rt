@@ -1,4 +1,4 @@
-//! The values of all peers' routes.
+//! The values of all routes.
 ghost use Rattle.std.specs.Prelude.{◌≡◌, ◌↔◌, ◌<◌, ◌^◌, [], Some, length, nat_eq, IfSome, IfNone, IfOk, OnOk, OnErr, IsTrue, option_copied};
 ghost use Rattle.std.specs.BTreeMap.{insert_entry, is_at};
 ghost use Rattle.std.specs.List.{filter};
@@ -9,8 +9,8 @@ ghost use Rattle.path_model.specs.Routes.{is_of_peer};
 ghost use Rattle.route_map.specs.Flat.{flat};
 ghost use Rattle.route_map.specs.Held.{found, found_at, HaveRoutes, Puts, TakesOut};
 ghost use Rattle.route_map.specs.OfPeer.{HasNoRouteOf, IsRouteOf};
+ghost use Rattle.route_map.specs.Updates.{Gets, Loses};
 
-use crate::as_iter::AsIter;
 use crate::iter::Iter;
 use crate::peer_iter::PeerIter;
 use crate::peer_routes::PeerRoutes;
@@ -20,10 +20,11 @@ use std::alloc::Global;
 use std::collections::BTreeMap;
 use std::marker::Model;
 
-// How many routes there may be, so that their count is one of an `isize`.
+// How many routes there may be: their number is that of a `Vec`'s elements at most.
 const MOST_ROUTES: usize = 0x7fff_ffff_ffff_ffff;
 
-/// A value for each route.
+/// A value for each route. With a value of 4 bytes an IPv4 route takes 13 to 22 bytes where they come in the order of their prefixes, and
+/// about 17 in any other order; an IPv6 route 30 to 45. A peer takes some 150 bytes beside its routes, and none once its last one is gone.
 #[derive(Drop)]
 pub struct RouteMap<V> {
     alloc: Global,
@@ -36,8 +37,7 @@ pub struct RouteMap<V> {
 impl<V> Model for RouteMap<V> {
     ghost use Rattle.std.specs.Prelude.{List};
     ghost use Rattle.path_model.specs.declared.key.Key.{Key};
-    ghost use Rattle.path_model.specs.Routes.{is_of_peer};
-ghost use Rattle.route_map.specs.Flat.{flat};
+    ghost use Rattle.route_map.specs.Flat.{flat};
     ghost use Rattle.route_map.specs.Held.{AreHeld};
 
     ghost Value = { List (Key × V) };
@@ -65,7 +65,6 @@ impl<V> RouteMap<V> {
         ensures few { result < 2 ^ 63 }
         ensures in_order { IsStrictlySortedBy key_cmp (keys_of self.now) }
     {
-        let _peers = self.peers.len();
         self.len
     }
 
@@ -87,6 +86,18 @@ impl<V> RouteMap<V> {
         ensures in_order { IsStrictlySortedBy key_cmp (keys_of self.now) }
     {
         Iter {
+            asn: None,
+            first: None,
+            others: self.peers.iter(),
+        }
+    }
+
+    /// The routes of all peers of one AS, in key order. It costs a step for each peer of another AS, and then what these routes cost.
+    pub fn of_as(&self, asn: u32) -> Iter<'_, V>
+        ensures { result ≡ filter (λ e. nat_eq e.0.peer.asn asn) self.now }
+    {
+        Iter {
+            asn: Some(asn),
             first: None,
             others: self.peers.iter(),
         }
@@ -103,17 +114,6 @@ impl<V> RouteMap<V> {
                 routes: None,
             },
             Some(routes) => routes.iter_of(*peer),
-        }
-    }
-
-    /// The routes of all peers of one AS, in key order. It costs a step for each peer of another AS, and then what these routes cost.
-    pub fn of_as(&self, asn: u32) -> AsIter<'_, V>
-        ensures { result ≡ filter (λ e. nat_eq e.0.peer.asn asn) self.now }
-    {
-        AsIter {
-            asn,
-            first: None,
-            others: self.peers.iter(),
         }
     }
 
@@ -134,6 +134,7 @@ impl<V: Copy> RouteMap<V> {
     pub fn insert(&mut self, key: Key, value: V) -> Result<Option<V>, NoMemory>
         ensures before { IfOk result (λ before. before ≡ lookup (is_at (key_cmp key)) self.old) }
         ensures inserted { OnOk result (self.new ≡ insert_entry key_cmp self.old key value) }
+        ensures updates { OnOk result (Gets self.old key value self.new) }
         ensures same { OnErr result (self.new ≡ self.old) }
     {
         if self.len == MOST_ROUTES {
@@ -144,12 +145,15 @@ impl<V: Copy> RouteMap<V> {
         self.len += usize::from(before.is_none());
         Ok(before)
     }
+}
 
+impl<V: Drop> RouteMap<V> {
     /// Takes the value of a route out, where it has one, and answers it. It takes no memory, and what the last route of a peer took is
     /// given back.
     pub fn remove(&mut self, key: &Key) -> Option<V>
         ensures before { result ≡ lookup (is_at (key_cmp key.now)) self.old }
         ensures removed { self.new ≡ remove_entry (is_at (key_cmp key.now)) self.old }
+        ensures updates { Loses self.old key.now self.new }
     {
         let before = take(&mut self.peers, key);
         self.len -= usize::from(before.is_some());
@@ -194,10 +198,7 @@ fn take<V: Drop>(peers: &mut BTreeMap<Peer, PeerRoutes<V>>, key: &Key) -> Option
 }
 
 // Takes a route out from those of its peer, and answers what it had, and whether the peer stands there without routes now.
-fn take_out<V: Drop>(
-    peers: &mut BTreeMap<Peer, PeerRoutes<V>>,
-    key: &Key,
-) -> (Option<V>, bool)
+fn take_out<V: Drop>(peers: &mut BTreeMap<Peer, PeerRoutes<V>>, key: &Key) -> (Option<V>, bool)
     ensures before { result.0 ≡ found_at (found peers.old.entries key.now.peer) key.now.prefix }
     ensures taken { TakesOut peers.old.entries key.now peers.new.entries }
     ensures emptied { IsTrue result.1 ↔ (found peers.new.entries key.now.peer ≡ Some []) }
