@@ -85,8 +85,8 @@ impl<V> PeerRoutes<V> {
 impl<V: Drop> PeerRoutes<V> {
     // Gives a prefix a value, and answers the one that it had. Where there was no memory nothing changed.
     pub(crate) fn insert(&mut self, prefix: Prefix, value: V) -> Result<Option<V>, NoMemory>
-        ensures before { IfOk result (λ before. before ≡ lookup (is_at (subnet_cmp prefix)) self.old) }
-        ensures inserted { OnOk result (self.new ≡ insert_entry subnet_cmp self.old prefix value) }
+        ensures before { IfOk result (λ v. v ≡ lookup (is_at (subnet_cmp prefix)) self.old) }
+        ensures put { OnOk result (self.new ≡ insert_entry subnet_cmp self.old prefix value) }
         ensures same { OnErr result (self.new ≡ self.old) }
     {
         match Ipv4Subnet::of(&prefix) {

@@ -7,7 +7,7 @@ ghost use Rattle.std.specs.Map.{keys_of, lookup, remove_entry};
 ghost use Rattle.path_model.specs.Key.{key_cmp};
 ghost use Rattle.path_model.specs.Routes.{is_of_peer};
 ghost use Rattle.route_map.specs.Flat.{flat};
-ghost use Rattle.route_map.specs.Held.{found, found_at, HaveRoutes, Puts, TakesOut};
+ghost use Rattle.route_map.specs.Held.{found, value_at, without, HaveRoutes, Puts, TakesOut};
 ghost use Rattle.route_map.specs.OfPeer.{HasNoRouteOf, IsRouteOf};
 ghost use Rattle.route_map.specs.Updates.{Gets, Loses};
 
@@ -132,7 +132,7 @@ impl<V> RouteMap<V> {
 impl<V: Copy> RouteMap<V> {
     /// Gives a route a value, and answers the one that it had. Where there was no memory, nothing changed.
     pub fn insert(&mut self, key: Key, value: V) -> Result<Option<V>, NoMemory>
-        ensures before { IfOk result (λ before. before ≡ lookup (is_at (key_cmp key)) self.old) }
+        ensures before { IfOk result (λ v. v ≡ lookup (is_at (key_cmp key)) self.old) }
         ensures inserted { OnOk result (self.new ≡ insert_entry key_cmp self.old key value) }
         ensures updates { OnOk result (Gets self.old key value self.new) }
         ensures same { OnErr result (self.new ≡ self.old) }
@@ -168,7 +168,7 @@ fn put<V: Copy>(
     key: Key,
     value: V,
 ) -> Result<Option<V>, NoMemory>
-    ensures before { IfOk result (λ before. before ≡ found_at (found peers.old.entries key.peer) key.prefix) }
+    ensures before { IfOk result (λ v. v ≡ value_at peers.old.entries key) }
     ensures put { OnOk result (Puts peers.old.entries key value peers.new.entries) }
     ensures same { OnErr result (peers.new.entries ≡ peers.old.entries) }
 {
@@ -186,7 +186,7 @@ fn put<V: Copy>(
 // Takes a route out from those of its peer, which goes with its last route, and answers what the route had.
 fn take<V: Drop>(peers: &mut BTreeMap<Peer, PeerRoutes<V>>, key: &Key) -> Option<V>
     ensures before { result ≡ lookup (is_at (key_cmp key.now)) (flat peers.old.entries) }
-    ensures removed { flat peers.new.entries ≡ remove_entry (is_at (key_cmp key.now)) (flat peers.old.entries) }
+    ensures removed { flat peers.new.entries ≡ without key.now (flat peers.old.entries) }
     ensures kept { HaveRoutes peers.old.entries → HaveRoutes peers.new.entries }
 {
     let _peers = peers.len();
@@ -199,7 +199,7 @@ fn take<V: Drop>(peers: &mut BTreeMap<Peer, PeerRoutes<V>>, key: &Key) -> Option
 
 // Takes a route out from those of its peer, and answers what it had, and whether the peer stands there without routes now.
 fn take_out<V: Drop>(peers: &mut BTreeMap<Peer, PeerRoutes<V>>, key: &Key) -> (Option<V>, bool)
-    ensures before { result.0 ≡ found_at (found peers.old.entries key.now.peer) key.now.prefix }
+    ensures before { result.0 ≡ value_at peers.old.entries key.now }
     ensures taken { TakesOut peers.old.entries key.now peers.new.entries }
     ensures emptied { IsTrue result.1 ↔ (found peers.new.entries key.now.peer ≡ Some []) }
 {
