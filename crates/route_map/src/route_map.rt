@@ -8,7 +8,7 @@ ghost use Rattle.path_model.specs.Key.{key_cmp};
 ghost use Rattle.path_model.specs.Routes.{is_of_peer};
 ghost use Rattle.route_map.specs.Flat.{flat};
 ghost use Rattle.route_map.specs.Held.{found, value_at, without, HaveRoutes, Puts, TakesOut};
-ghost use Rattle.route_map.specs.OfPeer.{HasNoRouteOf, IsRouteOf};
+ghost use Rattle.route_map.specs.OfPeer.{HasNoRouteOf, IsRouteOf, first_key};
 ghost use Rattle.route_map.specs.Updates.{Gets, Loses};
 
 use crate::iter::Iter;
@@ -119,6 +119,7 @@ impl<V> RouteMap<V> {
 
     /// The first route of one peer; `None` exactly where it has none.
     pub fn first_of(&self, peer: &Peer) -> Option<Key>
+        ensures first { result ≡ first_key (filter (λ e. is_of_peer peer.now e.0) self.now) }
         ensures none { IfNone result (HasNoRouteOf self.now peer.now) }
         ensures some { IfSome result (IsRouteOf self.now peer.now) }
     {
