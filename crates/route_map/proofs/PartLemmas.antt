@@ -1,5 +1,5 @@
 -- The routes of one peer, and those of the peers of one AS.
-use Rattle.std.proofs.Common.{◌≡◌, ℕ, nat_eq, Bool, true, false, cond, List, [], ◌∷◌, ◌++◌, None, Some, refl, ap, sym, subst, ◌∙◌}
+use Rattle.std.proofs.Common.{◌≡◌, Bool, true, false, cond, List, [], ◌∷◌, ◌++◌, None, Some, refl, ap, sym, subst, ◌∙◌}
 use Rattle.std.specs.declared.cmp.Ordering.TheVariants.{Less}
 use Rattle.std.specs.BTreeMap.{is_at}
 use Rattle.std.specs.Cmp.{Equal-is, eq_by_cmp_equiv}
@@ -48,6 +48,11 @@ module _ {V : Type 0} where
     by_case false is rest = ap (λ (b : Bool). flat (cond b (p ∷ filter (λ q. test q.0) ps) (filter (λ q. test q.0) ps))) is
         ∙ rest
         ∙ ap (λ (es : List (Key × V)). es ++ filter (λ e. test e.0.peer) (flat ps)) (sym (kept_or_not test p.0 p.1 false is))
+
+  -- ---- all peers
+  pub flat_of_all : (ps : List (Peer × List (Subnet × V))) → flat (peers_of None ps) ≡ flat ps
+  flat_of_all [] = refl
+  flat_of_all (p ∷ ps) = ap (λ (es : List (Key × V)). of_peer p.0 p.1 ++ es) (flat_of_all ps)
 
   -- ---- one peer
   none_of : (peer : Peer) (ps : List (Peer × List (Subnet × V))) → AllByRecursion (λ x. peer_cmp peer x ≡ Less) (keys_of ps) → filter (λ p. is_at (peer_cmp peer) p.0) ps ≡ []

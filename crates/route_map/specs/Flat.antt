@@ -1,5 +1,5 @@
 -- The routes of all peers as one list.
-use Rattle.std.specs.Prelude.{ℕ, nat_eq, List, [], ◌∷◌, ◌++◌}
+use Rattle.std.specs.Prelude.{ℕ, nat_eq, Bool, true, List, [], ◌∷◌, ◌++◌}
 use Rattle.std.specs.declared.option.Option.{Option}
 use Rattle.std.specs.declared.option.Option.TheVariants.{Some, None}
 use Rattle.std.specs.List.{filter}
@@ -27,6 +27,11 @@ abbrev pub entries_or : {V : Type 0} → Option (List (Key × V)) → List (Key 
 entries_or None = []
 entries_or (Some es) = es
 
--- the peers of one AS
-abbrev pub peers_of : {V : Type 0} → ℕ → List (Peer × List (Subnet × V)) → List (Peer × List (Subnet × V))
-peers_of asn ps = filter (λ p. nat_eq p.0.asn asn) ps
+-- whether it is a peer of the AS, if there is one
+abbrev pub is_peer_of : Option ℕ → Peer → Bool
+is_peer_of None peer = true
+is_peer_of (Some asn) peer = nat_eq peer.asn asn
+
+-- the peers of the AS, or all
+abbrev pub peers_of : {V : Type 0} → Option ℕ → List (Peer × List (Subnet × V)) → List (Peer × List (Subnet × V))
+peers_of asn ps = filter (λ p. is_peer_of asn p.0) ps

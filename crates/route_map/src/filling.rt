@@ -32,7 +32,5 @@ fn filled<K: Ord + Copy, V: Copy>(
 ) -> Result<BTreeMap<K, V>, AllocError>
     ensures { IfOk result (IsFromIterResult K.cmp map.now.entries) }
 {
-    map.iter()
-        .map(|(key, value)| (*key, *value))
-        .collect(alloc)
+    map.iter().map(|(key, value)| (*key, *value)).collect(alloc)
 }

@@ -10,9 +10,9 @@ use path_model::{Addr, Prefix};
 use std::cmp::Ordering;
 use std::marker::Model;
 
-/// A prefix of IPv4. It takes 8 bytes, a third of what a [`Prefix`] takes. The order is that of prefixes.
+// A prefix of IPv4. It takes 8 bytes, a third of what a `Prefix` takes. The order is that of prefixes.
 #[derive(Clone, Copy, Debug)]
-pub struct Ipv4Subnet {
+pub(crate) struct Ipv4Subnet {
     bits: u32,
     len: u8,
 }

@@ -17,7 +17,7 @@ use std::marker::Model;
 
 // The value of each prefix that one peer has a route to.
 #[derive(Drop)]
-pub struct PeerRoutes<V> {
+pub(crate) struct PeerRoutes<V> {
     // an IPv4 prefix takes 8 bytes, and an IPv6 prefix 24
     v4: BTreeMap<Ipv4Subnet, V>,
     v6: BTreeMap<Prefix, V>,
@@ -85,8 +85,8 @@ impl<V> PeerRoutes<V> {
 impl<V: Drop> PeerRoutes<V> {
     // Gives a prefix a value, and answers the one that it had. Where there was no memory nothing changed.
     pub(crate) fn insert(&mut self, prefix: Prefix, value: V) -> Result<Option<V>, NoMemory>
-        ensures before { IfOk result (λ before. before ≡ lookup (is_at (subnet_cmp prefix)) self.old) }
-        ensures inserted { OnOk result (self.new ≡ insert_entry subnet_cmp self.old prefix value) }
+        ensures before { IfOk result (λ v. v ≡ lookup (is_at (subnet_cmp prefix)) self.old) }
+        ensures put { OnOk result (self.new ≡ insert_entry subnet_cmp self.old prefix value) }
         ensures same { OnErr result (self.new ≡ self.old) }
     {
         match Ipv4Subnet::of(&prefix) {

@@ -8,7 +8,7 @@ use std::marker::Model;
 
 // The prefixes that one peer has a route to, in order, each with its value.
 #[derive(Drop)]
-pub struct PrefixIter<'a, V> {
+pub(crate) struct PrefixIter<'a, V> {
     pub(crate) v4: btree_map::Iter<'a, Ipv4Subnet, V>,
     pub(crate) v6: btree_map::Iter<'a, Prefix, V>,
 }

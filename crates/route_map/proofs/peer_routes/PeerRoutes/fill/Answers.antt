@@ -1,4 +1,3 @@
-use Rattle.std.proofs.Common.{◌≡◌, ◌++◌, List, ap, sym, ◌∙◌}
 use Rattle.route_map.proofs.FamilyLemmas.{families_of, same_routes}
 use Rattle.route_map.proofs.peer_routes.PeerRoutes.fill.Goals as goal
 
@@ -9,5 +8,7 @@ invariant_of-self g c = families_of c.self.inside.v4.entries c.self.inside.v6.en
 
 pub returns : goal.returns
 returns g c =
-    rw (same_routes c.self.inside.v4 c.fill.new.map c.fill.ensures.was_ordered c.fill.ensures.ordered c.fill.ensures.same,
-    same_routes c.self.inside.v6 c.fill-2.new.map c.fill-2.ensures.was_ordered c.fill-2.ensures.ordered c.fill-2.ensures.same) c.self.view_is
+    rw (
+      same_routes c.self.inside.v4 c.fill.new.map c.fill.ensures.was_ordered c.fill.ensures.ordered c.fill.ensures.same,
+      same_routes c.self.inside.v6 c.fill-2.new.map c.fill-2.ensures.was_ordered c.fill-2.ensures.ordered c.fill-2.ensures.same,
+    ) c.self.view_is

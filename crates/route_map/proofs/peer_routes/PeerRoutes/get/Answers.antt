@@ -1,7 +1,4 @@
-use Rattle.std.proofs.Common.{◌≡◌, List, ap, sym, ◌∙◌}
-use Rattle.std.specs.BTreeMap.{is_at}
-use Rattle.std.specs.Map.{lookup}
-use Rattle.path_model.specs.Prefix.{subnet_cmp}
+use Rattle.std.proofs.Common.{sym, ◌∙◌}
 use Rattle.route_map.proofs.FamilyLemmas.{lookup_four, lookup_six}
 use Rattle.route_map.proofs.peer_routes.PeerRoutes.get.Goals as goal
 

@@ -1,8 +1,4 @@
-use Rattle.std.proofs.Common.{◌≡◌, List, ◌++◌, ap, sym, subst, ◌∙◌}
-use Rattle.std.specs.BTreeMap.{insert_entry, is_at}
-use Rattle.std.specs.Map.{lookup}
-use Rattle.path_model.specs.Prefix.{Subnet, subnet_cmp}
-use Rattle.route_map.specs.Families.{AreByFamily}
+use Rattle.std.proofs.Common.{sym, ◌∙◌}
 use Rattle.route_map.proofs.FamilyLemmas.{lookup_four, lookup_six, insert_four, insert_six, families_with_four, families_with_six}
 use Rattle.route_map.proofs.peer_routes.PeerRoutes.insert.Goals as goal
 
@@ -21,8 +17,8 @@ returns-in_ok-insert-in-Some-clause-before g c =
     rw (← c.self.view_is)
     (c.in_ok-insert-in-Some.ensures.old ∙ lookup_four c.self.inside.v4.entries c.self.inside.v6.entries c.self.invariant c.args.prefix c.in-Some.subnet (sym c.of.ensures ∙ c.in-Some.is))
 
-pub returns-in_ok-insert-in-Some-clause-inserted : goal.returns-in_ok-insert-in-Some-clause-inserted
-returns-in_ok-insert-in-Some-clause-inserted g c =
+pub returns-in_ok-insert-in-Some-clause-put : goal.returns-in_ok-insert-in-Some-clause-put
+returns-in_ok-insert-in-Some-clause-put g c =
     rw (c.in_ok-insert-in-Some.ensures.entries, ← c.self.view_is)
     (insert_four c.self.inside.v4.entries c.self.inside.v6.entries c.self.invariant c.args.prefix c.in-Some.subnet c.args.value (sym c.of.ensures ∙ c.in-Some.is))
 
@@ -31,7 +27,7 @@ returns-in_ok-insert-in-None-clause-before g c =
     rw (← c.self.view_is)
     (c.in_ok-insert-in-None.ensures.old ∙ lookup_six c.self.inside.v4.entries c.self.inside.v6.entries c.self.invariant c.args.prefix (sym c.of.ensures ∙ c.in-None.is))
 
-pub returns-in_ok-insert-in-None-clause-inserted : goal.returns-in_ok-insert-in-None-clause-inserted
-returns-in_ok-insert-in-None-clause-inserted g c =
+pub returns-in_ok-insert-in-None-clause-put : goal.returns-in_ok-insert-in-None-clause-put
+returns-in_ok-insert-in-None-clause-put g c =
     rw (c.in_ok-insert-in-None.ensures.entries, ← c.self.view_is)
     (insert_six c.self.inside.v4.entries c.self.inside.v6.entries c.self.invariant c.args.prefix c.args.value (sym c.of.ensures ∙ c.in-None.is))

@@ -1,4 +1,4 @@
-use Rattle.std.proofs.Common.{◌≡◌, ap, sym, ◌∙◌}
+use Rattle.std.proofs.Common.{sym, ◌∙◌}
 use Rattle.route_map.proofs.FamilyLemmas.{lookup_four, lookup_six, remove_four, remove_six, families_without}
 use Rattle.route_map.proofs.peer_routes.PeerRoutes.remove.Goals as goal
 
