@@ -7,7 +7,7 @@ use Rattle.std.specs.Cmp.{eq_by_cmp_equiv}
 use Rattle.std.specs.FinMap as fin
 use Rattle.std.specs.List.Sorted.{IsStrictlySortedBy}
 use Rattle.std.specs.Map.{lookup, keys_of}
-use Rattle.std.specs.Option.{option_map}
+use Rattle.std.specs.Option.{is_some, option_map}
 use Rattle.std.specs.Ordering.{eq_by_cmp}
 use Rattle.std.proofs.lemmas.Map.Made.{keys_of-map_values}
 use Rattle.path_model.specs.declared.key.Key.{Key}
@@ -72,3 +72,7 @@ module _ {A : Type 0} (part : Option StoredCase → A) where
           → option_map (λ j. part (at new j)) (cond b None o) ≡ cond b None (option_map (λ j. part (at old j)) o)
       one_less true o others = refl
       one_less false o others = kept_part old new o (others refl)
+
+pub is_some_map : {X Y : Type 0} (f : X → Y) (o : Option X) → is_some (option_map f o) ≡ is_some o
+is_some_map f None = refl
+is_some_map f (Some v) = refl

@@ -31,7 +31,7 @@ impl<'a> Merged<'a> {
         mut notes: Iter<'a, Option<Verdict>>,
         mut routes: Iter<'a, u32>,
     ) -> Merged<'a>
-        ensures { merged_left result ≡ merge notes routes }
+        ensures { merged_left result ≡ merge notes.entry routes.entry }
     {
         let note = next_note(&mut notes);
         let route = next_route(&mut routes);

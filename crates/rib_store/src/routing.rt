@@ -126,7 +126,10 @@ impl RibStore {
         ensures none { IfNone result (HasNoRouteOf self.now.state.routes peer.now) }
         ensures some { IfSome result (IsRouteOf self.now.state.routes peer.now) }
     {
-        self.routes.first_of(peer)
+        match self.routes.first_of(peer) {
+            None => None,
+            Some(key) => Some(key),
+        }
     }
 }
 
