@@ -1,5 +1,5 @@
 -- Routes through their cases: what one route more or less is there.
-use Rattle.std.proofs.Common.{◌≡◌, ◌≢◌, ℕ, ◌<◌, Bool, true, false, cond, List, [], ◌∷◌, None, Some, refl, ap, sym, subst, ◌∙◌, true≢false}
+use Rattle.std.proofs.Common.{◌≡◌, ◌≢◌, ℕ, ◌<◌, Bool, true, false, cond, List, [], ◌∷◌, length, None, Some, arith, refl, ap, sym, subst, ◌∙◌}
 use Rattle.std.specs.Prelude.{map}
 use Rattle.std.specs.declared.option.Option.{Option}
 use Rattle.std.specs.BTreeMap.{is_at}
@@ -76,3 +76,7 @@ module _ {A : Type 0} (part : Option StoredCase → A) where
 pub is_some_map : {X Y : Type 0} (f : X → Y) (o : Option X) → is_some (option_map f o) ≡ is_some o
 is_some_map f None = refl
 is_some_map f (Some v) = refl
+
+pub through_length : {A : Type 0} (part : Option StoredCase → A) (cases : Slots) (routes : Numbered) → length (through part cases routes) ≡ length routes
+through_length part cases [] = refl
+through_length part cases (e ∷ es) = omega (arith, through_length part cases es)

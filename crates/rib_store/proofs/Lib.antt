@@ -3,6 +3,7 @@ pub mod ChangeLawLemmas
 pub mod ChangeLemmas
 pub mod CountLemmas
 pub mod CountedLemmas
+pub mod EventLemmas
 pub mod KeyLemmas
 pub mod MarkLemmas
 pub mod NotedLemmas
