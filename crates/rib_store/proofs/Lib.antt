@@ -6,11 +6,13 @@ pub mod CountedLemmas
 pub mod EventLemmas
 pub mod KeyLemmas
 pub mod MarkLemmas
+pub mod MergeLemmas
 pub mod NotedLemmas
 pub mod OfPeerLemmas
 pub mod PartLemmas
 pub mod ReportLemmas
 pub mod RouteLemmas
+pub mod RowChangeLemmas
 pub mod RowLemmas
 pub mod ShownLemmas
 pub mod StoredLemmas
