@@ -1,6 +1,5 @@
 -- Routes through their cases: what one route more or less is there.
-use Rattle.std.proofs.Common.{◌≡◌, ◌≢◌, ℕ, ◌<◌, Bool, true, false, cond, List, [], ◌∷◌, length, None, Some, arith, refl, ap, sym, subst, ◌∙◌}
-use Rattle.std.specs.Prelude.{map}
+use Rattle.std.proofs.Common.{◌≡◌, ℕ, Bool, true, false, cond, [], ◌∷◌, length, None, Some, arith, refl, ap, sym, subst, ◌∙◌}
 use Rattle.std.specs.declared.option.Option.{Option}
 use Rattle.std.specs.BTreeMap.{is_at}
 use Rattle.std.specs.Cmp.{eq_by_cmp_equiv}
@@ -54,10 +53,10 @@ module _ {A : Type 0} (part : Option StoredCase → A) where
         ∙ one_more (is_at (key_cmp k) q) (lookup (is_at (key_cmp q)) before) (λ off j was. kept q j (updates q ∙ ap (λ (b : Bool). cond b (Some n) (lookup (is_at (key_cmp q)) before)) off ∙ was) was)
         ∙ ap (λ (b : Bool). cond b (Some value) (option_map (λ j. part (at old j)) (lookup (is_at (key_cmp q)) before))) ((eq_by_cmp_equiv key_total).symm k q)
         ∙ sym (fin.get-insert key_total (fin.from_entries (through part old before)) k value q ∙ ap (cond (eq_by_cmp key_cmp q k) (Some value)) (get_through old before q))) where
-      one_more : (b : Bool) (o : Option ℕ) → (b ≡ false → (j : ℕ) → o ≡ Some j → part (at new j) ≡ part (at old j))
-          → option_map (λ j. part (at new j)) (cond b (Some n) o) ≡ cond b (Some value) (option_map (λ j. part (at old j)) o)
-      one_more true o others = ap Some here
-      one_more false o others = kept_part old new o (others refl)
+          one_more : (b : Bool) (o : Option ℕ) → (b ≡ false → (j : ℕ) → o ≡ Some j → part (at new j) ≡ part (at old j))
+              → option_map (λ j. part (at new j)) (cond b (Some n) o) ≡ cond b (Some value) (option_map (λ j. part (at old j)) o)
+          one_more true o others = ap Some here
+          one_more false o others = kept_part old new o (others refl)
 
     -- one key less
     pub through_removed : ((q : Key) → lookup (is_at (key_cmp q)) after ≡ cond (is_at (key_cmp k) q) None (lookup (is_at (key_cmp q)) before))
@@ -68,10 +67,10 @@ module _ {A : Type 0} (part : Option StoredCase → A) where
         ∙ one_less (is_at (key_cmp k) q) (lookup (is_at (key_cmp q)) before) (λ off j was. kept q j (updates q ∙ ap (λ (b : Bool). cond b None (lookup (is_at (key_cmp q)) before)) off ∙ was) was)
         ∙ ap (λ (b : Bool). cond b None (option_map (λ j. part (at old j)) (lookup (is_at (key_cmp q)) before))) ((eq_by_cmp_equiv key_total).symm k q)
         ∙ sym (fin.get-remove key_total (fin.from_entries (through part old before)) k q ∙ ap (cond (eq_by_cmp key_cmp q k) None) (get_through old before q))) where
-      one_less : (b : Bool) (o : Option ℕ) → (b ≡ false → (j : ℕ) → o ≡ Some j → part (at new j) ≡ part (at old j))
-          → option_map (λ j. part (at new j)) (cond b None o) ≡ cond b None (option_map (λ j. part (at old j)) o)
-      one_less true o others = refl
-      one_less false o others = kept_part old new o (others refl)
+          one_less : (b : Bool) (o : Option ℕ) → (b ≡ false → (j : ℕ) → o ≡ Some j → part (at new j) ≡ part (at old j))
+              → option_map (λ j. part (at new j)) (cond b None o) ≡ cond b None (option_map (λ j. part (at old j)) o)
+          one_less true o others = refl
+          one_less false o others = kept_part old new o (others refl)
 
 pub is_some_map : {X Y : Type 0} (f : X → Y) (o : Option X) → is_some (option_map f o) ≡ is_some o
 is_some_map f None = refl

@@ -1,5 +1,5 @@
 -- How the cases count their keys.
-use Rattle.std.proofs.Common.{◌≡◌, ◌≢◌, ℕ, nat_eq, ◌+◌, ◌-◌, ◌<◌, Bool, true, false, cond, List, [], ◌∷◌, None, Some, refl, ap, sym, subst, ◌∙◌, arith, ◌⊎◌, inl, inr}
+use Rattle.std.proofs.Common.{◌≡◌, ◌≢◌, ℕ, ◌+◌, ◌<◌, Bool, true, false, cond, None, Some, refl, ap, sym, subst, ◌∙◌, arith, ◌⊎◌, inl, inr}
 use Rattle.std.specs.Prelude.{nat_lt}
 use Rattle.std.specs.declared.option.Option.{Option}
 use Rattle.std.specs.BTreeMap.{is_at, insert_entry}
@@ -15,9 +15,9 @@ use Rattle.path_model.specs.Order.{key_total}
 use Rattle.path_model.specs.Trail.{Path}
 use Rattle.ramps.specs.Judgement.{Judgement}
 use Rattle.shared_cases.specs.declared.case.StoredCase.{StoredCase}
-use Rattle.shared_cases.specs.Cases.{Slots, at, Rewrites, IsStoredAs, IsAbsent}
+use Rattle.shared_cases.specs.Cases.{Slots, at, Rewrites, IsStoredAs}
 use Rattle.shared_cases.specs.Grounds.{Grounds, IsRightJudgement}
-use Rattle.shared_cases.specs.Taking.{raised, is_shared, lowered, left, new_case, Joins, Adds, Takes}
+use Rattle.shared_cases.specs.Taking.{raised, lowered, left, new_case, Takes}
 use Rattle.shared_cases.proofs.CaseLemmas.{decide_eq, nat_eq-other}
 use Rattle.rib_store.specs.Cased.{Numbered, one, users_of, IsCounted}
 use Rattle.rib_store.specs.Steps.{Leaves}
@@ -109,6 +109,6 @@ pub counted_left : (old new : Slots) (o : Option ℕ) (users : ℕ → ℕ) → 
 counted_left old new o users leaves counted = left_each old new o (λ j c. IsCounted c (users j)) leaves
     (λ n is. left_counted (at old n) (users n) (subst (λ (k : ℕ). IsCounted (at old n) (users n + k)) (ap (ones n) is ∙ one-same n) (counted n)))
     (λ j other. subst (λ (k : ℕ). IsCounted (at old j) k) (omega (arith, none_of o j other)) (counted j)) where
-  none_of : (o : Option ℕ) (j : ℕ) → o ≢ Some j → ones j o ≡ 0
-  none_of None j other = refl
-  none_of (Some n) j other = one-other j n (λ e. other (ap Some e))
+      none_of : (o : Option ℕ) (j : ℕ) → o ≢ Some j → ones j o ≡ 0
+      none_of None j other = refl
+      none_of (Some n) j other = one-other j n (λ e. other (ap Some e))

@@ -1,21 +1,18 @@
 -- What another table or other roles make of the state, and how many judgements they cost.
 use Rattle.std.proofs.Common.{◌≡◌, ℕ, Bool, refl, sym, ◌∙◌}
-use Rattle.std.specs.FinMap as fin
 use Rattle.std.specs.List.Sorted.{IsStrictlySortedBy}
 use Rattle.std.specs.Map.{keys_of}
 use Rattle.path_model.specs.CurrentTable.{Parts}
 use Rattle.path_model.specs.Key.{key_cmp}
 use Rattle.path_model.specs.Roles.{Relations}
-use Rattle.path_model.specs.Routes.{Routes}
 use Rattle.vap_table.specs.declared.change.TableChange.{TableChange}
 use Rattle.vap_table.specs.Change.{Alters}
 use Rattle.vap_table.proofs.ChangeLemmas.{one_outcome}
 use Rattle.shared_cases.specs.Cases.{Slots, AreSameCases}
 use Rattle.shared_cases.specs.Grounds.{grounds}
 use Rattle.shared_cases.specs.Touched.{AreWithinTouched}
-use Rattle.rib_store.specs.Cased.{Numbered, routes_by, marked_by, AreStored}
+use Rattle.rib_store.specs.Cased.{Numbered, AreStored}
 use Rattle.rib_store.specs.Merge.{Noted}
-use Rattle.rib_store.specs.State.{State, Marked}
 use Rattle.rib_store.specs.Touched.{IsWithinTouched}
 use Rattle.rib_store.proofs.NotedLemmas.{marked_rejudged}
 use Rattle.rib_store.proofs.RouteLemmas.{state_by, same_state, routes_rejudged}

@@ -1,12 +1,7 @@
 -- What marking makes of a state.
-use Rattle.std.proofs.Common.{◌≡◌, Bool, true, false, cond, List, [], ◌∷◌, None, Some, refl, ap, sym, subst, ◌∙◌}
+use Rattle.std.proofs.Common.{◌≡◌, Bool, true, false, cond, List, [], ◌∷◌, None, Some, refl, ap, sym, ◌∙◌}
 use Rattle.std.specs.declared.option.Option.{Option}
 use Rattle.std.specs.FinMap as fin
-use Rattle.std.specs.List.{cons_option}
-use Rattle.std.specs.List.Sorted.{IsStrictlySortedBy}
-use Rattle.std.specs.Map.{keys_of}
-use Rattle.std.specs.Map.Calls.{RetainsPairs}
-use Rattle.std.specs.Option.{option_map}
 use Rattle.std.specs.Ordering.{eq_by_cmp}
 use Rattle.path_model.specs.declared.key.Key.{Key}
 use Rattle.path_model.specs.declared.verdict.Verdict.{Verdict}
@@ -19,12 +14,10 @@ use Rattle.path_model.specs.Trail.{Path}
 use Rattle.path_model.proofs.OrderLemmas.{key_exact}
 use Rattle.rib_store.specs.Changes.{StandsAs, IsMarked}
 use Rattle.rib_store.specs.ChangesLeft.{present_verdict}
-use Rattle.rib_store.specs.Held.{Held, RoutesAndMarks, paths_in, marks_in}
 use Rattle.rib_store.specs.Laws.{HasOneMarking}
 use Rattle.rib_store.specs.Rows.{current_verdict, current_verdicts, rows_of}
 use Rattle.rib_store.specs.State.{State, Marked}
-use Rattle.rib_store.proofs.KeyLemmas.{same_key, entries_whole}
-use Rattle.rib_store.proofs.PartLemmas.{parts_sorted}
+use Rattle.rib_store.proofs.KeyLemmas.{same_key}
 use Rattle.rib_store.proofs.ReportLemmas.{one_current}
 use Rattle.rib_store.proofs.RowLemmas.{current_by}
 

@@ -132,7 +132,7 @@ module _ (q : Key) (e : Key × Option Verdict) (es : Noted) (under : Below e.0 (
 
     by : at_key q (merge_one e (merge es) fs) ≡ joined (cond (is_at (key_cmp q) e.0) (Some e.1) (at_key q es)) (at_key q fs) → (o : Ordering) → key_cmp e.0 f.0 ≡ o
         → at_key q (by_order o (noted_row e ∷ merge es (f ∷ fs)) (both_row e f ∷ merge es fs) (route_row f ∷ merge_one e (merge es) fs))
-          ≡ joined (cond (is_at (key_cmp q) e.0) (Some e.1) (at_key q es)) (cond (is_at (key_cmp q) f.0) (Some f.1) (at_key q fs))
+        ≡ joined (cond (is_at (key_cmp q) e.0) (Some e.1) (at_key q es)) (cond (is_at (key_cmp q) f.0) (Some f.1) (at_key q fs))
     by later Less t = here (f ∷ fs) (t, below_less e.0 f.0 (keys_of fs) t asc.0) asc (is_at (key_cmp q) e.0) refl
     by later Equal t = at_both t (is_at (key_cmp q) e.0) refl (is_at (key_cmp q) f.0) refl
     by later Greater t = at_route later t (is_at (key_cmp q) f.0) refl

@@ -1,5 +1,5 @@
 -- The marked verdicts, key by key.
-use Rattle.std.proofs.Common.{◌≡◌, ℕ, ◌<◌, Bool, true, false, cond, List, [], ◌∷◌, None, Some, refl, ap, sym, ◌∙◌, true≢false}
+use Rattle.std.proofs.Common.{◌≡◌, ℕ, Bool, true, false, cond, [], ◌∷◌, None, Some, refl, ap, sym, ◌∙◌, true≢false}
 use Rattle.std.specs.declared.option.Option.{Option}
 use Rattle.std.specs.BTreeMap.{is_at}
 use Rattle.std.specs.FinMap as fin
@@ -32,9 +32,9 @@ get_overridden : (marked : Marked) (notes : Noted) (q : Key) → fin.get (overri
 get_overridden marked [] q = refl
 get_overridden marked (e ∷ es) q = get_overridden_at e.0 e.1 (overridden marked es) q ∙ ap (cond (eq_by_cmp key_cmp q e.0) e.1) (get_overridden marked es q)
     ∙ by (is_at (key_cmp q) e.0) where
-  by : (b : Bool) → cond b e.1 (noted_or (lookup (is_at (key_cmp q)) es) (fin.get marked q)) ≡ noted_or (cond b (Some e.1) (lookup (is_at (key_cmp q)) es)) (fin.get marked q)
-  by true = refl
-  by false = refl
+      by : (b : Bool) → cond b e.1 (noted_or (lookup (is_at (key_cmp q)) es) (fin.get marked q)) ≡ noted_or (cond b (Some e.1) (lookup (is_at (key_cmp q)) es)) (fin.get marked q)
+      by true = refl
+      by false = refl
 
 -- what is marked of a key
 pub get_marked : (cases : Slots) (routes : Numbered) (notes : Noted) (q : Key) → fin.get (marked_by true cases routes notes) q ≡ noted_or (lookup (is_at (key_cmp q)) notes) (mark_at cases routes q)
@@ -70,7 +70,7 @@ marked_route true old new before after notes notes' k o updates noted kept = sam
       let same : lookup (is_at (key_cmp q)) after ≡ lookup (is_at (key_cmp q)) before = updates q ∙ ap (λ (b : Bool). cond b o (lookup (is_at (key_cmp q)) before)) t in
       ap (λ (n : Option (Option Verdict)). noted_or n (mark_at new after q)) (noted q ∙ ap (λ (b : Bool). or_noted (lookup (is_at (key_cmp q)) notes) b (mark_at old before k)) t)
       ∙ off_noted (lookup (is_at (key_cmp q)) notes) (mark_at new after q) (mark_at old before k) (mark_at old before q)
-          (ap (option_map (λ j. marked_or (at new j))) same ∙ kept_part marked_or old new (lookup (is_at (key_cmp q)) before) (λ j here. kept q j (same ∙ here) here))
+      (ap (option_map (λ j. marked_or (at new j))) same ∙ kept_part marked_or old new (lookup (is_at (key_cmp q)) before) (λ j here. kept q j (same ∙ here) here))
 
 -- other judgements leave the marks
 same_mark : (c d : Option StoredCase) → IsSameCase c d → marked_or d ≡ marked_or c

@@ -1,5 +1,5 @@
 -- What removing one of a peer's routes leaves for the others.
-use Rattle.std.proofs.Common.{◌≡◌, ℕ, Bool, true, false, cond, not, zero, suc, ◌<◌, ◌-◌, List, length, None, Some, arith, refl, ap, sym, subst, ◌∙◌, true≢false}
+use Rattle.std.proofs.Common.{◌≡◌, ℕ, Bool, true, false, cond, not, zero, suc, ◌<◌, ◌-◌, None, arith, refl, ap, sym, subst, ◌∙◌, true≢false}
 use Rattle.std.specs.declared.option.Option.{Option}
 use Rattle.std.specs.declared.cmp.Ordering.TheVariants.{Equal}
 use Rattle.std.specs.FinMap as fin

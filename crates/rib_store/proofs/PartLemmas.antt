@@ -4,20 +4,17 @@ use Rattle.std.specs.Prelude.{map}
 use Rattle.std.specs.declared.option.Option.{Option}
 use Rattle.std.specs.declared.cmp.Ordering.{Ordering}
 use Rattle.std.specs.BTreeMap.{is_at}
-use Rattle.std.specs.Cmp.{eq_by_cmp_equiv}
-use Rattle.std.specs.FinMap.{get, insert, remove, from_entries, get-insert, get-remove, same_map}
+use Rattle.std.specs.FinMap.{get, from_entries}
 use Rattle.std.specs.List.{filter_map, cons_option}
 use Rattle.std.specs.List.Sorted.{IsStrictlySortedBy}
 use Rattle.std.specs.Map.{lookup, keys_of}
 use Rattle.std.specs.Option.{option_map, unwrap_or}
-use Rattle.std.specs.Ordering.{is_eq, eq_by_cmp}
+use Rattle.std.specs.Ordering.{is_eq}
 use Rattle.std.proofs.lemmas.Map.Keys.{sorted_head, sorted_tail}
 use Rattle.path_model.specs.declared.key.Key.{Key}
-use Rattle.path_model.specs.declared.verdict.Verdict.{Verdict}
 use Rattle.path_model.specs.Key.{key_cmp}
 use Rattle.path_model.specs.Order.{key_total}
 use Rattle.path_model.proofs.MapLemmas.{get_entries}
-use Rattle.path_model.proofs.OrderLemmas.{key_exact}
 use Rattle.rib_store.specs.Held.{Held, at, parts}
 use Rattle.rib_store.proofs.KeyLemmas.{same_key, Below}
 

@@ -1,11 +1,10 @@
 -- What a change of one route makes of the state.
-use Rattle.std.proofs.Common.{◌≡◌, ℕ, ◌<◌, Bool, cond, List, None, Some, refl, ap, sym, ◌∙◌}
+use Rattle.std.proofs.Common.{◌≡◌, ℕ, Bool, cond, List, None, Some, refl, ap, sym, ◌∙◌}
 use Rattle.std.specs.declared.option.Option.{Option}
 use Rattle.std.specs.BTreeMap.{is_at, insert_entry}
 use Rattle.std.specs.FinMap as fin
 use Rattle.std.specs.List.Sorted.{IsStrictlySortedBy}
 use Rattle.std.specs.Map.{lookup, keys_of, remove_entry}
-use Rattle.std.specs.Option.{option_map}
 use Rattle.path_model.specs.declared.key.Key.{Key}
 use Rattle.path_model.specs.CurrentTable.{Parts}
 use Rattle.path_model.specs.Key.{key_cmp}
@@ -61,7 +60,6 @@ module _ (g : Grounds) (parts : Parts) (relations : Relations) (is_marked : Bool
     pending : ArePending g after mid (lookup (is_at (key_cmp k)) before)
     pending = inserted g before after old mid k n path stored takes sorted is updates
 
-
     kept : {A : Type 0} (part : Option StoredCase → A) → ((c : Option StoredCase) → part (raised c) ≡ part c) → ((c : Option StoredCase) → part (lowered c) ≡ part c)
         → (q : Key) (j : ℕ) → lookup (is_at (key_cmp q)) after ≡ Some j → lookup (is_at (key_cmp q)) before ≡ Some j → part (at new j) ≡ part (at old j)
     kept part up down q j here was = settled_part part down g after mid new (lookup (is_at (key_cmp k)) before) pending leaves j (users_positive after q j here)
@@ -69,7 +67,7 @@ module _ (g : Grounds) (parts : Parts) (relations : Relations) (is_marked : Bool
 
     came : path_or (at new n) ≡ path
     came = settled_part path_or lowered_path g after mid new (lookup (is_at (key_cmp k)) before) pending leaves n (users_positive after k n
-          (updates k ∙ ap (λ (b : Bool). cond b (Some n) (lookup (is_at (key_cmp k)) before)) (key_itself k)))
+        (updates k ∙ ap (λ (b : Bool). cond b (Some n) (lookup (is_at (key_cmp k)) before)) (key_itself k)))
         ∙ taken_path g before after old mid k n path stored takes
 
     pub announced_state : state_by parts relations is_marked new after notes' ≡ record (state_by parts relations is_marked old before notes) { routes = fin.insert (routes_by old before) k path }

@@ -18,7 +18,6 @@ use Rattle.path_model.specs.CurrentTable.{Parts}
 use Rattle.path_model.specs.Key.{key_cmp}
 use Rattle.path_model.specs.Order.{key_total}
 use Rattle.path_model.specs.Roles.{Relations}
-use Rattle.path_model.specs.Routes.{Routes}
 use Rattle.path_model.proofs.OrderLemmas.{key_exact}
 use Rattle.shared_cases.specs.Cases.{Slots, at, verdict_or, marked_or}
 use Rattle.shared_cases.specs.Grounds.{grounds}
@@ -30,13 +29,11 @@ use Rattle.rib_store.specs.ChangesLeft.{change_of, change_at, change_between, ch
 use Rattle.rib_store.specs.Held.{Held, RoutesAndMarks, held_in, paths_in, marks_in}
 use Rattle.rib_store.specs.Held as held
 use Rattle.rib_store.specs.Merge.{Noted, merge, merge_one, noted_row, route_row, both_row, noted_or, marked_of, held_of}
-use Rattle.rib_store.specs.Rows.{current_verdict}
-use Rattle.rib_store.specs.State.{Marked}
 use Rattle.rib_store.proofs.CasedLemmas.{get_through}
 use Rattle.rib_store.proofs.ChangeLemmas.{changes_held}
 use Rattle.rib_store.proofs.KeyLemmas.{AllFound, all_found, find_lookup, sorted_entries}
 use Rattle.rib_store.proofs.MergeLemmas.{joined, merge_sorted, found_merge}
-use Rattle.rib_store.proofs.NotedLemmas.{get_marked, mark_at}
+use Rattle.rib_store.proofs.NotedLemmas.{get_marked}
 use Rattle.rib_store.proofs.PartLemmas.{part_of, get_part, fewer}
 use Rattle.rib_store.proofs.RouteLemmas.{state_by}
 use Rattle.rib_store.proofs.VerdictLemmas.{verdict_is}
@@ -125,7 +122,7 @@ module _ (parts : Parts) (relations : Relations) (is_marked : Bool) (routes : Nu
   pub stored_changes : AreChanges (state_by parts relations is_marked cases routes notes) (filter_map (change_of is_marked cases) rows)
   stored_changes = subst (λ (changes : List ChangedKey). AreChanges (state_by parts relations is_marked cases routes notes) changes) (sym same_changes)
       (changes_held parts relations all (record { routes = routes_by cases routes; marked = marked_by is_marked cases routes notes }) all_sorted
-        (λ i. record { routes = same_routes i; marked = same_marks is_marked refl i }))
+      (λ i. record { routes = same_routes i; marked = same_marks is_marked refl i }))
 
 -- ---- there are no more than notes and routes
 routes_length : (fs : Numbered) → length (map route_row fs) ≡ length fs

@@ -1,9 +1,7 @@
 -- The rows that are made of a state's routes.
-use Rattle.std.proofs.Common.{◌≡◌, ◌≤◌, ℕ, List, [], ◌∷◌, length, Some, arith, refl, ap, sym, subst, ◌∙◌}
+use Rattle.std.proofs.Common.{◌≡◌, ℕ, List, [], ◌∷◌, Some, refl, ap, ◌∙◌}
 use Rattle.std.specs.Prelude.{map, All}
 use Rattle.std.specs.FinMap as fin
-use Rattle.std.specs.List.Sorted.{IsStrictlySortedBy}
-use Rattle.std.specs.Map.{keys_of}
 use Rattle.std.proofs.lemmas.List.Elements.{All-nil, All-cons}
 use Rattle.path_model.specs.declared.key.Key.{Key}
 use Rattle.path_model.specs.declared.role.Role.{Role}
@@ -11,18 +9,14 @@ use Rattle.path_model.specs.declared.verdict.Verdict.{Verdict}
 use Rattle.path_model.specs.Authority.{Table}
 use Rattle.path_model.specs.ComputedTable.{table_of}
 use Rattle.path_model.specs.CurrentTable.{Parts}
-use Rattle.path_model.specs.Key.{key_cmp}
 use Rattle.path_model.specs.RightVerdict.{IsRight}
 use Rattle.path_model.specs.Roles.{Relations, role_of}
-use Rattle.path_model.specs.Routes.{Routes}
 use Rattle.path_model.specs.Trail.{Path}
 use Rattle.path_model.proofs.LawLemmas.{one_right}
 use Rattle.path_model.proofs.PartsLemmas.{table_is_current}
-use Rattle.rib_store.specs.Held.{Held, paths_in}
 use Rattle.rib_store.specs.Rows.{verdict_of, current_verdict, rows_of}
 use Rattle.rib_store.specs.State.{State, IsCurrent, AreRows}
-use Rattle.rib_store.proofs.KeyLemmas.{AllFound, all_found, entries_whole}
-use Rattle.rib_store.proofs.PartLemmas.{parts_sorted, fewer_parts}
+use Rattle.rib_store.proofs.KeyLemmas.{AllFound, all_found}
 
 -- ---- the verdict that the law gives
 

@@ -1,5 +1,5 @@
 -- The cases stay those of the routes through each change.
-use Rattle.std.proofs.Common.{◌≡◌, ◌≢◌, ℕ, ◌+◌, ◌<◌, Bool, true, false, cond, List, None, Some, refl, ap, sym, subst, ◌∙◌, arith, ◌⊎◌, inl, inr}
+use Rattle.std.proofs.Common.{◌≡◌, ℕ, ◌+◌, ◌<◌, Bool, true, false, cond, None, Some, refl, ap, sym, subst, ◌∙◌, arith}
 use Rattle.std.specs.declared.option.Option.{Option}
 use Rattle.std.specs.BTreeMap.{is_at, insert_entry}
 use Rattle.std.specs.List.Sorted.{IsStrictlySortedBy}
@@ -11,8 +11,8 @@ use Rattle.path_model.specs.Trail.{Path}
 use Rattle.shared_cases.specs.declared.case.StoredCase.{StoredCase}
 use Rattle.shared_cases.specs.Cases.{Slots, at, IsStoredAs, IsSameCase, AreSameCases, marked_now}
 use Rattle.shared_cases.specs.Grounds.{Grounds, IsJudged}
-use Rattle.shared_cases.specs.Taking.{raised, lowered, left, is_shared, new_case, Takes}
-use Rattle.rib_store.specs.Cased.{Numbered, path_or, one, users_of, IsCounted, IsOfAs, AreStored}
+use Rattle.shared_cases.specs.Taking.{raised, lowered, left, is_shared, Takes}
+use Rattle.rib_store.specs.Cased.{Numbered, path_or, users_of, IsCounted, IsOfAs, AreStored}
 use Rattle.rib_store.specs.Steps.{Leaves}
 use Rattle.rib_store.proofs.CountedLemmas.{one-same, ones, users_inserted, users_removed, users_positive, taken_each, counted_taken, left_each, left_used, counted_left}
 use Rattle.rib_store.proofs.KeyLemmas.{same_key}
@@ -59,8 +59,8 @@ pub settled_part : {A : Type 0} (part : Option StoredCase → A) → ((c : Optio
 settled_part part same g routes old new before pending leaves j used = left_each old new before (λ i c. 0 < users_of routes i → part c ≡ part (at old i)) leaves
     (λ n is more. ap part (left_used (at old n) (users_of routes n) (subst (λ (k : ℕ). IsCounted (at old n) (users_of routes n + k)) (one_of n is) (pending.counted n)) more) ∙ same (at old n))
     (λ i other more. refl) j used where
-  one_of : (n : ℕ) → before ≡ Some n → ones n before ≡ 1
-  one_of n is = ap (ones n) is ∙ one-same n
+      one_of : (n : ℕ) → before ≡ Some n → ones n before ≡ 1
+      one_of n is = ap (ones n) is ∙ one-same n
 
 -- ---- a route goes
 
@@ -130,9 +130,9 @@ module _ (g : Grounds) (before after : Numbered) (old new : Slots) (k : Key) (n 
   pub taken_path : path_or (at new n) ≡ path
   taken_path = taken_each g k.peer.asn path old new n (λ i c. i ≡ n → path_or c ≡ path) takes
       (λ here e. raised_path (at old n) here) (λ judgement vacant right e. refl) (λ i other e. absurd (other e)) n refl where
-    raised_path : (c : Option StoredCase) → IsStoredAs c k.peer.asn path → path_or (raised c) ≡ path
-    raised_path None here = absurd here
-    raised_path (Some c) here = here.1
+        raised_path : (c : Option StoredCase) → IsStoredAs c k.peer.asn path → path_or (raised c) ≡ path
+        raised_path None here = absurd here
+        raised_path (Some c) here = here.1
 
 -- ---- other judgements, and marks
 

@@ -1,6 +1,5 @@
 -- The verdicts of the cases are the current ones of the routes.
-use Rattle.std.proofs.Common.{◌≡◌, ℕ, ◌<◌, Bool, true, false, cond, List, [], ◌∷◌, length, None, Some, refl, ap, sym, subst, ◌∙◌, arith}
-use Rattle.std.specs.Prelude.{map}
+use Rattle.std.proofs.Common.{◌≡◌, ℕ, ◌<◌, true, List, [], ◌∷◌, None, Some, refl, ap, sym, subst, ◌∙◌, arith}
 use Rattle.std.specs.declared.option.Option.{Option}
 use Rattle.std.specs.BTreeMap.{is_at}
 use Rattle.std.specs.FinMap as fin
@@ -75,8 +74,8 @@ module _ (parts : Parts) (relations : Relations) (routes : Numbered) (cases : Sl
     marked_state new old_marked marked =
         let state : State = record { parts = parts; roles = relations; routes = routes_by cases routes; marked = old_marked } in
         let same : routes_by new routes ≡ routes_by cases routes = ap (λ (es : List (Key × Path)). fin.from_entries {R = key_cmp} es)
-            (same_through path_or cases new routes (λ n. ap path_or (marked n) ∙ path_is (at cases n))) in
+        (same_through path_or cases new routes (λ n. ap path_or (marked n) ∙ path_is (at cases n))) in
         let marks : marked_by true new routes [] ≡ current_verdicts parts relations (routes_by cases routes) = ap (λ (es : List (Key × Verdict)). fin.from_entries {R = key_cmp} es)
-            (marks_through new marked routes ∙ rows_are ∙ ap (rows_of parts relations) (sym whole)) in
+        (marks_through new marked routes ∙ rows_are ∙ ap (rows_of parts relations) (sym whole)) in
         subst (λ (m : Routes). IsMarked state (record { parts = parts; roles = relations; routes = m; marked = marked_by true new routes [] })) (sym same)
         (marking.marked_by state (marked_by true new routes []) marks)

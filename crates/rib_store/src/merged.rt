@@ -27,10 +27,7 @@ pub(crate) struct Merged<'a> {
 
 impl<'a> Merged<'a> {
     // All keys of these notes and routes.
-    pub(crate) fn new(
-        mut notes: Iter<'a, Option<Verdict>>,
-        mut routes: Iter<'a, u32>,
-    ) -> Merged<'a>
+    pub(crate) fn new(mut notes: Iter<'a, Option<Verdict>>, mut routes: Iter<'a, u32>) -> Merged<'a>
         ensures { merged_left result ≡ merge notes.entry routes.entry }
     {
         let note = next_note(&mut notes);

@@ -112,7 +112,8 @@ impl RibStore {
     // The peer has no route from now on. It costs what the peer's routes cost.
     fn withdraw_peer(self, peer: &Peer) -> Result<RibStore, NoMemory>
         ensures { IfOk result (λ s. s.state ≡ record self.state {
-            routes = fin.retain_keys self.state.routes (λ key. not (is_of_peer peer.now key)) }) }
+          routes = fin.retain_keys self.state.routes (λ key. not (is_of_peer peer.now key));
+        }) }
     {
         let mut store = self;
         while let Some(key) = store.first_of(peer) {

@@ -118,7 +118,7 @@ impl RibStore {
         ensures state { IfOk result (λ s. IsAltered self.state change s.state) }
         ensures ticks { (parts : Parts) → Alters self.state.parts change parts
             → IsWithinTouched self.state (record self.state { parts = parts })
-              (steps.new - steps.old) }
+            (steps.new - steps.old) }
     {
         let RibStore {
             alloc,

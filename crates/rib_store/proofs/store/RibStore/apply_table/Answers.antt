@@ -1,4 +1,4 @@
-use Rattle.std.proofs.Common.{◌≡◌, ◌-◌, ap, sym, subst, ◌∙◌}
+use Rattle.std.proofs.Common.{◌≡◌, ◌-◌, ap, subst, ◌∙◌}
 use Rattle.path_model.specs.ComputedTable.{table_of}
 use Rattle.path_model.specs.CurrentTable.{Parts}
 use Rattle.vap_table.specs.Change.{Alters}
@@ -25,15 +25,15 @@ returns-clause-state g c = (
 pub returns-clause-ticks : goal.returns-clause-ticks
 returns-clause-ticks g c =
     subst (λ (s : Stored). (parts : Parts) → Alters s.state.parts c.args.change parts → IsWithinTouched s.state (record s.state { parts = parts }) (c.follow_table.new.steps - c.args.steps.now)) c.self.view_is (λ parts alters.
-      let same : c.in_ok-table.table ≡ parts = same_outcome c.self.inside.table c.in_ok-table.table parts c.args.change c.in_ok-table.ensures.parts alters in
-      few_judged c.self.inside.table parts c.self.inside.roles c.self.inside.roles c.self.inside.is_marked c.self.inside.routes c.self.inside.notes c.self.inside.cases _ c.self.invariant c.len-length.ensures.in_order
-      (subst (λ (p : Parts). AreWithinTouched (grounds c.self.inside.table c.self.inside.roles) (grounds p c.self.inside.roles) c.self.inside.cases (c.follow_table.new.steps - c.args.steps.now)) same
-        (c.follow_table.ensures.ticks (table_of c.self.inside.table) c.in_ok-table.ensures.moves)))
+    let same : c.in_ok-table.table ≡ parts = same_outcome c.self.inside.table c.in_ok-table.table parts c.args.change c.in_ok-table.ensures.parts alters in
+    few_judged c.self.inside.table parts c.self.inside.roles c.self.inside.roles c.self.inside.is_marked c.self.inside.routes c.self.inside.notes c.self.inside.cases _ c.self.invariant c.len-length.ensures.in_order
+    (subst (λ (p : Parts). AreWithinTouched (grounds c.self.inside.table c.self.inside.roles) (grounds p c.self.inside.roles) c.self.inside.cases (c.follow_table.new.steps - c.args.steps.now)) same
+    (c.follow_table.ensures.ticks (table_of c.self.inside.table) c.in_ok-table.ensures.moves)))
 
 pub returns-in_err-cases-clause-ticks : goal.returns-in_err-cases-clause-ticks
 returns-in_err-cases-clause-ticks g c =
     subst (λ (s : Stored). (parts : Parts) → Alters s.state.parts c.args.change parts → IsWithinTouched s.state (record s.state { parts = parts }) (c.follow_table.new.steps - c.args.steps.now)) c.self.view_is (λ parts alters.
-      let same : c.in_ok-table.table ≡ parts = same_outcome c.self.inside.table c.in_ok-table.table parts c.args.change c.in_ok-table.ensures.parts alters in
-      few_judged c.self.inside.table parts c.self.inside.roles c.self.inside.roles c.self.inside.is_marked c.self.inside.routes c.self.inside.notes c.self.inside.cases _ c.self.invariant c.len-length.ensures.in_order
-      (subst (λ (p : Parts). AreWithinTouched (grounds c.self.inside.table c.self.inside.roles) (grounds p c.self.inside.roles) c.self.inside.cases (c.follow_table.new.steps - c.args.steps.now)) same
-        (c.follow_table.ensures.ticks (table_of c.self.inside.table) c.in_ok-table.ensures.moves)))
+    let same : c.in_ok-table.table ≡ parts = same_outcome c.self.inside.table c.in_ok-table.table parts c.args.change c.in_ok-table.ensures.parts alters in
+    few_judged c.self.inside.table parts c.self.inside.roles c.self.inside.roles c.self.inside.is_marked c.self.inside.routes c.self.inside.notes c.self.inside.cases _ c.self.invariant c.len-length.ensures.in_order
+    (subst (λ (p : Parts). AreWithinTouched (grounds c.self.inside.table c.self.inside.roles) (grounds p c.self.inside.roles) c.self.inside.cases (c.follow_table.new.steps - c.args.steps.now)) same
+    (c.follow_table.ensures.ticks (table_of c.self.inside.table) c.in_ok-table.ensures.moves)))

@@ -16,9 +16,15 @@ returns-clause-changes c =
     c.new.ensures ∙ ap (λ (notes : Noted). merge notes c.iter-2.result) c.iter.ensures.whole ∙ ap (merge c.self.inside.notes) c.iter-2.ensures.whole in
     subst (λ (s : Stored). AreChanges s.state (filter_map (change_of c.self.inside.is_marked c.self.inside.cases) (merged_left c.new.result))) c.self.view_is
     (subst (λ (rows : List (Key × Row)). AreChanges (state_by c.self.inside.table c.self.inside.roles c.self.inside.is_marked c.self.inside.cases c.self.inside.routes c.self.inside.notes)
-        (filter_map (change_of c.self.inside.is_marked c.self.inside.cases) rows)) (sym merged)
-      (stored_changes c.self.inside.table c.self.inside.roles c.self.inside.is_marked c.self.inside.routes c.self.inside.cases c.self.inside.notes c.self.invariant c.iter.ensures.in_order c.iter-2.ensures.in_order))
+    (filter_map (change_of c.self.inside.is_marked c.self.inside.cases) rows)) (sym merged)
+    (stored_changes c.self.inside.table c.self.inside.roles c.self.inside.is_marked c.self.inside.routes c.self.inside.cases c.self.inside.notes c.self.invariant c.iter.ensures.in_order c.iter-2.ensures.in_order))
 
 pub returns-clause-few : goal.returns-clause-few
-returns-clause-few c = omega (arith, changes_fewer_than c.self.inside.is_marked c.self.inside.cases (merged_left c.new.result), ap (λ (rows : List (Key × Row)). length rows) c.new.ensures,
-    merge_length c.iter.result c.iter-2.result, c.iter.ensures.few, c.iter-2.ensures.few)
+returns-clause-few c = omega (
+  arith,
+  changes_fewer_than c.self.inside.is_marked c.self.inside.cases (merged_left c.new.result),
+  ap (λ (rows : List (Key × Row)). length rows) c.new.ensures,
+  merge_length c.iter.result c.iter-2.result,
+  c.iter.ensures.few,
+  c.iter-2.ensures.few,
+)

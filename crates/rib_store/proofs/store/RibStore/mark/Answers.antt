@@ -1,4 +1,4 @@
-use Rattle.std.proofs.Common.{◌≡◌, List, [], sym, subst}
+use Rattle.std.proofs.Common.{sym, subst}
 use Rattle.rib_store.specs.Cased.{marked_by}
 use Rattle.rib_store.specs.Changes.{IsMarked}
 use Rattle.rib_store.specs.Merge.{Noted}
@@ -17,6 +17,6 @@ pub returns : goal.returns
 returns c =
     subst (λ (s : Stored). IsMarked s.state (state_by c.self.inside.table c.self.inside.roles true c.mark-cases.result c.self.inside.routes c.new.result)) c.self.view_is
     (subst (λ (notes : Noted). IsMarked (state_by c.self.inside.table c.self.inside.roles c.self.inside.is_marked c.self.inside.cases c.self.inside.routes c.self.inside.notes)
-        (state_by c.self.inside.table c.self.inside.roles true c.mark-cases.result c.self.inside.routes notes)) (sym c.new.ensures)
-      (marked_state c.self.inside.table c.self.inside.roles c.self.inside.routes c.self.inside.cases c.self.invariant c.len-length.ensures.in_order c.mark-cases.result
-        (marked_by c.self.inside.is_marked c.self.inside.cases c.self.inside.routes c.self.inside.notes) c.mark-cases.ensures))
+    (state_by c.self.inside.table c.self.inside.roles true c.mark-cases.result c.self.inside.routes notes)) (sym c.new.ensures)
+    (marked_state c.self.inside.table c.self.inside.roles c.self.inside.routes c.self.inside.cases c.self.invariant c.len-length.ensures.in_order c.mark-cases.result
+    (marked_by c.self.inside.is_marked c.self.inside.cases c.self.inside.routes c.self.inside.notes) c.mark-cases.ensures))

@@ -1,6 +1,4 @@
-use Rattle.std.proofs.Common.{◌≡◌, List, arith, ap, sym, subst, ◌∙◌}
-use Rattle.path_model.specs.declared.key.Key.{Key}
-use Rattle.path_model.specs.declared.verdict.Verdict.{Verdict}
+use Rattle.std.proofs.Common.{arith, sym, subst}
 use Rattle.shared_cases.specs.Cases.{verdict_or}
 use Rattle.rib_store.specs.Cased.{Numbered, marked_by, through}
 use Rattle.rib_store.specs.State.{AreRows}
@@ -14,9 +12,9 @@ pub returns-clause-rows : goal.returns-clause-rows
 returns-clause-rows c =
     subst (λ (s : Stored). AreRows s.state (through verdict_or c.self.inside.cases c.iter.result)) c.self.view_is
     (subst (λ (routes : Numbered). AreRows (state_by c.self.inside.table c.self.inside.roles c.self.inside.is_marked c.self.inside.cases c.self.inside.routes c.self.inside.notes) (through verdict_or c.self.inside.cases routes))
-      (sym c.iter.ensures.whole)
-      (stored_rows c.self.inside.table c.self.inside.roles c.self.inside.routes c.self.inside.cases c.self.invariant c.iter.ensures.in_order
-        (marked_by c.self.inside.is_marked c.self.inside.cases c.self.inside.routes c.self.inside.notes)))
+    (sym c.iter.ensures.whole)
+    (stored_rows c.self.inside.table c.self.inside.roles c.self.inside.routes c.self.inside.cases c.self.invariant c.iter.ensures.in_order
+    (marked_by c.self.inside.is_marked c.self.inside.cases c.self.inside.routes c.self.inside.notes)))
 
 pub returns-clause-few : goal.returns-clause-few
 returns-clause-few c = omega (arith, through_length verdict_or c.self.inside.cases c.iter.result, c.iter.ensures.few)
