@@ -8,15 +8,7 @@ use Rattle.av_text.specs.Spellings.{IsInLine}
 use Rattle.av_text.proofs.LackLemmas.{decimal-lacks, from-lacks}
 use Rattle.report_text.specs.Refusals.{AnyPlace, of_line, of_unit, file_words, pdu_words, record_words, line_words, word_in, word_of, place_text, refusal_line}
 use Rattle.report_text.specs.Laws.{IsPlaceInLine, IsRefusalLine}
-
--- no byte below a space, by test
-abbrev is_clean : List ℕ → Bool
-is_clean text = list_all (λ byte. nat_le 32 byte) text
-
-clean : (text : List ℕ) → is_clean text ≡ true → IsInLine text
-clean text passes =
-    from-lacks 32 10 text (omega arith)
-    (All-weaker (λ byte. nat_le 32 byte ≡ true) (λ byte. 32 ≤ byte) (λ byte h. leb-true 32 byte h) text (AllPass-from_list_all (λ byte. nat_le 32 byte) text passes))
+use Rattle.report_text.proofs.InLineLemmas.{is_clean, clean, both, number}
 
 either-clean : (b : Bool) (one other : List ℕ) → is_clean one ≡ true → is_clean other ≡ true → is_clean (cond b one other) ≡ true
 either-clean true one other a c = a
@@ -34,12 +26,6 @@ unfolding word_of
 word_of-in_line cause =
     let words : List (ℕ × List ℕ) = file_words ++ pdu_words ++ record_words ++ line_words in
     clean (word_of cause) (word_in-clean words cause (AllPass-from_list_all (λ (e : ℕ × List ℕ). is_clean e.1) words refl))
-
-both : (one other : List ℕ) → IsInLine one → IsInLine other → IsInLine (one ++ other)
-both one other a b = All-append (λ byte. byte ≢ 10) one other a b
-
-number : (n : ℕ) → IsInLine (decimal n)
-number n = decimal-lacks 10 n (omega arith)
 
 place-in_line : (place : AnyPlace) → IsPlaceInLine place → IsInLine (place_text place)
 place-in_line of_line in_line = All-nil (λ byte. byte ≢ 10)

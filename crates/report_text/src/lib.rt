@@ -4,8 +4,8 @@
 //! [`put_refusal`] reports a refusal, [`put_row`] a route's verdict, [`put_change`] a route whose verdict changed, [`put_changed`] how
 //! many changed, [`put_why`] why a path has its verdict, and [`put_summary`] how many there are of each. `refusal_text` of
 //! `specs/Refusals.antt` and the `.._text` of `Rows`, `Change`, `Why` and `Summary` are those lines: begin there, with the table of
-//! causes and their words. Whatever is refused, the line is one line that begins with `! ` (`laws`), so who reads the program's output
-//! finds each refusal by its first two bytes.
+//! causes and their words. Whatever is refused, the line is one line that begins with `! `, and no answer begins so (`laws`): who reads
+//! the program's output finds each refusal, and nothing else, by its first two bytes.
 #![tactic(auto)]
 
 mod cause;
@@ -19,7 +19,7 @@ mod summary;
 mod why;
 
 pub use change::{put_change, put_changed};
-pub use laws::each_refusal_is_one_line;
+pub use laws::{each_refusal_is_one_line, no_answer_reads_as_a_refusal};
 pub use place::Place;
 pub use refusal::put_refusal;
 pub use row::put_row;
