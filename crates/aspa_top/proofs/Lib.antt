@@ -7,8 +7,9 @@ pub mod NamedLemmas
 pub mod OutcomeLemmas
 pub mod PerformingLemmas
 pub mod ProgramLemmas
-pub mod RowTextLemmas
 pub mod RunLemmas
+pub mod ShortLemmas
 pub mod StandsLemmas
 pub mod TableLemmas
+pub mod TaskLemmas
 pub mod TextLemmas

@@ -10,7 +10,7 @@ use Rattle.av_base.specs.Files.{Files}
 use Rattle.av_base.proofs.ToldLemmas.{AppendsFront-start}
 use Rattle.av_text.specs.Lines.{lines_in}
 use Rattle.aspa_top.specs.Lines.{performed}
-use Rattle.aspa_top.specs.Evaluation.{start}
+use Rattle.aspa_top.specs.Tasks.{start}
 use Rattle.aspa_top.specs.Program.{WentThrough, Ended, StopsAtFile, WritesPart, IsWhole, Ran, RanIfTold}
 use Rattle.aspa_top.specs.World.{Tells, World, world_of}
 use Rattle.aspa_top.proofs.EvaluationLemmas.{begins_none}

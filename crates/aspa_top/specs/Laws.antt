@@ -1,7 +1,8 @@
 -- Laws of the definitions, each the contract of a public function of the module `laws`.
 use Rattle.std.specs.Prelude.{◌≡◌, ℕ, List}
 use Rattle.std.specs.declared.option.Option.{Option}
-use Rattle.aspa_top.specs.Evaluation.{State, start, Evaluates}
+use Rattle.aspa_top.specs.Tasks.{State, start}
+use Rattle.aspa_top.specs.Evaluation.{Evaluates}
 use Rattle.aspa_top.specs.Program.{WentThrough, WritesFront}
 use Rattle.aspa_top.specs.World.{World}
 

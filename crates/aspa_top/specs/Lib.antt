@@ -5,4 +5,5 @@ pub mod Loading
 pub mod LoadingSteps
 pub mod Performing
 pub mod Program
+pub mod Tasks
 pub mod World

@@ -12,7 +12,8 @@ use Rattle.aspa_top.specs.Lines.{performed}
 use Rattle.script_lines.specs.Grammar.{IsReading}
 use Rattle.aspa_top.specs.World.{World, world_of}
 use Rattle.stream_lines.specs.Counts.{refusals_in}
-use Rattle.aspa_top.specs.Evaluation.{State, start, Evaluates, Begins, UsesFile, counted}
+use Rattle.aspa_top.specs.Tasks.{State, start}
+use Rattle.aspa_top.specs.Evaluation.{Evaluates, Begins, UsesFile, counted}
 
 -- the one form of words that the program is called with
 abbrev pub IsRun : List (List ℕ) → Type 0

@@ -7,5 +7,6 @@ pub mod Next
 pub mod Rows
 pub mod Stops
 pub mod Streams
+pub mod Summary
 pub mod Taking
 pub mod TakingSteps

@@ -17,10 +17,12 @@ mod dump;
 mod laws;
 mod rows;
 mod stop;
+mod summary;
 mod taking;
 
 pub use dump::OpenDump;
-pub use laws::{refused_units_are_counted, units_have_one_outcome};
+pub use laws::{each_state_has_one_summary, refused_units_are_counted, units_have_one_outcome};
 pub use rows::put_rows;
 pub use stop::{ReadFault, Stop};
+pub use summary::summary_of;
 pub use taking::{Asked, Progress, take_units};
