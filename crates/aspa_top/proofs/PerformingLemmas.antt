@@ -1,5 +1,5 @@
 -- One line performed.
-use Rattle.std.proofs.Common.{◌≡◌, ℕ, ◌+◌, ◌≤◌, List, [], ◌++◌, Ok, Err, refl, sym, ap, subst, ◌∙◌, append-nil, arith}
+use Rattle.std.proofs.Common.{◌≡◌, ℕ, ◌+◌, ◌≤◌, List, [], ◌++◌, Ok, Err, IfOk, refl, sym, ap, subst, ◌∙◌, append-nil, arith}
 use Rattle.std.specs.declared.option.Option.{Option}
 use Rattle.std.specs.declared.result.Result.{Result}
 use Rattle.std.specs.Io.KnownBytes.{append_known}
@@ -17,7 +17,9 @@ use Rattle.script_lines.proofs.LawLemmas.{some_reading}
 use Rattle.script_lines.proofs.SourceNameLemmas.{reading_named}
 use Rattle.stream_lines.specs.Rows.{Reports as ReportsRows, ReportsFront, rows_text}
 use Rattle.stream_lines.proofs.FrameLemmas.{Leaves-refl}
+use Rattle.aspa_top.specs.declared.loading.FileKind.{FileKind}
 use Rattle.aspa_top.specs.declared.task.Task.{Task}
+use Rattle.aspa_top.specs.declared.task.Task.TheVariants.{Load}
 use Rattle.aspa_top.specs.declared.working.Working.{Working}
 use Rattle.aspa_top.specs.Tasks.{State, DoesTask, TaskUsesFile}
 use Rattle.aspa_top.specs.Evaluation.{Does, line_cause, task_of}
@@ -75,6 +77,20 @@ module _ (working next : Working) (command other : Command) (same : task_of comm
 
   pub uses_as : (files : Option Files) → Uses working (Ok other) files → Uses working (Ok command) files
   uses_as files uses = λ state stands. subst (λ (task : Task). TaskUsesFile state task) (sym same) (uses state stands)
+
+-- the same where it may fail, and doesn't tick
+pub ok_goes_as : {E : Type 0} (working : Working) (command other : Command) → task_of command ≡ task_of other → (result : Result Working E) (files_old files_new : Option Files)
+    (all_old all_new : Option (List ℕ)) (ticks_old ticks_new : ℕ) → ticks_new ≡ ticks_old
+    → IfOk result (λ next. (ticks : ℕ) → Goes working (Ok other) files_old files_new all_old all_new ticks ticks next)
+    → IfOk result (Goes working (Ok command) files_old files_new all_old all_new ticks_old ticks_new)
+ok_goes_as working command other same (Ok next) files_old files_new all_old all_new ticks_old ticks_new still goes =
+    subst (λ (n : ℕ). Goes working (Ok command) files_old files_new all_old all_new ticks_old n next) (sym still)
+    (goes_as working next command other same files_old files_new all_old all_new ticks_old ticks_old (goes ticks_old))
+ok_goes_as working command other same (Err e) files_old files_new all_old all_new ticks_old ticks_new still goes = tt
+
+-- to load a file is to use one
+pub uses_load : (working : Working) (command : Command) (kind : FileKind) (file : List ℕ) → task_of command ≡ Load kind file → (files : Option Files) → Uses working (Ok command) files
+uses_load working command kind file same files = λ state stands. subst (λ (task : Task). TaskUsesFile state task) (sym same) tt
 
 -- a task within its bounds
 pub within_as : (command : Command) (task : Task) → task_of command ≡ task → IsWithinBounds command → IsWithinTask task

@@ -75,13 +75,13 @@ module _ (working : Working) where
   -- all was counted
   pub summed : (held : Analysis) (summary : Summary) (text_old text_new : List ℕ) (ticks : ℕ) → held ≡ working.analyser
       → IsSummary held working.passed working.refused summary → text_new ≡ text_old ++ summary_text summary → DoneShort working SumUp text_old text_new ticks ticks working
-  summed held summary text_old text_new ticks is summed added = λ files state stands. record {
+  summed held summary text_old text_new ticks is sums added = λ files state stands. record {
     text = summary_text summary;
     after = state;
     does = record {
       summary = summary;
       is = subst (λ (a : Analysis). IsSummary a state.passed state.refused summary) (is ∙ stands.analysis)
-          (subst (λ (n : ℕ). IsSummary held n state.refused summary) stands.passed (subst (λ (n : ℕ). IsSummary held working.passed n summary) stands.refused summed));
+          (subst (λ (n : ℕ). IsSummary held n state.refused summary) stands.passed (subst (λ (n : ℕ). IsSummary held working.passed n summary) stands.refused sums));
       text_is = refl;
       left = refl;
     };

@@ -1,6 +1,6 @@
 //! What a command asks for.
 ghost use Rattle.std.specs.Prelude.{◌≡◌};
-ghost use Rattle.aspa_top.specs.Evaluation.{task_of};
+ghost use Rattle.aspa_top.specs.Evaluation.{table_event, task_of};
 
 use crate::loading::FileKind;
 use analyser::Event;

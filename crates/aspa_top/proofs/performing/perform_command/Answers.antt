@@ -1,0 +1,189 @@
+use Rattle.std.proofs.Common.{◌≡◌, ◌+◌, ◌-◌, ◌≤◌, Ok, refl, sym, ap, subst, ◌∙◌, arith, rules}
+use Rattle.std.specs.Io.KnownBytes.{append_known}
+use Rattle.av_base.proofs.PouringLemmas.{Grows-refl}
+use Rattle.script_lines.specs.declared.command.Command.TheVariants.{Open, Take, Report}
+use Rattle.aspa_top.specs.declared.task.Task.{Task}
+use Rattle.aspa_top.specs.Tasks.{DoesTask}
+use Rattle.aspa_top.proofs.PerformingLemmas.{goes_as, ok_goes_as, part_as, uses_as, uses_load, within_as, reported, reported_part, part_none, part_whole}
+use Rattle.aspa_top.proofs.ShortLemmas.{IsSound-short, short_goes}
+use Rattle.aspa_top.proofs.StandsLemmas.{IsSound-kept}
+use Rattle.aspa_top.proofs.TableLemmas.{loaded}
+use Rattle.aspa_top.proofs.performing.perform_command.Goals as goal
+
+pub perform_short-requires : goal.perform_short-requires
+perform_short-requires g c = within_as c.args.command _ (sym c.task_of.ensures ∙ c.in-Short.is) c.requires.within
+
+pub take-requires-clause-few : goal.take-requires-clause-few
+take-requires-clause-few g c = within_as c.args.command _ (sym c.task_of.ensures ∙ c.in-Take.is) c.requires.within
+
+pub returns-in_ok-perform_short-in-Short : goal.returns-in_ok-perform_short-in-Short
+returns-in_ok-perform_short-in-Short g c =
+    let same = sym c.task_of.ensures ∙ c.in-Short.is in
+    let goes = short_goes c.args.working _ c.args.command _ _ _ _ _ same c.in_ok-perform_short-in-Short.ensures.done _ (g.W.Sink.written c.args.out.now) in
+    record {
+      goes = goes;
+      sound = IsSound-short c.args.working _ _ _ _ (omega (arith, c.requires.room.0)) c.requires.sound c.in_ok-perform_short-in-Short.ensures.keeps;
+      lines = c.in_ok-perform_short-in-Short.ensures.keeps.lines;
+      part = part_whole c.args.working _ _ _ _ _ _ _ _ goes;
+      grows = Grows-refl _;
+      ticks = c.perform_short.ensures.ticks;
+      names = refl;
+      shelf_faults = omega arith;
+      sink_faults = omega arith;
+      uses = search rules;
+      shelf_cause = search rules;
+      held = search rules;
+      sink_cause = search rules;
+    }
+
+pub returns-in_err-perform_short-in-Short : goal.returns-in_err-perform_short-in-Short
+returns-in_err-perform_short-in-Short g c =
+    record {
+      goes = search rules;
+      sound = search rules;
+      lines = search rules;
+      part = part_none c.args.working _ _ _ _ (ap (append_known (g.W.Sink.written c.args.out.now)) c.in_err-perform_short-in-Short.ensures.err);
+      grows = Grows-refl _;
+      ticks = c.perform_short.ensures.ticks;
+      names = refl;
+      shelf_faults = omega arith;
+      sink_faults = omega arith;
+      uses = search rules;
+      shelf_cause = search rules;
+      held = search rules;
+      sink_cause = search rules;
+    }
+
+pub returns-in_ok-load-in-Load : goal.returns-in_ok-load-in-Load
+returns-in_ok-load-in-Load g c =
+    let same = sym c.task_of.ensures ∙ c.in-Load.is in
+    let goes = loaded _ _ c.args.working _ _ _ _ _ _ (λ world state text after loads. subst (λ (task : Task). DoesTask world state task text after) (sym same) loads)
+    c.in_ok-load-in-Load.ensures.loads (g.W.Sink.written c.args.out.now) _ _ c.load.ensures.ticks in
+    record {
+      goes = goes;
+      sound = c.in_ok-load-in-Load.ensures.sound;
+      lines = c.in_ok-load-in-Load.ensures.lines;
+      part = part_whole c.args.working _ _ _ _ _ _ _ _ goes;
+      grows = Grows-refl _;
+      ticks = omega (arith, c.load.ensures.ticks);
+      names = c.load.ensures.names;
+      shelf_faults = c.load.ensures.faults;
+      sink_faults = omega arith;
+      uses = search rules;
+      shelf_cause = search rules;
+      held = search rules;
+      sink_cause = search rules;
+    }
+
+pub returns-in_err-load-in-Load : goal.returns-in_err-load-in-Load
+returns-in_err-load-in-Load g c =
+    record {
+      goes = search rules;
+      sound = search rules;
+      lines = search rules;
+      part = part_none c.args.working _ _ _ _ (ap (append_known (g.W.Sink.written c.args.out.now)) c.in_err-load-in-Load.ensures.err);
+      grows = Grows-refl _;
+      ticks = omega (arith, c.load.ensures.ticks);
+      names = c.load.ensures.names;
+      shelf_faults = c.load.ensures.faults;
+      sink_faults = omega arith;
+      uses = λ failed. uses_load c.args.working c.args.command _ _ (sym c.task_of.ensures ∙ c.in-Load.is) _;
+      shelf_cause = search rules;
+      held = search rules;
+      sink_cause = search rules;
+    }
+
+pub returns-in_ok-open-in-Open : goal.returns-in_ok-open-in-Open
+returns-in_ok-open-in-Open g c =
+    let same = sym c.task_of.ensures ∙ c.in-Open.is in
+    let goes = goes_as c.args.working _ c.args.command (Open c.in-Open.name c.in-Open.file) same _ _ _ _ _ _ (c.in_ok-open-in-Open.ensures.steps (g.W.Sink.written c.args.out.now) c.args.steps.now) in
+    record {
+      goes = goes;
+      sound = c.in_ok-open-in-Open.ensures.sound;
+      lines = c.in_ok-open-in-Open.ensures.lines;
+      part = part_whole c.args.working _ _ _ _ _ _ _ _ goes;
+      grows = Grows-refl _;
+      ticks = omega arith;
+      names = c.open.ensures.names;
+      shelf_faults = c.open.ensures.faults;
+      sink_faults = omega arith;
+      uses = search rules;
+      shelf_cause = search rules;
+      held = search rules;
+      sink_cause = search rules;
+    }
+
+pub returns-in_err-open-in-Open : goal.returns-in_err-open-in-Open
+returns-in_err-open-in-Open g c =
+    record {
+      goes = search rules;
+      sound = search rules;
+      lines = search rules;
+      part = part_none c.args.working _ _ _ _ (ap (append_known (g.W.Sink.written c.args.out.now)) c.in_err-open-in-Open.ensures.err);
+      grows = Grows-refl _;
+      ticks = omega arith;
+      names = c.open.ensures.names;
+      shelf_faults = c.open.ensures.faults;
+      sink_faults = omega arith;
+      uses = λ failed. uses_as c.args.working c.args.working c.args.command (Open c.in-Open.name c.in-Open.file) (sym c.task_of.ensures ∙ c.in-Open.is) _ (λ state stands. tt);
+      shelf_cause = search rules;
+      held = search rules;
+      sink_cause = search rules;
+    }
+
+pub returns-in-Take : goal.returns-in-Take
+returns-in-Take g c =
+    let same = sym c.task_of.ensures ∙ c.in-Take.is in
+    record {
+      goes = ok_goes_as c.args.working c.args.command (Take c.in-Take.name c.in-Take.count) same c.take.result _ _ _ _ _ _ c.take.ensures.ticks c.take.ensures.goes;
+      sound = c.take.ensures.sound;
+      lines = c.take.ensures.lines;
+      part = part_as c.args.working c.args.working c.args.command (Take c.in-Take.name c.in-Take.count) same _ _ _ c.take.ensures.part;
+      grows = c.take.ensures.grows;
+      ticks = omega (arith, c.take.ensures.ticks);
+      names = c.take.ensures.names;
+      shelf_faults = c.take.ensures.shelf_faults;
+      sink_faults = c.take.ensures.sink_faults;
+      uses = λ failed. uses_as c.args.working c.args.working c.args.command (Take c.in-Take.name c.in-Take.count) same _ (c.take.ensures.uses failed);
+      shelf_cause = c.take.ensures.shelf_cause;
+      held = c.take.ensures.held;
+      sink_cause = c.take.ensures.sink_cause;
+    }
+
+pub returns-in_ok-put_rows-in-Report : goal.returns-in_ok-put_rows-in-Report
+returns-in_ok-put_rows-in-Report g c =
+    let same = sym c.task_of.ensures ∙ c.in-Report.is in
+    let goes = goes_as c.args.working _ c.args.command Report same _ _ _ _ _ _ (reported c.args.working _ _ _ _ _ c.store.ensures c.in_ok-put_rows-in-Report.ensures.whole) in
+    record {
+      goes = goes;
+      sound = IsSound-kept _ _ _ _ c.args.working c.args.working (omega (arith, c.requires.room.0)) (omega arith) c.requires.sound (λ q. refl) (omega arith) (omega arith);
+      lines = refl;
+      part = part_whole c.args.working _ _ _ _ _ _ _ _ goes;
+      grows = c.put_rows.ensures.grows;
+      ticks = omega arith;
+      names = refl;
+      shelf_faults = omega arith;
+      sink_faults = c.put_rows.ensures.sink_faults;
+      uses = search rules;
+      shelf_cause = search rules;
+      held = search rules;
+      sink_cause = search rules;
+    }
+
+pub returns-in_err-put_rows-in-Report : goal.returns-in_err-put_rows-in-Report
+returns-in_err-put_rows-in-Report g c =
+    record {
+      goes = search rules;
+      sound = search rules;
+      lines = search rules;
+      part = part_as c.args.working c.args.working c.args.command Report (sym c.task_of.ensures ∙ c.in-Report.is) _ _ _ (reported_part c.args.working _ _ _ _ c.store.ensures c.put_rows.ensures.front);
+      grows = c.put_rows.ensures.grows;
+      ticks = omega arith;
+      names = refl;
+      shelf_faults = omega arith;
+      sink_faults = c.put_rows.ensures.sink_faults;
+      uses = search rules;
+      shelf_cause = search rules;
+      held = search rules;
+      sink_cause = search rules;
+    }
