@@ -10,7 +10,7 @@ use Rattle.script_lines.specs.declared.command.LineFault.{LineFault}
 use Rattle.script_lines.specs.Grammar.{IsReading}
 use Rattle.script_lines.proofs.SourceNameLemmas.{reading_named}
 use Rattle.aspa_top.specs.declared.task.Task.{Task}
-use Rattle.aspa_top.specs.declared.task.Task.TheVariants.{Short as ShortTask, Load, Open as OpenDump, Take as TakeUnits, Report as ReportRows}
+use Rattle.aspa_top.specs.declared.task.Task.TheVariants.{Short as ShortTask, Load, Open as OpenDump, Take as TakeUnits, Report as ReportRows, Changes as ListChanges}
 use Rattle.aspa_top.specs.Evaluation.{task_of}
 use Rattle.aspa_top.specs.Loading.{unit_name}
 
@@ -21,6 +21,7 @@ IsNamedInLine (Load kind file) = IsInLine (unit_name kind)
 IsNamedInLine (OpenDump name file) = IsInLine name
 IsNamedInLine (TakeUnits name count) = IsInLine name
 IsNamedInLine ReportRows = Unit {0}
+IsNamedInLine ListChanges = Unit {0}
 
 abbrev pub NamesInLine : Result Command LineFault → Type 0
 NamesInLine (Ok command) = IsNamedInLine (task_of command)

@@ -6,7 +6,9 @@ use Rattle.std.specs.Io.KnownBytes.{append_known}
 use Rattle.av_base.specs.Files.{Files}
 use Rattle.av_base.specs.Told.{AppendsFront}
 use Rattle.av_base.proofs.ToldLemmas.{append_known-nil}
+use Rattle.rib_store.specs.Changes.{AreChanges, IsMarked}
 use Rattle.rib_store.specs.State.{State as Analysis, AreRows}
+use Rattle.rib_store.proofs.MarkLemmas.{has_one_marking}
 use Rattle.report_text.specs.Refusals.{of_line, refusal_text}
 use Rattle.script_lines.specs.declared.command.Command.{Command}
 use Rattle.script_lines.specs.declared.command.Command.TheVariants.{Idle, Aspa, Aspa64, Slurm, Filter, Unfilter, Assert, Unassert, Role as SetRole, RoleDefault, Open, Take, Judge, Report, Changes, Summary, Why}
@@ -15,6 +17,8 @@ use Rattle.script_lines.specs.Grammar.{IsReading}
 use Rattle.script_lines.proofs.LengthLemmas.{judged_short}
 use Rattle.script_lines.proofs.LawLemmas.{some_reading}
 use Rattle.script_lines.proofs.SourceNameLemmas.{reading_named}
+use Rattle.stream_lines.specs.Changes.{Lists, ListsFront, changes_text}
+use Rattle.stream_lines.specs.Held.{HeldDump}
 use Rattle.stream_lines.specs.Rows.{Reports as ReportsRows, ReportsFront, rows_text}
 use Rattle.stream_lines.proofs.FrameLemmas.{Leaves-refl}
 use Rattle.aspa_top.specs.declared.loading.FileKind.{FileKind}
@@ -23,10 +27,10 @@ use Rattle.aspa_top.specs.declared.task.Task.TheVariants.{Load}
 use Rattle.aspa_top.specs.declared.working.Working.{Working}
 use Rattle.aspa_top.specs.Tasks.{State, DoesTask, TaskUsesFile}
 use Rattle.aspa_top.specs.Evaluation.{Does, line_cause, task_of}
-use Rattle.aspa_top.specs.Performing.{IsWithinBounds, IsWithinTask, StandsFor, Goes, GoesPart, Steps, PartBy, Uses, counted_in}
+use Rattle.aspa_top.specs.Performing.{IsWithinBounds, IsWithinTask, IsSound, HoldsOr, Marked, StandsFor, Goes, GoesPart, Steps, PartBy, Uses, counted_in, dump_in, has_source}
 use Rattle.aspa_top.specs.World.{World, Tells}
 use Rattle.aspa_top.proofs.EvaluationLemmas.{some_done}
-use Rattle.aspa_top.proofs.StandsLemmas.{refused_same}
+use Rattle.aspa_top.proofs.StandsLemmas.{IsSound-kept, refused_same}
 
 -- a line is too short for a path that is too long, and names no count over the most
 pub IsWithinBounds-IsReading : (line : List ℕ) (command : Command) → IsReading line (Ok command) → IsWithinBounds command
@@ -119,6 +123,60 @@ module _ (working : Working) where
     does = record { rows = reports.rows; are = subst (λ (a : Analysis). AreRows a reports.rows) (is ∙ stands.analysis) reports.are; text_is = sym reports.front.before.whole; left = refl };
     added = reports.front.before.told;
   }
+
+  -- what changed was listed, and all was marked
+  pub listed : (held : Analysis) (next : Working) (files : Option Files) (all_old all_new : Option (List ℕ)) (ticks : ℕ)
+      → held ≡ working.analyser → Lists held all_old all_new → Marked working next → Goes working (Ok Changes) files files all_old all_new ticks ticks next
+  listed held next files all_old all_new ticks is lists marked = λ world tells state stands.
+      record {
+        text = changes_text lists.changes;
+        after = record state { analysis = next.analyser };
+        does = record {
+          changes = lists.changes;
+          are = subst (λ (a : Analysis). AreChanges a lists.changes) (is ∙ stands.analysis) lists.are;
+          text_is = refl;
+          analysis = next.analyser;
+          marked = subst (λ (a : Analysis). IsMarked a next.analyser) stands.analysis marked.marked;
+          left = refl;
+        };
+        added = lists.added;
+        stands = record {
+          analysis = refl;
+          sources = λ q. ap (λ (w : Working). has_source w q) marked.left ∙ stands.sources q;
+          dumps = λ q. subst (λ (d : Option HeldDump). HoldsOr files d (state.dumps q)) (sym (ap (λ (w : Working). dump_in w q) marked.left)) (stands.dumps q);
+          lines = ap (λ (w : Working). w.lines) marked.left ∙ stands.lines;
+          passed = ap (λ (w : Working). w.passed) marked.left ∙ stands.passed;
+          refused = ap (λ (w : Working). w.refused) marked.left ∙ stands.refused;
+        };
+        ticked = refl;
+      }
+
+  -- some of it was listed
+  pub listed_part : (held : Analysis) (files : Option Files) (all_old all_new : Option (List ℕ))
+      → held ≡ working.analyser → ListsFront held all_old all_new → GoesPart working (Ok Changes) files all_old all_new
+  listed_part held files all_old all_new is lists = λ world tells state stands.
+      let marking = has_one_marking state.analysis in
+      record {
+        part = lists.front.before.front;
+        rest = lists.front.rest;
+        after = record state { analysis = marking.marking };
+        does = record {
+          changes = lists.changes;
+          are = subst (λ (a : Analysis). AreChanges a lists.changes) (is ∙ stands.analysis) lists.are;
+          text_is = sym lists.front.before.whole;
+          analysis = marking.marking;
+          marked = marking.is;
+          left = refl;
+        };
+        added = lists.front.before.told;
+      }
+
+  -- to mark leaves the dumps and the counts
+  pub IsSound-marked : (opened fewer lines : ℕ) (next : Working) → fewer + 1 ≤ lines → IsSound opened fewer working → Marked working next → IsSound opened lines next
+  IsSound-marked opened fewer lines next later sound marked =
+      let passed : next.passed ≡ working.passed = ap (λ (w : Working). w.passed) marked.left in
+      let refused : next.refused ≡ working.refused = ap (λ (w : Working). w.refused) marked.left in
+      IsSound-kept opened opened fewer lines working next later (omega arith) sound (λ q. ap (λ (w : Working). dump_in w q) marked.left) (omega (arith, passed)) (omega (arith, refused))
 
   pub refused : (fault : LineFault) (next : Working) (files : Option Files) (text_old text_new : List ℕ)
       → text_new ≡ text_old ++ refusal_text working.lines of_line (line_cause fault) → next ≡ record working { refused = working.refused + 1 }

@@ -1,23 +1,32 @@
 -- What is done within memory.
 use Rattle.std.proofs.Common.{◌≡◌, ℕ, ◌+◌, ◌≤◌, List, [], ◌++◌, Ok, refl, sym, ap, subst, ◌∙◌, append-nil, arith}
+use Rattle.std.specs.FinMap as fin
 use Rattle.std.specs.declared.option.Option.{Option}
+use Rattle.std.specs.declared.option.Option.TheVariants.{Some, None}
 use Rattle.std.specs.Io.KnownBytes.{append_known}
 use Rattle.av_base.specs.Files.{Files}
+use Rattle.path_model.specs.declared.key.Key.{Key}
 use Rattle.path_model.specs.declared.role.Role.{Role}
+use Rattle.path_model.specs.declared.verdict.Verdict.{Verdict}
+use Rattle.path_model.specs.declared.witness.Witness.{Witness}
+use Rattle.path_model.specs.Trail.{Path}
 use Rattle.path_model.specs.CurrentTable.{Parts}
 use Rattle.report_text.specs.declared.summary.Summary.{Summary}
+use Rattle.report_text.specs.Refusals.{of_line, refusal_text}
 use Rattle.report_text.specs.Summary.{summary_text}
+use Rattle.report_text.specs.Why.{why_text}
+use Rattle.rib_store.specs.Shown.{IsExplained}
 use Rattle.rib_store.specs.State.{State as Analysis}
 use Rattle.analyser.specs.declared.event.Event.{Event}
 use Rattle.analyser.specs.Events.{Happens}
 use Rattle.script_lines.specs.declared.command.Command.{Command}
 use Rattle.stream_lines.specs.Summary.{IsSummary}
 use Rattle.aspa_top.specs.declared.task.Short.{Short as ShortTask}
-use Rattle.aspa_top.specs.declared.task.Short.TheVariants.{Idle, Happen, Judge, Summary as SumUp}
+use Rattle.aspa_top.specs.declared.task.Short.TheVariants.{Idle, Happen, Judge, Summary as SumUp, Why}
 use Rattle.aspa_top.specs.declared.task.Task.{Task}
 use Rattle.aspa_top.specs.declared.task.Task.TheVariants.{Short}
 use Rattle.aspa_top.specs.declared.working.Working.{Working}
-use Rattle.aspa_top.specs.Tasks.{State, DoesTask}
+use Rattle.aspa_top.specs.Tasks.{State, DoesTask, ExplainsRoute}
 use Rattle.aspa_top.specs.Evaluation.{task_of}
 use Rattle.aspa_top.specs.Performing.{DoneShort, Goes, Happened, IsSound, Judges, KeepsDumps, dump_in}
 use Rattle.aspa_top.proofs.StandsLemmas.{IsSound-kept, added_text}
@@ -90,7 +99,61 @@ module _ (working : Working) where
     ticked = refl;
   }
 
+  -- a route was explained
+  pub explained : (held : Analysis) (key : Key) (path : Path) (verdict : Verdict) (witness : Witness) (text_old text_new : List ℕ) (ticks : ℕ) → held ≡ working.analyser
+      → fin.get held.routes key ≡ Some path → IsExplained held key verdict witness → text_new ≡ text_old ++ why_text verdict witness
+      → DoneShort working (Why key) text_old text_new ticks ticks working
+  explained held key path verdict witness text_old text_new ticks is route shows added = λ files state stands.
+      let same = is ∙ stands.analysis in
+      record {
+        text = why_text verdict witness;
+        after = state;
+        does = subst (λ (p : Option Path). ExplainsRoute p state key (why_text verdict witness) state) (sym (ap (λ (a : Analysis). fin.get a.routes key) (sym same) ∙ route)) (record {
+          verdict = verdict;
+          witness = witness;
+          explained = subst (λ (a : Analysis). IsExplained a key verdict witness) same shows;
+          text_is = refl;
+          left = refl;
+        });
+        added = added;
+        stands = stands;
+        ticked = refl;
+      }
+
+  -- or there is none
+  pub unknown : (held : Analysis) (key : Key) (next : Working) (text_old text_new : List ℕ) (ticks : ℕ) → held ≡ working.analyser → fin.get held.routes key ≡ None
+      → text_new ≡ text_old ++ refusal_text working.lines of_line 39 → next ≡ record working { refused = working.refused + 1 }
+      → DoneShort working (Why key) text_old text_new ticks ticks next
+  unknown held key next text_old text_new ticks is none added next_is = λ files state stands.
+      let same = is ∙ stands.analysis in
+      let after : State = record state { refused = state.refused + 1 } in
+      record {
+        text = refusal_text state.lines of_line 39;
+        after = after;
+        does = subst (λ (p : Option Path). ExplainsRoute p state key (refusal_text state.lines of_line 39) after) (sym (ap (λ (a : Analysis). fin.get a.routes key) (sym same) ∙ none)) (refl, refl);
+        added = added ∙ ap (λ (n : ℕ). text_old ++ refusal_text n of_line 39) stands.lines;
+        stands = rw next_is (record {
+          analysis = stands.analysis;
+          sources = stands.sources;
+          dumps = stands.dumps;
+          lines = stands.lines;
+          passed = stands.passed;
+          refused = ap (λ (n : ℕ). n + 1) stands.refused;
+        });
+        ticked = refl;
+      }
+
   -- ---- the dumps stay
+
+  pub kept_refused : (next : Working) → next ≡ record working { refused = working.refused + 1 } → KeepsDumps working next
+  kept_refused next is =
+      let refused : next.refused ≡ working.refused + 1 = ap (λ (w : Working). w.refused) is in
+      record {
+        dumps = λ name. ap (λ (w : Working). dump_in w name) is;
+        lines = ap (λ (w : Working). w.lines) is;
+        passed = ap (λ (w : Working). w.passed) is;
+        refused = omega (arith, refused);
+      }
 
   pub kept_all : KeepsDumps working working
   kept_all = record { dumps = λ name. refl; lines = refl; passed = refl; refused = omega arith }

@@ -1,18 +1,32 @@
 -- A task has one text, and leaves one state.
 use Rattle.std.proofs.Common.{◌≡◌, ℕ, Bool, true, false, List, [], ◌∷◌, ◌++◌, None, Some, refl, sym, ap, subst, ◌∙◌}
+use Rattle.std.specs.FinMap as fin
 use Rattle.std.specs.declared.option.Option.{Option}
+use Rattle.std.specs.Option.{unwrap_or}
 use Rattle.path_model.specs.declared.role.Role.{Role}
-use Rattle.path_model.specs.Trail.{path_of}
+use Rattle.path_model.specs.declared.key.Key.{Key}
+use Rattle.path_model.specs.declared.verdict.Verdict.{Verdict}
+use Rattle.path_model.specs.declared.witness.Witness.{Witness}
+use Rattle.path_model.specs.Authority.{Table}
+use Rattle.path_model.specs.PrintedWitness.{IsPrinted}
+use Rattle.path_model.specs.Roles.{role_of}
+use Rattle.path_model.specs.Trail.{Path, path_of}
 use Rattle.path_model.specs.ComputedTable.{table_of}
-use Rattle.path_model.proofs.PartsLemmas.{table_is_current}
-use Rattle.path_model.proofs.LawLemmas.{some_right}
+use Rattle.path_model.proofs.PartsLemmas.{table_is_current, parts_have_one_table}
+use Rattle.path_model.proofs.LawLemmas.{some_right, one_printed}
+use Rattle.path_model.proofs.WitnessLemmas.{printed_facts}
 use Rattle.av_text.specs.VerdictText.{verdict_text}
 use Rattle.report_text.specs.Summary.{summary_text}
+use Rattle.report_text.specs.Why.{why_text}
 use Rattle.rib_store.specs.State.{State as Analysis}
+use Rattle.rib_store.specs.Shown.{IsExplained}
+use Rattle.rib_store.proofs.ChangeLawLemmas.{has_one_list_of_changes}
+use Rattle.rib_store.proofs.MarkLemmas.{has_one_marking}
 use Rattle.rib_store.proofs.ReportLemmas.{has_one_report}
 use Rattle.analyser.specs.declared.event.Event.{Event}
 use Rattle.analyser.specs.declared.event.Event.TheVariants.{Table as TableEvent}
 use Rattle.analyser.proofs.EventLemmas.{one_outcome_of}
+use Rattle.stream_lines.specs.Changes.{changes_text}
 use Rattle.stream_lines.specs.Streams.{Dump}
 use Rattle.stream_lines.specs.Rows.{rows_text}
 use Rattle.stream_lines.proofs.LawLemmas.{some_units, units_unique}
@@ -21,10 +35,10 @@ use Rattle.aspa_top.specs.declared.loading.FileKind.{FileKind}
 use Rattle.aspa_top.specs.declared.loading.Outcome.{Outcome}
 use Rattle.aspa_top.specs.declared.loading.Outcome.TheVariants.{NoFile, Long as FileLong, Flawed, Good}
 use Rattle.aspa_top.specs.declared.task.Short.{Short as ShortTask}
-use Rattle.aspa_top.specs.declared.task.Short.TheVariants.{Idle, Happen, Judge, Summary as SumUp}
+use Rattle.aspa_top.specs.declared.task.Short.TheVariants.{Idle, Happen, Judge, Summary as SumUp, Why}
 use Rattle.aspa_top.specs.declared.task.Task.{Task}
-use Rattle.aspa_top.specs.declared.task.Task.TheVariants.{Short, Load, Open, Take, Report}
-use Rattle.aspa_top.specs.Tasks.{State, Causes, Holds, TakesFile, LoadsUnless, OpensNamed, TakesOpen, TakesNamed, IsJudged, Reports, SumsUp, DoesShort, DoesTask, is_taken, with_name, asking_of, taking_of, after_taking}
+use Rattle.aspa_top.specs.declared.task.Task.TheVariants.{Short, Load, Open, Take, Report, Changes}
+use Rattle.aspa_top.specs.Tasks.{State, Causes, Holds, TakesFile, LoadsUnless, OpensNamed, TakesOpen, TakesNamed, IsJudged, Reports, SumsUp, ShowsChanges, ExplainsRoute, DoesShort, DoesTask, is_taken, with_name, asking_of, taking_of, after_taking}
 use Rattle.aspa_top.specs.World.{World}
 use Rattle.aspa_top.proofs.JudgedLemmas.{IsJudged-unique}
 use Rattle.aspa_top.proofs.OutcomeLemmas.{some_outcome, outcome_unique}
@@ -79,6 +93,34 @@ some_report state =
     let one = has_one_report state.analysis in
     (rows_text one.rows, state, record { rows = one.rows; are = one.are; text_is = refl; left = refl })
 
+some_changes : (state : State) → Some_that (ShowsChanges state)
+some_changes state =
+    let list = has_one_list_of_changes state.analysis in
+    let marking = has_one_marking state.analysis in
+    (changes_text list.changes, record state { analysis = marking.marking },
+    record { changes = list.changes; are = list.are; text_is = refl; analysis = marking.marking; marked = marking.is; left = refl })
+
+some_reason : (path : Option Path) (state : State) (key : Key) → fin.get state.analysis.routes key ≡ path → Some_that (ExplainsRoute path state key)
+some_reason None state key route = (_, _, (refl, refl))
+some_reason (Some path) state key route =
+    let table = table_of state.analysis.parts in
+    let role = role_of state.analysis.roles key.peer.asn in
+    let one = one_printed table role key.peer.asn path in
+    (why_text one.verdict one.witness, state, record {
+      verdict = one.verdict;
+      witness = one.witness;
+      explained = record {
+        path = path;
+        route = route;
+        table = table;
+        current = table_is_current state.analysis.parts;
+        printed = one.printed;
+        facts = printed_facts table role key.peer.asn path one.verdict one.witness one.printed;
+      };
+      text_is = refl;
+      left = refl;
+    })
+
 some_short : (state : State) (short : ShortTask) → Some_that (DoesShort state short)
 some_short state Idle = ([], state, (refl, refl))
 some_short state (Happen event) = some_event state event
@@ -89,6 +131,7 @@ some_short state (Judge role neighbour path) =
 some_short state SumUp =
     let found = some_summary state.analysis state.passed state.refused in
     (summary_text found.0, state, record { summary = found.0; is = found.1; text_is = refl; left = refl })
+some_short state (Why key) = some_reason (fin.get state.analysis.routes key) state key refl
 
 -- each task has a text
 pub some_task : (world : World) (state : State) (task : Task) → Some_that (DoesTask world state task)
@@ -97,6 +140,7 @@ some_task world state (Load kind file) = some_load (is_taken state kind) world s
 some_task world state (Open name file) = some_opening (state.sources name) (state.dumps name) (world.named file) state name
 some_task world state (Take name count) = some_take (state.dumps name) state name count
 some_task world state Report = some_report state
+some_task world state Changes = some_changes state
 
 -- ---- and no other
 
@@ -167,6 +211,36 @@ SumsUp-unique : (state : State) (one other : List ℕ) (end last : State)
 SumsUp-unique state one other end last a b =
     (a.text_is ∙ ap summary_text (one_summary state.analysis state.passed state.refused a.summary b.summary a.is b.is) ∙ sym b.text_is, a.left ∙ sym b.left)
 
+ShowsChanges-unique : (state : State) (one other : List ℕ) (end last : State)
+    → ShowsChanges state one end → ShowsChanges state other last → (one ≡ other) × (end ≡ last)
+ShowsChanges-unique state one other end last a b =
+    let list = has_one_list_of_changes state.analysis in
+    let marking = has_one_marking state.analysis in (
+      a.text_is ∙ ap changes_text (list.only a.changes a.are ∙ sym (list.only b.changes b.are)) ∙ sym b.text_is,
+      a.left ∙ ap (λ (n : Analysis). record state { analysis = n }) (marking.only a.analysis a.marked ∙ sym (marking.only b.analysis b.marked)) ∙ sym b.left,
+    )
+
+-- a route has one reason
+one_reason : (state : Analysis) (key : Key) (v w : Verdict) (x y : Witness) → IsExplained state key v x → IsExplained state key w y → (v ≡ w) × (x ≡ y)
+one_reason state key v w x y a b =
+    let role = role_of state.roles key.peer.asn in
+    let path : a.path ≡ b.path = ap (λ (o : Option Path). unwrap_or o a.path) (sym a.route ∙ b.route) in
+    let tables = parts_have_one_table state.parts in
+    let table : a.table ≡ b.table = λ i q. (tables.only a.table a.current q ∙ sym (tables.only b.table b.current q)) i in
+    let one = one_printed b.table role key.peer.asn b.path in
+    let first : IsPrinted b.table role key.peer.asn b.path v x =
+        subst (λ (p : Path). IsPrinted b.table role key.peer.asn p v x) path (subst (λ (t : Table). IsPrinted t role key.peer.asn a.path v x) table a.printed) in
+    let v_is = one.only v x first in
+    let w_is = one.only w y b.printed in
+    (v_is.0 ∙ sym w_is.0, v_is.1 ∙ sym w_is.1)
+
+ExplainsRoute-unique : (path : Option Path) (state : State) (key : Key) (one other : List ℕ) (end last : State)
+    → ExplainsRoute path state key one end → ExplainsRoute path state key other last → (one ≡ other) × (end ≡ last)
+ExplainsRoute-unique None state key one other end last a b = both one other _ end last _ a b
+ExplainsRoute-unique (Some path) state key one other end last a b =
+    let same = one_reason state.analysis key a.verdict b.verdict a.witness b.witness a.explained b.explained in
+    (a.text_is ∙ (λ i. why_text (same.0 i) (same.1 i)) ∙ sym b.text_is, a.left ∙ sym b.left)
+
 DoesShort-unique : (state : State) (short : ShortTask) (one other : List ℕ) (end last : State)
     → DoesShort state short one end → DoesShort state short other last → (one ≡ other) × (end ≡ last)
 DoesShort-unique state Idle one other end last a b = both one other _ end last _ a b
@@ -174,6 +248,7 @@ DoesShort-unique state (Happen event) one other end last a b = Causes-unique sta
 DoesShort-unique state (Judge role neighbour path) one other end last a b =
     (IsJudged-unique state.analysis.parts role neighbour path one other a.0 b.0, a.1 ∙ sym b.1)
 DoesShort-unique state SumUp one other end last a b = SumsUp-unique state one other end last a b
+DoesShort-unique state (Why key) one other end last a b = ExplainsRoute-unique (fin.get state.analysis.routes key) state key one other end last a b
 
 -- a task has no two texts, and leaves no two states
 pub DoesTask-unique : (world : World) (state : State) (task : Task) (one other : List ℕ) (end last : State)
@@ -183,3 +258,4 @@ DoesTask-unique world state (Load kind file) one other end last a b = Loads-uniq
 DoesTask-unique world state (Open name file) one other end last a b = Opens-unique (state.sources name) (state.dumps name) (world.named file) state name one other end last a b
 DoesTask-unique world state (Take name count) one other end last a b = Takes-unique (state.dumps name) state name count one other end last a b
 DoesTask-unique world state Report one other end last a b = Reports-unique state one other end last a b
+DoesTask-unique world state Changes one other end last a b = ShowsChanges-unique state one other end last a b

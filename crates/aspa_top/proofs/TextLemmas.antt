@@ -6,18 +6,24 @@ use Rattle.std.proofs.lemmas.List.{append_assoc}
 use Rattle.path_model.specs.declared.key.Key.{Key}
 use Rattle.path_model.specs.declared.verdict.Verdict.{Verdict}
 use Rattle.path_model.specs.declared.verdict.Verdict.TheVariants.{Valid, Unknown, Invalid}
+use Rattle.path_model.specs.Trail.{Path}
+use Rattle.std.specs.FinMap as fin
 use Rattle.av_text.specs.VerdictText.{verdict_text}
 use Rattle.av_text.specs.Spellings.{IsInLine}
 use Rattle.av_text.proofs.LackLemmas.{verdict_text-lacks}
 use Rattle.report_text.specs.Laws.{IsPlaceInLine, IsAnswerLine}
 use Rattle.report_text.specs.Refusals.{AnyPlace, of_line, of_unit}
 use Rattle.report_text.specs.Rows.{row_line, row_text}
+use Rattle.report_text.specs.Change.{change_line, change_text}
 use Rattle.report_text.specs.Summary.{summary_line, summary_text}
-use Rattle.report_text.proofs.AnswerLemmas.{row_is_one_line, summary_is_one_line}
+use Rattle.report_text.specs.Why.{why_line, why_text}
+use Rattle.report_text.proofs.AnswerLemmas.{row_is_one_line, change_is_one_line, summary_is_one_line, reason_is_one_line}
 use Rattle.analyser.specs.declared.event.Event.{Event}
 use Rattle.analyser.specs.declared.event.Event.TheVariants.{Table as TableEvent}
 use Rattle.script_lines.specs.declared.command.Command.{Command}
 use Rattle.script_lines.specs.declared.command.LineFault.{LineFault}
+use Rattle.rib_store.specs.declared.journal.ChangedKey.{ChangedKey}
+use Rattle.stream_lines.specs.Changes.{changes_text}
 use Rattle.stream_lines.specs.Counts.{refusals_in}
 use Rattle.stream_lines.specs.Rows.{rows_text}
 use Rattle.stream_lines.specs.Streams.{Dump}
@@ -26,11 +32,11 @@ use Rattle.aspa_top.specs.declared.loading.FileKind.{FileKind}
 use Rattle.aspa_top.specs.declared.loading.Outcome.{Outcome}
 use Rattle.aspa_top.specs.declared.loading.Outcome.TheVariants.{NoFile, Long as FileLong, Flawed, Good}
 use Rattle.aspa_top.specs.declared.task.Short.{Short as ShortTask}
-use Rattle.aspa_top.specs.declared.task.Short.TheVariants.{Idle as Nothing, Happen, Judge as JudgePath, Summary as SumUp}
+use Rattle.aspa_top.specs.declared.task.Short.TheVariants.{Idle as Nothing, Happen, Judge as JudgePath, Summary as SumUp, Why}
 use Rattle.aspa_top.specs.declared.task.Task.{Task}
-use Rattle.aspa_top.specs.declared.task.Task.TheVariants.{Short, Load, Open, Take, Report}
+use Rattle.aspa_top.specs.declared.task.Task.TheVariants.{Short, Load, Open, Take, Report, Changes}
 use Rattle.aspa_top.specs.Loading.{unit_name}
-use Rattle.aspa_top.specs.Tasks.{State, Causes, Refuses, TakesFile, LoadsUnless, OpensNamed, TakesOpen, TakesNamed, DoesShort, DoesTask, is_taken, asking_of, taking_of}
+use Rattle.aspa_top.specs.Tasks.{State, Causes, Refuses, TakesFile, LoadsUnless, OpensNamed, TakesOpen, TakesNamed, ExplainsRoute, DoesShort, DoesTask, is_taken, asking_of, taking_of}
 use Rattle.aspa_top.specs.Evaluation.{Does, line_cause, counted, task_of, Evaluates}
 use Rattle.aspa_top.specs.World.{World}
 use Rattle.aspa_top.proofs.NamedLemmas.{IsNamedInLine, NamesInLine, reading_in_line}
@@ -54,6 +60,13 @@ rows_counted [] rest = refl
 rows_counted (row ∷ rows) rest =
     ap (λ (t : List ℕ). refusals_in t) (append_assoc (row_text row.0 row.1) (rows_text rows) rest)
     ∙ answer_counted (row_line row.0 row.1) (rows_text rows ++ rest) (row_is_one_line row.0 row.1) ∙ rows_counted rows rest
+
+changes_counted : (changes : List ChangedKey) (rest : List ℕ) → refusals_in (changes_text changes ++ rest) ≡ refusals_in rest
+changes_counted [] rest = refl
+changes_counted (change ∷ changes) rest =
+    ap (λ (t : List ℕ). refusals_in t) (append_assoc (change_text change.key change.before change.after) (changes_text changes) rest)
+    ∙ answer_counted (change_line change.key change.before change.after) (changes_text changes ++ rest) (change_is_one_line change.key change.before change.after)
+    ∙ changes_counted changes rest
 
 -- ---- what is counted, whatever text comes behind
 
@@ -105,6 +118,13 @@ answered : (state next : State) (text answer rest : List ℕ) → text ≡ answe
 answered state next text answer rest is none same =
     ap (λ (n : ℕ). n + refusals_in rest) same ∙ ap (λ (n : ℕ). state.refused + n) (sym (ap (λ (t : List ℕ). refusals_in (t ++ rest)) is ∙ none))
 
+ExplainsRoute-refused : (path : Option Path) (state : State) (key : Key) (text : List ℕ) (next : State) (rest : List ℕ)
+    → ExplainsRoute path state key text next → next.refused + refusals_in rest ≡ state.refused + refusals_in (text ++ rest)
+ExplainsRoute-refused None state key text next rest explains = Refuses-refused state of_line 39 text next rest tt explains
+ExplainsRoute-refused (Some path) state key text next rest explains =
+    answered state next text (why_text explains.verdict explains.witness) rest explains.text_is
+    (answer_counted (why_line explains.verdict explains.witness) rest (reason_is_one_line explains.verdict explains.witness)) (ap (λ (s : State). s.refused) explains.left)
+
 DoesShort-refused : (state : State) (short : ShortTask) (text : List ℕ) (next : State) (rest : List ℕ)
     → DoesShort state short text next → next.refused + refusals_in rest ≡ state.refused + refusals_in (text ++ rest)
 DoesShort-refused state Nothing text next rest does = silent text rest state.refused next.refused does.0 (ap (λ (s : State). s.refused) does.1)
@@ -113,6 +133,7 @@ DoesShort-refused state (JudgePath role neighbour path) text next rest does =
     answered state next text (verdict_text does.0.verdict ++ 10 ∷ []) rest does.0.text_is (refusals_in-verdict does.0.verdict rest) (ap (λ (s : State). s.refused) does.1)
 DoesShort-refused state SumUp text next rest does =
     answered state next text (summary_text does.summary) rest does.text_is (answer_counted (summary_line does.summary) rest (summary_is_one_line does.summary)) (ap (λ (s : State). s.refused) does.left)
+DoesShort-refused state (Why key) text next rest does = ExplainsRoute-refused (fin.get state.analysis.routes key) state key text next rest does
 
 DoesTask-refused : (world : World) (state : State) (task : Task) (text : List ℕ) (next : State) (rest : List ℕ) → IsNamedInLine task
     → DoesTask world state task text next → next.refused + refusals_in rest ≡ state.refused + refusals_in (text ++ rest)
@@ -122,6 +143,8 @@ DoesTask-refused world state (Open name file) text next rest in_line does = Open
 DoesTask-refused world state (Take name count) text next rest in_line does = Takes-refused (state.dumps name) state name count text next rest in_line does
 DoesTask-refused world state Report text next rest in_line does =
     answered state next text (rows_text does.rows) rest does.text_is (rows_counted does.rows rest) (ap (λ (s : State). s.refused) does.left)
+DoesTask-refused world state Changes text next rest in_line does =
+    answered state next text (changes_text does.changes) rest does.text_is (changes_counted does.changes rest) (ap (λ (s : State). s.refused) does.left)
 
 -- one line counts what its text has
 Does-refused : (world : World) (state : State) (reading : Result Command LineFault) (text : List ℕ) (next : State) (rest : List ℕ) → NamesInLine reading

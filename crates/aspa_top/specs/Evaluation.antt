@@ -12,9 +12,9 @@ use Rattle.script_lines.specs.declared.command.LineFault.TheVariants.{Long, Comm
 use Rattle.script_lines.specs.Grammar.{IsReading}
 use Rattle.report_text.specs.Refusals.{of_line}
 use Rattle.aspa_top.specs.declared.loading.FileKind.TheVariants.{Payloads, PayloadLines, Slurm as SlurmFile}
-use Rattle.aspa_top.specs.declared.task.Short.TheVariants.{Idle as Nothing, Happen, Judge as JudgePath, Summary as SumUp}
+use Rattle.aspa_top.specs.declared.task.Short.TheVariants.{Idle as Nothing, Happen, Judge as JudgePath, Summary as SumUp, Why as WhyRoute}
 use Rattle.aspa_top.specs.declared.task.Task.{Task}
-use Rattle.aspa_top.specs.declared.task.Task.TheVariants.{Short, Load, Open as OpenDump, Take as TakeUnits, Report as ReportRows}
+use Rattle.aspa_top.specs.declared.task.Task.TheVariants.{Short, Load, Open as OpenDump, Take as TakeUnits, Report as ReportRows, Changes as ListChanges}
 use Rattle.aspa_top.specs.Tasks.{State, Refuses, DoesTask, TaskUsesFile}
 use Rattle.aspa_top.specs.World.{World}
 
@@ -46,9 +46,9 @@ task_of (Open name file) = OpenDump name file
 task_of (Take name count) = TakeUnits name count
 task_of (Judge role neighbour path) = Short (JudgePath role neighbour path)
 task_of Report = ReportRows
-task_of Changes = Short Nothing
+task_of Changes = ListChanges
 task_of Summary = Short SumUp
-task_of (Why addr asn prefix) = Short Nothing
+task_of (Why addr asn prefix) = Short (WhyRoute (record { peer = record { addr = addr; asn = asn }; prefix = prefix }))
 
 -- What a line that was read so writes, and what it leaves. The state counts the line already.
 abbrev pub Does : World → State → Result Command LineFault → List ℕ → State → Type 0

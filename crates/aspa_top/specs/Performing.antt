@@ -15,6 +15,7 @@ use Rattle.script_lines.specs.Grammar.{IsReading}
 use Rattle.path_model.specs.declared.role.Role.{Role}
 use Rattle.path_model.specs.CurrentTable.{Parts}
 use Rattle.vap_table.specs.declared.change.TableChange.{TableChange}
+use Rattle.rib_store.specs.Changes.{IsMarked}
 use Rattle.rib_store.specs.State.{State as Analysis}
 use Rattle.analyser.specs.declared.event.Event.{Event}
 use Rattle.analyser.specs.declared.event.Event.TheVariants.{Table as TableEvent}
@@ -25,9 +26,9 @@ use Rattle.stream_lines.specs.Streams.{Dump}
 use Rattle.aspa_top.specs.declared.loading.FileKind.{FileKind}
 use Rattle.aspa_top.specs.declared.loading.FileKind.TheVariants.{Payloads, PayloadLines, Slurm as SlurmFile}
 use Rattle.aspa_top.specs.declared.task.Short.{Short as ShortTask}
-use Rattle.aspa_top.specs.declared.task.Short.TheVariants.{Idle as Nothing, Happen, Judge, Summary as SumUp}
+use Rattle.aspa_top.specs.declared.task.Short.TheVariants.{Idle as Nothing, Happen, Judge, Summary as SumUp, Why}
 use Rattle.aspa_top.specs.declared.task.Task.{Task}
-use Rattle.aspa_top.specs.declared.task.Task.TheVariants.{Short, Load, Open, Take, Report}
+use Rattle.aspa_top.specs.declared.task.Task.TheVariants.{Short, Load, Open, Take, Report, Changes}
 use Rattle.aspa_top.specs.declared.working.Working.{Working}
 use Rattle.aspa_top.specs.World.{World, Tells}
 use Rattle.aspa_top.specs.Tasks.{State, start, same_name, IsJudged, Loads, DoesShort}
@@ -43,6 +44,7 @@ IsWithinShort Nothing = Unit {0}
 IsWithinShort (Happen event) = Unit {0}
 IsWithinShort (Judge role neighbour path) = length path ≤ 65535
 IsWithinShort SumUp = Unit {0}
+IsWithinShort (Why key) = Unit {0}
 
 abbrev pub IsWithinTask : Task → Type 0
 IsWithinTask (Short short) = IsWithinShort short
@@ -50,6 +52,7 @@ IsWithinTask (Load kind file) = Unit {0}
 IsWithinTask (Open name file) = Unit {0}
 IsWithinTask (Take name count) = count ≤ most
 IsWithinTask Report = Unit {0}
+IsWithinTask Changes = Unit {0}
 
 abbrev pub IsWithinBounds : Command → Type 0
 IsWithinBounds command = IsWithinTask (task_of command)
@@ -64,6 +67,11 @@ pub record Happened (working : Working) (event : Event) (next : Working) : Type 
   pub analysis : Analysis
   pub happens : Happens working.analyser event analysis
   pub left : next ≡ record working { analyser = analysis }
+
+-- all verdicts were marked as they stand, and nothing else is altered
+pub record Marked (working next : Working) : Type 0 where
+  pub marked : IsMarked working.analyser next.analyser
+  pub left : next ≡ record working { analyser = next.analyser }
 
 -- the dump that is open under a name
 abbrev pub dump_in : Working → List ℕ → Option HeldDump

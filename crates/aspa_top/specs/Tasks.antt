@@ -1,15 +1,20 @@
 -- What a line asks for, and what comes of it: from the world, and what the lines before have left.
 use Rattle.std.specs.Prelude.{◌≡◌, ℕ, ◌+◌, nat_eq, Bool, true, false, is_some, cond, List, [], ◌∷◌, ◌++◌}
 use Rattle.std.specs.Cmp.Lexicographic.{pointwise}
+use Rattle.std.specs.FinMap as fin
 use Rattle.std.specs.declared.option.Option.{Option}
 use Rattle.std.specs.declared.option.Option.TheVariants.{Some, None}
 use Rattle.path_model.specs.declared.key.Key.{Key}
 use Rattle.path_model.specs.declared.role.Role.{Role}
 use Rattle.path_model.specs.declared.verdict.Verdict.{Verdict}
-use Rattle.path_model.specs.Trail.{path_of}
+use Rattle.path_model.specs.Trail.{Path, path_of}
 use Rattle.path_model.specs.RightVerdict.{IsRight}
 use Rattle.path_model.specs.Authority.{Table}
 use Rattle.path_model.specs.CurrentTable.{Parts, IsCurrentTable}
+use Rattle.path_model.specs.declared.witness.Witness.{Witness}
+use Rattle.rib_store.specs.declared.journal.ChangedKey.{ChangedKey}
+use Rattle.rib_store.specs.Changes.{AreChanges, IsMarked}
+use Rattle.rib_store.specs.Shown.{IsExplained}
 use Rattle.rib_store.specs.State.{State as Analysis, no_state, AreRows}
 use Rattle.analyser.specs.declared.event.Event.{Event}
 use Rattle.analyser.specs.declared.event.Event.TheVariants.{Table as TableEvent}
@@ -18,6 +23,8 @@ use Rattle.av_text.specs.VerdictText.{verdict_text}
 use Rattle.report_text.specs.declared.summary.Summary.{Summary}
 use Rattle.report_text.specs.Refusals.{AnyPlace, of_line, of_unit, refusal_text}
 use Rattle.report_text.specs.Summary.{summary_text}
+use Rattle.report_text.specs.Why.{why_text}
+use Rattle.stream_lines.specs.Changes.{changes_text}
 use Rattle.stream_lines.specs.Rows.{rows_text}
 use Rattle.stream_lines.specs.Streams.{Dump, Taking, Asking, TakesUnits}
 use Rattle.stream_lines.specs.Summary.{IsSummary}
@@ -26,9 +33,9 @@ use Rattle.aspa_top.specs.declared.loading.FileKind.TheVariants.{Payloads, Paylo
 use Rattle.aspa_top.specs.declared.loading.Outcome.{Outcome}
 use Rattle.aspa_top.specs.declared.loading.Outcome.TheVariants.{NoFile, Long as FileLong, Flawed, Good}
 use Rattle.aspa_top.specs.declared.task.Short.{Short as ShortTask}
-use Rattle.aspa_top.specs.declared.task.Short.TheVariants.{Idle, Happen, Judge, Summary as SumUp}
+use Rattle.aspa_top.specs.declared.task.Short.TheVariants.{Idle, Happen, Judge, Summary as SumUp, Why}
 use Rattle.aspa_top.specs.declared.task.Task.{Task}
-use Rattle.aspa_top.specs.declared.task.Task.TheVariants.{Short, Load, Open, Take, Report}
+use Rattle.aspa_top.specs.declared.task.Task.TheVariants.{Short, Load, Open, Take, Report, Changes}
 use Rattle.aspa_top.specs.Loading.{ComesOf, unit_name}
 use Rattle.aspa_top.specs.World.{World}
 
@@ -185,6 +192,32 @@ pub record SumsUp (state : State) (text : List ℕ) (next : State) : Type 0 wher
   pub text_is : text ≡ summary_text summary
   pub left : next ≡ state
 
+-- ---- `changes`
+
+-- the text has one line for each key that stands otherwise than it was marked, in key order, and then all stand as they are marked
+pub record ShowsChanges (state : State) (text : List ℕ) (next : State) : Type 0 where
+  pub changes : List ChangedKey
+  pub are : AreChanges state.analysis changes
+  pub text_is : text ≡ changes_text changes
+  pub analysis : Analysis
+  pub marked : IsMarked state.analysis analysis
+  pub left : next ≡ record state { analysis = analysis }
+
+-- ---- `why ADDRESS AS PREFIX`
+
+-- the text has the current verdict of the key's route, and its printed witness, whose facts hold
+pub record Explains (state : State) (key : Key) (text : List ℕ) (next : State) : Type 0 where
+  pub verdict : Verdict
+  pub witness : Witness
+  pub explained : IsExplained state.analysis key verdict witness
+  pub text_is : text ≡ why_text verdict witness
+  pub left : next ≡ state
+
+-- unless it has none
+abbrev pub ExplainsRoute : Option Path → State → Key → List ℕ → State → Type 0
+ExplainsRoute None state key text next = Refuses state of_line 39 text next
+ExplainsRoute (Some path) state key text next = Explains state key text next
+
 -- ---- what a command asks for
 
 -- What a short task writes, and what it leaves.
@@ -194,6 +227,7 @@ DoesShort state (Happen event) text next = Causes state event text next
 DoesShort state (Judge role neighbour path) text next =
     IsJudged state.analysis.parts role neighbour path text × (next ≡ record state { judgements = state.judgements + 1 })
 DoesShort state SumUp text next = SumsUp state text next
+DoesShort state (Why key) text next = ExplainsRoute (fin.get state.analysis.routes key) state key text next
 
 -- What a task writes, and what it leaves. The state counts the line already.
 abbrev pub DoesTask : World → State → Task → List ℕ → State → Type 0
@@ -202,6 +236,7 @@ DoesTask world state (Load kind file) text next = Loads world state kind file te
 DoesTask world state (Open name file) text next = Opens world state name file text next
 DoesTask world state (Take name count) text next = Takes state name count text next
 DoesTask world state Report text next = Reports state text next
+DoesTask world state Changes text next = ShowsChanges state text next
 
 -- a task opens or reads a file
 abbrev pub TaskUsesFile : State → Task → Type 0
@@ -210,3 +245,4 @@ TaskUsesFile state (Load kind file) = Unit {0}
 TaskUsesFile state (Open name file) = Unit {0}
 TaskUsesFile state (Take name count) = (dump : Dump) × (state.dumps name ≡ Some dump)
 TaskUsesFile state Report = ⊥
+TaskUsesFile state Changes = ⊥

@@ -10,6 +10,7 @@
 mod acting;
 mod dumps;
 mod evaluation;
+mod explaining;
 mod judging;
 mod laws;
 mod loading;

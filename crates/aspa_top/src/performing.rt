@@ -7,7 +7,7 @@ ghost use Rattle.aspa_top.specs.Evaluation.{line_cause as number_of};
 ghost use Rattle.aspa_top.specs.Performing.{Goes, GoesBy, GoesPart, IsSound, IsWithinBounds, PartBy, Uses, UsesBy};
 ghost use Rattle.aspa_top.specs.World.{names_of};
 
-use crate::acting::refuse;
+use crate::acting::{mark, refuse};
 use crate::dumps::{open, take};
 use crate::short::perform_short;
 use crate::tables::load;
@@ -18,7 +18,7 @@ use report_text::Place;
 use script_lines::{Command, LineFault, read};
 use std::alloc::Global;
 use std::sync::ledger::Ledger;
-use stream_lines::{Stop, put_rows};
+use stream_lines::{Stop, put_changes, put_rows};
 
 /// Performs one line, and adds its text to what is held.
 pub(crate) fn perform_line<F: Shelf, W: Sink, L: Ledger>(
@@ -106,6 +106,10 @@ fn perform_command<F: Shelf, W: Sink, L: Ledger>(
         Task::Report => {
             put_rows(working.analyser.store(), out, text)?;
             Ok(working)
+        }
+        Task::Changes => {
+            put_changes(working.analyser.store(), out, text)?;
+            Ok(mark(working))
         }
     }
 }

@@ -1,8 +1,9 @@
 //! What a line does within memory.
-ghost use Rattle.std.specs.Prelude.{◌≡◌, ◌+◌, ◌≤◌, IfOk, OnErr};
+ghost use Rattle.std.specs.Prelude.{◌≡◌, ◌+◌, ◌^◌, ◌<◌, ◌≤◌, IfOk, OnErr};
 ghost use Rattle.aspa_top.specs.Performing.{DoneShort, IsWithinShort, KeepsDumps};
 
 use crate::acting::happen;
+use crate::explaining::explain;
 use crate::judging::put_judgement;
 use crate::task::Short;
 use crate::working::Working;
@@ -20,7 +21,8 @@ pub(crate) fn perform_short<L: Ledger>(
     text: &mut Vec<u8>,
     steps: &mut Steps<L>,
 ) -> Result<Working, NoMemory>
-    requires { IsWithinShort short }
+    requires within { IsWithinShort short }
+    requires room { working.refused < 2 ^ 62 }
     ensures done { IfOk result (DoneShort working short text.old.items text.new.items steps.old steps.new) }
     ensures keeps { IfOk result (KeepsDumps working) }
     ensures err { OnErr result (text.new.items ≡ text.old.items) }
@@ -41,6 +43,10 @@ pub(crate) fn perform_short<L: Ledger>(
             let store = working.analyser.store();
             put_summary(text, summary_of(store, working.passed, working.refused))?;
             Ok(working)
+        }
+        Short::Why(key) => {
+            let next = explain(working, &key, text)?;
+            Ok(next)
         }
     }
 }

@@ -21,6 +21,8 @@ pub(crate) enum Task {
     Take(Name, u32),
     /// It reports each route.
     Report,
+    /// It reports each key that changed, and marks all.
+    Changes,
 }
 
 /// What is done within memory.
@@ -34,6 +36,8 @@ pub(crate) enum Short {
     Judge(Role, u32, AsList),
     /// All is counted.
     Summary,
+    /// A route is explained.
+    Why(Key),
 }
 
 /// What the command asks for.
@@ -59,9 +63,12 @@ pub(crate) fn task_of(command: Command) -> Task
             Task::Short(Short::Judge(role, neighbour, path))
         }
         Command::Report => Task::Report,
-        Command::Changes => Task::Short(Short::Idle),
+        Command::Changes => Task::Changes,
         Command::Summary => Task::Short(Short::Summary),
-        Command::Why(_addr, _asn, _prefix) => Task::Short(Short::Idle),
+        Command::Why(addr, asn, prefix) => {
+            let peer = Peer { addr, asn };
+            Task::Short(Short::Why(Key { peer, prefix }))
+        }
     }
 }
 

@@ -1,3 +1,4 @@
+pub mod ChangesLemmas
 pub mod FrameLemmas
 pub mod LawLemmas
 pub mod NextLemmas

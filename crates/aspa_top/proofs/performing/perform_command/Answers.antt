@@ -1,17 +1,21 @@
 use Rattle.std.proofs.Common.{◌≡◌, ◌+◌, ◌-◌, ◌≤◌, Ok, refl, sym, ap, subst, ◌∙◌, arith, rules}
 use Rattle.std.specs.Io.KnownBytes.{append_known}
 use Rattle.av_base.proofs.PouringLemmas.{Grows-refl}
-use Rattle.script_lines.specs.declared.command.Command.TheVariants.{Open, Take, Report}
+use Rattle.script_lines.specs.declared.command.Command.TheVariants.{Open, Take, Report, Changes}
 use Rattle.aspa_top.specs.declared.task.Task.{Task}
+use Rattle.aspa_top.specs.declared.working.Working.{Working}
 use Rattle.aspa_top.specs.Tasks.{DoesTask}
-use Rattle.aspa_top.proofs.PerformingLemmas.{goes_as, ok_goes_as, part_as, uses_as, uses_load, within_as, reported, reported_part, part_none, part_whole}
+use Rattle.aspa_top.proofs.PerformingLemmas.{goes_as, ok_goes_as, part_as, uses_as, uses_load, within_as, listed, listed_part, IsSound-marked, reported, reported_part, part_none, part_whole}
 use Rattle.aspa_top.proofs.ShortLemmas.{IsSound-short, short_goes}
 use Rattle.aspa_top.proofs.StandsLemmas.{IsSound-kept}
 use Rattle.aspa_top.proofs.TableLemmas.{loaded}
 use Rattle.aspa_top.proofs.performing.perform_command.Goals as goal
 
-pub perform_short-requires : goal.perform_short-requires
-perform_short-requires g c = within_as c.args.command _ (sym c.task_of.ensures ∙ c.in-Short.is) c.requires.within
+pub perform_short-requires-clause-within : goal.perform_short-requires-clause-within
+perform_short-requires-clause-within g c = within_as c.args.command _ (sym c.task_of.ensures ∙ c.in-Short.is) c.requires.within
+
+pub perform_short-requires-clause-room : goal.perform_short-requires-clause-room
+perform_short-requires-clause-room g c = omega (arith, c.requires.sound.refused, c.requires.room.1)
 
 pub take-requires-clause-few : goal.take-requires-clause-few
 take-requires-clause-few g c = within_as c.args.command _ (sym c.task_of.ensures ∙ c.in-Take.is) c.requires.within
@@ -58,7 +62,7 @@ pub returns-in_ok-load-in-Load : goal.returns-in_ok-load-in-Load
 returns-in_ok-load-in-Load g c =
     let same = sym c.task_of.ensures ∙ c.in-Load.is in
     let goes = loaded _ _ c.args.working _ _ _ _ _ _ (λ world state text after loads. subst (λ (task : Task). DoesTask world state task text after) (sym same) loads)
-    c.in_ok-load-in-Load.ensures.loads (g.W.Sink.written c.args.out.now) _ _ c.load.ensures.ticks in
+        c.in_ok-load-in-Load.ensures.loads (g.W.Sink.written c.args.out.now) _ _ c.load.ensures.ticks in
     record {
       goes = goes;
       sound = c.in_ok-load-in-Load.ensures.sound;
@@ -187,3 +191,42 @@ returns-in_err-put_rows-in-Report g c =
       held = search rules;
       sink_cause = search rules;
     }
+
+pub returns-in_ok-put_changes-in-Changes : goal.returns-in_ok-put_changes-in-Changes
+returns-in_ok-put_changes-in-Changes g c =
+    let same = sym c.task_of.ensures ∙ c.in-Changes.is in
+    let goes = goes_as c.args.working _ c.args.command Changes same _ _ _ _ _ _ (listed c.args.working _ _ _ _ _ _ c.store-in-Changes.ensures c.in_ok-put_changes-in-Changes.ensures.whole c.mark.ensures) in
+    record {
+      goes = goes;
+      sound = IsSound-marked c.args.working _ _ _ _ (omega (arith, c.requires.room.0)) c.requires.sound c.mark.ensures;
+      lines = ap (λ (w : Working). w.lines) c.mark.ensures.left;
+      part = part_whole c.args.working _ _ _ _ _ _ _ _ goes;
+      grows = c.put_changes.ensures.grows;
+      ticks = omega arith;
+      names = refl;
+      shelf_faults = omega arith;
+      sink_faults = c.put_changes.ensures.sink_faults;
+      uses = search rules;
+      shelf_cause = search rules;
+      held = search rules;
+      sink_cause = search rules;
+    }
+
+pub returns-in_err-put_changes-in-Changes : goal.returns-in_err-put_changes-in-Changes
+returns-in_err-put_changes-in-Changes g c =
+    record {
+      goes = search rules;
+      sound = search rules;
+      lines = search rules;
+      part = part_as c.args.working c.args.working c.args.command Changes (sym c.task_of.ensures ∙ c.in-Changes.is) _ _ _ (listed_part c.args.working _ _ _ _ c.store-in-Changes.ensures c.put_changes.ensures.front);
+      grows = c.put_changes.ensures.grows;
+      ticks = omega arith;
+      names = refl;
+      shelf_faults = omega arith;
+      sink_faults = c.put_changes.ensures.sink_faults;
+      uses = search rules;
+      shelf_cause = search rules;
+      held = search rules;
+      sink_cause = search rules;
+    }
+

@@ -16,3 +16,6 @@ returns-in_ok-put_judgement-in-Judge-clause-done g c =
 pub returns-in_ok-put_summary-in-Summary-clause-done : goal.returns-in_ok-put_summary-in-Summary-clause-done
 returns-in_ok-put_summary-in-Summary-clause-done g c =
     rw c.in-Summary.is (summed c.args.working _ _ _ _ _ c.store-store.ensures c.summary_of.ensures c.in_ok-put_summary-in-Summary.ensures.ok)
+
+pub returns-in_ok-next-in-Why-clause-done : goal.returns-in_ok-next-in-Why-clause-done
+returns-in_ok-next-in-Why-clause-done g c = rw c.in-Why.is (c.in_ok-next-in-Why.ensures.done c.args.steps.now)
