@@ -1,0 +1,13 @@
+//! The stated workload of a seed, and what it writes: the words `demo N` of the program.
+#![tactic(auto)]
+
+mod amendments;
+mod announcements;
+mod draws;
+mod laws;
+mod roles;
+mod rows;
+mod workload;
+
+pub use laws::each_seed_has_one_workload;
+pub use workload::{Workload, workload_of};
