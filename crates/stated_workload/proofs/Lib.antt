@@ -1,4 +1,6 @@
 pub mod DrawsLemmas
+pub mod HappeningLemmas
 pub mod RowsLemmas
+pub mod SummaryLemmas
 pub mod WorkloadLemmas
 pub mod WorkloadLawLemmas

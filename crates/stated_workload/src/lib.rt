@@ -4,10 +4,13 @@
 mod amendments;
 mod announcements;
 mod draws;
+mod happening;
 mod laws;
 mod roles;
 mod rows;
+mod summary;
 mod workload;
 
 pub use laws::each_seed_has_one_workload;
+pub use summary::summary_of;
 pub use workload::{Workload, workload_of};
