@@ -6,11 +6,11 @@ use Rattle.path_model.specs.declared.verdict.Verdict.{Verdict}
 use Rattle.path_model.specs.declared.verdict.Verdict.TheVariants.{Valid, Unknown, Invalid}
 use Rattle.path_model.specs.Codes.{coded_key, coded_path}
 use Rattle.path_model.specs.CurrentTable.{Parts}
-use Rattle.path_model.specs.Key.{key_cmp}
 use Rattle.path_model.specs.Roles.{Relations, coded_relations}
 use Rattle.path_model.specs.Routes.{Routes}
 use Rattle.vap_table.specs.Codes.{coded_parts}
-use Rattle.rib_store.specs.State.{State}
+use Rattle.rib_store.specs.Held.{RoutesAndMarks}
+use Rattle.rib_store.specs.State.{State, Marked}
 use Rattle.rib_store.specs.Stored.{Stored}
 
 -- a verdict as two truth values
@@ -35,11 +35,15 @@ coded_verdict = code_by (Bool × Bool) (coded× coded_bool coded_bool) verdict_p
 abbrev pub coded_routes : Coded Routes
 coded_routes = fin.code coded_key coded_path
 
-abbrev pub coded_marked : Coded (fin.FinMap key_cmp Verdict)
+abbrev pub coded_marked : Coded Marked
 coded_marked = fin.code coded_key coded_verdict
 
+abbrev pub coded_held : Coded RoutesAndMarks
+coded_held = code_by (Routes × Marked) (coded× coded_routes coded_marked) (λ h. (h.routes, h.marked))
+    (λ p. record { routes = p.0; marked = p.1 }) (λ _. refl)
+
 abbrev pub coded_state : Coded State
-coded_state = code_by (Parts × (Relations × (Routes × fin.FinMap key_cmp Verdict)))
+coded_state = code_by (Parts × (Relations × (Routes × Marked)))
     (coded× coded_parts (coded× coded_relations (coded× coded_routes coded_marked)))
     (λ s. (s.parts, (s.roles, (s.routes, s.marked))))
     (λ p. record { parts = p.0; roles = p.1.0; routes = p.1.1.0; marked = p.1.1.1 }) (λ _. refl)

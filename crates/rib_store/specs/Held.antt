@@ -1,23 +1,31 @@
--- The routes of one peer. Private contracts alone cite it.
-use Rattle.std.specs.Prelude.{◌≡◌, true}
-use Rattle.std.specs.Option.{IsSome}
-use Rattle.std.specs.declared.option.Option.TheVariants.{None}
+-- What is held of each key, and what is read of it: the routes and the marked verdicts.
+use Rattle.std.specs.Prelude.{List}
+use Rattle.std.specs.declared.option.Option.{Option}
+use Rattle.std.specs.List.{filter_map}
+use Rattle.std.specs.Option.{option_map}
 use Rattle.std.specs.FinMap as fin
-use Rattle.path_model.specs.declared.addr.Addr.TheVariants.{V4}
 use Rattle.path_model.specs.declared.key.Key.{Key}
-use Rattle.path_model.specs.declared.peer.Peer.{Peer}
-use Rattle.path_model.specs.Prefix.{Subnet}
-use Rattle.path_model.specs.Routes.{Routes, is_of_peer}
+use Rattle.path_model.specs.declared.verdict.Verdict.{Verdict}
+use Rattle.path_model.specs.Routes.{Routes}
+use Rattle.path_model.specs.Trail.{Path}
+use Rattle.rib_store.specs.declared.held.Held.{Held}
+use Rattle.rib_store.specs.State.{Marked}
 
--- the prefix that comes before all others
-abbrev pub least_subnet : Subnet
-least_subnet = record { addr = V4 0; len = 0 }
+-- the routes, and the verdicts that were marked
+pub record RoutesAndMarks : Type 0 where
+  pub routes : Routes
+  pub marked : Marked
 
--- none of the peer's keys has a route
-abbrev pub HasNoRouteOf : Routes → Peer → Type 0
-HasNoRouteOf routes peer = (key : Key) → is_of_peer peer key ≡ true → fin.get routes key ≡ None
+-- what each key has of this part, where it has it
+abbrev pub parts : {A : Type 0} → (Held → Option A) → List (Key × Held) → List (Key × A)
+parts part es = filter_map (λ e. option_map (λ v. (e.0, v)) (part e.1)) es
 
--- this key of the peer's has a route
-pub record IsRouteOf (routes : Routes) (peer : Peer) (key : Key) : Type 0 where
-  pub of_peer : is_of_peer peer key ≡ true
-  pub route : IsSome (fin.get routes key)
+abbrev pub paths_in : List (Key × Held) → List (Key × Path)
+paths_in es = parts (λ h. h.trail) es
+
+abbrev pub marks_in : List (Key × Held) → List (Key × Verdict)
+marks_in es = parts (λ h. h.marked) es
+
+-- what these entries hold
+abbrev pub held_in : List (Key × Held) → RoutesAndMarks
+held_in es = record { routes = fin.from_entries (paths_in es); marked = fin.from_entries (marks_in es) }

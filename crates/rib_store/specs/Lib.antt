@@ -1,7 +1,10 @@
 pub mod Altered
+pub mod Changes
+pub mod ChangesLeft
 pub mod Codes
 pub mod Counts
 pub mod Held
+pub mod Holding
 pub mod Laws
 pub mod Rows
 pub mod Shown

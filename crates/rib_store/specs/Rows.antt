@@ -1,5 +1,6 @@
 -- The rows of a report, made of its routes, and what an iterator over them has left.
 use Rattle.std.specs.Prelude.{ℕ, List, map}
+use Rattle.std.specs.FinMap as fin
 use Rattle.path_model.specs.declared.key.Key.{Key}
 use Rattle.path_model.specs.declared.role.Role.{Role}
 use Rattle.path_model.specs.declared.verdict.Verdict.{Verdict}
@@ -7,9 +8,12 @@ use Rattle.path_model.specs.Authority.{Table}
 use Rattle.path_model.specs.ComputedTable.{table_of}
 use Rattle.path_model.specs.CurrentTable.{Parts}
 use Rattle.path_model.specs.Roles.{Relations, role_of}
+use Rattle.path_model.specs.Routes.{Routes}
 use Rattle.path_model.specs.Trail.{Path}
 use Rattle.path_model.proofs.LawLemmas.{one_right}
 use Rattle.rib_store.specs.declared.rib.Rib.{Rib}
+use Rattle.rib_store.specs.Held.{paths_in}
+use Rattle.rib_store.specs.State.{Marked}
 
 -- the right verdict of a case: the one that the law of verdicts gives
 unfoldable pub verdict_of : Table → Role → ℕ → Path → Verdict
@@ -24,4 +28,8 @@ abbrev pub rows_of : Parts → Relations → List (Key × Path) → List (Key ×
 rows_of parts relations routes = map (λ e. (e.0, current_verdict parts relations e.0 e.1)) routes
 
 abbrev pub rows_left : Rib → List (Key × Verdict)
-rows_left rib = rows_of rib.table.now rib.roles.now rib.rest
+rows_left rib = rows_of rib.table.now rib.roles.now (paths_in rib.rest)
+
+-- the current verdict of each route
+abbrev pub current_verdicts : Parts → Relations → Routes → Marked
+current_verdicts parts relations routes = fin.from_entries (rows_of parts relations (fin.entries routes))

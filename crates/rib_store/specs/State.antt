@@ -11,11 +11,15 @@ use Rattle.path_model.specs.Roles.{Relations, role_of, no_roles}
 use Rattle.path_model.specs.Routes.{Routes}
 use Rattle.path_model.specs.Trail.{Path}
 
+-- the verdict that was marked of each key that had a route then
+abbrev pub Marked : Type 0
+Marked = fin.FinMap key_cmp Verdict
+
 pub record State : Type 0 where
   pub parts : Parts
   pub roles : Relations
   pub routes : Routes
-  pub marked : fin.FinMap key_cmp Verdict
+  pub marked : Marked
 
 -- at the start there is nothing
 abbrev pub no_state : State

@@ -1,47 +1,63 @@
-//! The routes, as they are held.
-ghost use Rattle.std.specs.Prelude.{◌≡◌, ◌<◌, ◌^◌, not, length, Some, IfNone, IfSome, IfOk, OnOk};
-ghost use Rattle.std.specs.Option.{option_copied};
+//! The routes and the marked verdicts, as they are held.
+ghost use Rattle.std.specs.Prelude.{◌≡◌, ◌<◌, ◌^◌, not, length, None, Some, IfNone, IfSome, IfOk, OnOk};
 ghost use Rattle.std.specs.FinMap as fin;
+ghost use Rattle.std.specs.List.Sorted.{IsStrictlySortedBy};
+ghost use Rattle.std.specs.Map.{keys_of};
+ghost use Rattle.std.specs.Option.{option_copied};
+ghost use Rattle.path_model.specs.Key.{key_cmp};
 ghost use Rattle.path_model.specs.Routes.{is_of_peer, performed};
-ghost use Rattle.rib_store.specs.Held.{HasNoRouteOf, IsRouteOf, least_subnet};
+ghost use Rattle.rib_store.specs.Held.{held_in};
+ghost use Rattle.rib_store.specs.Holding.{Holds, Forgets, HasNoRouteFrom, IsFirstRouteFrom, IsRemarked, all_remarked, at, least_subnet, mark_of, only_mark};
+ghost use Rattle.rib_store.specs.Rows.{current_verdicts};
 
+use crate::rib::current;
 use av_base::NoMemory;
-use path_model::{Addr, Change, Changes, Key, Peer, Prefix, Trail};
+use path_model::{Addr, Change, Changes, Key, Peer, Prefix, Roles, Trail, Verdict};
 use std::alloc::Global;
 use std::collections::{BTreeMap, btree_map};
 use std::marker::Model;
+use vap_table::Vaps;
 
-/// The path of each key that has a route.
+/// What is held of a key: its path where it has a route, and the verdict that was marked where it had one then.
 #[derive(Drop)]
-pub(crate) struct HeldRoutes {
-    trails: BTreeMap<Key, Trail>,
+pub(crate) struct Held {
+    pub(crate) trail: Option<Trail>,
+    pub(crate) marked: Option<Verdict>,
 }
 
+/// What is held of each key that has a route, or had one when verdicts were marked.
+#[derive(Drop)]
+pub(crate) struct HeldRoutes {
+    held: BTreeMap<Key, Held>,
+}
+
+/// A contract sees the routes and the marked verdicts.
 impl Model for HeldRoutes {
-    ghost use Rattle.std.specs.FinMap as fin;
-    ghost use Rattle.path_model.specs.Routes.{Routes};
-    ghost use Rattle.rib_store.specs.Codes.{coded_routes};
+    ghost use Rattle.rib_store.specs.Codes.{coded_held};
+    ghost use Rattle.rib_store.specs.Held.{RoutesAndMarks, held_in};
 
-    ghost Value = { Routes };
+    ghost Value = { RoutesAndMarks };
 
-    ghost coded = { coded_routes };
+    ghost coded = { coded_held };
 
-    ghost view = { λ h. fin.from_entries h.trails.entries };
+    ghost view = { λ h. held_in h.held.entries };
 }
 
 impl HeldRoutes {
-    /// No routes. It takes no memory.
+    /// No routes, and nothing marked. It takes no memory.
     pub(crate) fn new(alloc: Global) -> HeldRoutes
-        ensures { result ≡ fin.empty }
+        ensures routes { result.routes ≡ fin.empty }
+        ensures marked { result.marked ≡ fin.empty }
     {
         HeldRoutes {
-            trails: BTreeMap::new(alloc),
+            held: BTreeMap::new(alloc),
         }
     }
 
-    /// The routes after changes, performed from the first to the last.
+    /// The routes after changes, performed from the first to the last. What was marked stays.
     pub(crate) fn perform(self, changes: Changes) -> Result<HeldRoutes, NoMemory>
-        ensures { IfOk result (λ held. held ≡ performed changes self) }
+        ensures routes { IfOk result (λ held. held.routes ≡ performed changes self.routes) }
+        ensures marked { IfOk result (λ held. held.marked ≡ self.marked) }
     {
         let mut held = self;
         for change in changes.into_vec() {
@@ -56,53 +72,139 @@ impl HeldRoutes {
 
     // The key has this path from now on.
     fn announce(&mut self, key: Key, trail: Trail) -> Result<(), NoMemory>
-        ensures { OnOk result (self.new ≡ fin.insert self.old key trail) }
+        ensures routes { OnOk result (self.new.routes ≡ fin.insert self.old.routes key trail) }
+        ensures marked { OnOk result (self.new.marked ≡ self.old.marked) }
     {
-        self.trails.insert(key, trail)?;
+        let marked = mark_of(&self.held, &key);
+        let _ordered = self.held.len();
+        self.held.insert(
+            key,
+            Held {
+                trail: Some(trail),
+                marked,
+            },
+        )?;
         Ok(())
     }
 
     // The key has no route from now on.
     fn remove(&mut self, key: &Key)
-        ensures { self.new ≡ fin.remove self.old key.now }
+        ensures routes { self.new.routes ≡ fin.remove self.old.routes key.now }
+        ensures marked { self.new.marked ≡ self.old.marked }
     {
-        self.trails.remove(key);
+        take_route(&mut self.held, key);
     }
 
-    // The peer has no route from now on. It costs what the peer's routes cost.
+    // The peer has no route from now on. It costs what is held of the peer.
     fn remove_peer(&mut self, peer: &Peer)
-        ensures { self.new ≡ fin.retain_keys self.old (λ key. not (is_of_peer peer.now key)) }
+        ensures routes { self.new.routes ≡ fin.retain_keys self.old.routes (λ key. not (is_of_peer peer.now key)) }
+        ensures marked { self.new.marked ≡ self.old.marked }
     {
-        while let Some(key) = self.first_of(peer) {
+        let mut place = least_of(peer);
+        while let Some(key) = self.first_from(&place) {
             self.remove(&key);
+            place = key;
         }
     }
 
-    // The peer's first key that has a route.
-    fn first_of(&self, peer: &Peer) -> Option<Key>
-        ensures none { IfNone result (HasNoRouteOf self.now peer.now) }
-        ensures some { IfSome result (IsRouteOf self.now peer.now) }
+    // The same peer's first key that has a route, from this key on.
+    fn first_from(&self, place: &Key) -> Option<Key>
+        ensures none { IfNone result (HasNoRouteFrom self.now.routes place.now) }
+        ensures some { IfSome result (IsFirstRouteFrom self.now.routes place.now) }
     {
-        let least = least_of(peer);
-        let Some((key, _)) = self.trails.range(least..).next() else {
-            return None;
-        };
-        if key.peer == *peer { Some(*key) } else { None }
+        for (key, held) in self.held.range(*place..) {
+            if key.peer != place.peer {
+                return None;
+            }
+            if held.trail.is_some() {
+                return Some(*key);
+            }
+        }
+        None
     }
 
     /// The path of a key; `None` exactly where it has no route.
     pub(crate) fn get(&self, key: &Key) -> Option<&Trail>
-        ensures { option_copied result ≡ fin.get self.now key.now }
+        ensures { option_copied result ≡ fin.get self.now.routes key.now }
     {
-        self.trails.get(key)
+        let _ordered = self.held.len();
+        let held = self.held.get(key)?;
+        held.trail.as_ref()
     }
 
-    /// The keys with their paths, in key order.
-    pub(crate) fn iter(&self) -> btree_map::Iter<'_, Key, Trail>
-        ensures whole { result ≡ fin.entries self.now }
+    /// What is held of each key, in key order.
+    pub(crate) fn iter(&self) -> btree_map::Iter<'_, Key, Held>
+        ensures whole { held_in result ≡ self.now }
+        ensures ordered { IsStrictlySortedBy key_cmp (keys_of result) }
         ensures few { length result < 2 ^ 63 }
     {
-        self.trails.iter()
+        self.held.iter()
+    }
+
+    /// The current verdicts are the marked ones from now on. It takes no memory.
+    pub(crate) fn mark(self, table: &Vaps, roles: &Roles) -> HeldRoutes
+        ensures routes { result.routes ≡ self.routes }
+        ensures marked { result.marked ≡ current_verdicts table.now roles.now self.routes }
+    {
+        HeldRoutes {
+            held: mark_all(table, roles, self.held),
+        }
+    }
+}
+
+// The verdict that was marked of a key, if any was.
+fn mark_of(held: &BTreeMap<Key, Held>, key: &Key) -> Option<Verdict>
+    ensures { result ≡ mark_of (at key.now held.now.entries) }
+{
+    match held.get(key) {
+        None => None,
+        Some(entry) => entry.marked,
+    }
+}
+
+// Takes the route of a key away. What was marked of it stays.
+fn take_route(held: &mut BTreeMap<Key, Held>, key: &Key)
+    ensures { Holds held.old.entries key.now (only_mark (mark_of (at key.now held.old.entries)))
+        held.new.entries }
+{
+    if forget_trail(held, key) {
+        held.remove(key);
+    }
+}
+
+// Forgets the path of a key, and answers whether nothing was marked of it.
+fn forget_trail(held: &mut BTreeMap<Key, Held>, key: &Key) -> bool
+    ensures { Forgets held.old.entries key.now held.new.entries result }
+{
+    match held.get_mut(key) {
+        None => false,
+        Some(entry) => {
+            entry.trail = None;
+            entry.marked.is_none()
+        }
+    }
+}
+
+// What is held once the current verdicts are marked: a key without a route goes.
+fn mark_all(table: &Vaps, roles: &Roles, held: BTreeMap<Key, Held>) -> BTreeMap<Key, Held>
+    ensures { result.entries ≡ all_remarked table.now roles.now held.entries }
+{
+    let mut held = held;
+    held.retain(|key, entry| mark_one(table, roles, key, entry));
+    held
+}
+
+// Marks the current verdict of a key, and answers whether it has a route.
+fn mark_one(table: &Vaps, roles: &Roles, key: &Key, entry: &mut Held) -> bool
+    ensures { IsRemarked table.now roles.now key.now entry.old entry.new result }
+{
+    match &entry.trail {
+        None => false,
+        Some(trail) => {
+            let verdict = current(table, roles, key, trail);
+            entry.marked = Some(verdict);
+            true
+        }
     }
 }
 

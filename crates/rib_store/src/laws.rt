@@ -1,7 +1,17 @@
 //! Laws of the store: the contract of each function is the law, and its body does nothing.
-ghost use Rattle.rib_store.specs.Laws.{EachStateHasOneReport};
+ghost use Rattle.rib_store.specs.Laws.{EachStateHasOneListOfChanges, EachStateHasOneMarking, EachStateHasOneReport};
 
 /// Each state has exactly one list of rows.
 pub fn each_state_has_one_report()
     ensures { EachStateHasOneReport }
+{}
+
+/// Each state has exactly one list of changes.
+pub fn each_state_has_one_list_of_changes()
+    ensures { EachStateHasOneListOfChanges }
+{}
+
+/// From each state exactly one state comes by marking.
+pub fn each_state_has_one_marking()
+    ensures { EachStateHasOneMarking }
 {}

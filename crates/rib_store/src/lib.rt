@@ -5,16 +5,19 @@
 //! of the `state` of the store's value alone, so that they stay word for word where a store keeps more. Begin reading in
 //! `specs/State.antt`, and then in `store`.
 //!
-//! `held` keeps the routes, `rib` lists and judges them, and `counts` counts the verdicts.
+//! `held` keeps the routes and the marked verdicts, `rib` lists and judges the routes, `counts` counts the verdicts, and `journal`
+//! lists what changed since verdicts were marked.
 #![tactic(auto)]
 
 mod counts;
 mod held;
+mod journal;
 mod laws;
 mod rib;
 mod store;
 
 pub use counts::Counts;
-pub use laws::each_state_has_one_report;
+pub use journal::{ChangedKey, Journal};
+pub use laws::{each_state_has_one_list_of_changes, each_state_has_one_marking, each_state_has_one_report};
 pub use rib::{Rib, Shown};
 pub use store::RibStore;

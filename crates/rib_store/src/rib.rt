@@ -3,7 +3,8 @@ ghost use Rattle.std.specs.Prelude.{◌≡◌};
 ghost use Rattle.std.specs.Iterator.{YieldsFirstBy, item_count};
 ghost use Rattle.rib_store.specs.Rows.{current_verdict, rows_left};
 
-use path_model::{Key, Role, Roles, Trail, Verdict};
+use crate::held::Held;
+use path_model::{Key, Role, Roles, Trail, Verdict, Witness};
 use ramps::decide;
 use std::collections::btree_map;
 use vap_table::Vaps;
@@ -12,8 +13,8 @@ use vap_table::Vaps;
 /// memory.
 #[derive(Drop)]
 pub struct Rib<'a> {
-    // the routes that are left
-    pub(crate) rest: btree_map::Iter<'a, Key, Trail>,
+    // what is held of the keys that are left
+    pub(crate) rest: btree_map::Iter<'a, Key, Held>,
     pub(crate) table: &'a Vaps,
     pub(crate) roles: &'a Roles,
 }
@@ -26,10 +27,12 @@ impl<'a> Iterator for Rib<'a> {
     ghost remaining = { item_count rows_left };
 
     fn next(&mut self) -> Option<(Key, Verdict)> {
-        match self.rest.next() {
-            None => None,
-            Some((key, trail)) => Some((*key, current(self.table, self.roles, key, trail))),
+        while let Some((key, held)) = self.rest.next() {
+            if let Some(trail) = &held.trail {
+                return Some((*key, current(self.table, self.roles, key, trail)));
+            }
         }
+        None
     }
 }
 
@@ -38,6 +41,8 @@ impl<'a> Iterator for Rib<'a> {
 pub struct Shown<'a> {
     /// Its current verdict.
     pub verdict: Verdict,
+    /// Why it has it: the witness that is printed.
+    pub witness: Witness,
     /// The role of its peer's AS.
     pub role: Role,
     /// Its path.

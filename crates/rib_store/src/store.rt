@@ -5,15 +5,19 @@ ghost use Rattle.path_model.specs.Roles.{set_role};
 ghost use Rattle.path_model.specs.Routes.{performed};
 ghost use Rattle.rib_store.specs.State.{no_state, AreRows};
 ghost use Rattle.rib_store.specs.Altered.{IsAltered};
+ghost use Rattle.rib_store.specs.Changes.{AreChanges, IsMarked};
+ghost use Rattle.rib_store.specs.ChangesLeft.{changes_left};
 ghost use Rattle.rib_store.specs.Rows.{rows_left};
 ghost use Rattle.rib_store.specs.Shown.{IsShown};
 ghost use Rattle.rib_store.specs.Counts.{AreCounts};
 
 use crate::counts::{Counts, count};
 use crate::held::HeldRoutes;
-use crate::rib::{Rib, Shown, current};
+use crate::journal::Journal;
+use crate::rib::{Rib, Shown};
 use av_base::{NoMemory, Steps};
 use path_model::{Changes, Key, Role, Roles};
+use ramps::explain;
 use std::alloc::Global;
 use std::marker::Model;
 use std::sync::ledger::Ledger;
@@ -22,14 +26,13 @@ use vap_table::{TableChange, Vaps};
 /// All that attests, the roles, and the routes of all peers (RFC 4271, section 3.2). It judges a route when it is asked.
 #[derive(Drop)]
 pub struct RibStore {
-    routes: HeldRoutes,
+    held: HeldRoutes,
     table: Vaps,
     roles: Roles,
 }
 
 /// A contract sees the state of the analysis.
 impl Model for RibStore {
-    ghost use Rattle.std.specs.FinMap as fin;
     ghost use Rattle.rib_store.specs.Codes.{coded_stored};
     ghost use Rattle.rib_store.specs.Stored.{Stored};
 
@@ -41,8 +44,8 @@ impl Model for RibStore {
       state = record {
         parts = s.table;
         roles = s.roles;
-        routes = s.routes;
-        marked = fin.empty;
+        routes = s.held.routes;
+        marked = s.held.marked;
       };
     } };
 }
@@ -53,7 +56,7 @@ impl RibStore {
         ensures { result.state ≡ no_state }
     {
         RibStore {
-            routes: HeldRoutes::new(alloc),
+            held: HeldRoutes::new(alloc),
             table: Vaps::new(alloc),
             roles: Roles::new(alloc),
         }
@@ -69,17 +72,9 @@ impl RibStore {
             s.state ≡ record self.state { routes = performed changes self.state.routes }) }
         ensures ticks { steps.new ≡ steps.old }
     {
-        let RibStore {
-            routes,
-            table,
-            roles,
-        } = self;
-        let routes = routes.perform(changes)?;
-        Ok(RibStore {
-            routes,
-            table,
-            roles,
-        })
+        let RibStore { held, table, roles } = self;
+        let held = held.perform(changes)?;
+        Ok(RibStore { held, table, roles })
     }
 
     /// Changes what attests. It visits only the customers that the change names.
@@ -91,17 +86,9 @@ impl RibStore {
         ensures state { IfOk result (λ s. IsAltered self.state change s.state) }
         ensures ticks { steps.new ≡ steps.old }
     {
-        let RibStore {
-            routes,
-            table,
-            roles,
-        } = self;
+        let RibStore { held, table, roles } = self;
         let (table, _moves) = table.change(change)?;
-        Ok(RibStore {
-            routes,
-            table,
-            roles,
-        })
+        Ok(RibStore { held, table, roles })
     }
 
     /// Sets the role of an AS.
@@ -139,7 +126,7 @@ impl RibStore {
         ensures few { length (rows_left result) < 2 ^ 63 }
     {
         Rib {
-            rest: self.routes.iter(),
+            rest: self.held.iter(),
             table: &self.table,
             roles: &self.roles,
         }
@@ -150,10 +137,13 @@ impl RibStore {
         ensures none { IfNone result (fin.get self.now.state.routes key.now ≡ None) }
         ensures some { IfSome result (IsShown self.now.state key.now) }
     {
-        let trail = self.routes.get(key)?;
+        let trail = self.held.get(key)?;
+        let role = self.roles.of(key.peer.asn);
+        let witness = explain(&self.table, role, key.peer.asn, trail);
         Some(Shown {
-            verdict: current(&self.table, &self.roles, key, trail),
-            role: self.roles.of(key.peer.asn),
+            verdict: witness.verdict(),
+            witness,
+            role,
             trail,
         })
     }
@@ -163,6 +153,28 @@ impl RibStore {
         ensures { AreCounts self.now.state result }
     {
         count(self.rows())
+    }
+
+    /// Each key whose verdict or presence differs from the marked one, in key order. At the start nothing is marked. It takes no
+    /// memory.
+    pub fn changes(&self) -> Journal<'_>
+        ensures changes { AreChanges self.now.state (changes_left result) }
+        ensures few { length (changes_left result) < 2 ^ 63 }
+    {
+        Journal {
+            rest: self.held.iter(),
+            table: &self.table,
+            roles: &self.roles,
+        }
+    }
+
+    /// The current verdicts are the marked ones from now on. It takes no memory.
+    pub fn mark(self) -> RibStore
+        ensures { IsMarked self.state result.state }
+    {
+        let RibStore { held, table, roles } = self;
+        let held = held.mark(&table, &roles);
+        RibStore { held, table, roles }
     }
 
     /// All that attests.

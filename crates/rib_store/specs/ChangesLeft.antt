@@ -1,0 +1,42 @@
+-- The changes, made of what is held, and what an iterator over them has left.
+use Rattle.std.specs.Prelude.{ℕ, nat_eq, Bool, true, false, List, cond}
+use Rattle.std.specs.declared.option.Option.{Option}
+use Rattle.std.specs.declared.option.Option.TheVariants.{Some, None}
+use Rattle.std.specs.List.{filter_map}
+use Rattle.std.specs.Option.{option_map, option_eq}
+use Rattle.path_model.specs.declared.key.Key.{Key}
+use Rattle.path_model.specs.declared.verdict.Verdict.{Verdict}
+use Rattle.path_model.specs.declared.verdict.Verdict.TheVariants.{Valid, Unknown, Invalid}
+use Rattle.path_model.specs.CurrentTable.{Parts}
+use Rattle.path_model.specs.Roles.{Relations}
+use Rattle.path_model.specs.Trail.{Path}
+use Rattle.rib_store.specs.declared.held.Held.{Held}
+use Rattle.rib_store.specs.declared.journal.ChangedKey.{ChangedKey}
+use Rattle.rib_store.specs.declared.journal.Journal.{Journal}
+use Rattle.rib_store.specs.Rows.{current_verdict}
+
+-- the current verdict of a key with or without a path
+abbrev pub present_verdict : Parts → Relations → Key → Option Path → Option Verdict
+present_verdict parts relations key path = option_map (current_verdict parts relations key) path
+
+abbrev pub verdict_number : Verdict → ℕ
+verdict_number Valid = 0
+verdict_number Unknown = 1
+verdict_number Invalid = 2
+
+abbrev pub are_same : Option Verdict → Option Verdict → Bool
+are_same one other = option_eq (λ v w. nat_eq (verdict_number v) (verdict_number w)) one other
+
+-- a key with both verdicts, where they differ
+abbrev pub change_between : Key → Option Verdict → Option Verdict → Option ChangedKey
+change_between key before after = cond (are_same before after) None (Some (record { key = key; before = before; after = after }))
+
+abbrev pub change_at : Parts → Relations → Key × Held → Option ChangedKey
+change_at parts relations e = change_between e.0 e.1.marked (present_verdict parts relations e.0 e.1.trail)
+
+-- the changes among these entries
+abbrev pub changes_in : Parts → Relations → List (Key × Held) → List ChangedKey
+changes_in parts relations es = filter_map (change_at parts relations) es
+
+abbrev pub changes_left : Journal → List ChangedKey
+changes_left journal = changes_in journal.table.now journal.roles.now journal.rest
