@@ -3,4 +3,5 @@ pub mod Happening
 pub mod Laws
 pub mod Rows
 pub mod Summary
+pub mod Text
 pub mod Workload
