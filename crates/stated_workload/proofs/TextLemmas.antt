@@ -1,5 +1,5 @@
 -- Each seed has one text, and what is written of it.
-use Rattle.std.proofs.Common.{◌≡◌, ℕ, ◌<◌, List, [], ◌++◌, length, Some, None, IfSome, refl, sym, ap, subst, ◌∙◌, append-nil, append_assoc}
+use Rattle.std.proofs.Common.{◌≡◌, ℕ, ◌<◌, List, [], ◌++◌, length, Some, None, IfSome, refl, sym, ap, subst, ◌∙◌, append-nil}
 use Rattle.std.specs.Io.KnownBytes.{append_known}
 use Rattle.std.specs.declared.option.Option.{Option}
 use Rattle.av_base.specs.Told.{AppendsFront, AppendsPart, Grows}
@@ -122,5 +122,5 @@ text_is seed loading amending loaded marked amended first last changes one two t
   last_is = last_is;
   changes = changes;
   changes_are = changes_are;
-  is = c ∙ ap (λ (l : List ℕ). l ++ changed_text (length changes)) (b ∙ ap (λ (l : List ℕ). l ++ summary_text last) a) ∙ append_assoc (summary_text first) (summary_text last) (changed_text (length changes));
+  is = c ∙ ap (λ (l : List ℕ). l ++ changed_text (length changes)) (b ∙ ap (λ (l : List ℕ). l ++ summary_text last) a);
 }
