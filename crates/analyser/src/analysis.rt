@@ -1,6 +1,7 @@
 //! The analysis, from event to event.
 ghost use Rattle.std.specs.Prelude.{◌≡◌, IfOk};
 ghost use Rattle.analyser.specs.Events.{Happens};
+ghost use Rattle.rib_store.specs.Changes.{IsMarked};
 ghost use Rattle.rib_store.specs.State.{no_state};
 
 use crate::Event;
@@ -51,6 +52,16 @@ impl Analyser {
             Event::DefaultRole(role) => store.set_default(role, steps)?,
         };
         Ok(Analyser { store })
+    }
+
+    /// The analysis once all verdicts are marked as they stand. It takes no memory.
+    pub fn mark(self) -> Analyser
+        ensures { IsMarked self result }
+    {
+        let Analyser { store } = self;
+        Analyser {
+            store: store.mark(),
+        }
     }
 
     /// The store, for what is read of it.

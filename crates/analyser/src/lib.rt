@@ -1,8 +1,8 @@
 //! The analysis: a store of all that attests, the roles and the routes, and what each event makes of it.
 //!
 //! The layer above uses one contract, that of [`Analyser::step`]: after an event the state is what `Happens` of `specs/Events.antt`
-//! says, and by the law [`events_have_one_outcome`] there is exactly one such state. What the state is, is defined in `rib_store`
-//! (`State`). Begin reading in `specs/Events.antt`.
+//! says, and by the law [`events_have_one_outcome`] there is exactly one such state. What the state is, and what [`Analyser::mark`] makes
+//! of it, is defined in `rib_store` (`State`, `Changes`). Begin reading in `specs/Events.antt`.
 #![tactic(auto)]
 
 mod analysis;

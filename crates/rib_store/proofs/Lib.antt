@@ -1,4 +1,11 @@
+pub mod ChangeLemmas
+pub mod ChangeLawLemmas
 pub mod CountLemmas
-pub mod HeldLemmas
+pub mod KeyLemmas
+pub mod MarkLemmas
+pub mod PartLemmas
+pub mod PeerLemmas
 pub mod ReportLemmas
 pub mod RowLemmas
+pub mod ScanLemmas
+pub mod ShownLemmas

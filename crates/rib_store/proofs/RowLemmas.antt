@@ -1,13 +1,9 @@
 -- The rows that are made of a state's routes.
-use Rattle.std.proofs.Common.{◌≡◌, ℕ, Bool, true, false, cond, T, ◌&&◌, List, [], ◌∷◌, Some, refl, ap, ◌∙◌}
+use Rattle.std.proofs.Common.{◌≡◌, ◌≤◌, ℕ, List, [], ◌∷◌, length, Some, arith, refl, ap, sym, subst, ◌∙◌}
 use Rattle.std.specs.Prelude.{map, All}
-use Rattle.std.specs.declared.cmp.Ordering.{Ordering}
-use Rattle.std.specs.declared.cmp.Ordering.TheVariants.{Less, Equal, Greater}
-use Rattle.std.specs.List.{AllByRecursion}
-use Rattle.std.specs.Ordering.{is_eq, is_lt}
-use Rattle.std.specs.Cmp.{eq_by_cmp_equiv}
 use Rattle.std.specs.FinMap as fin
-use Rattle.std.specs.FinMap.Entries.{below_all, is_sorted}
+use Rattle.std.specs.List.Sorted.{IsStrictlySortedBy}
+use Rattle.std.specs.Map.{keys_of}
 use Rattle.std.proofs.lemmas.List.Elements.{All-nil, All-cons}
 use Rattle.path_model.specs.declared.key.Key.{Key}
 use Rattle.path_model.specs.declared.role.Role.{Role}
@@ -16,14 +12,18 @@ use Rattle.path_model.specs.Authority.{Table}
 use Rattle.path_model.specs.ComputedTable.{table_of}
 use Rattle.path_model.specs.CurrentTable.{Parts}
 use Rattle.path_model.specs.Key.{key_cmp}
-use Rattle.path_model.specs.Order.{key_total}
 use Rattle.path_model.specs.RightVerdict.{IsRight}
 use Rattle.path_model.specs.Roles.{Relations, role_of}
+use Rattle.path_model.specs.Routes.{Routes}
 use Rattle.path_model.specs.Trail.{Path}
 use Rattle.path_model.proofs.LawLemmas.{one_right}
 use Rattle.path_model.proofs.PartsLemmas.{table_is_current}
+use Rattle.rib_store.specs.declared.held.Held.{Held}
+use Rattle.rib_store.specs.Held.{paths_in}
 use Rattle.rib_store.specs.Rows.{verdict_of, current_verdict, rows_of}
 use Rattle.rib_store.specs.State.{State, IsCurrent, AreRows}
+use Rattle.rib_store.proofs.KeyLemmas.{AllFound, all_found, entries_whole}
+use Rattle.rib_store.proofs.PartLemmas.{parts_sorted, fewer_parts}
 
 -- ---- the verdict that the law gives
 
@@ -34,38 +34,6 @@ right_verdict table role neighbour path = (one_right table role neighbour path).
 pub is_verdict_of : (table : Table) (role : Role) (neighbour : ℕ) (path : Path) (verdict : Verdict) → IsRight table role neighbour path verdict → verdict ≡ verdict_of table role neighbour path
 unfolding verdict_of
 is_verdict_of table role neighbour path verdict right = (one_right table role neighbour path).only verdict right
-
--- ---- each entry is found at its own key
-
-left_of : (a b : Bool) → T (a && b) → T a
-left_of true b p = tt
-left_of false b p = p
-
-right_of : (a b : Bool) → T (a && b) → T b
-right_of true b p = p
-right_of false b p = absurd p
-
-not_tied : (o : Ordering) → T (is_lt o) → is_eq o ≡ false
-not_tied Less h = refl
-not_tied Equal h = absurd h
-not_tied Greater h = absurd h
-
-abbrev AllFound : List (Key × Path) → List (Key × Path) → Type 0
-AllFound all es = AllByRecursion (λ e. fin.find key_cmp e.0 all ≡ Some e.1) es
-
-found_later : (x : Key) (v : Path) (all es : List (Key × Path)) → T (below_all key_cmp x es) → AllFound all es → AllFound ((x, v) ∷ all) es
-found_later x v all [] below found = tt
-found_later x v all (e ∷ es) below found = (
-  ap (λ (b : Bool). cond b (Some v) (fin.find key_cmp e.0 all)) ((eq_by_cmp_equiv key_total).symm e.0 x ∙ not_tied (key_cmp x e.0) (left_of _ _ below)) ∙ found.0,
-  found_later x v all es (right_of _ _ below) found.1,
-)
-
-all_found : (es : List (Key × Path)) → T (is_sorted key_cmp es) → AllFound es es
-all_found [] sorted = tt
-all_found (e ∷ es) sorted = (
-  ap (λ (b : Bool). cond b (Some e.1) (fin.find key_cmp e.0 es)) ((eq_by_cmp_equiv key_total).refl e.0),
-  found_later e.0 e.1 es es (left_of _ _ sorted) (all_found es (right_of _ _ sorted)),
-)
 
 -- ---- the rows
 
@@ -96,3 +64,16 @@ are_rows state = record {
   keys = firsts state.parts state.roles (fin.entries state.routes);
   current = each_current state (fin.entries state.routes) (all_found (fin.entries state.routes) (fin.entries_sorted state.routes));
 }
+
+-- the same of the entries that hold its routes
+pub rows_held : (state : State) (es : List (Key × Held)) → IsStrictlySortedBy key_cmp (keys_of es) → fin.from_entries (paths_in es) ≡ state.routes → AreRows state (rows_of state.parts state.roles (paths_in es))
+rows_held state es ordered are =
+    let whole : fin.entries state.routes ≡ paths_in es = ap (λ (m : Routes). fin.entries m) (sym are) ∙ entries_whole (paths_in es) (parts_sorted (λ h. h.trail) es ordered) in
+    subst (λ (ps : List (Key × Path)). AreRows state (rows_of state.parts state.roles ps)) whole (are_rows state)
+
+as_many : (parts : Parts) (relations : Relations) (ps : List (Key × Path)) → length (rows_of parts relations ps) ≡ length ps
+as_many parts relations [] = refl
+as_many parts relations (p ∷ ps) = omega (arith, as_many parts relations ps)
+
+pub rows_fewer : (parts : Parts) (relations : Relations) (es : List (Key × Held)) → length (rows_of parts relations (paths_in es)) ≤ length es
+rows_fewer parts relations es = omega (arith, as_many parts relations (paths_in es), fewer_parts (λ h. h.trail) es)

@@ -1,5 +1,5 @@
 -- The changes, made of what is held, and what an iterator over them has left.
-use Rattle.std.specs.Prelude.{ℕ, nat_eq, Bool, true, false, List, cond}
+use Rattle.std.specs.Prelude.{ℕ, nat_eq, Bool, List, cond}
 use Rattle.std.specs.declared.option.Option.{Option}
 use Rattle.std.specs.declared.option.Option.TheVariants.{Some, None}
 use Rattle.std.specs.List.{filter_map}

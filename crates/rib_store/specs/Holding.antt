@@ -19,7 +19,6 @@ use Rattle.path_model.specs.Key.{key_cmp}
 use Rattle.path_model.specs.Prefix.{Subnet}
 use Rattle.path_model.specs.Roles.{Relations}
 use Rattle.path_model.specs.Routes.{Routes, is_of_peer}
-use Rattle.path_model.specs.Trail.{Path}
 use Rattle.rib_store.specs.declared.held.Held.{Held}
 use Rattle.rib_store.specs.Rows.{current_verdict}
 
@@ -55,7 +54,7 @@ is_unmarked (Some held) = not (is_some held.marked)
 -- the route of the key is gone, and this says whether its entry holds no mark
 pub record Forgets (old : List (Key × Held)) (key : Key) (new : List (Key × Held)) (unmarked : Bool) : Type 0 where
   pub forgets : Holds old key (without_trail (at key old)) new
-  pub unmarked : unmarked ≡ is_unmarked (at key old)
+  pub says : unmarked ≡ is_unmarked (at key old)
 
 -- the prefix that comes before all others
 abbrev pub least_subnet : Subnet

@@ -76,14 +76,13 @@ impl HeldRoutes {
         ensures marked { OnOk result (self.new.marked ≡ self.old.marked) }
     {
         let marked = mark_of(&self.held, &key);
-        let _ordered = self.held.len();
-        self.held.insert(
-            key,
-            Held {
-                trail: Some(trail),
-                marked,
-            },
-        )?;
+        // it comes with the order of the keys
+        let _length = self.held.len();
+        let entry = Held {
+            trail: Some(trail),
+            marked,
+        };
+        self.held.insert(key, entry)?;
         Ok(())
     }
 
@@ -112,22 +111,15 @@ impl HeldRoutes {
         ensures none { IfNone result (HasNoRouteFrom self.now.routes place.now) }
         ensures some { IfSome result (IsFirstRouteFrom self.now.routes place.now) }
     {
-        for (key, held) in self.held.range(*place..) {
-            if key.peer != place.peer {
-                return None;
-            }
-            if held.trail.is_some() {
-                return Some(*key);
-            }
-        }
-        None
+        first_route(&self.held, place)
     }
 
     /// The path of a key; `None` exactly where it has no route.
     pub(crate) fn get(&self, key: &Key) -> Option<&Trail>
         ensures { option_copied result ≡ fin.get self.now.routes key.now }
     {
-        let _ordered = self.held.len();
+        // it comes with the order of the keys
+        let _length = self.held.len();
         let held = self.held.get(key)?;
         held.trail.as_ref()
     }
@@ -150,6 +142,22 @@ impl HeldRoutes {
             held: mark_all(table, roles, self.held),
         }
     }
+}
+
+// The same peer's first key that has a route, from this key on.
+fn first_route(held: &BTreeMap<Key, Held>, place: &Key) -> Option<Key>
+    ensures none { IfNone result (HasNoRouteFrom (held_in held.now.entries).routes place.now) }
+    ensures some { IfSome result (IsFirstRouteFrom (held_in held.now.entries).routes place.now) }
+{
+    for (key, entry) in held.range(*place..) {
+        if key.peer != place.peer {
+            return None;
+        }
+        if entry.trail.is_some() {
+            return Some(*key);
+        }
+    }
+    None
 }
 
 // The verdict that was marked of a key, if any was.
@@ -187,7 +195,8 @@ fn forget_trail(held: &mut BTreeMap<Key, Held>, key: &Key) -> bool
 
 // What is held once the current verdicts are marked: a key without a route goes.
 fn mark_all(table: &Vaps, roles: &Roles, held: BTreeMap<Key, Held>) -> BTreeMap<Key, Held>
-    ensures { result.entries ≡ all_remarked table.now roles.now held.entries }
+    ensures marked { result.entries ≡ all_remarked table.now roles.now held.entries }
+    ensures ordered { IsStrictlySortedBy key_cmp (keys_of held.entries) }
 {
     let mut held = held;
     held.retain(|key, entry| mark_one(table, roles, key, entry));

@@ -10,7 +10,7 @@ use std::collections::btree_map;
 use vap_table::Vaps;
 
 /// A key whose verdict or presence differs from the marked one.
-#[derive(Clone, Copy, Debug)]
+#[derive(Clone, Copy, Debug, PartialEq, Eq)]
 pub struct ChangedKey {
     /// The key.
     pub key: Key,

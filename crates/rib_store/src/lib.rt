@@ -18,6 +18,8 @@ mod store;
 
 pub use counts::Counts;
 pub use journal::{ChangedKey, Journal};
-pub use laws::{each_state_has_one_list_of_changes, each_state_has_one_marking, each_state_has_one_report};
+pub use laws::{
+    each_state_has_one_list_of_changes, each_state_has_one_marking, each_state_has_one_report,
+};
 pub use rib::{Rib, Shown};
 pub use store::RibStore;

@@ -4,4 +4,7 @@ use Rattle.path_model.specs.Routes.{performed}
 use Rattle.rib_store.proofs.held.HeldRoutes.perform.Given as goal
 
 abbrev pub invariant-loop-change : goal.invariant-loop-change
-invariant-loop-change l = performed (into_iter_items l.change-iterator) l.held ≡ performed l.fn.changes l.fn.self
+invariant-loop-change l = record {
+  routes : performed (into_iter_items l.change-iterator) l.held.routes ≡ performed l.fn.changes l.fn.self.routes;
+  marked : l.held.marked ≡ l.fn.self.marked;
+}

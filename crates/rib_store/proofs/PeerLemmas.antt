@@ -1,21 +1,12 @@
--- Routes as they are held: all entries in order, and those of one peer.
-use Rattle.std.proofs.Common.{◌≡◌, ℕ, Bool, true, false, cond, not, zero, suc, ◌<◌, ◌-◌, List, [], ◌∷◌, length, None, Some, arith, refl, ap, sym, subst, ◌∙◌, true≢false}
+-- The routes of one peer: where its keys stand, and what is left once they are removed one by one.
+use Rattle.std.proofs.Common.{◌≡◌, ℕ, Bool, true, false, cond, not, zero, suc, ◌<◌, ◌-◌, None, arith, refl, ap, sym, subst, ◌∙◌, true≢false}
 use Rattle.std.specs.declared.option.Option.{Option}
 use Rattle.std.specs.declared.cmp.Ordering.{Ordering}
 use Rattle.std.specs.declared.cmp.Ordering.TheVariants.{Less, Equal, Greater}
 use Rattle.std.specs.Ordering.{is_eq, is_gt, eq_by_cmp, nat_cmp, ordering_then, ordering_reverse}
 use Rattle.std.specs.Cmp.{Equal-is, nat_cmp_is}
 use Rattle.std.specs.FinMap as fin
-use Rattle.std.specs.FinMap.Entries.{by_order}
-use Rattle.std.specs.Option.{IsSome, IfSome}
-use Rattle.std.specs.List.{AllByRecursion, slice_get}
-use Rattle.std.specs.List.Sorted.{IsStrictlySortedBy}
-use Rattle.std.specs.Map.{keys_of}
-use Rattle.std.specs.BTreeMap as tree
-use Rattle.std.specs.BTreeMap.{BTreeMap}
-use Rattle.std.specs.BTreeMap.Range.{IsRangeOf, IsEntryInRange}
-use Rattle.std.specs.declared.ops.Bound.TheVariants.{Included, Unbounded}
-use Rattle.std.proofs.lemmas.Map.Keys.{sorted_head, sorted_tail}
+use Rattle.std.specs.Option.{IsSome}
 use Rattle.path_model.specs.declared.addr.Addr.{Addr}
 use Rattle.path_model.specs.declared.addr.Addr.TheVariants.{V4, V6}
 use Rattle.path_model.specs.declared.key.Key.{Key}
@@ -26,23 +17,8 @@ use Rattle.path_model.specs.Prefix.{Subnet, addr_cmp, subnet_cmp}
 use Rattle.path_model.specs.Routes.{Routes, is_of_peer}
 use Rattle.path_model.specs.Trail.{Path}
 use Rattle.path_model.proofs.OrderLemmas.{peer_exact, key_exact}
-use Rattle.rib_store.specs.Held.{HasNoRouteOf, least_subnet}
-
--- ---- the entries of a map that is made of entries in order
-
-put_first : (k : Key) (v : Path) (es : List (Key × Path)) → AllByRecursion (λ y. key_cmp k y ≡ Less) (keys_of es) → fin.put key_cmp k v es ≡ (k, v) ∷ es
-put_first k v [] below = refl
-put_first k v (e ∷ es) below = ap (λ (o : Ordering). by_order o ((k, v) ∷ e ∷ es) ((e.0, v) ∷ es) (e ∷ fin.put key_cmp k v es)) below.0
-
-no_length : {A : Type 0} (es : List A) → length es ≡ 0 → es ≡ []
-no_length [] e = refl
-no_length (x ∷ es) e = absurd (omega (arith, e))
-
-pub entries_whole : (es : List (Key × Path)) → IsStrictlySortedBy key_cmp (keys_of es) → fin.entries (fin.from_entries {R = key_cmp} es) ≡ es
-entries_whole [] sorted = no_length (fin.entries (fin.empty {X = Path} {R = key_cmp})) (sym (fin.len-entries (fin.empty {X = Path} {R = key_cmp})) ∙ fin.len-empty key_cmp Path)
-entries_whole (e ∷ es) sorted = fin.entries-insert key_total (fin.from_entries es) e.0 e.1
-    ∙ ap (fin.put key_cmp e.0 e.1) (entries_whole es (sorted_tail key_cmp e.0 (keys_of es) sorted))
-    ∙ put_first e.0 e.1 es (sorted_head key_cmp e.0 (keys_of es) sorted)
+use Rattle.rib_store.specs.Holding.{HasNoRouteOf, HasNoRouteFrom, IsFirstRouteFrom, least_subnet}
+use Rattle.rib_store.proofs.KeyLemmas.{same_key}
 
 -- ---- what removing one of the peer's routes leaves for the others
 
@@ -51,9 +27,6 @@ stays peer key = not (is_of_peer peer key)
 
 alike : (peer : Peer) (q x : Key) → key_cmp q x ≡ Equal → stays peer x ≡ stays peer q
 alike peer q x e = ap (stays peer) (sym (key_exact q x e))
-
-same_key : (q x : Key) → eq_by_cmp key_cmp q x ≡ true → q ≡ x
-same_key q x t = key_exact q x ((Equal-is (key_cmp q x)).0 t)
 
 pub one_gone : (routes : Routes) (peer : Peer) (key : Key) → is_of_peer peer key ≡ true → fin.retain_keys (fin.remove routes key) (stays peer) ≡ fin.retain_keys routes (stays peer)
 one_gone routes peer key of_peer = fin.same_map key_total key_exact _ _ (λ q.
@@ -117,29 +90,6 @@ between least e q of_peer first second =
     between_by (peer_cmp least.peer e.peer) (peer_cmp e.peer least.peer) (subnet_cmp least.prefix e.prefix) (subnet_cmp e.prefix q.prefix) (peer_total.antisymm least.peer e.peer) first
     (subst (λ (p : Peer). is_gt (ordering_then (peer_cmp e.peer p) (subnet_cmp e.prefix q.prefix)) ≡ false) same second)
 
--- ---- a range from the peer's least key on
-
-none_at : (m : BTreeMap Key Path) (q : Key) (o : Option Path) → tree.get key_cmp m q ≡ o → (IsSome o → ⊥) → tree.get key_cmp m q ≡ None
-none_at m q None e not = e
-none_at m q (Some v) e not = absurd (not refl)
-
-module _ (m : BTreeMap Key Path) (least : Key) (is : least.prefix ≡ least_subnet) (range : List (Key × Path)) (of : IsRangeOf key_cmp (Included least) Unbounded m range) where
-  -- it is empty
-  pub none_of_empty : range ≡ [] → (q : Key) → is_of_peer least.peer q ≡ true → tree.get key_cmp m q ≡ None
-  none_of_empty e q of_peer = of.5 e q (least_first least q is of_peer, tt)
-
-  -- it begins with a key of another peer
-  pub none_of_other : (e : Key × Path) (rest : List (Key × Path)) → range ≡ e ∷ rest → is_of_peer least.peer e.0 ≡ false → (q : Key) → is_of_peer least.peer q ≡ true → tree.get key_cmp m q ≡ None
-  none_of_other e rest first other q of_peer =
-      let entry : IsEntryInRange key_cmp (Included least) Unbounded m e = subst (λ (es : List (Key × Path)). IfSome (slice_get es 0) (IsEntryInRange key_cmp (Included least) Unbounded m)) first of.1 in
-      none_at m q (tree.get key_cmp m q) refl (λ some.
-      let below : is_gt (key_cmp e.0 q) ≡ false = subst (λ (es : List (Key × Path)). IfSome (slice_get es 0) (λ (d : Key × Path). is_gt (key_cmp d.0 q) ≡ false)) first (of.2 q (least_first least q is of_peer, tt) some) in
-      true≢false (sym (between least e.0 q of_peer entry.0.0 below) ∙ other))
-
-  -- its first key has a route
-  pub route_of_first : (e : Key × Path) (rest : List (Key × Path)) → range ≡ e ∷ rest → tree.get key_cmp m e.0 ≡ Some e.1
-  route_of_first e rest first = (subst (λ (es : List (Key × Path)). IfSome (slice_get es 0) (IsEntryInRange key_cmp (Included least) Unbounded m)) first of.1).1
-
 -- ---- a key that has a route is one of the map's
 
 not_empty : (routes : Routes) (key : Key) → IsSome (fin.get routes key) → (n : ℕ) → fin.len routes ≡ n → 0 < n
@@ -153,3 +103,50 @@ one_fewer routes key some =
     let less : fin.len (fin.remove routes key) ≡ fin.len routes - 1 = fin.len-remove key_total routes key
     ∙ ap (λ (b : Bool). cond b (fin.len routes - 1) (fin.len routes)) some in
     omega (arith, here, less)
+
+-- ---- the peer's routes are removed from its least key on
+
+-- so far as below this key the peer has no route, and the others have theirs
+pub record Clearing (first now : Routes) (peer : Peer) (place : Key) : Type 0 where
+  pub of_peer : place.peer ≡ peer
+  pub kept : fin.retain_keys now (stays peer) ≡ fin.retain_keys first (stays peer)
+  pub before : (q : Key) → is_of_peer peer q ≡ true → key_cmp q place ≡ Less → fin.get now q ≡ None
+
+turned_back : (place q : Key) → key_cmp q place ≡ Less → key_cmp place q ≡ Greater
+turned_back place q e = key_total.antisymm place q ∙ ap ordering_reverse e
+
+pub clear_start : (routes : Routes) (peer : Peer) (place : Key) → place.peer ≡ peer → place.prefix ≡ least_subnet → Clearing routes routes peer place
+clear_start routes peer place of_peer least = record {
+  of_peer = of_peer;
+  kept = refl;
+  before = λ q is below. absurd (true≢false (ap is_gt (sym (turned_back place q below)) ∙ least_first place q least (ap (λ (p : Peer). is_of_peer p q) of_peer ∙ is)));
+}
+
+not_over_place : (place q : Key) (o : Ordering) → key_cmp q place ≡ o → (o ≡ Less → ⊥) → is_gt (key_cmp place q) ≡ false
+not_over_place place q Less e not = absurd (not refl)
+not_over_place place q Equal e not = ap is_gt (key_total.antisymm place q ∙ ap ordering_reverse e)
+not_over_place place q Greater e not = ap is_gt (key_total.antisymm place q ∙ ap ordering_reverse e)
+
+-- none has a route below the place, or none from it on
+below_or_from : (routes : Routes) (place q : Key) (P : Type 0) → (key_cmp q place ≡ Less → P) → (is_gt (key_cmp place q) ≡ false → P) → (o : Ordering) → key_cmp q place ≡ o → P
+below_or_from routes place q P below from Less e = below e
+below_or_from routes place q P below from Equal e = from (not_over_place place q Equal e (λ h. absurd cc))
+below_or_from routes place q P below from Greater e = from (not_over_place place q Greater e (λ h. absurd cc))
+
+pub clear_next : (first now next : Routes) (peer : Peer) (place key : Key) → Clearing first now peer place → IsFirstRouteFrom now place key → next ≡ fin.remove now key → Clearing first next peer key
+clear_next first now next peer place key c at is =
+    let same : place.peer ≡ key.peer = peer_exact place.peer key.peer ((Equal-is (peer_cmp place.peer key.peer)).0 at.of_peer) in
+    record {
+      of_peer = sym same ∙ c.of_peer;
+      kept = ap (λ (m : Routes). fin.retain_keys m (stays peer)) is ∙ one_gone now peer key (ap (λ (p : Peer). is_of_peer p key) (sym c.of_peer) ∙ at.of_peer) ∙ c.kept;
+      before = λ q of_peer below. ap (λ (m : Routes). fin.get m q) is ∙ fin.get-remove key_total now key q
+          ∙ ap (λ (o : Ordering). cond (is_eq o) None (fin.get now q)) below
+          ∙ below_or_from now place q (fin.get now q ≡ None) (c.before q of_peer)
+          (λ from. at.first q (ap (λ (p : Peer). is_of_peer p q) c.of_peer ∙ of_peer) from below) (key_cmp q place) refl;
+    }
+
+pub clear_end : (first now : Routes) (peer : Peer) (place : Key) → Clearing first now peer place → HasNoRouteFrom now place → now ≡ fin.retain_keys first (stays peer)
+clear_end first now peer place c none =
+    sym (all_gone now peer (λ q of_peer. below_or_from now place q (fin.get now q ≡ None) (c.before q of_peer)
+    (none q (ap (λ (p : Peer). is_of_peer p q) c.of_peer ∙ of_peer)) (key_cmp q place) refl))
+    ∙ c.kept
