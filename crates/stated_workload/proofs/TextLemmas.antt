@@ -1,5 +1,5 @@
 -- Each seed has one text, and what is written of it.
-use Rattle.std.proofs.Common.{◌≡◌, ℕ, ◌<◌, List, [], ◌++◌, length, Some, None, IfSome, refl, sym, ap, subst, ◌∙◌, append-nil}
+use Rattle.std.proofs.Common.{◌≡◌, ℕ, ◌<◌, List, [], ◌++◌, length, IfSome, refl, sym, ap, subst, ◌∙◌, append-nil}
 use Rattle.std.specs.Io.KnownBytes.{append_known}
 use Rattle.std.specs.declared.option.Option.{Option}
 use Rattle.av_base.specs.Told.{AppendsFront, AppendsPart, Grows}
@@ -11,7 +11,8 @@ use Rattle.report_text.specs.Summary.{summary_text}
 use Rattle.rib_store.specs.declared.journal.ChangedKey.{ChangedKey}
 use Rattle.rib_store.specs.Changes.{AreChanges, IsMarked}
 use Rattle.rib_store.specs.State.{State, no_state}
-use Rattle.rib_store.proofs.ChangeLemmas.{has_one_list_of_changes, has_one_marking}
+use Rattle.rib_store.proofs.ChangeLawLemmas.{has_one_list_of_changes}
+use Rattle.rib_store.proofs.MarkLemmas.{has_one_marking}
 use Rattle.analyser.specs.declared.event.Event.{Event}
 use Rattle.stated_workload.specs.Happening.{HappenAll}
 use Rattle.stated_workload.specs.Laws.{HasOneText}
@@ -62,25 +63,27 @@ some_text seed =
     let marking = has_one_marking loaded.0 in
     let amended = some_end marking.marking workload.1 in
     let last = some_summary amended.0 0 0 in
-    let changes = has_one_list_of_changes amended.0 in
-    (lines_of first.0 last.0 (length changes.changes), record {
-      loading = workload.0;
-      amending = workload.1;
-      workload = workload.2;
-      loaded = loaded.0;
-      loads = loaded.1;
-      first = first.0;
-      first_is = first.1;
-      marked = marking.marking;
-      marks = marking.is;
-      amended = amended.0;
-      amends = amended.1;
-      last = last.0;
-      last_is = last.1;
-      changes = changes.changes;
-      changes_are = changes.are;
-      is = refl;
-    })
+    let changes = has_one_list_of_changes amended.0 in (
+      lines_of first.0 last.0 (length changes.changes),
+      record {
+        loading = workload.0;
+        amending = workload.1;
+        workload = workload.2;
+        loaded = loaded.0;
+        loads = loaded.1;
+        first = first.0;
+        first_is = first.1;
+        marked = marking.marking;
+        marks = marking.is;
+        amended = amended.0;
+        amends = amended.1;
+        last = last.0;
+        last_is = last.1;
+        changes = changes.changes;
+        changes_are = changes.are;
+        is = refl;
+      },
+    )
 
 pub has_one_text : (seed : ℕ) → HasOneText seed
 has_one_text seed = let some = some_text seed in record { text = some.0; is = some.1; only = λ other is. one_text seed some.0 other some.1 is }
@@ -102,25 +105,27 @@ writes_part seed old new text held is grows same some other also =
 
 pub ruleset writing = (writes_all, writes_nothing, writes_front, writes_part)
 
--- the lines that were put one behind another
-pub text_is : (seed : ℕ) (loading amending : List Event) (loaded marked amended : State) (first last : Summary) (changes : List ChangedKey) (one two three : List ℕ) → IsWorkload seed loading amending
-    → HappenAll no_state loading loaded → IsSummary loaded 0 0 first → IsMarked loaded marked → HappenAll marked amending amended → IsSummary amended 0 0 last → AreChanges amended changes
-    → one ≡ [] ++ summary_text first → two ≡ one ++ summary_text last → three ≡ two ++ changed_text (length changes) → IsTextOf seed three
-text_is seed loading amending loaded marked amended first last changes one two three workload loads first_is marks amends last_is changes_are a b c = record {
+-- the lines that were put one behind another, of states that were read where they stood
+pub text_is : (seed : ℕ) (loading amending : List Event) (empty loaded marked amended one two three : State) (first last : Summary) (changes : List ChangedKey) (count : ℕ) (none some more all : List ℕ)
+    → IsWorkload seed loading amending → empty ≡ no_state → HappenAll empty loading loaded → one ≡ loaded → IsSummary one 0 0 first → IsMarked loaded marked → HappenAll marked amending amended
+    → two ≡ amended → IsSummary two 0 0 last → three ≡ amended → AreChanges three changes → count ≡ length changes
+    → none ≡ [] → some ≡ none ++ summary_text first → more ≡ some ++ summary_text last → all ≡ more ++ changed_text count → IsTextOf seed all
+text_is seed loading amending empty loaded marked amended one two three first last changes count none some more all workload nothing loads at_one first_is marks amends at_two last_is at_three changes_are counted is_none is_some is_more is_all = record {
   loading = loading;
   amending = amending;
   workload = workload;
   loaded = loaded;
-  loads = loads;
+  loads = subst (λ (s : State). HappenAll s loading loaded) nothing loads;
   first = first;
-  first_is = first_is;
+  first_is = subst (λ (s : State). IsSummary s 0 0 first) at_one first_is;
   marked = marked;
   marks = marks;
   amended = amended;
   amends = amends;
   last = last;
-  last_is = last_is;
+  last_is = subst (λ (s : State). IsSummary s 0 0 last) at_two last_is;
   changes = changes;
-  changes_are = changes_are;
-  is = c ∙ ap (λ (l : List ℕ). l ++ changed_text (length changes)) (b ∙ ap (λ (l : List ℕ). l ++ summary_text last) a);
+  changes_are = subst (λ (s : State). AreChanges s changes) at_three changes_are;
+  is = is_all ∙ ap (λ (l : List ℕ). l ++ changed_text count) (is_more ∙ ap (λ (l : List ℕ). l ++ summary_text last) (is_some ∙ ap (λ (l : List ℕ). l ++ summary_text first) is_none))
+      ∙ ap (λ (n : ℕ). lines_of first last n) counted;
 }

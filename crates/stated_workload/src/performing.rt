@@ -39,12 +39,7 @@ pub fn perform<W: Sink, L: Ledger>(
 }
 
 // The three lines.
-#[tactic(auto, using(crate::proofs::TextLemmas::text_is))]
-fn text_of<L: Ledger>(
-    alloc: Global,
-    seed: u64,
-    steps: &mut Steps<L>,
-) -> Result<Vec<u8>, NoMemory>
+fn text_of<L: Ledger>(alloc: Global, seed: u64, steps: &mut Steps<L>) -> Result<Vec<u8>, NoMemory>
     ensures text { IfOk result (λ text. IsTextOf seed text.items) }
     ensures ticks { steps.new ≡ steps.old }
 {
