@@ -20,7 +20,8 @@ pub(crate) fn add_amendments(
     rng: &mut Lcg64Xsh32,
     events: &mut Vec<Event>,
 ) -> Result<(), NoMemory>
-    ensures { OnOk result (Adds DrawsAmendment 1000 rng.old events.old.items events.new.items rng.new) }
+    ensures { OnOk result
+        (Adds DrawsAmendment 1000 rng.old events.old.items events.new.items rng.new) }
 {
     for turn in 0..AMENDMENTS {
         events.push(draw_amendment(alloc, rng, turn)?)?;

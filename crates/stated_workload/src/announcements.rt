@@ -19,7 +19,8 @@ pub(crate) fn add_announcements(
     rng: &mut Lcg64Xsh32,
     events: &mut Vec<Event>,
 ) -> Result<(), NoMemory>
-    ensures { OnOk result (Adds DrawsAnnouncement 20000 rng.old events.old.items events.new.items rng.new) }
+    ensures { OnOk result
+        (Adds DrawsAnnouncement 20000 rng.old events.old.items events.new.items rng.new) }
 {
     for p in 0..PREFIXES {
         events.push(draw_announcement(alloc, rng, p)?)?;

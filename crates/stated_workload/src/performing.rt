@@ -16,7 +16,7 @@ use std::alloc::Global;
 use std::sync::ledger::Ledger;
 
 /// Performs the workload of a seed on an analysis of its own, and writes its three lines: a summary once all is loaded, a summary once
-/// all is amended, and how many verdicts changed in between. They are written when all is done.
+/// all is amended, and how many keys changed in between. They are written when all is done.
 #[tactic(auto, using(crate::proofs::TextLemmas::writing))]
 pub fn perform<W: Sink, L: Ledger>(
     alloc: Global,
@@ -25,7 +25,8 @@ pub fn perform<W: Sink, L: Ledger>(
     steps: &mut Steps<L>,
 ) -> Result<(), Stop>
     ensures whole { OnOk result (WritesText seed (W.written out.old) (W.written out.new)) }
-    ensures cut { IsErrOf result Stop.Sink → WritesPart seed (W.written out.old) (W.written out.new) }
+    ensures cut { IsErrOf result Stop.Sink
+        → WritesPart seed (W.written out.old) (W.written out.new) }
 
     // Whether it ended early or not.
     ensures front { WritesFront seed (W.written out.old) (W.written out.new) }
@@ -53,7 +54,7 @@ fn text_of<L: Ledger>(alloc: Global, seed: u64, steps: &mut Steps<L>) -> Result<
     Ok(text)
 }
 
-// How many changes are left.
+// How many changes a journal has left.
 fn count_changes(journal: Journal<'_>) -> u64
     requires { length (changes_left journal) < 2 ^ 63 }
     ensures { result ≡ length (changes_left journal.entry) }

@@ -24,7 +24,8 @@ pub struct Workload {
 
 /// The workload of a seed.
 pub fn workload_of(alloc: Global, seed: u64) -> Result<Workload, NoMemory>
-    ensures { IfOk result (λ workload. IsWorkload seed workload.loading.items workload.amending.items) }
+    ensures { IfOk result (λ workload.
+        IsWorkload seed workload.loading.items workload.amending.items) }
 {
     let mut rng = Lcg64Xsh32::new(seed, 0);
     let loading = draw_loading(alloc, &mut rng)?;
