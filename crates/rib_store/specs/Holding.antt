@@ -66,13 +66,15 @@ HasNoRouteOf routes peer = (key : Key) → is_of_peer peer key ≡ true → fin.
 
 -- none of the same peer's keys has a route, from this one on
 abbrev pub HasNoRouteFrom : Routes → Key → Type 0
-HasNoRouteFrom routes place = (key : Key) → is_of_peer place.peer key ≡ true → is_gt (key_cmp place key) ≡ false → fin.get routes key ≡ None
+HasNoRouteFrom routes place = (key : Key) → is_of_peer place.peer key ≡ true → is_gt (key_cmp place key) ≡ false
+    → fin.get routes key ≡ None
 
 -- the same peer's first key that has a route, from this one on
 pub record IsFirstRouteFrom (routes : Routes) (place key : Key) : Type 0 where
   pub of_peer : is_of_peer place.peer key ≡ true
   pub route : IsSome (fin.get routes key)
-  pub first : (q : Key) → is_of_peer place.peer q ≡ true → is_gt (key_cmp place q) ≡ false → key_cmp q key ≡ Less → fin.get routes q ≡ None
+  pub first : (q : Key) → is_of_peer place.peer q ≡ true → is_gt (key_cmp place q) ≡ false → key_cmp q key ≡ Less
+      → fin.get routes q ≡ None
 
 -- what is held of a key once its current verdict is marked; nothing where it has no route
 abbrev pub remarked : Parts → Relations → Key × Held → Option (Key × Held)

@@ -1,11 +1,12 @@
 //! The routes and the marked verdicts, as they are held.
-ghost use Rattle.std.specs.Prelude.{◌≡◌, ◌<◌, ◌^◌, not, length, None, Some, IfNone, IfSome, IfOk, OnOk};
+ghost use Rattle.std.specs.Prelude.{◌≡◌, ◌<◌, ◌^◌, length, None, Some, IfNone, IfSome, IfOk, OnOk};
 ghost use Rattle.std.specs.FinMap as fin;
 ghost use Rattle.std.specs.List.Sorted.{IsStrictlySortedBy};
 ghost use Rattle.std.specs.Map.{keys_of};
 ghost use Rattle.std.specs.Option.{option_copied};
 ghost use Rattle.path_model.specs.Key.{key_cmp};
-ghost use Rattle.path_model.specs.Routes.{is_of_peer, performed};
+ghost use Rattle.path_model.specs.declared.change.Change.TheVariants.{RemovePeer};
+ghost use Rattle.path_model.specs.Routes.{changed, performed};
 ghost use Rattle.rib_store.specs.Held.{held_in};
 ghost use Rattle.rib_store.specs.Holding.{Holds, Forgets, HasNoRouteFrom, IsFirstRouteFrom, IsRemarked, all_remarked, at, least_subnet, mark_of, only_mark};
 ghost use Rattle.rib_store.specs.Rows.{current_verdicts};
@@ -96,7 +97,7 @@ impl HeldRoutes {
 
     // The peer has no route from now on. It costs what is held of the peer.
     fn remove_peer(&mut self, peer: &Peer)
-        ensures routes { self.new.routes ≡ fin.retain_keys self.old.routes (λ key. not (is_of_peer peer.now key)) }
+        ensures routes { self.new.routes ≡ changed (RemovePeer peer.now) self.old.routes }
         ensures marked { self.new.marked ≡ self.old.marked }
     {
         let mut place = least_of(peer);
