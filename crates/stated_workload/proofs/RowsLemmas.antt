@@ -60,12 +60,12 @@ kept_at rows after d (y ∷ ys) x own sets before none =
     (row_at (nat_eq x d) (Some (y ∷ ys)) (Some sets.row) own (map.get rows x) sets.is_set (λ _. before))
 
 pub rows_none : (old : Lcg) → DrawsRows 0 old map.empty old
-rows_none old = record { lists = []; drawn = draws_none DrawsProviders 1 old; are = λ x. subst (λ (o : Option (List ℕ)). IsRowOf None o) (sym (map.get-empty nat_cmp x)) tt }
+rows_none old = record { lists = []; drawn = draws_none (λ _. DrawsProviders) old; are = λ x. subst (λ (o : Option (List ℕ)). IsRowOf None o) (sym (map.get-empty nat_cmp x)) tt }
 
-pub rows_more : {n : ℕ} {old mid : Lcg} {rows : RowMap} → DrawsRows n old rows mid → (list : List ℕ) (new : Lcg) (after : RowMap) → DrawsProviders (n + 1) mid list new → KeepsRow rows (n + 1) list after → DrawsRows (n + 1) old after new
+pub rows_more : {n : ℕ} {old mid : Lcg} {rows : RowMap} → DrawsRows n old rows mid → (list : List ℕ) (new : Lcg) (after : RowMap) → DrawsProviders mid list new → KeepsRow rows (n + 1) list after → DrawsRows (n + 1) old after new
 rows_more {n} {old} {mid} {rows} so_far list new after draws keeps = record {
   lists = so_far.lists ++ list ∷ [];
-  drawn = draws_more DrawsProviders 1 n old mid so_far.lists so_far.drawn list new draws;
+  drawn = draws_more (λ _. DrawsProviders) n old mid so_far.lists so_far.drawn list new draws;
   are = λ x. subst (λ (o : Option (List ℕ)). IsRowOf o (map.get after x)) (sym (given_more 1 (n + 1) so_far.lists list x (many x)))
       (kept_at rows after (n + 1) list x (given_in 1 so_far.lists x) keeps.keeps (so_far.are x) (λ here. above 1 so_far.lists x (place x here)));
 } where
@@ -77,8 +77,8 @@ rows_more {n} {old} {mid} {rows} so_far list new after draws keeps = record {
 
 -- ---- what a call draws and keeps
 
-pub providers_are : (customer : ℕ) (old mid new : Lcg) (count : ℕ) (providers : List ℕ) → Draws 4 old count mid → Adds DrawsAs count mid [] providers new → DrawsProviders customer old providers new
-providers_are customer old mid new count providers drawn adds = record { count = count; counted = mid; count_drawn = drawn; providers_drawn = added_all DrawsAs count mid new providers adds }
+pub providers_are : (old mid new : Lcg) (count : ℕ) (providers : List ℕ) → Draws 4 old count mid → Adds (λ _. DrawsAs) count mid [] providers new → DrawsProviders old providers new
+providers_are old mid new count providers drawn adds = record { count = count; counted = mid; count_drawn = drawn; providers_drawn = added_all (λ _. DrawsAs) count mid new providers adds }
 
 pub keeps_none : (rows : RowMap) (customer : ℕ) (providers : List ℕ) → providers ≡ [] → KeepsRow rows customer providers rows
 keeps_none rows customer providers none = subst (λ (l : List ℕ). KeepsRow rows customer l rows) (sym none) (record { keeps = refl })
@@ -91,14 +91,14 @@ pub ruleset row_steps = (rows_none, rows_more, providers_are, keeps_none, keeps_
 
 -- ---- one outcome
 
-pub one_providers : IsOne DrawsProviders
+pub one_providers : IsOne (λ _. DrawsProviders)
 one_providers k g h s t xs ys e d f =
     let count = one_draw 4 g h d.counted f.counted d.count f.count e d.count_drawn f.count_drawn in
-    one_all DrawsAs one_as 0 d.count f.count d.counted f.counted s t xs ys count.0 count.1 d.providers_drawn f.providers_drawn
+    one_all (λ _. DrawsAs) one_as d.count f.count d.counted f.counted s t xs ys count.0 count.1 d.providers_drawn f.providers_drawn
 
-pub some_providers : IsSome DrawsProviders
+pub some_providers : IsSome (λ _. DrawsProviders)
 some_providers k g =
-    let ases = some_all DrawsAs some_as 0 ((pcg32 g).0 % 4) (pcg32 g).1 in
+    let ases = some_all (λ _. DrawsAs) some_as ((pcg32 g).0 % 4) (pcg32 g).1 in
     (ases.0, ases.1, record { count = (pcg32 g).0 % 4; counted = (pcg32 g).1; count_drawn = some_draw 4 g; providers_drawn = ases.2 })
 
 one_row : (given row other : Option (List ℕ)) → IsRowOf given row → IsRowOf given other → row ≡ other
@@ -109,7 +109,7 @@ one_row (Some list) (Some row) (Some other) is also = ap Some (one_set list row 
 
 pub one_rows : (n : ℕ) (g s t : Lcg) (a b : RowMap) → DrawsRows n g a s → DrawsRows n g b t → Same a b s t
 one_rows n g s t a b d f =
-    let lists = one_all DrawsProviders one_providers 1 n n g g s t d.lists f.lists refl refl d.drawn f.drawn in (
+    let lists = one_all (λ _. DrawsProviders) one_providers n n g g s t d.lists f.lists refl refl d.drawn f.drawn in (
       map.same_map nat_cmp_total map.nat_cmp-IsAntisymmetric a b (λ x. one_row (given_in 1 f.lists x) (map.get a x) (map.get b x)
           (subst (λ (l : List (List ℕ)). IsRowOf (given_in 1 l x) (map.get a x)) lists.0 (d.are x)) (f.are x)),
       lists.1,
@@ -136,6 +136,6 @@ rows_of first (list ∷ lists) =
 
 pub some_rows : (n : ℕ) (g : Lcg) → (rows : RowMap) × (s : Lcg) × DrawsRows n g rows s
 some_rows n g =
-    let lists = some_all DrawsProviders some_providers 1 n g in
+    let lists = some_all (λ _. DrawsProviders) some_providers n g in
     let rows = rows_of 1 lists.0 in
     (rows.0, lists.1, record { lists = lists.0; drawn = lists.2; are = rows.1 })

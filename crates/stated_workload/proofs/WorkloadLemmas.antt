@@ -33,7 +33,7 @@ amended_filter m x g e = subst (λ (k : ℕ). DrawsAmended k x g (Filter x) g) (
 pub amended_unfilter : (m x : ℕ) (g : Lcg) → m ≡ 1 → DrawsAmended m x g (Unfilter x) g
 amended_unfilter m x g e = subst (λ (k : ℕ). DrawsAmended k x g (Unfilter x) g) (sym e) (refl, refl)
 
-pub amended_assert : (m x provider : ℕ) (old new : Lcg) (list : List ℕ) → m ≡ 2 → DrawsAs 0 old provider new → list ≡ provider ∷ [] → DrawsAmended m x old (Assert x list) new
+pub amended_assert : (m x provider : ℕ) (old new : Lcg) (list : List ℕ) → m ≡ 2 → DrawsAs old provider new → list ≡ provider ∷ [] → DrawsAmended m x old (Assert x list) new
 amended_assert m x provider old new list e draws is = subst (λ (k : ℕ). DrawsAmended k x old (Assert x list) new) (sym e) (provider, draws, ap (λ (l : List ℕ). Assert x l) is)
 
 pub amended_unassert : (m x : ℕ) (g : Lcg) → m ≢ 0 → m ≢ 1 → m ≢ 2 → DrawsAmended m x g (Unassert x) g

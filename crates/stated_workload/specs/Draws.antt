@@ -17,13 +17,13 @@ abbrev pub InOrder : {A : Type 0} → (ℕ → Lcg → A → Lcg → Type 0) →
 InOrder Item k old [] new = new ≡ old
 InOrder Item k old (x ∷ xs) new = (mid : Lcg) × Item k old x mid × InOrder Item (suc k) mid xs new
 
--- so many of them
-pub record DrawsAll {A : Type 0} (Item : ℕ → Lcg → A → Lcg → Type 0) (first count : ℕ) (old : Lcg) (items : List A) (new : Lcg) : Type 0 where
+-- so many of them, numbered from 0
+pub record DrawsAll {A : Type 0} (Item : ℕ → Lcg → A → Lcg → Type 0) (count : ℕ) (old : Lcg) (items : List A) (new : Lcg) : Type 0 where
   pub many : length items ≡ count
-  pub each : InOrder Item first old items new
+  pub each : InOrder Item 0 old items new
 
 -- an AS: from 1 to 2000
-pub record DrawsAs (k : ℕ) (old : Lcg) (asn : ℕ) (new : Lcg) : Type 0 where
+pub record DrawsAs (old : Lcg) (asn : ℕ) (new : Lcg) : Type 0 where
   pub value : ℕ
   pub drawn : Draws 2000 old value new
   pub is : asn ≡ 1 + value
@@ -33,5 +33,5 @@ pub record DrawsAs (k : ℕ) (old : Lcg) (asn : ℕ) (new : Lcg) : Type 0 where
 -- so many items stand behind those that were there before
 pub record Adds {A : Type 0} (Item : ℕ → Lcg → A → Lcg → Type 0) (count : ℕ) (old : Lcg) (before after : List A) (new : Lcg) : Type 0 where
   pub added : List A
-  pub drawn : DrawsAll Item 0 count old added new
+  pub drawn : DrawsAll Item count old added new
   pub is : after ≡ before ++ added

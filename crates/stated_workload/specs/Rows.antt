@@ -8,11 +8,11 @@ use Rattle.path_model.specs.Rows.{RowMap, SetsRow, IsRowOf}
 use Rattle.stated_workload.specs.Draws.{Draws, DrawsAll, DrawsAs}
 
 -- the providers of a customer: up to three, perhaps the customer itself, perhaps one twice
-pub record DrawsProviders (customer : ℕ) (old : Lcg) (providers : List ℕ) (new : Lcg) : Type 0 where
+pub record DrawsProviders (old : Lcg) (providers : List ℕ) (new : Lcg) : Type 0 where
   pub count : ℕ
   pub counted : Lcg
   pub count_drawn : Draws 4 old count counted
-  pub providers_drawn : DrawsAll DrawsAs 0 count counted providers new
+  pub providers_drawn : DrawsAll (λ _. DrawsAs) count counted providers new
 
 -- no providers are no attestation
 abbrev pub if_some : List ℕ → Option (List ℕ)
@@ -27,7 +27,7 @@ given_in first (providers ∷ lists) x = if nat_eq x first then if_some provider
 -- the rows of the customers from 1 on
 pub record DrawsRows (customers : ℕ) (old : Lcg) (rows : RowMap) (new : Lcg) : Type 0 where
   pub lists : List (List ℕ)
-  pub drawn : DrawsAll DrawsProviders 1 customers old lists new
+  pub drawn : DrawsAll (λ _. DrawsProviders) customers old lists new
   pub are : (x : ℕ) → IsRowOf (given_in 1 lists x) (map.get rows x)
 
 -- ---- how rows are gathered; private contracts alone cite this part

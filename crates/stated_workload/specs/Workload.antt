@@ -43,24 +43,24 @@ pub record DrawsAnnouncement (p : ℕ) (old : Lcg) (event : Event) (new : Lcg) :
   pub after_n : Lcg
   pub q_drawn : Draws 20 old q after_q
   pub n_drawn : Draws 6 after_q n after_n
-  pub ases_drawn : DrawsAll DrawsAs 0 n after_n ases new
+  pub ases_drawn : DrawsAll (λ _. DrawsAs) n after_n ases new
   pub is : event ≡ Routes (Announce (key_of q p) (path_of false ((1 + q) ∷ ases)) ∷ [])
 
 -- the amendment by hand of this number, for customer x: 2 asserts one provider more, and no other draws
 abbrev pub DrawsAmended : ℕ → ℕ → Lcg → TableChange → Lcg → Type 0
 DrawsAmended zero x old change new = (change ≡ Filter x) × (new ≡ old)
 DrawsAmended (suc zero) x old change new = (change ≡ Unfilter x) × (new ≡ old)
-DrawsAmended (suc (suc zero)) x old change new = (provider : ℕ) × DrawsAs 0 old provider new × (change ≡ Assert x (provider ∷ []))
+DrawsAmended (suc (suc zero)) x old change new = (provider : ℕ) × DrawsAs old provider new × (change ≡ Assert x (provider ∷ []))
 DrawsAmended (suc (suc (suc m))) x old change new = (change ≡ Unassert x) × (new ≡ old)
 
 -- an amendment by hand
-pub record DrawsAmendment (k : ℕ) (old : Lcg) (event : Event) (new : Lcg) : Type 0 where
+pub record DrawsAmendment (old : Lcg) (event : Event) (new : Lcg) : Type 0 where
   pub x : ℕ
   pub m : ℕ
   pub change : TableChange
   pub after_x : Lcg
   pub after_m : Lcg
-  pub x_drawn : DrawsAs 0 old x after_x
+  pub x_drawn : DrawsAs old x after_x
   pub m_drawn : Draws 4 after_x m after_m
   pub change_drawn : DrawsAmended m x after_m change new
   pub is : event ≡ Table change
@@ -75,7 +75,7 @@ pub record DrawsLoading (old : Lcg) (events : List Event) (new : Lcg) : Type 0 w
   pub announcements : List Event
   pub after_rows : Lcg
   pub rows_drawn : DrawsRows 2000 old rows after_rows
-  pub announcements_drawn : DrawsAll DrawsAnnouncement 0 20000 after_rows announcements new
+  pub announcements_drawn : DrawsAll DrawsAnnouncement 20000 after_rows announcements new
   pub are : events ≡ Table (Replace source_name rows) ∷ role_events 20 ++ announcements
 
 -- the events that load, and then the 1,000 that amend
@@ -83,4 +83,4 @@ pub record IsWorkload (seed : ℕ) (loading amending : List Event) : Type 0 wher
   pub after_loading : Lcg
   pub after : Lcg
   pub loading_drawn : DrawsLoading (generator_of seed) loading after_loading
-  pub amending_drawn : DrawsAll DrawsAmendment 0 1000 after_loading amending after
+  pub amending_drawn : DrawsAll (λ _. DrawsAmendment) 1000 after_loading amending after

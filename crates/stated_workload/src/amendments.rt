@@ -21,19 +21,19 @@ pub(crate) fn add_amendments(
     events: &mut Vec<Event>,
 ) -> Result<(), NoMemory>
     ensures { OnOk result
-        (Adds DrawsAmendment 1000 rng.old events.old.items events.new.items rng.new) }
+        (Adds (λ _. DrawsAmendment) 1000 rng.old events.old.items events.new.items rng.new) }
 {
-    for turn in 0..AMENDMENTS {
-        events.push(draw_amendment(alloc, rng, turn)?)?;
+    for _turn in 0..AMENDMENTS {
+        events.push(draw_amendment(alloc, rng)?)?;
     }
     Ok(())
 }
 
 // One amendment.
-fn draw_amendment(alloc: Global, rng: &mut Lcg64Xsh32, k: u32) -> Result<Event, NoMemory>
-    ensures { IfOk result (λ event. DrawsAmendment k rng.old event rng.new) }
+fn draw_amendment(alloc: Global, rng: &mut Lcg64Xsh32) -> Result<Event, NoMemory>
+    ensures { IfOk result (λ event. DrawsAmendment rng.old event rng.new) }
 {
-    let x = draw_as(rng, 0);
+    let x = draw_as(rng);
     let m = draw(rng, 4);
     Ok(Event::Table(draw_amended(alloc, rng, m, x)?))
 }
@@ -52,7 +52,7 @@ fn draw_amended(
         0 => Ok(TableChange::Filter(x)),
         1 => Ok(TableChange::Unfilter(x)),
         2 => {
-            let provider = draw_as(rng, 0);
+            let provider = draw_as(rng);
             Ok(TableChange::Assert(x, AsList::from_slice(alloc, &[provider])?))
         }
         _ => Ok(TableChange::Unassert(x)),

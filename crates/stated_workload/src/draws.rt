@@ -17,8 +17,8 @@ pub(crate) fn draw(rng: &mut Lcg64Xsh32, m: u32) -> u32
 }
 
 /// An AS.
-pub(crate) fn draw_as(rng: &mut Lcg64Xsh32, k: u32) -> u32
-    ensures { DrawsAs k rng.old result rng.new }
+pub(crate) fn draw_as(rng: &mut Lcg64Xsh32) -> u32
+    ensures { DrawsAs rng.old result rng.new }
 {
     1 + draw(rng, 2000)
 }
@@ -26,10 +26,10 @@ pub(crate) fn draw_as(rng: &mut Lcg64Xsh32, k: u32) -> u32
 /// Adds so many ASes to a list.
 #[tactic(auto, using(crate::proofs::DrawsLemmas::draw_steps))]
 pub(crate) fn draw_ases(rng: &mut Lcg64Xsh32, count: u32, list: &mut AsList) -> Result<(), NoMemory>
-    ensures { OnOk result (Adds DrawsAs count rng.old list.old list.new rng.new) }
+    ensures { OnOk result (Adds (λ _. DrawsAs) count rng.old list.old list.new rng.new) }
 {
-    for turn in 0..count {
-        list.push(draw_as(rng, turn))?;
+    for _turn in 0..count {
+        list.push(draw_as(rng))?;
     }
     Ok(())
 }

@@ -18,7 +18,7 @@ pub(crate) fn draw_rows(alloc: Global, rng: &mut Lcg64Xsh32) -> Result<Rows, NoM
     let mut rows = Rows::new(alloc);
     for done in 0..CUSTOMERS {
         let customer = done + 1;
-        let providers = draw_providers(alloc, rng, customer)?;
+        let providers = draw_providers(alloc, rng)?;
         keep_row(customer, providers, &mut rows)?;
     }
     Ok(rows)
@@ -26,8 +26,8 @@ pub(crate) fn draw_rows(alloc: Global, rng: &mut Lcg64Xsh32) -> Result<Rows, NoM
 
 // The providers of one customer.
 #[tactic(auto, using(crate::proofs::RowsLemmas::row_steps))]
-fn draw_providers(alloc: Global, rng: &mut Lcg64Xsh32, customer: u32) -> Result<AsList, NoMemory>
-    ensures { IfOk result (λ providers. DrawsProviders customer rng.old providers rng.new) }
+fn draw_providers(alloc: Global, rng: &mut Lcg64Xsh32) -> Result<AsList, NoMemory>
+    ensures { IfOk result (λ providers. DrawsProviders rng.old providers rng.new) }
 {
     let count = draw(rng, 4);
     let mut providers = AsList::new(alloc);
