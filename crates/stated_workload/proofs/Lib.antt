@@ -1,0 +1,7 @@
+pub mod DrawsLemmas
+pub mod HappeningLemmas
+pub mod RowsLemmas
+pub mod SummaryLemmas
+pub mod TextLemmas
+pub mod WorkloadLemmas
+pub mod WorkloadLawLemmas

@@ -1,0 +1,7 @@
+pub mod Draws
+pub mod Happening
+pub mod Laws
+pub mod Rows
+pub mod Summary
+pub mod Text
+pub mod Workload
