@@ -16,11 +16,11 @@ use Rattle.rib_store.proofs.MarkLemmas.{has_one_marking}
 use Rattle.analyser.specs.declared.event.Event.{Event}
 use Rattle.stated_workload.specs.Happening.{HappenAll}
 use Rattle.stated_workload.specs.Laws.{HasOneText}
-use Rattle.stated_workload.specs.Summary.{IsSummary}
+use Rattle.stream_lines.specs.Summary.{IsSummary}
 use Rattle.stated_workload.specs.Text.{IsTextOf, WritesFront, WritesPart, WritesText}
 use Rattle.stated_workload.specs.Workload.{IsWorkload}
 use Rattle.stated_workload.proofs.HappeningLemmas.{one_end, some_end}
-use Rattle.stated_workload.proofs.SummaryLemmas.{one_summary, some_summary}
+use Rattle.stream_lines.proofs.SummaryLemmas.{one_summary, some_summary}
 use Rattle.stated_workload.proofs.WorkloadLawLemmas.{one_workload, some_workload}
 
 abbrev lines_of : Summary → Summary → ℕ → List ℕ
@@ -34,7 +34,7 @@ one_marking state next one other same a b =
     marking.only other (subst (λ (s : State). IsMarked s other) same b) ∙ sym (marking.only one a)
 
 summary_at : (state next : State) (one other : Summary) → next ≡ state → IsSummary state 0 0 one → IsSummary next 0 0 other → other ≡ one
-summary_at state next one other same a b = one_summary state 0 0 one other a (subst (λ (s : State). IsSummary s 0 0 other) same b)
+summary_at state next one other same a b = one_summary state 0 0 other one (subst (λ (s : State). IsSummary s 0 0 other) same b) a
 
 changes_at : (state next : State) (one other : List ChangedKey) → next ≡ state → AreChanges state one → AreChanges next other → other ≡ one
 changes_at state next one other same a b =

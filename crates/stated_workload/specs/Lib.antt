@@ -2,6 +2,5 @@ pub mod Draws
 pub mod Happening
 pub mod Laws
 pub mod Rows
-pub mod Summary
 pub mod Text
 pub mod Workload

@@ -5,7 +5,7 @@
 //! which says draw by draw what events a seed has. Each seed has exactly one workload and exactly one text (`laws`).
 //!
 //! `draws` asks the generator. `rows`, `roles`, `announcements` and `amendments` draw the events, and `workload` puts them in their
-//! order. `happening` lets them happen, `summary` counts what a store holds, for whoever sums it up, and `performing` writes.
+//! order. `happening` lets them happen, and `performing` writes.
 #![tactic(auto)]
 
 mod amendments;
@@ -17,11 +17,9 @@ mod performing;
 mod roles;
 mod rows;
 mod stop;
-mod summary;
 mod workload;
 
 pub use laws::{each_seed_has_one_text, each_seed_has_one_workload};
 pub use performing::perform;
 pub use stop::Stop;
-pub use summary::summary_of;
 pub use workload::{Workload, workload_of};

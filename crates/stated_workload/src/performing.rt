@@ -6,7 +6,6 @@ ghost use Rattle.stated_workload.specs.Text.{IsTextOf, WritesFront, WritesPart, 
 
 use crate::happening::happen_all;
 use crate::stop::Stop;
-use crate::summary::summary_of;
 use crate::workload::workload_of;
 use analyser::Analyser;
 use av_base::{NoMemory, Sink, Steps, pour};
@@ -14,6 +13,7 @@ use report_text::{put_changed, put_summary};
 use rib_store::Journal;
 use std::alloc::Global;
 use std::sync::ledger::Ledger;
+use stream_lines::summary_of;
 
 /// Performs the workload of a seed on an analysis of its own, and writes its three lines: a summary once all is loaded, a summary once
 /// all is amended, and how many keys changed in between. They are written when all is done.
