@@ -2,12 +2,11 @@
 ghost use Rattle.std.specs.Prelude.{◌≡◌};
 
 use av_base::{NoMemory, Steps};
-use path_model::{Addr, AsList, Changes, Key, Peer, Prefix, Role, Trail, Verdict};
+use path_model::{Addr, Changes, Key, Peer, Prefix, Role, Trail, Verdict};
 use rib_store::{Counts, RibStore};
 use std::alloc::Global;
 use std::marker::Brand;
 use std::sync::ledger::{Blank, Ledger};
-use vap_table::TableChange;
 
 // 192.0.2.1 in AS 64501, a customer.
 const FIRST: Peer = Peer {
@@ -29,35 +28,16 @@ fn key(peer: Peer, network: u32) -> Option<Key> {
 
 const NETWORK: u32 = 0xC633_6400;
 
-// The first peer's route to 198.51.100.0/24 climbs from 64500, and the second's comes from a silent AS.
+// Both peers' routes to 198.51.100.0/24 come from the silent AS 64503.
 fn routes(alloc: Global) -> Result<Changes, NoMemory> {
     let mut changes = Changes::new(alloc);
     if let Some(key) = key(FIRST, NETWORK) {
-        changes.announce(key, Trail::new(alloc, false, &[64501, 64500])?)?;
+        changes.announce(key, Trail::new(alloc, false, &[64501, 64503])?)?;
     }
     if let Some(key) = key(SECOND, NETWORK) {
         changes.announce(key, Trail::new(alloc, false, &[64502, 64503])?)?;
     }
     Ok(changes)
-}
-
-// The store of these routes, with a counter of steps of its own.
-fn filled<L: Ledger>(alloc: Global, blank: Blank) -> Result<RibStore, NoMemory>
-    requires name { blank.name ≡ L.name }
-    requires parts { blank.parts ≡ L.parts }
-    requires one { L.parts ≡ 1 }
-{
-    let mut steps = Steps::<L>::new(blank);
-    let attested = TableChange::Assert(64500, AsList::from_slice(alloc, &[64501])?);
-    RibStore::new(alloc)
-        .apply_routes(routes(alloc)?, &mut steps)?
-        .apply_table(attested, &mut steps)?
-        .set_role(64501, Role::Customer, &mut steps)?
-        .set_default(Role::Peer, &mut steps)
-}
-
-fn store(alloc: Global) -> Result<RibStore, NoMemory> {
-    filled::<Brand>(alloc, Blank::new(1))
 }
 
 // What is shown of a key: the verdict, the role, and of the path the origin and the length.
@@ -70,35 +50,63 @@ fn seen(store: &RibStore, peer: Peer, network: u32) -> Option<Seen> {
     Some((shown.verdict, shown.role, chain.get(0), chain.len()))
 }
 
-#[test]
-fn shows_a_route(rt: HostRuntime) -> Result<(), NoMemory> {
-    let store = store(rt.alloc())?;
-    let wanted = Some((Verdict::Valid, Role::Customer, Some(64500), 2));
-    assert_eq!(rt; seen(&store, FIRST, NETWORK), wanted);
-    assert_eq!(rt; seen(&store, FIRST, 0xCB00_7100), None);
-    Ok(())
+// What a store of these routes answers.
+struct Answers {
+    first: Option<Seen>,
+    second: Option<Seen>,
+    absent: Option<Seen>,
+    counts: Counts,
+    role: Role,
+    default: Role,
 }
 
+fn answers(store: &RibStore) -> Answers {
+    Answers {
+        first: seen(store, FIRST, NETWORK),
+        second: seen(store, SECOND, NETWORK),
+        absent: seen(store, FIRST, 0xCB00_7100),
+        counts: store.counts(),
+        role: store.roles().of(64501),
+        default: store.roles().of(64502),
+    }
+}
+
+// Asks the store with a counter of steps of its own.
+fn asked<L: Ledger>(alloc: Global, blank: Blank) -> Result<Answers, NoMemory>
+    requires name { blank.name ≡ L.name }
+    requires parts { blank.parts ≡ L.parts }
+    requires one { L.parts ≡ 1 }
+{
+    let mut steps = Steps::<L>::new(blank);
+    let store = RibStore::new(alloc).apply_routes(routes(alloc)?, &mut steps)?;
+    let store = store.set_role(64501, Role::Customer, &mut steps)?;
+    Ok(answers(&store))
+}
+
+// Asks with a counter that is made here.
+fn asked_once(alloc: Global) -> Result<Answers, NoMemory> {
+    asked::<Brand>(alloc, Blank::new(1))
+}
+
+// A customer's route over a hop that nobody attests is unknown, and a provider's may have one such hop.
 #[test]
-fn counts_routes(rt: HostRuntime) -> Result<(), NoMemory> {
-    let wanted = Counts {
+fn a_store_is_asked(rt: HostRuntime) -> Result<(), NoMemory> {
+    let answers = asked_once(rt.alloc())?;
+    let unknown = (Verdict::Unknown, Role::Customer, Some(64503), 2);
+    let valid = (Verdict::Valid, Role::Provider, Some(64503), 2);
+    let counts = Counts {
         routes: 2,
         valid: 1,
         unknown: 1,
         invalid: 0,
     };
-    assert_eq!(rt; store(rt.alloc())?.counts(), wanted);
-    Ok(())
-}
-
-fn role_of(store: &RibStore, asn: u32) -> Role {
-    store.roles().of(asn)
-}
-
-#[test]
-fn keeps_roles(rt: HostRuntime) -> Result<(), NoMemory> {
-    let store = store(rt.alloc())?;
-    assert_eq!(rt; role_of(&store, 64501), Role::Customer);
-    assert_eq!(rt; role_of(&store, 64502), Role::Peer);
+    assert_eq!(rt; answers.first, Some(unknown));
+    assert_eq!(rt; answers.second, Some(valid));
+    assert_eq!(rt; answers.absent, None);
+    assert_eq!(rt; answers.counts, counts);
+    assert_eq!(rt;
+        (answers.role, answers.default),
+        (Role::Customer, Role::Provider)
+    );
     Ok(())
 }
