@@ -51,6 +51,7 @@ fn seen(store: &RibStore, peer: Peer, network: u32) -> Option<Seen> {
 }
 
 // What a store of these routes answers.
+#[derive(Drop)]
 struct Answers {
     first: Option<Seen>,
     second: Option<Seen>,
@@ -60,7 +61,7 @@ struct Answers {
     default: Role,
 }
 
-fn answers(store: &RibStore) -> Answers {
+fn ask(store: &RibStore) -> Answers {
     Answers {
         first: seen(store, FIRST, NETWORK),
         second: seen(store, SECOND, NETWORK),
@@ -80,7 +81,7 @@ fn asked<L: Ledger>(alloc: Global, blank: Blank) -> Result<Answers, NoMemory>
     let mut steps = Steps::<L>::new(blank);
     let store = RibStore::new(alloc).apply_routes(routes(alloc)?, &mut steps)?;
     let store = store.set_role(64501, Role::Customer, &mut steps)?;
-    Ok(answers(&store))
+    Ok(ask(&store))
 }
 
 // Asks with a counter that is made here.
