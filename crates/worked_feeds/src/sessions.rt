@@ -299,9 +299,11 @@ fn a_whole_answer_gives_all_rows(rt: HostRuntime) -> Result<(), Fail> {
 }
 
 // The first provider of a row, and how many it has.
-fn first_and_count(row: Option<&AsList>) -> Option<(u32, usize)> {
-    let row = row?;
-    Some((row.get(0).unwrap_or(0), row.len()))
+fn first_and_count(row: &Option<AsList>) -> Option<(u32, usize)> {
+    match row {
+        Some(row) => Some((row.get(0).unwrap_or(0), row.len())),
+        None => None,
+    }
 }
 
 // What a patch says of its customers: each with its first provider and how many it has.

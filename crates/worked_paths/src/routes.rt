@@ -78,8 +78,9 @@ fn asked<L: Ledger>(alloc: Global, blank: Blank) -> Result<Answers, NoMemory>
     requires parts { blank.parts ≡ L.parts }
     requires one { L.parts ≡ 1 }
 {
+    let changes = routes(alloc)?;
     let mut steps = Steps::<L>::new(blank);
-    let store = RibStore::new(alloc).apply_routes(routes(alloc)?, &mut steps)?;
+    let store = RibStore::new(alloc).apply_routes(changes, &mut steps)?;
     let store = store.set_role(64501, Role::Customer, &mut steps)?;
     Ok(ask(&store))
 }
