@@ -1,4 +1,5 @@
-ghost use Rattle.std.specs.Prelude.{map};
+//! The forms in memory of all that is outside, and texts that are put and poured.
+ghost use Rattle.std.specs.Prelude.{◌≡◌, ◌<◌, length, map};
 ghost use Rattle.av_base.specs.Connections.{IsUsable, standing_of};
 
 use av_base::{
@@ -7,21 +8,25 @@ use av_base::{
 };
 use std::marker::Brand;
 
+// What a call that moves bytes answers.
+type Moved = Result<usize, Fault>;
+
+// What a read of two bytes answers and gives.
+fn read_two(source: &mut MemSource) -> (Moved, [u8; 2]) {
+    let mut buffer = [0u8; 2];
+    let moved = source.read(&mut buffer);
+    (moved, buffer)
+}
+
 #[test]
 fn a_source_reads_in_pieces(rt: HostRuntime) -> Result<(), NoMemory> {
     let alloc = rt.alloc();
-    let plan = Plan::new(
-        alloc,
-        &[PlanStep::AtMost(0), PlanStep::Fail, PlanStep::AtMost(9)],
-    )?;
-    let mut source = MemSource::new(alloc, &[7, 8, 9], plan)?;
-    let mut buffer = [0u8; 2];
-    assert_eq!(rt; source.read(&mut buffer), Ok(1));
-    assert_eq!(rt; buffer[0], 7);
-    assert_eq!(rt; source.read(&mut buffer), Err(Fault));
-    assert_eq!(rt; source.read(&mut buffer), Ok(2));
-    assert_eq!(rt; buffer, [8, 9]);
-    assert_eq!(rt; source.read(&mut buffer), Ok(0));
+    let steps = [PlanStep::AtMost(0), PlanStep::Fail, PlanStep::AtMost(9)];
+    let mut source = MemSource::new(alloc, &[7, 8, 9], Plan::new(alloc, &steps)?)?;
+    assert_eq!(rt; read_two(&mut source), (Ok(1), [7, 0]));
+    assert_eq!(rt; read_two(&mut source), (Err(Fault), [0, 0]));
+    assert_eq!(rt; read_two(&mut source), (Ok(2), [8, 9]));
+    assert_eq!(rt; read_two(&mut source), (Ok(0), [0, 0]));
     Ok(())
 }
 
@@ -45,15 +50,22 @@ fn a_sink_that_fails_keeps_the_front(rt: HostRuntime) -> Result<(), NoMemory> {
     Ok(())
 }
 
-// A text of less than a piece is held until it is poured, and what a fault leaves is poured by the next call.
 #[test]
-fn a_text_is_held_and_poured(rt: HostRuntime) -> Result<(), NoMemory> {
+fn a_text_of_less_than_a_piece_is_held(rt: HostRuntime) -> Result<(), NoMemory> {
+    let alloc = rt.alloc();
+    let mut sink = MemSink::new(alloc, Plan::new(alloc, &[])?);
+    let mut text = Vec::from_slice(alloc, b"route")?;
+    assert_eq!(rt; pour_piece(&mut sink, &mut text), Ok(()));
+    assert_eq!(rt; sink.written(), b"".as_slice());
+    Ok(())
+}
+
+#[test]
+fn what_a_fault_leaves_is_poured_by_the_next_call(rt: HostRuntime) -> Result<(), NoMemory> {
     let alloc = rt.alloc();
     let plan = Plan::new(alloc, &[PlanStep::AtMost(2), PlanStep::Fail])?;
     let mut sink = MemSink::new(alloc, plan);
     let mut text = Vec::from_slice(alloc, b"route")?;
-    assert_eq!(rt; pour_piece(&mut sink, &mut text), Ok(()));
-    assert_eq!(rt; sink.written(), b"".as_slice());
     assert_eq!(rt; pour(&mut sink, &mut text), Err(Fault));
     assert_eq!(rt; text.as_slice(), b"ute".as_slice());
     assert_eq!(rt; pour(&mut sink, &mut text), Ok(()));
@@ -61,25 +73,45 @@ fn a_text_is_held_and_poured(rt: HostRuntime) -> Result<(), NoMemory> {
     Ok(())
 }
 
-// Each opening of a name is a file of its own, which keeps the bytes that the name had.
 #[test]
-fn a_shelf_opens_and_reads(rt: HostRuntime) -> Result<(), NoMemory> {
+fn a_shelf_opens_files(rt: HostRuntime) -> Result<(), NoMemory> {
     let alloc = rt.alloc();
-    let plan = Plan::new(alloc, &[PlanStep::Fail])?;
-    let mut shelf = MemShelf::new(alloc, plan);
+    let mut shelf = MemShelf::new(alloc, Plan::new(alloc, &[PlanStep::Fail])?);
     shelf.put("table", &[7, 8, 9])?;
-    let mut buffer = [0u8; 2];
     assert_eq!(rt; shelf.open_file("table"), Err(Fault));
     assert_eq!(rt; shelf.open_file("tables"), Ok(None));
     assert_eq!(rt; shelf.open_file("table"), Ok(Some(0)));
-    shelf.put("table", &[5])?;
     assert_eq!(rt; shelf.open_file("table"), Ok(Some(1)));
-    assert_eq!(rt; shelf.read(0, &mut buffer), Ok(2));
-    assert_eq!(rt; buffer, [7, 8]);
-    assert_eq!(rt; shelf.read(1, &mut buffer), Ok(1));
-    assert_eq!(rt; buffer[0], 5);
-    assert_eq!(rt; shelf.read(0, &mut buffer), Ok(1));
-    assert_eq!(rt; shelf.read(0, &mut buffer), Ok(0));
+    Ok(())
+}
+
+// What a read of two bytes of a file answers and gives.
+fn read_file(shelf: &mut MemShelf, file: u32) -> (Moved, [u8; 2])
+    requires { file < length shelf.old.left }
+    ensures { length shelf.new.left ≡ length shelf.old.left }
+{
+    let mut buffer = [0u8; 2];
+    let moved = shelf.read(file, &mut buffer);
+    (moved, buffer)
+}
+
+// Each opening of a name is a file of its own, which keeps the bytes that the name had.
+#[test]
+fn an_opened_file_keeps_its_bytes(rt: HostRuntime) -> Result<(), NoMemory> {
+    let alloc = rt.alloc();
+    let mut shelf = MemShelf::new(alloc, Plan::new(alloc, &[])?);
+    shelf.put("table", &[7, 8, 9])?;
+    let Ok(Some(old)) = shelf.open_file("table") else {
+        return Err(NoMemory);
+    };
+    shelf.put("table", &[5])?;
+    let Ok(Some(new)) = shelf.open_file("table") else {
+        return Err(NoMemory);
+    };
+    assert_eq!(rt; read_file(&mut shelf, old), (Ok(2), [7, 8]));
+    assert_eq!(rt; read_file(&mut shelf, new), (Ok(1), [5, 0]));
+    assert_eq!(rt; read_file(&mut shelf, old), (Ok(1), [9, 0]));
+    assert_eq!(rt; read_file(&mut shelf, old), (Ok(0), [0, 0]));
     Ok(())
 }
 
@@ -112,9 +144,6 @@ fn a_connection_in_memory_follows_its_plan(rt: HostRuntime) -> Result<(), NoMemo
     assert_eq!(rt; links.connect("cache"), Err(Fault));
     Ok(())
 }
-
-// What a call that moves bytes answers.
-type Moved = Result<usize, Fault>;
 
 // Sends three bytes, receives at most two, and closes: what both calls answer, and the first byte received.
 fn talk(links: &mut MemLinks, link: u32) -> ((Moved, Moved), u8)

@@ -12,7 +12,7 @@
 //!
 //! All other ASes are silent.
 ghost use Rattle.std.specs.Prelude.{◌≡◌};
-ghost use Rattle.worked_rows.specs.World.{attested};
+ghost use Rattle.worked_paths.specs.World.{attested};
 
 use path_model::{Authority, Table};
 

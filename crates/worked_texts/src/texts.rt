@@ -24,8 +24,8 @@ fn reads_numbers(rt: HostRuntime) {
         (b"1 ", None),
         (b"x", None),
     ];
-    for (text, number) in table {
-        assert_eq!(rt; read_u32(text), number);
+    for (text, number) in &table {
+        assert_eq!(rt; read_u32(text), *number);
     }
 }
 
@@ -70,8 +70,8 @@ fn reads_roles(rt: HostRuntime) {
         (b"rs-", None),
         (b"customers", None),
     ];
-    for (text, role) in table {
-        assert_eq!(rt; read_role(text), role);
+    for (text, role) in &table {
+        assert_eq!(rt; read_role(text), *role);
     }
 }
 
@@ -115,8 +115,8 @@ fn reads_addresses(rt: HostRuntime) {
         (b"1", None),
         (b"", None),
     ];
-    for (text, addr) in table {
-        assert_eq!(rt; read_addr(text), addr);
+    for (text, addr) in &table {
+        assert_eq!(rt; read_addr(text), *addr);
     }
 }
 
@@ -146,8 +146,8 @@ fn reads_prefixes(rt: HostRuntime) {
         (b"0000:0000:0000:0000:0000:0000:0000:0000/129", None),
         (b"2001:0db8::/32", None),
     ];
-    for (text, prefix) in table {
-        assert_eq!(rt; read_prefix(text), prefix);
+    for (text, prefix) in &table {
+        assert_eq!(rt; read_prefix(text), *prefix);
     }
 }
 
@@ -208,8 +208,8 @@ fn cuts_lines(rt: HostRuntime) {
         (b"ab", false, None),
         (b"a\nb", false, Some((b"a", b"b"))),
     ];
-    for (text, whole, cut) in table {
-        assert_eq!(rt; next_line(text, whole), cut);
+    for (text, whole, cut) in &table {
+        assert_eq!(rt; next_line(text, *whole), *cut);
     }
 }
 
@@ -351,8 +351,8 @@ fn puts_witnesses(rt: HostRuntime) -> Result<(), NoMemory> {
         (Verdict::Invalid, Witness::Set),
         (Verdict::Invalid, Witness::Neighbour),
     ];
-    for (verdict, witness) in table {
-        put_why(&mut out, verdict, witness)?;
+    for (verdict, witness) in &table {
+        put_why(&mut out, *verdict, *witness)?;
     }
     assert_eq!(rt;
         out.as_slice(),

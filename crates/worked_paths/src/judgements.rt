@@ -254,36 +254,67 @@ fn paths_downstream(rt: HostRuntime) -> Result<(), NoMemory> {
     judge_all(&rt, rt.alloc(), &DOWNSTREAM)
 }
 
-// An empty path and one with an AS_SET are invalid whoever sent them. The first of the causes is named.
+// Whether a path has an AS_SET, the path, and what is printed of it whoever sent it.
+type Unsaved = (bool, &'static [u32], &'static str);
+
+// An empty path and one with an AS_SET are invalid. The first of the causes is named.
+const UNSAVED: [Unsaved; 4] = [
+    (false, &[], "invalid empty"),
+    (true, &[], "invalid empty"),
+    (true, &[3, 2, 1], "invalid set"),
+    (true, &[9, 2, 1], "invalid set"),
+];
+
+const ROLES: [Role; 6] = [Provider, Customer, Peer, Rs, RsClient, Mutual];
+
 #[test]
 fn paths_that_no_role_saves(rt: HostRuntime) -> Result<(), NoMemory> {
-    let alloc = rt.alloc();
-    for (set, path, text) in [
-        (false, [].as_slice(), "invalid empty"),
-        (true, [].as_slice(), "invalid empty"),
-        (true, [3, 2, 1].as_slice(), "invalid set"),
-        (true, [9, 2, 1].as_slice(), "invalid set"),
-    ] {
-        let trail = Trail::new(alloc, set, path)?;
-        for role in [Provider, Customer, Peer, Rs, RsClient, Mutual] {
-            let verdict = decide(&World, role, 3, &trail);
-            let words = in_words(alloc, verdict, explain(&World, role, 3, &trail))?;
-            assert_eq!(rt; words.as_str(), text);
-        }
+    judge_unsaved(&rt, rt.alloc(), &UNSAVED)
+}
+
+fn judge_unsaved(rt: &impl Abort, alloc: Global, cases: &[Unsaved]) -> Result<(), NoMemory> {
+    for (set, path, text) in cases {
+        assert!(rt; path.len() <= 65_535);
+        let trail = Trail::new(alloc, *set, path)?;
+        judge_by_roles(rt, alloc, &trail, &ROLES, text)?;
     }
     Ok(())
 }
 
-// The lists and the paths are what was put into them, and so are their copies.
+// From 3, in each role.
+fn judge_by_roles(
+    rt: &impl Abort,
+    alloc: Global,
+    trail: &Trail,
+    roles: &[Role],
+    text: &str,
+) -> Result<(), NoMemory> {
+    for role in roles {
+        let verdict = decide(&World, *role, 3, trail);
+        let words = in_words(alloc, verdict, explain(&World, *role, 3, trail))?;
+        assert_eq!(rt; words.as_str(), text);
+    }
+    Ok(())
+}
+
+// A list is what was put into it, and so is its copy.
 #[test]
-fn lists_and_paths(rt: HostRuntime) -> Result<(), NoMemory> {
+fn lists(rt: HostRuntime) -> Result<(), NoMemory> {
     let mut ases = AsList::new(rt.alloc());
     assert!(rt; ases.is_empty());
     ases.push(64500)?;
     ases.push(0)?;
     let copy = ases.copy()?;
     assert_eq!(rt; copy.as_slice(), [64500, 0].as_slice());
-    assert_eq!(rt; (copy.len(), copy.get(1), copy.get(2)), (2, Some(0), None));
+    assert_eq!(rt; copy.len(), 2);
+    assert_eq!(rt; copy.get(1), Some(0));
+    assert_eq!(rt; copy.get(2), None);
+    Ok(())
+}
+
+// A path has each AS once in a row, the origin first, and so has its copy.
+#[test]
+fn paths(rt: HostRuntime) -> Result<(), NoMemory> {
     let trail = Trail::new(rt.alloc(), true, &[3, 3, 2, 1, 1])?.copy()?;
     assert!(rt; trail.is_set());
     assert_eq!(rt; trail.chain().as_slice(), [1, 2, 3].as_slice());

@@ -318,27 +318,39 @@ fn claims_on_hops(rt: HostRuntime) -> Result<(), NoMemory> {
     Ok(())
 }
 
+const CLIMB: Witness = Witness::Valid {
+    climbs: 1,
+    free: 0,
+    descents: 0,
+};
+
+// The path 2 1, of which 1 attests 2, came from its last AS,
+const FROM_LAST: [Claim; 1] = [(Valid, CLIMB, true)];
+
+// or from another one.
+const FROM_OTHER: [Claim; 2] = [(Valid, CLIMB, false), (Invalid, Witness::Neighbour, true)];
+
+// A route server isn't tested.
+const FROM_SERVER: [Claim; 2] = [(Valid, CLIMB, true), (Invalid, Witness::Neighbour, false)];
+
+const WITH_SET: [Claim; 2] = [(Invalid, Witness::Set, true), (Valid, CLIMB, false)];
+
+const EMPTY: [Claim; 2] = [
+    (Invalid, Witness::Empty, true),
+    (Invalid, Witness::Neighbour, false),
+];
+
 // What makes a path invalid at once has its own witnesses, and no other is confirmed there.
 #[test]
 fn claims_on_the_path(rt: HostRuntime) -> Result<(), NoMemory> {
     let alloc = rt.alloc();
-    let climb = Witness::Valid {
-        climbs: 1,
-        free: 0,
-        descents: 0,
-    };
     let path = Trail::new(alloc, false, &[2, 1])?;
-    assert!(rt; confirm(&World, Peer, 2, &path, Valid, climb));
-    assert!(rt; !confirm(&World, Peer, 9, &path, Valid, climb));
-    assert!(rt; confirm(&World, Peer, 9, &path, Invalid, Witness::Neighbour));
-    // A route server isn't tested.
-    assert!(rt; confirm(&World, Rs, 9, &path, Valid, climb));
-    assert!(rt; !confirm(&World, Rs, 9, &path, Invalid, Witness::Neighbour));
+    test_claims(&rt, &World, Peer, 2, &path, &FROM_LAST);
+    test_claims(&rt, &World, Peer, 9, &path, &FROM_OTHER);
+    test_claims(&rt, &World, Rs, 9, &path, &FROM_SERVER);
     let with_set = Trail::new(alloc, true, &[2, 1])?;
-    assert!(rt; confirm(&World, Peer, 2, &with_set, Invalid, Witness::Set));
-    assert!(rt; !confirm(&World, Peer, 2, &with_set, Valid, climb));
+    test_claims(&rt, &World, Peer, 2, &with_set, &WITH_SET);
     let empty = Trail::new(alloc, false, &[])?;
-    assert!(rt; confirm(&World, Peer, 2, &empty, Invalid, Witness::Empty));
-    assert!(rt; !confirm(&World, Peer, 2, &empty, Invalid, Witness::Neighbour));
+    test_claims(&rt, &World, Peer, 2, &empty, &EMPTY);
     Ok(())
 }

@@ -1,6 +1,9 @@
 //! Lines by themselves: of each command some that are right, and some wrong in the number of words, in a spelling and in a number.
+use av_base::NoMemory;
 use path_model::Role;
 use script_lines::{Command, LineFault, read};
+use std::alloc::Global;
+use std::process::Abort;
 
 // What a line is read as.
 #[derive(Clone, Copy)]
@@ -22,7 +25,11 @@ enum Reading {
     Refused(LineFault),
 }
 
-const ROWS: [(&'static [u8], Reading); 73] = [
+// A line, and what it is read as.
+type Row = (&'static [u8], Reading);
+
+// Nothing to do, and no command.
+const IDLE: [Row; 7] = [
     (b"", Reading::Idle),
     (b" \t", Reading::Idle),
     (b"#", Reading::Idle),
@@ -30,6 +37,9 @@ const ROWS: [(&'static [u8], Reading); 73] = [
     (b"Assert 1 2", Reading::Refused(LineFault::Command)),
     (b"assert1 2", Reading::Refused(LineFault::Command)),
     (b"demo 1", Reading::Refused(LineFault::Command)),
+];
+
+const ASSERTIONS: [Row; 10] = [
     (b"assert 1 2", Reading::Assert(1, &[2])),
     (
         b" assert\t4294967295  0 7 7 ",
@@ -46,6 +56,9 @@ const ROWS: [(&'static [u8], Reading); 73] = [
         Reading::Refused(LineFault::Number),
     ),
     (b"assert 1 02 3", Reading::Refused(LineFault::Number)),
+];
+
+const FILES: [Row; 15] = [
     (
         b"aspa cache-1_a.b payloads/v4.asa",
         Reading::Aspa("cache-1_a.b", "payloads/v4.asa"),
@@ -64,6 +77,9 @@ const ROWS: [(&'static [u8], Reading); 73] = [
     (b"slurm", Reading::Refused(LineFault::Words)),
     (b"slurm my file", Reading::Refused(LineFault::Words)),
     (b"slurm \xc3\xa9", Reading::Refused(LineFault::Words)),
+];
+
+const AMENDMENTS: [Row; 12] = [
     (b"filter 0", Reading::Filter(0)),
     (b"filter", Reading::Refused(LineFault::Words)),
     (b"filter 1 2", Reading::Refused(LineFault::Words)),
@@ -76,6 +92,9 @@ const ROWS: [(&'static [u8], Reading); 73] = [
     (b"unassert", Reading::Refused(LineFault::Words)),
     (b"unassert 64500 1", Reading::Refused(LineFault::Words)),
     (b"unassert 064500", Reading::Refused(LineFault::Number)),
+];
+
+const DUMPS: [Row; 15] = [
     (
         b"role 64501 customer",
         Reading::Role(64_501, Role::Customer),
@@ -95,6 +114,11 @@ const ROWS: [(&'static [u8], Reading); 73] = [
     (b"take d", Reading::Refused(LineFault::Words)),
     (b"take d 0", Reading::Refused(LineFault::Number)),
     (b"take d 100000001", Reading::Refused(LineFault::Number)),
+    (b"report", Reading::Report),
+    (b"report now", Reading::Refused(LineFault::Words)),
+];
+
+const JUDGEMENTS: [Row; 14] = [
     (b"judge rs-client 5", Reading::Judge(Role::RsClient, 5, &[])),
     (
         b"judge mutual 2 2 1 1",
@@ -116,8 +140,6 @@ const ROWS: [(&'static [u8], Reading); 73] = [
     (b"judge peer 1 -1", Reading::Refused(LineFault::Number)),
     (b"judge peer 1 1 1.", Reading::Refused(LineFault::Number)),
     (b"judge peer 00 1", Reading::Refused(LineFault::Number)),
-    (b"report", Reading::Report),
-    (b"report now", Reading::Refused(LineFault::Words)),
 ];
 
 // Whether a line was read so.
@@ -156,24 +178,48 @@ fn is_read_so(read: &Result<Command, LineFault>, reading: Reading) -> bool {
     }
 }
 
+// Reads each line of a table.
+fn test_lines(rt: &impl Abort, alloc: Global, rows: &[Row]) {
+    for (line, reading) in rows {
+        assert!(rt; is_read_so(&read(alloc, line), *reading), "{line:?}");
+    }
+}
+
 #[test]
 fn reads_lines(rt: HostRuntime) {
-    for (line, reading) in ROWS {
-        assert!(rt; is_read_so(&read(rt.alloc(), line), reading));
-    }
+    let alloc = rt.alloc();
+    test_lines(&rt, alloc, &IDLE);
+    test_lines(&rt, alloc, &ASSERTIONS);
+    test_lines(&rt, alloc, &FILES);
+    test_lines(&rt, alloc, &AMENDMENTS);
+    test_lines(&rt, alloc, &DUMPS);
+    test_lines(&rt, alloc, &JUDGEMENTS);
+}
+
+// Reads a line of one byte so many times.
+fn test_long_line(
+    rt: &impl Abort,
+    alloc: Global,
+    byte: u8,
+    count: usize,
+    reading: Reading,
+) -> Result<(), NoMemory> {
+    let line = vec![in alloc; byte; count]?;
+    assert!(rt; is_read_so(&read(alloc, &line), reading));
+    Ok(())
 }
 
 // 4,096 bytes may stand in a line, and in a comment any number.
 #[test]
-fn reads_long_lines(rt: HostRuntime) {
-    let mut line = [b'x'; 4_097];
-    assert!(rt;
-        is_read_so(
-            &read(rt.alloc(), &line[1..]),
-            Reading::Refused(LineFault::Command)
-        )
-    );
-    assert!(rt; is_read_so(&read(rt.alloc(), &line), Reading::Refused(LineFault::Long)));
-    line[0] = b'#';
-    assert!(rt; is_read_so(&read(rt.alloc(), &line), Reading::Idle));
+fn reads_long_lines(rt: HostRuntime) -> Result<(), NoMemory> {
+    let alloc = rt.alloc();
+    test_long_line(
+        &rt,
+        alloc,
+        b'x',
+        4_096,
+        Reading::Refused(LineFault::Command),
+    )?;
+    test_long_line(&rt, alloc, b'x', 4_097, Reading::Refused(LineFault::Long))?;
+    test_long_line(&rt, alloc, b'#', 4_097, Reading::Idle)
 }

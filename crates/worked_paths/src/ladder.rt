@@ -10,7 +10,7 @@ pub struct Ladder {
 }
 
 impl Table for Ladder {
-    ghost use Rattle.worked_rows.specs.Ladder.{ladder};
+    ghost use Rattle.worked_paths.specs.Ladder.{ladder};
 
     ghost rows = { λ t. ladder t.below };
 
@@ -32,7 +32,7 @@ pub struct Alone {
 }
 
 impl Table for Alone {
-    ghost use Rattle.worked_rows.specs.Ladder.{alone};
+    ghost use Rattle.worked_paths.specs.Ladder.{alone};
 
     ghost rows = { λ t. alone t.below };
 
