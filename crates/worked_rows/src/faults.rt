@@ -1,6 +1,6 @@
 //! Calls of the script, the shelf and the sink that fail in turn, and texts in pieces of every size.
 use crate::runs::{Files, Plans, SOUND, outcome};
-use crate::vectors::{BAD_INDEX, ONE, PEERS, ROUTE, SLURM};
+use crate::vectors::{ANNOUNCEMENT, BAD_INDEX, ONE, PEERS, ROUTE, SESSION_END, SLURM};
 use av_base::{NoMemory, PlanStep};
 use std::alloc::Global;
 use std::process::Abort;
@@ -19,6 +19,14 @@ const AMENDED_FILES: Files<'static> = &[("f", &[ONE]), ("g", &[SLURM])];
 const REPORT: &[u8] = b"open d f\ntake d 100\nreport\n";
 
 const DUMP: Files<'static> = &[("f", &[PEERS, BAD_INDEX, ROUTE, &[0; 5]])];
+
+// The routes, and how many there are before and after their peer's session ends.
+const COUNT: &[u8] = b"open d f\ntake d 3\nreport\nsummary\ntake d 1\nsummary\n";
+
+const UPDATES: Files<'static> = &[("f", &[PEERS, ROUTE, ANNOUNCEMENT, SESSION_END])];
+
+const COUNTED: &[u8] =
+    b"192.0.2.1 64501 198.51.100.0/24 valid\n192.0.2.1 64501 2001:0db8:0000:0000:0000:0000:0000:0000/32 valid\nsummary routes 2 valid 2 unknown 0 invalid 0 customers 0 passed 0 refused 0\nsummary routes 0 valid 0 unknown 0 invalid 0 customers 0 passed 0 refused 0\n";
 
 const REPORTED: &[u8] =
     b"! line 2 d unit 2 cause 30 PeerIndex\n! line 2 d unit 4 cause 27 CutShort\n192.0.2.1 64501 198.51.100.0/24 valid\n";
@@ -81,13 +89,18 @@ fn test_write(
     script: &[u8],
     files: Files<'_>,
     whole: &[u8],
+    ending: u8,
     k: usize,
 ) -> Result<(), NoMemory> {
     let sink = &failing_at(alloc, k)?;
     let (status, written) = outcome(alloc, &["run"], script, files, Plans { sink, ..SOUND })?;
     let sum = moved_before(k).min(whole.len());
     let (front, rest) = whole.split_at(sum);
-    assert_eq!(rt; status, if rest.is_empty() { 1 } else { 4 }, "at write {k}");
+    assert_eq!(rt;
+        status,
+        if rest.is_empty() { ending } else { 4 },
+        "at write {k}"
+    );
     assert_eq!(rt; written.as_slice(), front, "at write {k}");
     Ok(())
 }
@@ -95,10 +108,11 @@ fn test_write(
 #[test]
 fn each_write_fails_in_turn(rt: HostRuntime) -> Result<(), NoMemory> {
     for k in 0..60 {
-        test_write(&rt, rt.alloc(), SCRIPT, &[], TEXT, k)?;
+        test_write(&rt, rt.alloc(), SCRIPT, &[], TEXT, 1, k)?;
     }
     for k in 0..200 {
-        test_write(&rt, rt.alloc(), REPORT, DUMP, REPORTED, k)?;
+        test_write(&rt, rt.alloc(), REPORT, DUMP, REPORTED, 1, k)?;
+        test_write(&rt, rt.alloc(), COUNT, UPDATES, COUNTED, 0, k)?;
     }
     Ok(())
 }

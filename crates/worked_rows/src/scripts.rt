@@ -129,7 +129,16 @@ fn lines(rt: HostRuntime) -> Result<(), NoMemory> {
 }
 
 // Words that aren't the one word `run`.
-const OTHER_WORDS: [&[&str]; 5] = [&[], &["run", "x"], &["demo", "1"], &["Run"], &[""]];
+const OTHER_WORDS: [&[&str]; 8] = [
+    &[],
+    &["run", "x"],
+    &["Run"],
+    &[""],
+    &["demo"],
+    &["demo", "01"],
+    &["demo", "4294967296"],
+    &["demo", "1", "2"],
+];
 
 #[test]
 fn other_words(rt: HostRuntime) -> Result<(), NoMemory> {
