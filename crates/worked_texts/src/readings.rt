@@ -180,8 +180,8 @@ fn is_read_so(read: &Result<Command, LineFault>, reading: Reading) -> bool {
 
 // Reads each line of a table.
 fn test_lines(rt: &impl Abort, alloc: Global, rows: &[Row]) {
-    for (line, reading) in rows {
-        assert!(rt; is_read_so(&read(alloc, line), *reading), "{line:?}");
+    for (i, (line, reading)) in rows.iter().enumerate() {
+        assert!(rt; is_read_so(&read(alloc, line), *reading), "row {i}");
     }
 }
 
