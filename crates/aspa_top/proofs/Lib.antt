@@ -13,3 +13,4 @@ pub mod StandsLemmas
 pub mod TableLemmas
 pub mod TaskLemmas
 pub mod TextLemmas
+pub mod WordsLemmas

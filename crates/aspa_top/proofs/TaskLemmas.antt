@@ -96,30 +96,35 @@ some_report state =
 some_changes : (state : State) → Some_that (ShowsChanges state)
 some_changes state =
     let list = has_one_list_of_changes state.analysis in
-    let marking = has_one_marking state.analysis in
-    (changes_text list.changes, record state { analysis = marking.marking },
-    record { changes = list.changes; are = list.are; text_is = refl; analysis = marking.marking; marked = marking.is; left = refl })
+    let marking = has_one_marking state.analysis in (
+      changes_text list.changes,
+      record state { analysis = marking.marking },
+      record { changes = list.changes; are = list.are; text_is = refl; analysis = marking.marking; marked = marking.is; left = refl },
+    )
 
 some_reason : (path : Option Path) (state : State) (key : Key) → fin.get state.analysis.routes key ≡ path → Some_that (ExplainsRoute path state key)
 some_reason None state key route = (_, _, (refl, refl))
 some_reason (Some path) state key route =
     let table = table_of state.analysis.parts in
     let role = role_of state.analysis.roles key.peer.asn in
-    let one = one_printed table role key.peer.asn path in
-    (why_text one.verdict one.witness, state, record {
-      verdict = one.verdict;
-      witness = one.witness;
-      explained = record {
-        path = path;
-        route = route;
-        table = table;
-        current = table_is_current state.analysis.parts;
-        printed = one.printed;
-        facts = printed_facts table role key.peer.asn path one.verdict one.witness one.printed;
-      };
-      text_is = refl;
-      left = refl;
-    })
+    let one = one_printed table role key.peer.asn path in (
+      why_text one.verdict one.witness,
+      state,
+      record {
+        verdict = one.verdict;
+        witness = one.witness;
+        explained = record {
+          path = path;
+          route = route;
+          table = table;
+          current = table_is_current state.analysis.parts;
+          printed = one.printed;
+          facts = printed_facts table role key.peer.asn path one.verdict one.witness one.printed;
+        };
+        text_is = refl;
+        left = refl;
+      },
+    )
 
 some_short : (state : State) (short : ShortTask) → Some_that (DoesShort state short)
 some_short state Idle = ([], state, (refl, refl))
@@ -229,7 +234,7 @@ one_reason state key v w x y a b =
     let table : a.table ≡ b.table = λ i q. (tables.only a.table a.current q ∙ sym (tables.only b.table b.current q)) i in
     let one = one_printed b.table role key.peer.asn b.path in
     let first : IsPrinted b.table role key.peer.asn b.path v x =
-        subst (λ (p : Path). IsPrinted b.table role key.peer.asn p v x) path (subst (λ (t : Table). IsPrinted t role key.peer.asn a.path v x) table a.printed) in
+    subst (λ (p : Path). IsPrinted b.table role key.peer.asn p v x) path (subst (λ (t : Table). IsPrinted t role key.peer.asn a.path v x) table a.printed) in
     let v_is = one.only v x first in
     let w_is = one.only w y b.printed in
     (v_is.0 ∙ sym w_is.0, v_is.1 ∙ sym w_is.1)

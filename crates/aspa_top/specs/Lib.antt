@@ -6,4 +6,5 @@ pub mod LoadingSteps
 pub mod Performing
 pub mod Program
 pub mod Tasks
+pub mod Words
 pub mod World

@@ -10,11 +10,7 @@ use path_model::Key;
 use report_text::{Place, put_why};
 
 /// Adds the line that says why the key's route has its verdict; a key without a route is refused. The line is counted already.
-pub(crate) fn explain(
-    working: Working,
-    key: &Key,
-    text: &mut Vec<u8>,
-) -> Result<Working, NoMemory>
+pub(crate) fn explain(working: Working, key: &Key, text: &mut Vec<u8>) -> Result<Working, NoMemory>
     requires { working.refused < 2 ^ 62 }
     ensures done { IfOk result (λ next. (ticks : ℕ)
         → DoneShort working (WhyRoute key.now) text.old.items text.new.items ticks ticks next) }
@@ -22,7 +18,7 @@ pub(crate) fn explain(
     ensures err { OnErr result (text.new.items ≡ text.old.items) }
 {
     let Some(shown) = working.analyser.store().look(key) else {
-        return refuse(working, Place::Line, 39, text);
+        return Ok(refuse(working, Place::Line, 39, text)?);
     };
     put_why(text, shown.verdict, shown.witness)?;
     Ok(working)

@@ -8,6 +8,7 @@
 #![tactic(auto)]
 
 mod acting;
+mod demo;
 mod dumps;
 mod evaluation;
 mod explaining;
@@ -20,6 +21,7 @@ mod script;
 mod short;
 mod tables;
 mod task;
+mod words;
 mod working;
 
 pub use laws::{each_script_has_one_text, runs_write_fronts};

@@ -62,7 +62,7 @@ pub returns-in_ok-load-in-Load : goal.returns-in_ok-load-in-Load
 returns-in_ok-load-in-Load g c =
     let same = sym c.task_of.ensures ∙ c.in-Load.is in
     let goes = loaded _ _ c.args.working _ _ _ _ _ _ (λ world state text after loads. subst (λ (task : Task). DoesTask world state task text after) (sym same) loads)
-        c.in_ok-load-in-Load.ensures.loads (g.W.Sink.written c.args.out.now) _ _ c.load.ensures.ticks in
+    c.in_ok-load-in-Load.ensures.loads (g.W.Sink.written c.args.out.now) _ _ c.load.ensures.ticks in
     record {
       goes = goes;
       sound = c.in_ok-load-in-Load.ensures.sound;
@@ -229,4 +229,3 @@ returns-in_err-put_changes-in-Changes g c =
       held = search rules;
       sink_cause = search rules;
     }
-
