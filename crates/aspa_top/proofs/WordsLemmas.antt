@@ -1,7 +1,9 @@
 -- The words that the program is called with.
 use Rattle.std.proofs.Common.{◌≡◌, ◌⊎◌, inl, inr, ℕ, ◌<◌, ◌≤◌, List, [], ◌∷◌, length, map, sym, ap, ◌∙◌, arith, subst, IsTrue, ◌↔◌, Bool, codes, get_or}
+use Rattle.std.proofs.lemmas.Fmt.{decimal_injective}
 use Rattle.std.proofs.lemmas.Slice.Eq.{bytes_eq-Decides}
 use Rattle.std.specs.Str.{bytes_eq}
+use Rattle.av_text.specs.Number.{IsNumber}
 use Rattle.aspa_top.specs.Program.{AreOwn, IsDemo, IsEnding, IsRun}
 
 -- a list of one item
@@ -24,7 +26,8 @@ pub two_items : {A B : Type 0} (f : A → B) (xs : List A) (x y : A) → 2 ≤ l
     → map f xs ≡ f x ∷ f y ∷ []
 two_items f [] x y some few first second = absurd (omega arith)
 two_items f (a ∷ []) x y some few first second = absurd (omega arith)
-two_items f (a ∷ b ∷ []) x y some few first second = (λ i. f (first (~ i)) ∷ f (second (~ i)) ∷ [])
+two_items f (a ∷ b ∷ []) x y some few first second =
+    ap (λ z. f z ∷ f b ∷ []) (sym first) ∙ ap (λ z. f x ∷ f z ∷ []) (sym second)
 two_items f (a ∷ b ∷ c ∷ xs) x y some few first second = absurd (omega arith)
 
 -- one word is of no other form,
@@ -41,6 +44,15 @@ two_other word number no_demo (inr demo) = no_demo demo.0 demo.1
 pub no_form : (words : List (List ℕ)) → (length words ≡ 1 → ⊥) → (length words ≡ 2 → ⊥) → AreOwn words → ⊥
 no_form words not_one not_two (inl run) = not_one (ap length run)
 no_form words not_one not_two (inr demo) = not_two (ap length demo.1.words_are)
+
+-- two words ask for one workload
+pub one_seed : (words : List (List ℕ)) (m n : ℕ) → IsDemo words m → IsDemo words n → m ≡ n
+one_seed words m n a b =
+    let both : codes "demo" ∷ a.word ∷ [] ≡ codes "demo" ∷ b.word ∷ [] = sym a.words_are ∙ b.words_are in
+    let same : a.word ≡ b.word = cc in
+    let small = a.number.0 in
+    let other_small = b.number.0 in
+    decimal_injective m n (omega arith) (omega arith) (sym a.number.1 ∙ same ∙ b.number.1)
 
 -- the words have one form
 pub run_or_demo : (words : List (List ℕ)) (seed : ℕ) → IsRun words → IsDemo words seed → ⊥

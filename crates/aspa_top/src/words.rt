@@ -1,7 +1,6 @@
 //! The words that the program is called with.
 ghost use Rattle.std.specs.Prelude.{◌≡◌, ℕ, [], ◌∷◌, map, IfSome, IfNone};
 ghost use Rattle.std.specs.String.{string_bytes};
-ghost use Rattle.std.specs.Str.{str_bytes};
 ghost use Rattle.aspa_top.specs.Program.{IsDemo};
 ghost use Rattle.aspa_top.specs.Words.{HasForm};
 
