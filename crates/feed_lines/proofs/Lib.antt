@@ -1,7 +1,3 @@
 pub mod ConnectionLemmas
-pub mod GoingLemmas
-pub mod LawLemmas
-pub mod NamedLemmas
 pub mod PduLemmas
 pub mod TakingLemmas
-pub mod WorkingLemmas
