@@ -110,10 +110,10 @@ module _ (wire : Option (List Link)) (name : List ℕ) (kept : OpenFeed) (state 
         → TookAs new kept.link (λ t. TakesAct t name feed state act) (Ended (PduRefused kept.taken cause)) after
     acts_end ending after code bytes cause is clears coded spelled caused finishes =
         let whole : bytes ≡ report_bytes (code_on_end ending) = spelled ∙ ap report_bytes coded in
-        let done : Now new kept.link (λ t. (t.received ≡ feed.used ++ kept.framer) × (((t.sent ≡ feed.sent ++ report_bytes (code_on_end ending)) ⊎ LostAtSend t feed.sent (report_bytes (code_on_end ending))) × IsClosed t)) =
-        subst (λ (b : List ℕ). Now new kept.link (λ t. (t.received ≡ feed.used ++ kept.framer) × (((t.sent ≡ feed.sent ++ b) ⊎ LostAtSend t feed.sent b) × IsClosed t))) whole
+        let done : Now new kept.link (λ t. (t.received ≡ feed.used ++ kept.framer) × ((t.sent ≡ feed.sent ++ report_bytes (code_on_end ending)) ⊎ LostAtSend t feed.sent (report_bytes (code_on_end ending))) × IsClosed t) =
+        subst (λ (b : List ℕ). Now new kept.link (λ t. (t.received ≡ feed.used ++ kept.framer) × ((t.sent ≡ feed.sent ++ b) ⊎ LostAtSend t feed.sent b) × IsClosed t)) whole
         (finishes (feed.used ++ kept.framer) feed.sent stands.now) in
-        rw (is, caused, stands.taken) (Ever-map (λ t had. (had.1, clears, refl, refl)) (Ever-closed (λ t had. had.1.1) done))
+        rw (is, caused, stands.taken) (Ever-map (λ t had. ((had.1, had.2), clears, refl, refl)) (Ever-closed (λ t had. had.2) done))
 
 -- ---- what comes next
 
@@ -147,16 +147,16 @@ module _ (old wire new : Option (List Link)) (name : List ℕ) (kept : OpenFeed)
       let one : RefusesNow held (Refused cause) = subst (RefusesNow held) is refuses in
       let known = known_of one.0 cause one.2 in
       let whole = spelled ∙ ap report_bytes (reports one.0 known one.1) in
-      let done = subst (λ (b : List ℕ). Now new kept.link (λ t. (t.received ≡ feed.used ++ held) × (((t.sent ≡ feed.sent ++ b) ⊎ LostAtSend t feed.sent b) × IsClosed t))) whole
+      let done = subst (λ (b : List ℕ). Now new kept.link (λ t. (t.received ≡ feed.used ++ held) × ((t.sent ≡ feed.sent ++ b) ⊎ LostAtSend t feed.sent b) × IsClosed t)) whole
           (finishes (feed.used ++ held) feed.sent answer) in
       rw stands.taken
       (Ever-map
       (λ t had. record {
         coming = BadPdu held one.0;
         comes = (one.1, known, had.0);
-        takes = record { cause = cause; cause_is = one.2; reports = had.1; tells_are = refl; new_is = refl };
+        takes = record { cause = cause; cause_is = one.2; reports = (had.1, had.2); tells_are = refl; new_is = refl };
       })
-      (Ever-closed (λ t had. had.1.1) done))
+      (Ever-closed (λ t had. had.2) done))
 
   pub next_pdu : (pdu : Pdu) (act : Act) (session : Session) (outcome : Outcome) (after : Analysis) (later : ToldLater wire new) → asked ≡ Took pdu → Client kept.session pdu act session
       → ((state' : Feed) → StandsFor wire (record { framer = held; session = session; taken = kept.taken + 1; link = kept.link }) state'

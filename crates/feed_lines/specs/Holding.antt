@@ -44,11 +44,11 @@ feed_in feeds name = get (pointwise nat_eq) feeds.held name
 -- what is held, and the attempts and connections where they are told, stand for the feeds of this state
 pub record HoldsFeeds (attempts : Option (List Attempt)) (wire : Option (List Link)) (feeds : Feeds) (state : State) : Type 0 where
   pub made : (now : List Attempt) → attempts ≡ Some now → state.made ≡ length now
-  pub feeds : (name : List ℕ) → HoldsOr wire (feed_in feeds name) (state.feeds name)
+  pub each : (name : List ℕ) → HoldsOr wire (feed_in feeds name) (state.feeds name)
 
 -- and what the lines made so far for the rest of it
 pub record Holds (attempts : Option (List Attempt)) (wire : Option (List Link)) (feeds : Feeds) (progress : Progress) (state : State) : Type 0 where
-  pub feeds : HoldsFeeds attempts wire feeds state
+  pub held : HoldsFeeds attempts wire feeds state
   pub analysis : progress.analyser ≡ state.analysis
   pub refused : progress.refused ≡ state.refused
 
@@ -67,12 +67,12 @@ pub record IsSound (stands : List Standing) (most : ℕ) (feeds : Feeds) : Type 
 
 -- attempts were added behind those that were made, where they are told
 pub record AddsAttempts (old new : Option (List Attempt)) : Type 0 where
-  pub added : (after : List Attempt) → new ≡ Some after → (before : List Attempt) × (old ≡ Some before) × ((more : List Attempt) × (after ≡ before ++ more))
+  pub added : (after : List Attempt) → new ≡ Some after → (before : List Attempt) × (more : List Attempt) × (old ≡ Some before) × (after ≡ before ++ more)
 
 -- the attempts and connections that are told came to this
 pub record ComesTo (attempts : Option (List Attempt)) (wire : Option (List Link)) (world : World) : Type 0 where
-  pub attempts : AddsAttempts attempts world.attempts
-  pub links : ToldLater wire (Some world.links)
+  pub adds : AddsAttempts attempts world.attempts
+  pub goes_on : ToldLater wire (Some world.links)
 
 -- A line took any state that was held to another one, and added a text. What it did is read off the attempts and the connections, whatever
 -- becomes of them later.

@@ -194,11 +194,19 @@ fn apply<L: Ledger>(
     ensures applied { IfOk result (λ next. Happens analyser (Table (change_by name.now delta)) next) }
     ensures ticks { steps.new ≡ steps.old }
 {
-    let change = match delta {
-        Delta::Whole(rows) => TableChange::Replace(name.copy()?, rows),
-        Delta::Part(patch) => TableChange::Patch(name.copy()?, patch),
-    };
-    analyser.step(Event::Table(change), steps)
+    let change = change_of(name.copy()?, delta);
+    let next = analyser.step(Event::Table(change), steps)?;
+    Ok(next)
+}
+
+// The change that an End of Data makes of the source of this name.
+fn change_of(name: Name, delta: Delta) -> TableChange
+    ensures { result ≡ change_by name delta }
+{
+    match delta {
+        Delta::Whole(rows) => TableChange::Replace(name, rows),
+        Delta::Part(patch) => TableChange::Patch(name, patch),
+    }
 }
 
 // At a changed session the rows of the source of the feed's name are replaced by none.
@@ -215,7 +223,8 @@ fn clear<L: Ledger>(
     match ending {
         Ending::SessionChanged => {
             let change = TableChange::Replace(name.copy()?, Rows::new(alloc));
-            analyser.step(Event::Table(change), steps)
+            let next = analyser.step(Event::Table(change), steps)?;
+            Ok(next)
         }
         Ending::Unexpected => Ok(analyser),
         Ending::UnknownWithdrawal => Ok(analyser),
