@@ -36,3 +36,12 @@ returns-in_ok-outcome-in-Pdu-clause-took g c = λ state stands.
 
 pub returns-in_ok-outcome-in-Pdu-clause-only : goal.returns-in_ok-outcome-in-Pdu-clause-only
 returns-in_ok-outcome-in-Pdu-clause-only g c = Spares-trans c.in_ok-framer.ensures.only c.perform.ensures.only
+
+-- ---- for want of memory
+
+pub returns-in_err-outcome-in-Pdu-clause-only : goal.returns-in_err-outcome-in-Pdu-clause-only
+returns-in_err-outcome-in-Pdu-clause-only g c = Spares-trans c.next_pdu.ensures.only c.perform.ensures.only
+
+pub returns-in_err-outcome-in-Pdu-clause-halts : goal.returns-in_err-outcome-in-Pdu-clause-halts
+returns-in_err-outcome-in-Pdu-clause-halts g c =
+    on_err c.from_residual-in_err-outcome-in-Pdu.result c.from_residual-in_err-outcome-in-Pdu.ensures.0 (KeepsSent-trans c.next_pdu.ensures.keeps c.in_err-outcome-in-Pdu.ensures.halts)
