@@ -237,17 +237,18 @@ module _ (until : Bool) (name : List ℕ) (start : Taking) (link : ℕ) where
   pdus_start wire kept feed state is same stands = (feed, stands, sym stands.link ∙ same, λ links final told goes t there. (refl, sym is))
 
   -- one more
-  pub pdus_next : (wire new : Option (List Link)) (count : ℕ) (kept : OpenFeed) (state after : Analysis) (outcome : Outcome) → kept.link ≡ link → is_enough_at until kept.session.phase ≡ false
+  pub pdus_next : (wire new : Option (List Link)) (count : ℕ) (kept : OpenFeed) (state after : Analysis) (outcome is_one : Outcome) → outcome ≡ is_one → kept.link ≡ link → is_enough_at until kept.session.phase ≡ false
       → ToldLater wire new → TookAs wire link (λ t. TakesPdus t until name count start) (GoesOn kept) state
       → ((feed : Feed) → StandsFor wire kept feed → TookAs new kept.link (λ t. TakesNext t name feed state) outcome after)
-      → TookAs new link (λ t. TakesPdus t until name (count + 1) start) outcome after
-  pdus_next wire new count kept state after outcome same more later so_far next =
+      → TookAs new link (λ t. TakesPdus t until name (count + 1) start) is_one after
+  pdus_next wire new count kept state after outcome is_one is same more later so_far next =
       let phase : is_enough_at until so_far.0.session.phase ≡ false = ap (λ (s : Session). is_enough_at until s.phase) (sym so_far.1.session) ∙ more in
-      TookAs-with new link (λ t. TakesPdus t until name count start [] (record { feed = Some so_far.0; state = state })) (λ t. TakesNext t name so_far.0 state)
+      subst (λ (o : Outcome). TookAs new link (λ t. TakesPdus t until name (count + 1) start) o after) is
+      (TookAs-with new link (λ t. TakesPdus t until name count start [] (record { feed = Some so_far.0; state = state })) (λ t. TakesNext t name so_far.0 state)
       (λ t. TakesPdus t until name (count + 1) start) outcome after
       (Ever-later link _ later so_far.3)
       (λ t tells last before one. takes_more t until name count start so_far.0 state tells last phase before one)
-      (subst (λ k. TookAs new k (λ t. TakesNext t name so_far.0 state) outcome after) same (next so_far.0 so_far.1))
+      (subst (λ k. TookAs new k (λ t. TakesNext t name so_far.0 state) outcome after) same (next so_far.0 so_far.1)))
 
   -- all that came
   pub pdus_ended : (wire : Option (List Link)) (first count : ℕ) (telling : Telling) (state : Analysis) → first ≤ count

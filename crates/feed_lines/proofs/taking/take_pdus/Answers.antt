@@ -41,9 +41,8 @@ returns-in_err-outcome-clause-only g c =
 pub returns-in-Ended-clause-took : goal.returns-in-Ended-clause-took
 returns-in-Ended-clause-took g c = λ state stands.
     pdus_ended c.args.until_ready c.args.name.now _ c.args.feed.link _ (c.loop-turn._turn + 1) c.args.count c.in-Ended.telling c.in_ok-outcome.next (omega arith)
-    (subst (λ (o : Outcome). TookAs (g.K.Links.wire c.take_pdu.new.links) c.args.feed.link _ o c.in_ok-outcome.next) c.in-Ended.is
-    (pdus_next c.args.until_ready c.args.name.now _ c.args.feed.link (g.K.Links.wire c.loop-turn.links) _ c.loop-turn._turn c.loop-turn.feed c.loop-turn.analyser c.in_ok-outcome.next c.in_ok-outcome.outcome
-    c.loop-turn.invariant.same (sym c.is_enough.ensures ∙ c.if-is_enough.false) c.take_pdu.ensures.only.later (c.loop-turn.invariant.took state stands) c.in_ok-outcome.ensures.took))
+    (pdus_next c.args.until_ready c.args.name.now _ c.args.feed.link (g.K.Links.wire c.loop-turn.links) _ c.loop-turn._turn c.loop-turn.feed c.loop-turn.analyser c.in_ok-outcome.next c.in_ok-outcome.outcome (Ended c.in-Ended.telling) c.in-Ended.is
+    c.loop-turn.invariant.same (sym c.is_enough.ensures ∙ c.if-is_enough.false) c.take_pdu.ensures.only.later (c.loop-turn.invariant.took state stands) c.in_ok-outcome.ensures.took)
 
 pub returns-in-Ended-clause-only : goal.returns-in-Ended-clause-only
 returns-in-Ended-clause-only g c =
@@ -55,9 +54,8 @@ loop-turn-preserved g c =
     let fits = subst (λ (o : Outcome). OutcomeFits (g.K.Links.standings c.take_pdu.new.links) c.loop-turn.feed.link (c.loop-turn.feed.taken + 1) o) c.in-Open.is c.in_ok-outcome.ensures.fits in
     record {
       took = λ state stands.
-          subst (λ (o : Outcome). TookAs (g.K.Links.wire c.take_pdu.new.links) c.args.feed.link _ o c.in_ok-outcome.next) c.in-Open.is
-          (pdus_next c.args.until_ready c.args.name.now _ c.args.feed.link (g.K.Links.wire c.loop-turn.links) _ c.loop-turn._turn c.loop-turn.feed c.loop-turn.analyser c.in_ok-outcome.next c.in_ok-outcome.outcome
-          c.loop-turn.invariant.same (sym c.is_enough.ensures ∙ c.if-is_enough.false) c.take_pdu.ensures.only.later (c.loop-turn.invariant.took state stands) c.in_ok-outcome.ensures.took);
+          pdus_next c.args.until_ready c.args.name.now _ c.args.feed.link (g.K.Links.wire c.loop-turn.links) _ c.loop-turn._turn c.loop-turn.feed c.loop-turn.analyser c.in_ok-outcome.next c.in_ok-outcome.outcome (GoesOn c.in-Open.more) c.in-Open.is
+          c.loop-turn.invariant.same (sym c.is_enough.ensures ∙ c.if-is_enough.false) c.take_pdu.ensures.only.later (c.loop-turn.invariant.took state stands) c.in_ok-outcome.ensures.took;
       within = omega arith;
       fit = fits.0;
       same = fits.1 ∙ c.loop-turn.invariant.same;

@@ -9,7 +9,7 @@ use Rattle.feed_lines.proofs.taking.take_pdus.Given as goal
 abbrev pub invariant-loop-turn : goal.invariant-loop-turn
 invariant-loop-turn g l = record {
   took : (state : Feed) → StandsFor (g.K.Links.wire l.fn.links) l.fn.feed state
-      → TookAs (g.K.Links.wire l.links) l.fn.feed.link (λ t. TakesPdus t l.until_ready l.name.now l._turn (record { feed = Some state; state = l.fn.analyser })) (GoesOn l.feed) l.analyser;
+      → TookAs (g.K.Links.wire l.links) l.fn.feed.link (λ t. TakesPdus t l.until_ready l.name l._turn (record { feed = Some state; state = l.fn.analyser })) (GoesOn l.feed) l.analyser;
   within : l._turn ≤ l.count;
   fit : IsFit (g.K.Links.standings l.links) l.feed;
   same : l.feed.link ≡ l.fn.feed.link;
