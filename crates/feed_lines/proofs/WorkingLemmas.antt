@@ -1,12 +1,12 @@
 -- What a line does with a feed that goes on.
-use Rattle.std.proofs.Common.{◌≡◌, ℕ, ◌+◌, ◌≤◌, Bool, true, false, cond, List, [], ◌∷◌, ◌++◌, None, Some, refl, sym, ◌∙◌, ap, subst}
+use Rattle.std.proofs.Common.{◌≡◌, ◌≢◌, ℕ, ◌+◌, ◌≤◌, Bool, true, false, cond, List, [], ◌∷◌, ◌++◌, None, Some, refl, sym, ◌∙◌, ap, subst}
 use Rattle.std.specs.declared.option.Option.{Option}
 use Rattle.av_base.specs.Connections.{Link}
 use Rattle.rtr_session.specs.declared.act.Query.{Query}
 use Rattle.rtr_session.specs.State.{State as Session}
 use Rattle.rtr_session.specs.Client.{Asks as AsksSession}
 use Rattle.rib_store.specs.State.{State as Analysis}
-use Rattle.report_text.specs.declared.feed.FeedEnd.TheVariants.{Lost as LostFeed, Short}
+use Rattle.report_text.specs.declared.feed.FeedEnd.TheVariants.{Lost as LostFeed, Short, Unreachable}
 use Rattle.feed_lines.specs.declared.feed.OpenFeed.{OpenFeed}
 use Rattle.feed_lines.specs.declared.taking.Outcome.TheVariants.{Open as GoesOn, Ended}
 use Rattle.feed_lines.specs.declared.telling.Telling.{Telling}
@@ -99,3 +99,7 @@ asked_halted wire name kept state feed stands = record {
   done = λ links final told goes t there. (refl, refl);
   sent = Now-map (λ t had. had.gave) stands.now;
 }
+
+-- the telling is of a connection that there was
+pub not_unreachable : (telling : Telling) → telling ≢ FeedEnds Unreachable → Some telling ≢ Some (FeedEnds Unreachable)
+not_unreachable telling apart = λ e. let same : telling ≡ FeedEnds Unreachable = cc in apart same

@@ -13,6 +13,8 @@ use Rattle.feed_lines.specs.declared.feed.OpenFeed.{OpenFeed}
 use Rattle.feed_lines.specs.declared.taking.Outcome.{Outcome}
 use Rattle.feed_lines.specs.declared.taking.Outcome.TheVariants.{Open as GoesOn, Ended}
 use Rattle.feed_lines.specs.declared.telling.Telling.{Telling}
+use Rattle.feed_lines.specs.declared.telling.Telling.TheVariants.{End as FeedEnds}
+use Rattle.report_text.specs.declared.feed.FeedEnd.TheVariants.{Unreachable}
 use Rattle.feed_lines.specs.Connection.{Now, Ever}
 use Rattle.feed_lines.specs.Feeds.{Feed, Taking}
 use Rattle.feed_lines.specs.Holding.{StandsFor}
@@ -22,10 +24,10 @@ pub record IsFit (stands : List Standing) (feed : OpenFeed) : Type 0 where
   pub usable : IsUsable stands feed.link
   pub phase : feed.session.phase ≢ Over
 
--- a feed that goes on is fit, on the same connection, and has taken at most so many PDUs
+-- a feed that goes on is fit, on the same connection, and has taken at most so many PDUs; one that is over had a connection
 abbrev pub OutcomeFits : List Standing → ℕ → ℕ → Outcome → Type 0
 OutcomeFits stands link most (GoesOn feed) = IsFit stands feed × (feed.link ≡ link) × (feed.taken ≤ most)
-OutcomeFits stands link most (Ended telling) = Unit {0}
+OutcomeFits stands link most (Ended telling) = telling ≢ FeedEnds Unreachable
 
 abbrev pub SlotFits : List Standing → ℕ → ℕ → Option OpenFeed → Type 0
 SlotFits stands link most None = Unit {0}

@@ -71,3 +71,6 @@ pub returns-clause-took : goal.returns-clause-took
 returns-clause-took g c =
     let e : c.loop-turn._turn ≡ c.args.count = omega arith in
     rw e at c.loop-turn.invariant.took
+
+pub returns-in-Ended-clause-fits : goal.returns-in-Ended-clause-fits
+returns-in-Ended-clause-fits g c = subst (λ (o : Outcome). OutcomeFits (g.K.Links.standings c.take_pdu.new.links) c.loop-turn.feed.link (c.loop-turn.feed.taken + 1) o) c.in-Ended.is c.in_ok-outcome.ensures.fits
