@@ -101,14 +101,16 @@ fn ask_feed<K: Links>(
         taken,
         link,
     };
-    let Some(query) = query else {
-        return Ok(goes_on(feed, analyser));
-    };
-    let bytes = spell_query(alloc, query)?;
-    if send_query(bytes.as_slice(), link, links) {
-        return Ok(goes_on(feed, analyser));
+    match query {
+        None => Ok(goes_on(feed, analyser)),
+        Some(query) => {
+            let bytes = spell_query(alloc, query)?;
+            if send_query(bytes.as_slice(), link, links) {
+                return Ok(goes_on(feed, analyser));
+            }
+            Ok(ends(Telling::End(FeedEnd::Lost), analyser))
+        }
     }
-    Ok(ends(Telling::End(FeedEnd::Lost), analyser))
 }
 
 // Takes so many PDUs.

@@ -11,8 +11,8 @@ returns-then-is_enough-clause-works g c =
         (synced (g.K.Links.wire c.take_pdus.new.links) c.args.feed.link c.args.name.now c.args.count state c.args.analyser c.in_ok-outcome.analyser c.in-Open.feed
         (sym c.is_enough.ensures ∙ c.if-is_enough.true) (one.took state stands))
 
-pub returns-in-Open-clause-works : goal.returns-in-Open-clause-works
-returns-in-Open-clause-works g c =
+pub returns-else-is_enough-clause-works : goal.returns-else-is_enough-clause-works
+returns-else-is_enough-clause-works g c =
     let one = (rw c.in-Open.is at c.in_ok-outcome.ensures) in
     λ state stands.
         synced_short (g.K.Links.wire c.take_pdus.new.links) c.args.feed.link c.args.name.now c.args.count state c.args.analyser c.in_ok-outcome.analyser c.in-Open.feed
