@@ -1,10 +1,9 @@
 -- Feeds by their names.
-use Rattle.std.proofs.Common.{true≢false, ◌≡◌, ◌≢◌, ℕ, zero, suc, ◌+◌, ◌<◌, ◌≤◌, ◌⊎◌, inl, inr, Bool, true, false, cond, nat_eq, ◌&&◌, List, [], ◌∷◌, ◌++◌, length, None, Some, refl, sym, ◌∙◌, ap, subst, arith}
+use Rattle.std.proofs.Common.{true≢false, ◌≡◌, ◌≢◌, ℕ, zero, suc, ◌+◌, ◌<◌, ◌≤◌, ◌⊎◌, inl, inr, Bool, true, false, cond, is_some, nat_eq, ◌&&◌, List, [], ◌∷◌, ◌++◌, length, None, Some, refl, sym, ◌∙◌, ap, subst, arith}
 use Rattle.std.specs.Prelude.{slice_get}
 use Rattle.std.specs.Cmp.Lexicographic.{pointwise, nat_list_eq_equiv}
 use Rattle.std.specs.Option.{option_map, option_to_list}
 use Rattle.std.specs.declared.option.Option.{Option}
-use Rattle.std.proofs.lemmas.Bool.{cases_eq}
 use Rattle.std.proofs.lemmas.Map.Views.{exact_unsigned_eq}
 use Rattle.std.proofs.lemmas.Option.{slice_get_within}
 use Rattle.av_base.specs.Connections.{Link, Attempt, Agrees, AddsAttempt, Connects as ConnectsLink, IsUsable, Made, Failed, ToldLater, connects, new_link}
@@ -53,6 +52,10 @@ differ name q test same =
     let other : same_name name name ≡ false = subst (λ (n : List ℕ). same_name name n ≡ false) (sym same) test in
     let itself = same_itself name in
     absurd (let no : ⊥ = cc in no)
+
+split : (b : Bool) → (b ≡ true) ⊎ (b ≡ false)
+split true = inl refl
+split false = inr refl
 
 -- ---- what a call leaves of other feeds
 
@@ -150,7 +153,7 @@ module _ {P : ℕ → Type 0} (wire_old wire_new : Option (List Link)) {stood st
     (apart : (q : List ℕ) (kept : OpenFeed) → name ≢ q → feed_in feeds_old q ≡ Some (Some kept) → P kept.link) where
   put_sent : (end : Feed) (held : List ℕ → Option (Option Feed)) → Now wire_new end.link (λ t. t.sent ≡ end.sent) → ((q : List ℕ) → HoldsOr wire_old (feed_in feeds_old q) (held q))
       → (q : List ℕ) (feed : Feed) → with_feed name (Some end) held q ≡ Some (Some feed) → Now wire_new feed.link (λ t. t.sent ≡ feed.sent)
-  put_sent end held sent holds q feed is = elim (cases_eq (same_name name q)) [
+  put_sent end held sent holds q feed is = elim (split (same_name name q)) [
     | inl hit ↦
         let here : Some (Some end) ≡ Some (Some feed) = (rw hit at is) in
         let same : end ≡ feed = cc in
@@ -262,30 +265,51 @@ IsSound-same stands most more old new within same sound = record {
 module _ {P : ℕ → Type 0} {wire_old wire_new : Option (List Link)} {stood stands : List Standing} (name : List ℕ) (old new : Feeds) (slot : Option OpenFeed) (link most more : ℕ) (within : most ≤ more)
     (sound : IsSound stood most old) (puts : Puts old new name slot) (spares : Spares P wire_old wire_new stood stands)
     (apart : (q : List ℕ) (kept : OpenFeed) → name ≢ q → feed_in old q ≡ Some (Some kept) → P kept.link × (kept.link ≢ link)) (fits : SlotFits stands link more slot) where
+  at_put : (q : List ℕ) (found : Option OpenFeed) → feed_in new q ≡ Some found → cond (same_name name q) (Some slot) (feed_in old q) ≡ Some found
+  at_put q found is = sym (puts.puts q) ∙ is
+
   pub IsSound-put : IsSound stands more new
   IsSound-put = record {
-    fit = λ q kept is. elim (cases_eq (same_name name q)) [
-      | inl hit ↦ let had = fit_at stands link more slot kept fits (rw hit at sym (puts.puts q) ∙ is) in (had.0.usable, had.0.phase, had.2)
+    fit = λ q kept is. elim (split (same_name name q)) [
+      | inl hit ↦ let had = fit_at stands link more slot kept fits (rw hit at (at_put q (Some kept) is)) in (had.0.usable, had.0.phase, had.2)
       | inr miss ↦
-          let was : feed_in old q ≡ Some (Some kept) = (rw miss at sym (puts.puts q) ∙ is) in
+          let was : feed_in old q ≡ Some (Some kept) = (rw miss at (at_put q (Some kept) is)) in
           let had = sound.fit q kept was in
           (spares.standing kept.link (apart q kept (differ name q miss) was).0 ∙ had.0, had.1, omega (arith, had.2, within))
     ];
-    apart = λ one other a b differs is is_other. elim (cases_eq (same_name name one)) [
-      | inl hit ↦ elim (cases_eq (same_name name other)) [
+    apart = λ one other a b differs is is_other. elim (split (same_name name one)) [
+      | inl hit ↦ elim (split (same_name name other)) [
         | inl hit_other ↦ absurd (differs (sym (is_same name one hit) ∙ is_same name other hit_other))
         | inr miss ↦
-            let had = fit_at stands link more slot a fits (rw hit at sym (puts.puts one) ∙ is) in
-            let was : feed_in old other ≡ Some (Some b) = (rw miss at sym (puts.puts other) ∙ is_other) in
+            let had = fit_at stands link more slot a fits (rw hit at (at_put one (Some a) is)) in
+            let was : feed_in old other ≡ Some (Some b) = (rw miss at (at_put other (Some b) is_other)) in
             (λ e. (apart other b (differ name other miss) was).1 (sym e ∙ had.1))
       ]
       | inr miss ↦
-          let was : feed_in old one ≡ Some (Some a) = (rw miss at sym (puts.puts one) ∙ is) in
-          elim (cases_eq (same_name name other)) [
+          let was : feed_in old one ≡ Some (Some a) = (rw miss at (at_put one (Some a) is)) in
+          elim (split (same_name name other)) [
             | inl hit ↦
-                let had = fit_at stands link more slot b fits (rw hit at sym (puts.puts other) ∙ is_other) in
+                let had = fit_at stands link more slot b fits (rw hit at (at_put other (Some b) is_other)) in
                 (λ e. (apart one a (differ name one miss) was).1 (e ∙ had.1))
-            | inr miss_other ↦ sound.apart one other a b differs was (rw miss_other at sym (puts.puts other) ∙ is_other)
+            | inr miss_other ↦ sound.apart one other a b differs was (rw miss_other at (at_put other (Some b) is_other))
           ]
     ];
   }
+
+-- all other feeds are on other connections
+pub on_its_own : (stands : List Standing) (most : ℕ) (name : List ℕ) (feeds : Feeds) (kept : OpenFeed) → IsSound stands most feeds → feed_in feeds name ≡ Some (Some kept)
+    → (q : List ℕ) (other : OpenFeed) → name ≢ q → feed_in feeds q ≡ Some (Some other) → (other.link ≢ kept.link) × (other.link ≢ kept.link)
+on_its_own stands most name feeds kept sound there q other apart is =
+    let away : other.link ≢ kept.link = λ e. sound.apart name q kept other apart there is (sym e) in
+    (away, away)
+
+pub SlotFits-more : (stands : List Standing) (link most more : ℕ) (slot : Option OpenFeed) → most ≤ more → SlotFits stands link most slot → SlotFits stands link more slot
+SlotFits-more stands link most more None within fits = tt
+SlotFits-more stands link most more (Some kept) within fits = (fits.0, fits.1, omega (arith, fits.2, within))
+
+some_is : (found : Option (Option OpenFeed)) (slot : Option OpenFeed) → found ≡ Some slot → is_some found ≡ true
+some_is None slot is = let none : ⊥ = cc in absurd none
+some_is (Some other) slot is = refl
+
+pub there_some : (old new : Feeds) (name : List ℕ) (slot : Option OpenFeed) → Puts old new name slot → is_some (feed_in new name) ≡ true
+there_some old new name slot puts = some_is (feed_in new name) slot (put_there old new name slot puts)

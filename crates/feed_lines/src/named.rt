@@ -42,22 +42,20 @@ pub(crate) fn work_named<K: Links, L: Ledger>(
 {
     match lend(feeds, name) {
         None => Ok((Some(Telling::NoName), analyser)),
-        Some(slot) => match slot {
-            None => Ok((Some(Telling::StreamOver), analyser)),
-            Some(feed) => {
-                let Worked {
-                    slot,
-                    told,
-                    analyser,
-                } = work_on(alloc, name, feed, work, analyser, links, steps)?;
-                give(feeds, name, slot);
-                Ok((told, analyser))
-            }
-        },
+        Some(None) => Ok((Some(Telling::StreamOver), analyser)),
+        Some(Some(feed)) => {
+            let Worked {
+                slot,
+                told,
+                analyser,
+            } = work_on(alloc, name, feed, work, analyser, links, steps)?;
+            give(feeds, name, slot);
+            Ok((told, analyser))
+        }
     }
 }
 
-/// Takes a feed out, so that it may be worked on. Its name stays, as if it were over.
+// Takes a feed out, so that it may be worked on. Its name stays, as if it were over.
 fn lend(feeds: &mut Feeds, name: &Name) -> Option<Option<OpenFeed>>
     ensures was { result ≡ feed_in feeds.old name.now }
     ensures now { IfSome result (λ slot. Puts feeds.old feeds.new name.now None) }
