@@ -1,3 +1,4 @@
+pub mod ConnectingLemmas
 pub mod ConnectionLemmas
 pub mod GoingLemmas
 pub mod NamedLemmas

@@ -141,7 +141,7 @@ module _ {P : ℕ → Type 0} (wire_old wire_new : Option (List Link)) {stood st
     (puts : Puts feeds_old feeds_new name slot) (spares : Spares P wire_old wire_new stood stands)
     (apart : (q : List ℕ) (kept : OpenFeed) → name ≢ q → feed_in feeds_old q ≡ Some (Some kept) → P kept.link) where
   -- one feed was put under its name
-  put_holds : (feed : Option Feed) (held : List ℕ → Option (Option Feed)) → StandsSlot wire_new slot feed → ((q : List ℕ) → HoldsOr wire_old (feed_in feeds_old q) (held q))
+  pub put_holds : (feed : Option Feed) (held : List ℕ → Option (Option Feed)) → StandsSlot wire_new slot feed → ((q : List ℕ) → HoldsOr wire_old (feed_in feeds_old q) (held q))
       → (q : List ℕ) → HoldsOr wire_new (feed_in feeds_new q) (with_feed name feed held q)
   put_holds feed held stands_slot holds q =
       subst (λ (f : Option (Option OpenFeed)). HoldsOr wire_new f (with_feed name feed held q)) (sym (puts.puts q))
