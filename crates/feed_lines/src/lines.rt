@@ -1,5 +1,5 @@
 //! The script's lines on feeds, with their texts.
-ghost use Rattle.std.specs.Prelude.{◌≡◌, ◌≢◌, ℕ, ◌+◌, ◌++◌, ◌^◌, ◌<◌, ◌≤◌, Some, length, IfOk, OnOk, OnErr};
+ghost use Rattle.std.specs.Prelude.{◌≡◌, ◌≢◌, ℕ, ◌+◌, ◌++◌, ◌^◌, ◌<◌, ◌≤◌, Option, Some, length, IfOk, OnOk, OnErr};
 ghost use Rattle.std.specs.Option.{option_to_list};
 ghost use Rattle.report_text.specs.declared.feed.FeedEnd.TheVariants.{Unreachable};
 ghost use Rattle.feed_lines.specs.declared.telling.Telling.{Telling as TellingOf};
@@ -67,7 +67,8 @@ pub fn connect<K: Links>(
     ensures few { IfOk result (λ next. next.refused ≤ progress.refused + 1) }
 {
     let told = connect_named(alloc, name, place, feeds, links)?;
-    report(line, name, told, progress, text)
+    let next = report(line, name, told, progress, text)?;
+    Ok(next)
 }
 
 /// Performs `ask NAME`, `take NAME N` or `sync NAME N`, the second on a feed. An End of Data is one event. The text is held.
@@ -113,7 +114,8 @@ pub fn work<K: Links, L: Ledger>(
 {
     let Progress { analyser, refused } = progress;
     let (told, analyser) = work_named(alloc, name, work, feeds, analyser, links, steps)?;
-    report(line, name, told, Progress { analyser, refused }, text)
+    let next = report(line, name, told, Progress { analyser, refused }, text)?;
+    Ok(next)
 }
 
 // Writes and counts what a line reports.
