@@ -1,6 +1,7 @@
 pub mod ConnectingLemmas
 pub mod ConnectionLemmas
 pub mod GoingLemmas
+pub mod LawLemmas
 pub mod LineLemmas
 pub mod NamedLemmas
 pub mod PduLemmas
