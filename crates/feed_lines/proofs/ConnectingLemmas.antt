@@ -1,9 +1,9 @@
 -- Starting a feed.
-use Rattle.std.proofs.Common.{◌≡◌, ◌≢◌, ℕ, zero, suc, ◌+◌, ◌<◌, ◌≤◌, Bool, true, false, List, [], ◌∷◌, ◌++◌, length, None, Some, refl, sym, ◌∙◌, ap, subst, arith}
+use Rattle.std.proofs.Common.{◌≡◌, ◌≢◌, ℕ, zero, suc, ◌+◌, ◌<◌, ◌≤◌, inl, inr, Bool, true, false, List, [], ◌∷◌, ◌++◌, length, None, Some, refl, sym, ◌∙◌, ap, subst, arith}
 use Rattle.std.specs.Prelude.{slice_get}
 use Rattle.std.specs.Option.{option_map, option_to_list}
 use Rattle.std.specs.declared.option.Option.{Option}
-use Rattle.std.proofs.lemmas.Option.{slice_get_within}
+use Rattle.std.proofs.lemmas.Option.{slice_get_cases, slice_get_within}
 use Rattle.av_base.specs.Connections.{Link, Attempt, Agrees, AddsAttempt, Connects as ConnectsLink, IsUsable, Made, Failed, ToldLater, closes, connects, new_link, new_standing}
 use Rattle.av_base.specs.declared.standing.Standing.{Standing}
 use Rattle.av_base.proofs.LinksLemmas.{IsUsable-new, get-connects, length-told}
@@ -18,9 +18,10 @@ use Rattle.feed_lines.specs.declared.feed.OpenFeed.{OpenFeed}
 use Rattle.feed_lines.specs.declared.feed.Feeds.{Feeds}
 use Rattle.feed_lines.specs.declared.telling.Telling.{Telling}
 use Rattle.feed_lines.specs.declared.telling.Telling.TheVariants.{End as FeedEnds}
-use Rattle.feed_lines.specs.Connection.{Now, Ever, Has, Only, Spares, Asks, told_at}
+use Rattle.feed_lines.specs.Connection.{Now, Has, Spares, told_at}
+use Rattle.feed_lines.specs.Moves.{Ever, Only, Asks}
 use Rattle.feed_lines.specs.Feeds.{Feed, IsClosed, query_bytes}
-use Rattle.feed_lines.specs.Holding.{AddsAttempts, ComesTo, HoldsFeeds, HoldsOr, IsSound, StandsFor, feed_in}
+use Rattle.feed_lines.specs.Holding.{AddsAttempts, ComesTo, HoldsFeeds, HoldsOr, IsNoFeeds, IsSound, StandsFor, feed_in}
 use Rattle.feed_lines.specs.Lines.{Closes, InEnd, State, World, starting, with_feed}
 use Rattle.feed_lines.specs.Named.{ClosedAs, ConnectedNamed, IsApart, IsSlotFit, Puts, SessionStarts, StartedAs, WasHeld}
 use Rattle.feed_lines.specs.Steps.{IsFit, SlotFits, StandsSlot}
@@ -154,6 +155,25 @@ module _ (attempts_old attempts_mid attempts_new : Option (List Attempt)) (wire_
 
   spares_both : Spares (λ other. IsApart was other × (other ≢ length stands_mid)) wire_old wire_new stood stands
   spares_both = Spares-trans (Spares-weaker spares_old (λ other both. both.0)) (Spares-weaker spares_new (λ other both. both.1))
+
+  -- so are connections that no feed has
+  no_feeds_at : (found : Option (Option OpenFeed)) → feed_in feeds_old name ≡ found → WasHeld found was → (other : ℕ) → IsNoFeeds stood feeds_old other → IsApart was other
+  no_feeds_at None there w other free = subst (λ (s : Option OpenFeed). IsApart s other) (sym w) tt
+  no_feeds_at (Some None) there w other free = subst (λ (s : Option OpenFeed). IsApart s other) (sym w) tt
+  no_feeds_at (Some (Some kept)) there w other free = subst (λ (s : Option OpenFeed). IsApart s other) (sym w) (free.apart name kept there)
+
+  no_feeds : (other : ℕ) → IsNoFeeds stood feeds_old other → IsApart was other × (other ≢ length stands_mid)
+  no_feeds other free =
+      let apart = no_feeds_at (feed_in feeds_old name) refl held other free in (
+        apart,
+        λ e. elim (slice_get_cases stood other).1 [
+          | inl here ↦ absurd (omega (arith, slice_get_within stands_mid other here.0 (spares_old.standing other apart ∙ here.2), e))
+          | inr past ↦ absurd (omega (arith, free.made, past.0))
+        ],
+      )
+
+  pub connected_others : Spares (IsNoFeeds stood feeds_old) wire_old wire_new stood stands
+  connected_others = Spares-weaker spares_both no_feeds
 
   closes_at : (found : Option (Option OpenFeed)) (state : Option (Option Feed)) → feed_in feeds_old name ≡ found → WasHeld found was → HoldsOr wire_old found state → ClosedAs wire_old wire_mid was
       → (world : World) → ComesTo attempts_new wire_new world → Closes world state

@@ -12,7 +12,8 @@ use Rattle.av_base.specs.declared.standing.Break.TheVariants.{BySend, ByRecv}
 use Rattle.av_base.proofs.PlacesLemmas.{get-change_at, get-change_other}
 use Rattle.av_base.proofs.LinksLemmas.{IsOpen-usable, IsOpen-broken}
 use Rattle.av_base.proofs.LaterLemmas.{Later-trans, ToldLater-refl, ToldLater-trans}
-use Rattle.feed_lines.specs.Connection.{Now, Ever, Has, Only, Spares, told_at, Sending, KeepsSent, Asks, Finishes, Sends}
+use Rattle.feed_lines.specs.Connection.{Now, Has, Spares, told_at}
+use Rattle.feed_lines.specs.Moves.{Ever, Only, Sending, KeepsSent, Asks, Finishes, Sends}
 use Rattle.feed_lines.specs.Feeds.{HasEnded, IsClosed, LostAtSend}
 
 -- ---- one connection

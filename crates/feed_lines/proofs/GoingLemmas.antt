@@ -4,7 +4,8 @@ use Rattle.std.specs.Prelude.{slice_get, IfSome}
 use Rattle.std.specs.declared.option.Option.{Option}
 use Rattle.av_base.specs.Connections.{Link, Attempt, AddsAttempt, ToldLater}
 use Rattle.av_base.proofs.LaterLemmas.{Later-refl, ToldLater-refl, ToldLater-trans}
-use Rattle.feed_lines.specs.Connection.{Now, Ever}
+use Rattle.feed_lines.specs.Connection.{Now}
+use Rattle.feed_lines.specs.Moves.{Ever}
 use Rattle.feed_lines.specs.Holding.{AddsAttempts, ComesTo}
 use Rattle.feed_lines.specs.Lines.{World, InEnd, IsAttempt}
 

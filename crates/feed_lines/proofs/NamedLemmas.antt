@@ -16,7 +16,8 @@ use Rattle.feed_lines.specs.declared.feed.Feeds.{Feeds}
 use Rattle.feed_lines.specs.declared.telling.Telling.{Telling}
 use Rattle.feed_lines.specs.declared.telling.Telling.TheVariants.{NoName, StreamOver, End as FeedEnds}
 use Rattle.feed_lines.specs.declared.working.Work.{Work}
-use Rattle.feed_lines.specs.Connection.{Now, Ever, Has, Only, Spares, told_at}
+use Rattle.feed_lines.specs.Connection.{Now, Has, Spares, told_at}
+use Rattle.feed_lines.specs.Moves.{Ever, Only}
 use Rattle.feed_lines.specs.Feeds.{Feed, IsClosed}
 use Rattle.feed_lines.specs.Holding.{AddsAttempts, ComesTo, HasMoved, HoldsFeeds, HoldsOr, IsSound, StandsFor, feed_in}
 use Rattle.feed_lines.specs.Lines.{Begins, Closes, Does, InEnd, State, WorksBy, World, same_name, with_feed}

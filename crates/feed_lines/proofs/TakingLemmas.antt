@@ -31,7 +31,8 @@ use Rattle.feed_lines.specs.declared.telling.Cause.{Cause}
 use Rattle.feed_lines.specs.declared.telling.Telling.{Telling}
 use Rattle.feed_lines.specs.declared.telling.Telling.TheVariants.{Pdu as PduRefused, End as FeedEnds}
 use Rattle.feed_lines.specs.Tellings.{IsCauseOf, cause_of_end}
-use Rattle.feed_lines.specs.Connection.{Now, Ever, Has, KeepsSent, Answers, RefusesNow, Asks, Finishes}
+use Rattle.feed_lines.specs.Connection.{Now, Has}
+use Rattle.feed_lines.specs.Moves.{Ever, KeepsSent, Answers, RefusesNow, Asks, Finishes}
 use Rattle.feed_lines.specs.Feeds.{Feed, Taking, HasSent, HasEnded, IsClosed, LostAtSend, Queries, OnePdu, BadPdu, NoMore, TakesAct, TakesNext, TakesFrom, TakesUnit, TakesPdus, Clears, after_pdu, asked_of, change_by, is_enough_at, lost, query_bytes, report_bytes}
 use Rattle.feed_lines.specs.Holding.{StandsFor}
 use Rattle.feed_lines.specs.Lines.{TakesSome}

@@ -12,7 +12,8 @@ use Rattle.feed_lines.specs.declared.taking.Outcome.TheVariants.{Open as GoesOn,
 use Rattle.feed_lines.specs.declared.telling.Telling.{Telling}
 use Rattle.feed_lines.specs.declared.telling.Telling.TheVariants.{End as FeedEnds}
 use Rattle.feed_lines.specs.declared.working.Work.TheVariants.{Ask, Take, Sync}
-use Rattle.feed_lines.specs.Connection.{Now, Has, Asks}
+use Rattle.feed_lines.specs.Connection.{Now, Has}
+use Rattle.feed_lines.specs.Moves.{Asks}
 use Rattle.feed_lines.specs.Feeds.{Feed, TakesPdus, asked_of, is_enough_at, query_bytes, short_of}
 use Rattle.feed_lines.specs.Holding.{StandsFor}
 use Rattle.feed_lines.specs.Lines.{Begins, Does, TakesSome}

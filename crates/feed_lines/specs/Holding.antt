@@ -1,5 +1,5 @@
 -- How the feeds that are held stand for those of the definitions.
-use Rattle.std.specs.Prelude.{◌≡◌, ◌≢◌, ℕ, ◌≤◌, nat_eq, List, [], ◌++◌, length, Some}
+use Rattle.std.specs.Prelude.{◌≡◌, ◌≢◌, ℕ, ◌<◌, ◌≤◌, nat_eq, List, [], ◌++◌, length, Some}
 use Rattle.std.specs.Cmp.Lexicographic.{pointwise}
 use Rattle.std.specs.declared.option.Option.{Option}
 use Rattle.std.specs.declared.option.Option.TheVariants.{None}
@@ -62,6 +62,11 @@ pub record IsSound (stands : List Standing) (most : ℕ) (feeds : Feeds) : Type 
   pub fit : (name : List ℕ) (kept : OpenFeed) → feed_in feeds name ≡ Some (Some kept)
       → IsUsable stands kept.link × (kept.session.phase ≢ Over) × (kept.taken ≤ most)
   pub apart : (one other : List ℕ) (a b : OpenFeed) → one ≢ other → feed_in feeds one ≡ Some (Some a) → feed_in feeds other ≡ Some (Some b) → a.link ≢ b.link
+
+-- a connection that was made before, and that no feed has
+pub record IsNoFeeds (stood : List Standing) (feeds : Feeds) (link : ℕ) : Type 0 where
+  pub made : link < length stood
+  pub apart : (name : List ℕ) (kept : OpenFeed) → feed_in feeds name ≡ Some (Some kept) → link ≢ kept.link
 
 -- ---- what becomes of the attempts and the connections
 

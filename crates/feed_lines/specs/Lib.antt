@@ -3,6 +3,7 @@ pub mod Feeds
 pub mod Holding
 pub mod Laws
 pub mod Lines
+pub mod Moves
 pub mod Named
 pub mod Steps
 pub mod Tellings

@@ -11,7 +11,7 @@ use Rattle.feed_lines.specs.declared.feed.OpenFeed.{OpenFeed}
 use Rattle.feed_lines.specs.declared.feed.Feeds.{Feeds}
 use Rattle.feed_lines.specs.declared.telling.Telling.{Telling}
 use Rattle.feed_lines.specs.declared.working.Work.{Work}
-use Rattle.feed_lines.specs.Connection.{Ever}
+use Rattle.feed_lines.specs.Moves.{Ever}
 use Rattle.feed_lines.specs.Feeds.{Feed, IsClosed, Queries}
 use Rattle.feed_lines.specs.Holding.{AddsAttempts, ComesTo, HasMoved, HoldsFeeds, StandsFor, feed_in}
 use Rattle.feed_lines.specs.Lines.{BeginsOn, Connects, IsAttempt, StartsBy, State, Works, World, same_name, starting}

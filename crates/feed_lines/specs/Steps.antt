@@ -15,7 +15,8 @@ use Rattle.feed_lines.specs.declared.taking.Outcome.TheVariants.{Open as GoesOn,
 use Rattle.feed_lines.specs.declared.telling.Telling.{Telling}
 use Rattle.feed_lines.specs.declared.telling.Telling.TheVariants.{End as FeedEnds}
 use Rattle.report_text.specs.declared.feed.FeedEnd.TheVariants.{Unreachable}
-use Rattle.feed_lines.specs.Connection.{Now, Ever}
+use Rattle.feed_lines.specs.Connection.{Now}
+use Rattle.feed_lines.specs.Moves.{Ever}
 use Rattle.feed_lines.specs.Feeds.{Feed, Taking}
 use Rattle.feed_lines.specs.Holding.{StandsFor}
 

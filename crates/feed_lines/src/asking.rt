@@ -1,7 +1,8 @@
 //! Asking a connection for its next PDU.
 ghost use Rattle.std.specs.Prelude.{◌≡◌, ℕ, ◌<◌, ◌≤◌, List, ◌++◌, length, IfOk};
 ghost use Rattle.av_base.specs.Connections.{IsUsable};
-ghost use Rattle.feed_lines.specs.Connection.{Answers, AnswersTurn, Grows, Has, KeepsSent, Now, Only, RefusesNow, StaysUsable, TurnsUsable};
+ghost use Rattle.feed_lines.specs.Connection.{Has, Now};
+ghost use Rattle.feed_lines.specs.Moves.{Answers, AnswersTurn, Grows, KeepsSent, Only, RefusesNow, StaysUsable, TurnsUsable};
 
 use crate::telling::{Cause, refusal};
 use av_base::{Links, NoMemory, PIECE};

@@ -3,9 +3,10 @@ ghost use Rattle.std.specs.Prelude.{◌≡◌, ◌≢◌, ℕ, ◌+◌, ◌^◌,
 ghost use Rattle.av_base.specs.Connections.{IsUsable, ToldLater};
 ghost use Rattle.report_text.specs.declared.feed.FeedEnd.TheVariants.{Unreachable};
 ghost use Rattle.feed_lines.specs.declared.telling.Telling.TheVariants.{End as FeedEnds};
-ghost use Rattle.feed_lines.specs.Connection.{Has, Now, Only, Spares};
+ghost use Rattle.feed_lines.specs.Connection.{Has, Now, Spares};
+ghost use Rattle.feed_lines.specs.Moves.{Only};
 ghost use Rattle.feed_lines.specs.Feeds.{query_bytes};
-ghost use Rattle.feed_lines.specs.Holding.{HasMoved, Holds, IsCounted, IsSound};
+ghost use Rattle.feed_lines.specs.Holding.{IsCounted, IsNoFeeds, IsSound};
 ghost use Rattle.feed_lines.specs.Named.{ClosedAs, ConnectedNamed, IsApart, IsSlotFit, SessionStarts, StartedAs};
 ghost use Rattle.feed_lines.specs.Steps.{SlotFits};
 ghost use Rattle.rtr_session.specs.declared.act.Query.TheVariants.{Reset};
@@ -33,6 +34,8 @@ pub(crate) fn connect_named<K: Links>(
     ensures connects { IfOk result (λ told. ConnectedNamed (K.attempts links.old) (K.attempts links.new)
         (K.wire links.old) (K.wire links.new) name.now place.now feeds.old feeds.new told) }
     ensures err { OnErr result (links.new ≡ links.old) }
+    ensures others { Spares (IsNoFeeds (K.standings links.old) feeds.old) (K.wire links.old) (K.wire links.new)
+        (K.standings links.old) (K.standings links.new) }
     ensures sound { IfOk result (λ told. (most : ℕ) → IsSound (K.standings links.old) most feeds.old
         → IsSound (K.standings links.new) most feeds.new) }
     ensures counted { IfOk result (λ told. IsCounted (K.faults links.old) (K.faults links.new) told) }

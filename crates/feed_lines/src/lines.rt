@@ -4,7 +4,8 @@ ghost use Rattle.std.specs.Option.{option_to_list};
 ghost use Rattle.report_text.specs.declared.feed.FeedEnd.TheVariants.{Unreachable};
 ghost use Rattle.feed_lines.specs.declared.telling.Telling.{Telling as TellingOf};
 ghost use Rattle.feed_lines.specs.declared.telling.Telling.TheVariants.{End as FeedEnds};
-ghost use Rattle.feed_lines.specs.Holding.{Goes, HasMoved, Holds, IsCounted, IsSound};
+ghost use Rattle.feed_lines.specs.Connection.{Spares};
+ghost use Rattle.feed_lines.specs.Holding.{Goes, HasMoved, Holds, IsCounted, IsNoFeeds, IsSound};
 ghost use Rattle.feed_lines.specs.Lines.{ConnectLine, ConnectPart, WorkLine, WorkPart, units_of};
 ghost use Rattle.feed_lines.specs.Tellings.{tells_text};
 
@@ -58,10 +59,13 @@ pub fn connect<K: Links>(
         (λ world old added new. ConnectPart world (record { line = line; name = name.now }) place.now old new)) }
     ensures err { OnErr result (text.new.items ≡ text.old.items) }
 
-    // Whatever is told: what it reports, and that a connection which wasn't to be had was a fault.
+    // Whatever is told: what it reports, and that a connection which wasn't to be had was a fault. Connections that no feed has stay
+    // as they were.
     ensures tells { IfOk result (λ next. (told : Option TellingOf)
         × (text.new.items ≡ text.old.items ++ tells_text (record { line = line; name = name.now }) (option_to_list told))
         × IsCounted (K.faults links.old) (K.faults links.new) told) }
+    ensures others { Spares (IsNoFeeds (K.standings links.old) feeds.old) (K.wire links.old) (K.wire links.new)
+        (K.standings links.old) (K.standings links.new) }
     ensures sound { IfOk result (λ next. (most : ℕ) → IsSound (K.standings links.old) most feeds.old
         → IsSound (K.standings links.new) most feeds.new) }
     ensures few { IfOk result (λ next. next.refused ≤ progress.refused + 1) }
@@ -101,10 +105,13 @@ pub fn work<K: Links, L: Ledger>(
         (λ world old added new. WorkPart world (record { line = line; name = name.now }) work old new)) }
     ensures err { OnErr result (text.new.items ≡ text.old.items) }
 
-    // Whatever is told: what it reports, and nothing of a connection that wasn't to be had.
+    // Whatever is told: what it reports, and nothing of a connection that wasn't to be had. Connections that no feed has stay as they
+    // were.
     ensures tells { IfOk result (λ next. (told : Option TellingOf)
         × (text.new.items ≡ text.old.items ++ tells_text (record { line = line; name = name.now }) (option_to_list told))
         × (told ≢ Some (FeedEnds Unreachable))) }
+    ensures others { Spares (IsNoFeeds (K.standings links.old) feeds.old) (K.wire links.old) (K.wire links.new)
+        (K.standings links.old) (K.standings links.new) }
     ensures sound { IfOk result (λ next. (most : ℕ) → IsSound (K.standings links.old) most feeds.old
         → IsSound (K.standings links.new) (most + units_of work) feeds.new) }
     ensures few { IfOk result (λ next. next.refused ≤ progress.refused + 1) }

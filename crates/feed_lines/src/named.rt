@@ -1,9 +1,9 @@
 //! Feeds by their names.
 ghost use Rattle.std.specs.Prelude.{◌≡◌, ◌≢◌, ℕ, ◌+◌, ◌^◌, ◌<◌, ◌≤◌, Some, None, is_some, true, IfOk, IfSome, IfNone, OnOk, OnErr};
-ghost use Rattle.av_base.specs.Connections.{ToldLater};
+ghost use Rattle.feed_lines.specs.Connection.{Spares};
 ghost use Rattle.report_text.specs.declared.feed.FeedEnd.TheVariants.{Unreachable};
 ghost use Rattle.feed_lines.specs.declared.telling.Telling.TheVariants.{End as FeedEnds};
-ghost use Rattle.feed_lines.specs.Holding.{IsSound, feed_in};
+ghost use Rattle.feed_lines.specs.Holding.{IsNoFeeds, IsSound, feed_in};
 ghost use Rattle.feed_lines.specs.Lines.{units_of};
 ghost use Rattle.feed_lines.specs.Named.{BeganNamed, Puts, Same, WasHeld, WorkedNamed};
 
@@ -36,7 +36,8 @@ pub(crate) fn work_named<K: Links, L: Ledger>(
         → IsSound (K.standings links.new) (most + units_of work) feeds.new) }
     ensures reached { IfOk result (λ r. r.0 ≢ Some (FeedEnds Unreachable)) }
     ensures ticks { steps.new ≡ steps.old }
-    ensures later { ToldLater (K.wire links.old) (K.wire links.new) }
+    ensures others { Spares (IsNoFeeds (K.standings links.old) feeds.old) (K.wire links.old) (K.wire links.new)
+        (K.standings links.old) (K.standings links.new) }
     ensures attempts { K.attempts links.new ≡ K.attempts links.old }
     ensures faults { K.faults links.old ≤ K.faults links.new }
 {

@@ -1,7 +1,8 @@
 //! Sending queries and error reports.
 ghost use Rattle.std.specs.Prelude.{◌≡◌, ℕ, ◌≤◌, List, true, IfOk};
 ghost use Rattle.av_base.specs.Connections.{IsOpen, IsUsable};
-ghost use Rattle.feed_lines.specs.Connection.{Asks, Finishes, Has, Now, Only, Sends};
+ghost use Rattle.feed_lines.specs.Connection.{Has, Now};
+ghost use Rattle.feed_lines.specs.Moves.{Asks, Finishes, Only, Sends};
 ghost use Rattle.feed_lines.specs.Feeds.{query_bytes, report_bytes};
 
 use av_base::{Links, NoMemory};

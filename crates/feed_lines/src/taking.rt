@@ -4,7 +4,7 @@ ghost use Rattle.av_base.specs.Connections.{IsUsable};
 ghost use Rattle.analyser.specs.declared.event.Event.TheVariants.{Table};
 ghost use Rattle.analyser.specs.Events.{Happens};
 ghost use Rattle.rtr_session.specs.declared.act.Phase.TheVariants.{Over};
-ghost use Rattle.feed_lines.specs.Connection.{KeepsSent, Only};
+ghost use Rattle.feed_lines.specs.Moves.{KeepsSent, Only};
 ghost use Rattle.feed_lines.specs.Feeds.{Clears, Feed, TakesAct, TakesNext, TakesPdus, change_by, is_enough_at};
 ghost use Rattle.feed_lines.specs.Holding.{StandsFor};
 ghost use Rattle.feed_lines.specs.Lines.{TakesSome};

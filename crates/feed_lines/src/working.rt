@@ -3,7 +3,7 @@ ghost use Rattle.std.specs.Prelude.{◌≡◌, ◌≢◌, ◌+◌, ◌^◌, ◌<
 ghost use Rattle.report_text.specs.declared.feed.FeedEnd.TheVariants.{Unreachable};
 ghost use Rattle.feed_lines.specs.declared.telling.Telling.TheVariants.{End as FeedEnds};
 ghost use Rattle.feed_lines.specs.declared.working.Work.TheVariants.{Ask as AskWork, Sync as SyncWork, Take as TakeWork};
-ghost use Rattle.feed_lines.specs.Connection.{Only};
+ghost use Rattle.feed_lines.specs.Moves.{Only};
 ghost use Rattle.feed_lines.specs.Feeds.{Feed};
 ghost use Rattle.feed_lines.specs.Holding.{StandsFor};
 ghost use Rattle.feed_lines.specs.Lines.{Begins, Does, units_of};

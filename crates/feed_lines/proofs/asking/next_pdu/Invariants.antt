@@ -1,6 +1,6 @@
 use Rattle.std.proofs.Common.{◌≡◌, ◌≤◌, ◌-◌, length}
 use Rattle.av_base.specs.Connections.{IsUsable}
-use Rattle.feed_lines.specs.Connection.{Asking, Only, KeepsSent}
+use Rattle.feed_lines.specs.Moves.{Asking, Only, KeepsSent}
 use Rattle.feed_lines.proofs.asking.next_pdu.Given as goal
 
 abbrev pub invariant-pieces : goal.invariant-pieces

@@ -1,6 +1,6 @@
 use Rattle.std.proofs.Common.{◌≡◌, ◌≢◌, ℕ, length, refl, sym, ◌∙◌, ap, subst, arith}
 use Rattle.av_base.proofs.LinksLemmas.{IsUsable-new}
-use Rattle.feed_lines.specs.Connection.{Only}
+use Rattle.feed_lines.specs.Moves.{Only}
 use Rattle.feed_lines.specs.Steps.{SlotFits}
 use Rattle.feed_lines.proofs.ConnectionLemmas.{Spares-trans}
 use Rattle.feed_lines.proofs.ConnectingLemmas.{spares_connect, new_now, started_made, started_failed, usable_new, spares_same}

@@ -4,7 +4,7 @@ use Rattle.feed_lines.specs.declared.feed.OpenFeed.{OpenFeed}
 use Rattle.feed_lines.specs.declared.telling.Telling.TheVariants.{NoName, StreamOver}
 use Rattle.feed_lines.specs.Holding.{feed_in}
 use Rattle.feed_lines.specs.Lines.{units_of}
-use Rattle.av_base.proofs.LaterLemmas.{ToldLater-refl}
+use Rattle.feed_lines.proofs.ConnectionLemmas.{Spares-refl, Spares-weaker}
 use Rattle.feed_lines.proofs.TakingLemmas.{on_err}
 use Rattle.feed_lines.proofs.NamedLemmas.{works_named, began_named, refused_named, no_name, is_over, Puts-over, Puts-twice, IsSound-same, IsSound-put, on_its_own, SlotFits-more, there_some}
 use Rattle.feed_lines.proofs.named.work_named.Goals as goal
@@ -19,8 +19,8 @@ returns-in-None-clause-works g c =
 pub returns-in-None-clause-sound : goal.returns-in-None-clause-sound
 returns-in-None-clause-sound g c = λ most sound. IsSound-same _ most (most + units_of c.args.work) c.args.feeds.now c.lend.new.feeds (omega arith) c.in-None.ensures.same sound
 
-pub returns-in-None-clause-later : goal.returns-in-None-clause-later
-returns-in-None-clause-later g c = ToldLater-refl _
+pub returns-in-None-clause-others : goal.returns-in-None-clause-others
+returns-in-None-clause-others g c = Spares-refl _ _ _
 
 -- ---- its session is over
 
@@ -36,8 +36,8 @@ returns-in-Some-None-clause-sound g c = λ most sound.
     let there : feed_in c.args.feeds.now c.args.name.now ≡ Some None = sym c.lend.ensures.was ∙ c.in-Some-None.is ∙ ap (λ (s : Option OpenFeed). Some s) c.in-Some-None.field-0-is in
     IsSound-same _ most (most + units_of c.args.work) c.args.feeds.now c.lend.new.feeds (omega arith) (Puts-over c.args.feeds.now c.lend.new.feeds c.args.name.now there c.in-Some-None.ensures.now) sound
 
-pub returns-in-Some-None-clause-later : goal.returns-in-Some-None-clause-later
-returns-in-Some-None-clause-later g c = ToldLater-refl _
+pub returns-in-Some-None-clause-others : goal.returns-in-Some-None-clause-others
+returns-in-Some-None-clause-others g c = Spares-refl _ _ _
 
 -- ---- it is worked on
 
@@ -58,8 +58,10 @@ returns-in_err-slot-in-Some-Some-clause-halts g c =
     (g.K.Links.standings c.args.links.now) (g.K.Links.standings c.work_on.new.links) c.args.name.now c.args.work c.args.feeds.now c.in-Some-Some.feed c.args.analyser
     c.work_on.ensures.attempts (2 ^ 61) c.requires.sound (sym c.lend.ensures.was ∙ c.in-Some-Some.is ∙ ap (λ (s : Option OpenFeed). Some s) c.in-Some-Some.field-0-is) c.work_on.ensures.only c.in_err-slot-in-Some-Some.ensures.halts)
 
-pub returns-in_err-slot-in-Some-Some-clause-later : goal.returns-in_err-slot-in-Some-Some-clause-later
-returns-in_err-slot-in-Some-Some-clause-later g c = c.work_on.ensures.only.later
+pub returns-in_err-slot-in-Some-Some-clause-others : goal.returns-in_err-slot-in-Some-Some-clause-others
+returns-in_err-slot-in-Some-Some-clause-others g c =
+    Spares-weaker c.work_on.ensures.only
+    (λ other free. free.apart c.args.name.now c.in-Some-Some.feed (sym c.lend.ensures.was ∙ c.in-Some-Some.is ∙ ap (λ (s : Option OpenFeed). Some s) c.in-Some-Some.field-0-is))
 
 pub give-requires : goal.give-requires
 give-requires g c = there_some c.args.feeds.now c.lend.new.feeds c.args.name.now None c.in-Some-Some.ensures.now
@@ -80,5 +82,7 @@ returns-in_ok-slot-in-Some-Some-clause-sound g c = λ most sound.
     (on_its_own _ most c.args.name.now c.args.feeds.now c.in-Some-Some.feed sound there)
     (SlotFits-more _ c.in-Some-Some.feed.link (c.in-Some-Some.feed.taken + units_of c.args.work) (most + units_of c.args.work) c.in_ok-slot-in-Some-Some.field-0.slot (omega (arith, had.2)) c.in_ok-slot-in-Some-Some.ensures.fits)
 
-pub returns-in_ok-slot-in-Some-Some-clause-later : goal.returns-in_ok-slot-in-Some-Some-clause-later
-returns-in_ok-slot-in-Some-Some-clause-later g c = c.work_on.ensures.only.later
+pub returns-in_ok-slot-in-Some-Some-clause-others : goal.returns-in_ok-slot-in-Some-Some-clause-others
+returns-in_ok-slot-in-Some-Some-clause-others g c =
+    Spares-weaker c.work_on.ensures.only
+    (λ other free. free.apart c.args.name.now c.in-Some-Some.feed (sym c.lend.ensures.was ∙ c.in-Some-Some.is ∙ ap (λ (s : Option OpenFeed). Some s) c.in-Some-Some.field-0-is))

@@ -2,7 +2,8 @@ use Rattle.std.proofs.Common.{rules, ◌≡◌, ◌<◌, ◌++◌, List, ℕ, tr
 use Rattle.std.proofs.lemmas.Grind.{common_steps}
 use Rattle.av_base.specs.declared.standing.Break.TheVariants.{BySend}
 use Rattle.av_base.proofs.LinksLemmas.{IsOpen-usable}
-use Rattle.feed_lines.specs.Connection.{Now, Has, Sending}
+use Rattle.feed_lines.specs.Connection.{Now, Has}
+use Rattle.feed_lines.specs.Moves.{Sending}
 use Rattle.feed_lines.proofs.ConnectionLemmas.{Spares-refl, Spares-trans, Only-quiet, Only-loud, open_broken, Sending-start, Sending-more, Sending-part, Sending-all}
 use Rattle.feed_lines.proofs.sending.send_all.Goals as goal
 

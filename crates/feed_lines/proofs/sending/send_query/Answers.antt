@@ -1,5 +1,5 @@
 use Rattle.std.proofs.Common.{◌≡◌, Bool, subst}
-use Rattle.feed_lines.specs.Connection.{Sends}
+use Rattle.feed_lines.specs.Moves.{Sends}
 use Rattle.feed_lines.proofs.ConnectionLemmas.{Spares-trans, Only-loud, asks_lost}
 use Rattle.feed_lines.proofs.sending.send_query.Goals as goal
 

@@ -2,7 +2,7 @@ use Rattle.std.proofs.Common.{◌≡◌, ◌≢◌, ◌+◌, ◌≤◌, ℕ, Som
 use Rattle.feed_lines.specs.declared.feed.OpenFeed.{OpenFeed}
 use Rattle.feed_lines.specs.declared.taking.Outcome.{Outcome}
 use Rattle.feed_lines.specs.declared.taking.Outcome.TheVariants.{Open as GoesOn, Ended}
-use Rattle.feed_lines.specs.Connection.{Only}
+use Rattle.feed_lines.specs.Moves.{Only}
 use Rattle.feed_lines.specs.Feeds.{TakesNext}
 use Rattle.feed_lines.specs.Steps.{TookAs, OutcomeFits}
 use Rattle.feed_lines.proofs.ConnectionLemmas.{Spares-refl, Spares-trans}

@@ -1,6 +1,6 @@
 use Rattle.std.proofs.Common.{◌≡◌, ◌+◌, ◌≤◌, Some}
 use Rattle.feed_lines.specs.declared.taking.Outcome.TheVariants.{Open as GoesOn}
-use Rattle.feed_lines.specs.Connection.{Only}
+use Rattle.feed_lines.specs.Moves.{Only}
 use Rattle.feed_lines.specs.Feeds.{Feed, TakesPdus}
 use Rattle.feed_lines.specs.Holding.{StandsFor}
 use Rattle.feed_lines.specs.Steps.{IsFit, TookAs}
