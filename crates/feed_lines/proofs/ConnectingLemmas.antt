@@ -1,13 +1,12 @@
 -- Starting a feed.
-use Rattle.std.proofs.Common.{◌≡◌, ◌≢◌, ℕ, zero, suc, ◌+◌, ◌<◌, ◌≤◌, inl, inr, Bool, true, false, List, [], ◌∷◌, ◌++◌, length, None, Some, refl, sym, ◌∙◌, ap, subst, arith}
+use Rattle.std.proofs.Common.{◌≡◌, ◌≢◌, ℕ, zero, suc, ◌+◌, inl, inr, Bool, true, false, List, [], ◌∷◌, ◌++◌, length, None, Some, refl, sym, ◌∙◌, ap, subst, arith}
 use Rattle.std.specs.Prelude.{slice_get}
-use Rattle.std.specs.Option.{option_map, option_to_list}
+use Rattle.std.specs.Option.{option_map}
 use Rattle.std.specs.declared.option.Option.{Option}
 use Rattle.std.proofs.lemmas.Option.{slice_get_cases, slice_get_within}
 use Rattle.av_base.specs.Connections.{Link, Attempt, Agrees, AddsAttempt, Connects as ConnectsLink, IsUsable, Made, Failed, ToldLater, closes, connects, new_link, new_standing}
 use Rattle.av_base.specs.declared.standing.Standing.{Standing}
 use Rattle.av_base.proofs.LinksLemmas.{IsUsable-new, get-connects, length-told}
-use Rattle.av_base.proofs.LaterLemmas.{ToldLater-trans}
 use Rattle.rtr_session.specs.declared.act.Query.TheVariants.{Reset}
 use Rattle.rtr_session.specs.State.{State as Session, fresh}
 use Rattle.rtr_session.specs.Client.{Asks as AsksSession}
@@ -19,16 +18,16 @@ use Rattle.feed_lines.specs.declared.feed.Feeds.{Feeds}
 use Rattle.feed_lines.specs.declared.telling.Telling.{Telling}
 use Rattle.feed_lines.specs.declared.telling.Telling.TheVariants.{End as FeedEnds}
 use Rattle.feed_lines.specs.Connection.{Now, Has, Spares, told_at}
-use Rattle.feed_lines.specs.Moves.{Ever, Only, Asks}
+use Rattle.feed_lines.specs.Moves.{Ever, Asks}
 use Rattle.feed_lines.specs.Feeds.{Feed, IsClosed, query_bytes}
-use Rattle.feed_lines.specs.Holding.{AddsAttempts, ComesTo, HoldsFeeds, HoldsOr, IsNoFeeds, IsSound, StandsFor, feed_in}
-use Rattle.feed_lines.specs.Lines.{Closes, InEnd, State, World, starting, with_feed}
+use Rattle.feed_lines.specs.Holding.{AddsAttempts, ComesTo, HoldsOr, IsNoFeeds, IsSound, StandsFor, feed_in}
+use Rattle.feed_lines.specs.Lines.{Closes, State, World, starting, with_feed}
 use Rattle.feed_lines.specs.Named.{ClosedAs, ConnectedNamed, IsApart, IsSlotFit, Puts, SessionStarts, StartedAs, WasHeld}
-use Rattle.feed_lines.specs.Steps.{IsFit, SlotFits, StandsSlot}
+use Rattle.feed_lines.specs.Steps.{SlotFits}
 use Rattle.feed_lines.proofs.ConnectionLemmas.{Now-change, Now-map, Ever-closed, Ever-later, Ever-now, Spares-trans, Spares-weaker}
-use Rattle.feed_lines.proofs.GoingLemmas.{AddsAttempts-one, ComesTo-earlier, Now-later, in_end, is_attempt, one_more}
-use Rattle.feed_lines.proofs.NamedLemmas.{HoldsOr-spared, IsSound-put, Puts-twice, SlotFits-more, put_holds}
-use Rattle.feed_lines.proofs.TakingLemmas.{Ever-map, query_whole, query_lost}
+use Rattle.feed_lines.proofs.GoingLemmas.{AddsAttempts-one, Now-later, in_end, is_attempt, one_more}
+use Rattle.feed_lines.proofs.NamedLemmas.{IsSound-put, Puts-twice, SlotFits-more, put_holds}
+use Rattle.feed_lines.proofs.TakingLemmas.{query_whole, query_lost}
 
 -- ---- closing
 
@@ -120,7 +119,7 @@ started_made attempts_old attempts_mid attempts_new wire_mid wire_new place link
         Made link,
         is_attempt (Made link) one made count world comes,
         in_end link (Now-later link later here)
-        (λ links final is goes t there. ((Ever-later link (λ t. t.place ≡ place) later (Ever-now (λ t u h after. after.place ∙ h.0) here)) links final is goes t there, had.done links final is goes t there)) world comes,
+            (λ links final is goes t there. ((Ever-later link (λ t. t.place ≡ place) later (Ever-now (λ t u h after. after.place ∙ h.0) here)) links final is goes t there, had.done links final is goes t there)) world comes,
       );
     }
 

@@ -1,11 +1,11 @@
 -- What calls leave of what is known of a connection, and what becomes of it.
-use Rattle.std.proofs.Common.{◌≡◌, ◌≢◌, ℕ, zero, suc, ◌+◌, ◌-◌, ◌<◌, ◌≤◌, inl, inr, Bool, true, false, List, [], ◌∷◌, ◌++◌, length, take, drop, Some, None, refl, sym, ap, subst, ◌∙◌, arith, append_assoc, append-nil, take-append-drop}
+use Rattle.std.proofs.Common.{◌≡◌, ◌≢◌, ℕ, ◌<◌, inl, inr, Bool, true, false, List, [], ◌∷◌, ◌++◌, length, take, drop, Some, None, refl, sym, ap, subst, ◌∙◌, arith, append_assoc, append-nil, take-append-drop}
 use Rattle.std.specs.Prelude.{slice_get}
 use Rattle.std.specs.Option.{option_map}
 use Rattle.std.specs.Io.KnownBytes.{IsAtEnd}
 use Rattle.std.specs.declared.option.Option.{Option}
 use Rattle.av_base.specs.Places.{change_at}
-use Rattle.av_base.specs.Connections.{Link, LinkLater, Later, ToldLater, IsUsable, IsOpen, receives, sends, breaks, closes, to_come_of, stands_broken}
+use Rattle.av_base.specs.Connections.{Link, LinkLater, ToldLater, IsUsable, IsOpen, receives, sends, breaks, closes, to_come_of, stands_broken}
 use Rattle.av_base.specs.declared.standing.Standing.{Standing}
 use Rattle.av_base.specs.declared.standing.Break.{Break}
 use Rattle.av_base.specs.declared.standing.Break.TheVariants.{BySend, ByRecv}
@@ -14,7 +14,7 @@ use Rattle.av_base.proofs.LinksLemmas.{IsOpen-usable, IsOpen-broken}
 use Rattle.av_base.proofs.LaterLemmas.{Later-trans, ToldLater-refl, ToldLater-trans}
 use Rattle.feed_lines.specs.Connection.{Now, Has, Spares, told_at}
 use Rattle.feed_lines.specs.Moves.{Ever, Only, Sending, KeepsSent, Asks, Finishes, Sends}
-use Rattle.feed_lines.specs.Feeds.{HasEnded, IsClosed, LostAtSend}
+use Rattle.feed_lines.specs.Feeds.{HasEnded, IsClosed}
 
 -- ---- one connection
 

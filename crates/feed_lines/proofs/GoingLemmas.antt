@@ -1,9 +1,9 @@
 -- What becomes of the attempts and the connections.
-use Rattle.std.proofs.Common.{◌≡◌, ℕ, ◌+◌, List, [], ◌∷◌, ◌++◌, length, None, Some, zero, suc, refl, sym, ◌∙◌, ap, subst, append_assoc, append-nil, length-append}
+use Rattle.std.proofs.Common.{◌≡◌, ℕ, ◌+◌, List, [], ◌∷◌, ◌++◌, length, None, Some, refl, sym, ◌∙◌, ap, append_assoc, append-nil, length-append}
 use Rattle.std.specs.Prelude.{slice_get, IfSome}
 use Rattle.std.specs.declared.option.Option.{Option}
 use Rattle.av_base.specs.Connections.{Link, Attempt, AddsAttempt, ToldLater}
-use Rattle.av_base.proofs.LaterLemmas.{Later-refl, ToldLater-refl, ToldLater-trans}
+use Rattle.av_base.proofs.LaterLemmas.{ToldLater-refl, ToldLater-trans}
 use Rattle.feed_lines.specs.Connection.{Now}
 use Rattle.feed_lines.specs.Moves.{Ever}
 use Rattle.feed_lines.specs.Holding.{AddsAttempts, ComesTo}

@@ -1,16 +1,15 @@
 -- A line on a feed has no two outcomes on the same connections.
-use Rattle.std.proofs.Common.{◌≡◌, ◌≢◌, ℕ, zero, suc, ◌+◌, ◌<◌, ◌⊎◌, inl, inr, Bool, true, false, List, [], ◌∷◌, ◌++◌, length, None, Some, Ok, Err, refl, sym, ◌∙◌, ap, subst, append_assoc, length-append, arith}
+use Rattle.std.proofs.Common.{◌≡◌, ◌≢◌, ℕ, zero, suc, ◌+◌, inl, inr, Bool, true, false, List, [], ◌∷◌, ◌++◌, length, None, Some, Ok, Err, refl, sym, ◌∙◌, ap, subst, append_assoc, length-append, arith}
 use Rattle.std.specs.Prelude.{slice_get, IfSome}
 use Rattle.std.proofs.lemmas.List.{append_cancel_left, append_cancel_right}
 use Rattle.std.specs.declared.option.Option.{Option}
 use Rattle.std.specs.declared.result.Result.{Result}
 use Rattle.std.specs.FinMap as map
 use Rattle.av_base.specs.Connections.{Link, Attempt, Made, Failed}
-use Rattle.av_text.specs.Spellings.{IsInLine}
 use Rattle.rtr_pdu.specs.declared.pdu.Pdu.{Pdu}
 use Rattle.rtr_pdu.specs.declared.pdu.PduFault.{PduFault}
 use Rattle.rtr_pdu.specs.declared.pdu.PduFault.TheVariants.{PduVersion as BadVersion, PduLength as BadLength, PduType as BadType, NoProviders as HasNoProviders, NoMemory}
-use Rattle.rtr_pdu.specs.Units.{Answers, IsRefused}
+use Rattle.rtr_pdu.specs.Units.{Answers}
 use Rattle.rtr_pdu.proofs.NextLemmas.{one_next}
 use Rattle.rtr_session.specs.declared.act.Act.{Act}
 use Rattle.rtr_session.specs.declared.act.Act.TheVariants.{Nothing, Send, Apply, End}
@@ -32,10 +31,10 @@ use Rattle.feed_lines.specs.declared.telling.Telling.{Telling}
 use Rattle.feed_lines.specs.declared.telling.Telling.TheVariants.{NoName, StreamOver, Pdu as PduRefused, End as FeedEnds}
 use Rattle.feed_lines.specs.declared.working.Work.{Work}
 use Rattle.feed_lines.specs.declared.working.Work.TheVariants.{Ask, Take, Sync}
-use Rattle.feed_lines.specs.Tellings.{Asking, IsCauseOf, number_of, telling_text, tells_text}
-use Rattle.feed_lines.specs.Feeds.{Feed, Taking, Coming, OnePdu, BadPdu, NoMore, HasSent, LostAtSend, Queries, IsComing, Clears, TakesAct, TakesPdu, TakesComing, TakesNext, TakesFrom, TakesPdus, Syncs, AsksFeed, AsksBy, after_pdu, asked_of, change_by, query_bytes, short_of}
-use Rattle.feed_lines.specs.Lines.{World, State, Connects, StartsBy, Does, Works, WorksBy, WorksOn, Writes, IsAttempt, with_feed}
-use Rattle.feed_lines.specs.Laws.{HaveOneOutcome, FeedLinesHaveOneOutcome, IsOneLine, EachTellingIsOneLine}
+use Rattle.feed_lines.specs.Tellings.{Asking, IsCauseOf, number_of, tells_text}
+use Rattle.feed_lines.specs.Feeds.{Feed, Taking, Coming, OnePdu, BadPdu, NoMore, HasSent, LostAtSend, Queries, IsComing, Clears, TakesAct, TakesPdu, TakesComing, TakesFrom, TakesPdus, Syncs, AsksFeed, AsksBy, after_pdu, asked_of, change_by, query_bytes, short_of}
+use Rattle.feed_lines.specs.Lines.{World, State, Connects, StartsBy, Does, Works, WorksBy, Writes, with_feed}
+use Rattle.feed_lines.specs.Laws.{FeedLinesHaveOneOutcome, EachTellingIsOneLine}
 
 -- ---- what comes next
 

@@ -1,30 +1,27 @@
 -- Feeds by their names.
-use Rattle.std.proofs.Common.{true≢false, ◌≡◌, ◌≢◌, ℕ, zero, suc, ◌+◌, ◌<◌, ◌≤◌, ◌⊎◌, inl, inr, Bool, true, false, cond, is_some, nat_eq, ◌&&◌, List, [], ◌∷◌, ◌++◌, length, None, Some, refl, sym, ◌∙◌, ap, subst, arith}
+use Rattle.std.proofs.Common.{true≢false, ◌≡◌, ◌≢◌, ℕ, ◌≤◌, ◌⊎◌, inl, inr, Bool, true, false, cond, is_some, nat_eq, ◌&&◌, List, [], ◌∷◌, None, Some, refl, sym, ◌∙◌, ap, subst, arith}
 use Rattle.std.specs.Prelude.{slice_get}
 use Rattle.std.specs.Cmp.Lexicographic.{pointwise, nat_list_eq_equiv}
-use Rattle.std.specs.Option.{option_map, option_to_list}
+use Rattle.std.specs.Option.{option_to_list}
 use Rattle.std.specs.declared.option.Option.{Option}
 use Rattle.std.proofs.lemmas.Map.Views.{exact_unsigned_eq}
-use Rattle.std.proofs.lemmas.Option.{slice_get_within}
-use Rattle.av_base.specs.Connections.{Link, Attempt, Agrees, AddsAttempt, Connects as ConnectsLink, IsUsable, Made, Failed, ToldLater, connects, new_link}
+use Rattle.av_base.specs.Connections.{Link, Attempt}
 use Rattle.av_base.specs.declared.standing.Standing.{Standing}
-use Rattle.av_base.proofs.LinksLemmas.{get-connects, length-told}
 use Rattle.rib_store.specs.State.{State as Analysis}
-use Rattle.report_text.specs.declared.feed.FeedEnd.TheVariants.{Unreachable}
 use Rattle.feed_lines.specs.declared.feed.OpenFeed.{OpenFeed}
 use Rattle.feed_lines.specs.declared.feed.Feeds.{Feeds}
 use Rattle.feed_lines.specs.declared.telling.Telling.{Telling}
-use Rattle.feed_lines.specs.declared.telling.Telling.TheVariants.{NoName, StreamOver, End as FeedEnds}
+use Rattle.feed_lines.specs.declared.telling.Telling.TheVariants.{NoName, StreamOver}
 use Rattle.feed_lines.specs.declared.working.Work.{Work}
-use Rattle.feed_lines.specs.Connection.{Now, Has, Spares, told_at}
-use Rattle.feed_lines.specs.Moves.{Ever, Only}
-use Rattle.feed_lines.specs.Feeds.{Feed, IsClosed}
-use Rattle.feed_lines.specs.Holding.{AddsAttempts, ComesTo, HasMoved, HoldsFeeds, HoldsOr, IsSound, StandsFor, feed_in}
-use Rattle.feed_lines.specs.Lines.{Begins, Closes, Does, InEnd, State, WorksBy, World, same_name, with_feed}
-use Rattle.feed_lines.specs.Named.{BeganNamed, ClosedAs, ConnectedNamed, IsApart, IsSlotFit, Puts, Same, SessionStarts, StartedAs, WasHeld, WorkedNamed}
+use Rattle.feed_lines.specs.Connection.{Now, Spares, told_at}
+use Rattle.feed_lines.specs.Moves.{Only}
+use Rattle.feed_lines.specs.Feeds.{Feed}
+use Rattle.feed_lines.specs.Holding.{HasMoved, HoldsFeeds, HoldsOr, IsSound, StandsFor, feed_in}
+use Rattle.feed_lines.specs.Lines.{Begins, Does, InEnd, State, WorksBy, World, same_name, with_feed}
+use Rattle.feed_lines.specs.Named.{BeganNamed, Puts, Same, WorkedNamed}
 use Rattle.feed_lines.specs.Steps.{Halted, IsFit, SlotFits, StandsSlot, WorkedAs}
-use Rattle.feed_lines.proofs.ConnectionLemmas.{Now-map, Ever-later, Ever-now}
-use Rattle.feed_lines.proofs.GoingLemmas.{AddsAttempts-refl, AddsAttempts-trans, AddsAttempts-one, ComesTo-earlier, Now-later, in_end, is_attempt, one_more}
+use Rattle.feed_lines.proofs.ConnectionLemmas.{Now-map}
+use Rattle.feed_lines.proofs.GoingLemmas.{Now-later, in_end}
 
 -- ---- names
 

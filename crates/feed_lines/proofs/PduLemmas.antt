@@ -1,25 +1,16 @@
 -- A session is over only where a PDU ends it, and what comes next on a connection is one thing.
-use Rattle.std.proofs.Common.{◌≡◌, ◌≢◌, ℕ, ◌⊎◌, inl, inr, Bool, true, false, List, [], ◌∷◌, ◌++◌, None, Some, refl, sym, ◌∙◌, ap, subst, append_assoc}
-use Rattle.std.proofs.lemmas.List.{append_cancel_left, append_cancel_right}
+use Rattle.std.proofs.Common.{◌≡◌, ◌≢◌, ℕ, inl, inr, Bool, true, false, List, sym, ◌∙◌, ap, subst}
 use Rattle.std.specs.declared.option.Option.{Option}
-use Rattle.std.specs.declared.result.Result.{Result}
-use Rattle.std.specs.declared.result.Result.TheVariants.{Ok, Err}
-use Rattle.std.specs.FinMap as map
-use Rattle.av_base.specs.Connections.{Link}
 use Rattle.rtr_pdu.specs.declared.pdu.Pdu.{Pdu}
 use Rattle.rtr_pdu.specs.declared.pdu.Pdu.TheVariants.{Notify, SerialQuery, ResetQuery, CacheResponse, Passed, EndOfData, CacheReset, ErrorReport, Aspa}
-use Rattle.rtr_pdu.specs.declared.pdu.PduFault.{PduFault}
-use Rattle.rtr_pdu.specs.declared.pdu.PduFault.TheVariants.{NoMemory}
-use Rattle.rtr_pdu.specs.Units.{Answers}
 use Rattle.rtr_session.specs.declared.act.Act.{Act}
-use Rattle.rtr_session.specs.declared.act.Act.TheVariants.{Nothing, Send, Apply, End}
+use Rattle.rtr_session.specs.declared.act.Act.TheVariants.{End}
 use Rattle.rtr_session.specs.declared.act.Ending.{Ending}
 use Rattle.rtr_session.specs.declared.act.Phase.{Phase}
 use Rattle.rtr_session.specs.declared.act.Phase.TheVariants.{Fresh, AskedWhole, AskedChanges, ReceivingWhole, ReceivingChanges, Ready, Over}
 use Rattle.rtr_session.specs.declared.act.Query.{Query}
 use Rattle.rtr_session.specs.State.{State as Session}
 use Rattle.rtr_session.specs.Client.{Asks, Client, Goes, OnNotify, OnResponse, OnAspa, OnPassed, OnEnd, OnReset}
-use Rattle.feed_lines.specs.Feeds.{Coming, OnePdu, BadPdu, NoMore, IsComing}
 use Rattle.feed_lines.specs.Steps.{IsNoEnd}
 
 -- ---- phases
@@ -48,14 +39,14 @@ on_response ReceivingChanges session old act new apart on is = ends old act new 
 on_response Ready session old act new apart on is = ends old act new _ _ is on
 on_response Over session old act new apart on is = ends old act new _ _ is on
 
-on_passed : (phase : Phase)  (old : Session) (act : Act) (new : Session) → old.phase ≢ Over → IsNoEnd act → OnPassed phase  old act new → new.phase ≢ Over
-on_passed Fresh  old act new apart on is = ends old act new _ _ is on
-on_passed AskedWhole  old act new apart on is = ends old act new _ _ is on
-on_passed AskedChanges  old act new apart on is = ends old act new _ _ is on
-on_passed ReceivingWhole  old act new apart on is = goes old act new _ _ is apart
-on_passed ReceivingChanges  old act new apart on is = goes old act new _ _ is apart
-on_passed Ready  old act new apart on is = ends old act new _ _ is on
-on_passed Over  old act new apart on is = ends old act new _ _ is on
+on_passed : (phase : Phase) (old : Session) (act : Act) (new : Session) → old.phase ≢ Over → IsNoEnd act → OnPassed phase old act new → new.phase ≢ Over
+on_passed Fresh old act new apart on is = ends old act new _ _ is on
+on_passed AskedWhole old act new apart on is = ends old act new _ _ is on
+on_passed AskedChanges old act new apart on is = ends old act new _ _ is on
+on_passed ReceivingWhole old act new apart on is = goes old act new _ _ is apart
+on_passed ReceivingChanges old act new apart on is = goes old act new _ _ is apart
+on_passed Ready old act new apart on is = ends old act new _ _ is on
+on_passed Over old act new apart on is = ends old act new _ _ is on
 
 on_end : (phase : Phase) (session serial : ℕ) (old : Session) (act : Act) (new : Session) → old.phase ≢ Over → IsNoEnd act → OnEnd phase session serial old act new → new.phase ≢ Over
 on_end Fresh session serial old act new apart on is = ends old act new _ _ is on
@@ -66,14 +57,14 @@ on_end ReceivingChanges session serial old act new apart on is = elim is [ inl s
 on_end Ready session serial old act new apart on is = ends old act new _ _ is on
 on_end Over session serial old act new apart on is = ends old act new _ _ is on
 
-on_reset : (phase : Phase)  (old : Session) (act : Act) (new : Session) → old.phase ≢ Over → IsNoEnd act → OnReset phase  old act new → new.phase ≢ Over
-on_reset Fresh  old act new apart on is = ends old act new _ _ is on
-on_reset AskedWhole  old act new apart on is = ends old act new _ _ is on
-on_reset AskedChanges  old act new apart on is = goes old act new _ _ is (λ e. let none : ⊥ = cc in absurd none)
-on_reset ReceivingWhole  old act new apart on is = ends old act new _ _ is on
-on_reset ReceivingChanges  old act new apart on is = ends old act new _ _ is on
-on_reset Ready  old act new apart on is = ends old act new _ _ is on
-on_reset Over  old act new apart on is = ends old act new _ _ is on
+on_reset : (phase : Phase) (old : Session) (act : Act) (new : Session) → old.phase ≢ Over → IsNoEnd act → OnReset phase old act new → new.phase ≢ Over
+on_reset Fresh old act new apart on is = ends old act new _ _ is on
+on_reset AskedWhole old act new apart on is = ends old act new _ _ is on
+on_reset AskedChanges old act new apart on is = goes old act new _ _ is (λ e. let none : ⊥ = cc in absurd none)
+on_reset ReceivingWhole old act new apart on is = ends old act new _ _ is on
+on_reset ReceivingChanges old act new apart on is = ends old act new _ _ is on
+on_reset Ready old act new apart on is = ends old act new _ _ is on
+on_reset Over old act new apart on is = ends old act new _ _ is on
 
 on_aspa : (phase : Phase) (announce : Bool) (customer : ℕ) (providers : List ℕ) (old : Session) (act : Act) (new : Session) → old.phase ≢ Over → IsNoEnd act → OnAspa phase announce customer providers old act new → new.phase ≢ Over
 on_aspa Fresh true customer providers old act new apart on is = ends old act new _ _ is on

@@ -1,5 +1,5 @@
 -- PDUs taken one after another.
-use Rattle.std.proofs.Common.{◌≡◌, ◌≢◌, ℕ, zero, suc, ◌+◌, ◌-◌, ◌≤◌, ◌⊎◌, inl, inr, Bool, true, false, cond, List, [], ◌∷◌, ◌++◌, None, Some, refl, sym, ◌∙◌, ap, subst, append_assoc, append-nil, arith, zero-add}
+use Rattle.std.proofs.Common.{◌≡◌, ◌≢◌, ℕ, zero, suc, ◌+◌, ◌-◌, ◌≤◌, ◌⊎◌, inl, inr, Bool, true, false, cond, List, [], ◌++◌, None, Some, refl, sym, ◌∙◌, ap, subst, append_assoc, append-nil, arith, zero-add}
 use Rattle.std.specs.Prelude.{OnErr}
 use Rattle.std.specs.Option.{option_map}
 use Rattle.std.specs.Result.{IsErr}
@@ -33,7 +33,7 @@ use Rattle.feed_lines.specs.declared.telling.Telling.TheVariants.{Pdu as PduRefu
 use Rattle.feed_lines.specs.Tellings.{IsCauseOf, cause_of_end}
 use Rattle.feed_lines.specs.Connection.{Now, Has}
 use Rattle.feed_lines.specs.Moves.{Ever, KeepsSent, Answers, RefusesNow, Asks, Finishes}
-use Rattle.feed_lines.specs.Feeds.{Feed, Taking, HasSent, HasEnded, IsClosed, LostAtSend, Queries, OnePdu, BadPdu, NoMore, TakesAct, TakesNext, TakesFrom, TakesUnit, TakesPdus, Clears, after_pdu, asked_of, change_by, is_enough_at, lost, query_bytes, report_bytes}
+use Rattle.feed_lines.specs.Feeds.{Feed, Taking, HasEnded, IsClosed, LostAtSend, Queries, OnePdu, BadPdu, NoMore, TakesAct, TakesNext, TakesFrom, TakesUnit, TakesPdus, Clears, after_pdu, asked_of, change_by, is_enough_at, lost, query_bytes, report_bytes}
 use Rattle.feed_lines.specs.Holding.{StandsFor}
 use Rattle.feed_lines.specs.Lines.{TakesSome}
 use Rattle.feed_lines.specs.Steps.{Halted, TookAs}
@@ -149,7 +149,7 @@ module _ (old wire new : Option (List Link)) (name : List ℕ) (kept : OpenFeed)
       let known = known_of one.0 cause one.2 in
       let whole = spelled ∙ ap report_bytes (reports one.0 known one.1) in
       let done = subst (λ (b : List ℕ). Now new kept.link (λ t. (t.received ≡ feed.used ++ held) × ((t.sent ≡ feed.sent ++ b) ⊎ LostAtSend t feed.sent b) × IsClosed t)) whole
-          (finishes (feed.used ++ held) feed.sent answer) in
+      (finishes (feed.used ++ held) feed.sent answer) in
       rw stands.taken
       (Ever-map
       (λ t had. record {

@@ -1,5 +1,5 @@
 -- What a line does with a feed that goes on.
-use Rattle.std.proofs.Common.{◌≡◌, ◌≢◌, ℕ, ◌+◌, ◌≤◌, Bool, true, false, cond, List, [], ◌∷◌, ◌++◌, None, Some, refl, sym, ◌∙◌, ap, subst}
+use Rattle.std.proofs.Common.{◌≡◌, ◌≢◌, ℕ, Bool, true, false, List, [], ◌∷◌, ◌++◌, None, Some, refl, sym, ◌∙◌, ap, subst}
 use Rattle.std.specs.declared.option.Option.{Option}
 use Rattle.av_base.specs.Connections.{Link}
 use Rattle.rtr_session.specs.declared.act.Query.{Query}
@@ -14,9 +14,9 @@ use Rattle.feed_lines.specs.declared.telling.Telling.TheVariants.{End as FeedEnd
 use Rattle.feed_lines.specs.declared.working.Work.TheVariants.{Ask, Take, Sync}
 use Rattle.feed_lines.specs.Connection.{Now, Has}
 use Rattle.feed_lines.specs.Moves.{Asks}
-use Rattle.feed_lines.specs.Feeds.{Feed, TakesPdus, asked_of, is_enough_at, query_bytes, short_of}
+use Rattle.feed_lines.specs.Feeds.{Feed, TakesPdus, is_enough_at, query_bytes, short_of}
 use Rattle.feed_lines.specs.Holding.{StandsFor}
-use Rattle.feed_lines.specs.Lines.{Begins, Does, TakesSome}
+use Rattle.feed_lines.specs.Lines.{Begins, Does}
 use Rattle.feed_lines.specs.Steps.{Halted, TookAs, WorkedAs}
 use Rattle.feed_lines.proofs.ConnectionLemmas.{Now-map}
 use Rattle.feed_lines.proofs.TakingLemmas.{Ever-map, asked_feed, asked_none, query_whole, query_lost}

@@ -2,7 +2,7 @@
 use Rattle.std.specs.Prelude.{◌≡◌, ◌≢◌, ℕ, ◌<◌, ◌⊎◌, Bool, true, false, List, ◌++◌, length, slice_get}
 use Rattle.std.specs.declared.option.Option.{Option}
 use Rattle.std.specs.declared.option.Option.TheVariants.{Some}
-use Rattle.av_base.specs.Connections.{Link, Later, ToldLater, IsUsable, IsOpen}
+use Rattle.av_base.specs.Connections.{Link, Later, IsUsable, IsOpen}
 use Rattle.av_base.specs.declared.standing.Standing.{Standing}
 use Rattle.rtr_pdu.specs.declared.pdu.PduFault.{PduFault}
 use Rattle.rtr_pdu.specs.Pdus.{IsFrame}

@@ -1,5 +1,4 @@
-use Rattle.std.proofs.Common.{refl, ◌≡◌, ◌<◌, ◌++◌, List, ℕ, Some, None, Ok, length, sym, subst, ap, ◌∙◌, arith}
-use Rattle.feed_lines.specs.Connection.{Now, Has}
+use Rattle.std.proofs.Common.{refl, ◌++◌, List, ℕ, sym, ap, ◌∙◌, arith}
 use Rattle.feed_lines.proofs.ConnectionLemmas.{Spares-refl, Spares-trans, Now-got, KeepsSent-refl, KeepsSent-trans}
 use Rattle.feed_lines.proofs.asking.next_pdu.Goals as goal
 

@@ -1,4 +1,4 @@
-use Rattle.std.proofs.Common.{◌≡◌, ◌^◌, ℕ, None, refl, sym, ◌∙◌, arith}
+use Rattle.std.proofs.Common.{◌^◌, None, refl}
 use Rattle.feed_lines.specs.Holding.{feed_in}
 use Rattle.feed_lines.proofs.ConnectionLemmas.{Spares-refl}
 use Rattle.feed_lines.proofs.ConnectingLemmas.{connected_named, connected_others, connected_sound, slot_fit}

@@ -1,5 +1,4 @@
-use Rattle.std.proofs.Common.{◌≡◌, ◌≢◌, ℕ, length, refl, sym, ◌∙◌, ap, subst, arith}
-use Rattle.av_base.proofs.LinksLemmas.{IsUsable-new}
+use Rattle.std.proofs.Common.{subst}
 use Rattle.feed_lines.specs.Moves.{Only}
 use Rattle.feed_lines.specs.Steps.{SlotFits}
 use Rattle.feed_lines.proofs.ConnectionLemmas.{Spares-trans}

@@ -1,4 +1,4 @@
-use Rattle.std.proofs.Common.{◌≡◌, [], refl, ◌∙◌}
+use Rattle.std.proofs.Common.{[], refl}
 use Rattle.feed_lines.specs.declared.feed.OpenFeed.{OpenFeed}
 use Rattle.feed_lines.proofs.ConnectingLemmas.{starts_whole, starts_lost, asked_fresh}
 use Rattle.feed_lines.proofs.connecting.start_session.Goals as goal

@@ -1,4 +1,4 @@
-use Rattle.std.proofs.Common.{◌≡◌, refl, ap, ◌∙◌}
+use Rattle.std.proofs.Common.{refl, ap}
 use Rattle.feed_lines.proofs.TakingLemmas.{on_err}
 use Rattle.feed_lines.proofs.LineLemmas.{connect_goes, connect_unwritten, connect_nothing}
 use Rattle.feed_lines.proofs.lines.connect.Goals as goal

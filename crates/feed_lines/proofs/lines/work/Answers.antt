@@ -1,4 +1,4 @@
-use Rattle.std.proofs.Common.{◌≡◌, refl, ap, ◌∙◌}
+use Rattle.std.proofs.Common.{refl}
 use Rattle.feed_lines.proofs.TakingLemmas.{on_err}
 use Rattle.feed_lines.proofs.LineLemmas.{work_goes, work_unwritten, work_began}
 use Rattle.feed_lines.proofs.lines.work.Goals as goal

@@ -1,9 +1,6 @@
-use Rattle.std.proofs.Common.{rules, ◌≡◌, ◌<◌, ◌++◌, List, ℕ, true, false, take, drop, length, refl, sym, subst, ap, ◌∙◌, arith}
+use Rattle.std.proofs.Common.{◌≡◌, ◌<◌, length, refl, ◌∙◌, arith}
 use Rattle.std.proofs.lemmas.Grind.{common_steps}
 use Rattle.av_base.specs.declared.standing.Break.TheVariants.{BySend}
-use Rattle.av_base.proofs.LinksLemmas.{IsOpen-usable}
-use Rattle.feed_lines.specs.Connection.{Now, Has}
-use Rattle.feed_lines.specs.Moves.{Sending}
 use Rattle.feed_lines.proofs.ConnectionLemmas.{Spares-refl, Spares-trans, Only-quiet, Only-loud, open_broken, Sending-start, Sending-more, Sending-part, Sending-all}
 use Rattle.feed_lines.proofs.sending.send_all.Goals as goal
 

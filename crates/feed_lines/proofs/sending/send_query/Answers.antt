@@ -1,4 +1,4 @@
-use Rattle.std.proofs.Common.{◌≡◌, Bool, subst}
+use Rattle.std.proofs.Common.{Bool, subst}
 use Rattle.feed_lines.specs.Moves.{Sends}
 use Rattle.feed_lines.proofs.ConnectionLemmas.{Spares-trans, Only-loud, asks_lost}
 use Rattle.feed_lines.proofs.sending.send_query.Goals as goal

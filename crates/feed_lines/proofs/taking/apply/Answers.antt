@@ -1,4 +1,4 @@
-use Rattle.std.proofs.Common.{◌≡◌, List, ℕ, ap, subst, ◌∙◌}
+use Rattle.std.proofs.Common.{List, ℕ, ap, subst, ◌∙◌}
 use Rattle.vap_table.specs.declared.change.TableChange.{TableChange}
 use Rattle.analyser.specs.declared.event.Event.TheVariants.{Table}
 use Rattle.analyser.specs.Events.{Happens}

@@ -1,4 +1,4 @@
-use Rattle.std.proofs.Common.{◌≡◌, List, ℕ, subst}
+use Rattle.std.proofs.Common.{List, ℕ, subst}
 use Rattle.std.specs.FinMap as map
 use Rattle.path_model.specs.Rows.{RowMap}
 use Rattle.vap_table.specs.declared.change.TableChange.TheVariants.{Replace}

@@ -1,6 +1,6 @@
-use Rattle.std.proofs.Common.{refl, ◌∙◌}
-use Rattle.feed_lines.proofs.ConnectionLemmas.{Spares-refl, KeepsSent-refl}
-use Rattle.feed_lines.proofs.TakingLemmas.{acts_nothing, acts_apply, acts_sent, acts_lost, acts_end, on_err}
+use Rattle.std.proofs.Common.{◌∙◌}
+use Rattle.feed_lines.proofs.ConnectionLemmas.{Spares-refl}
+use Rattle.feed_lines.proofs.TakingLemmas.{acts_nothing, acts_apply, acts_sent, acts_end}
 use Rattle.feed_lines.proofs.taking.perform.Goals as goal
 
 pub returns-in_err-analyser-in-Apply-clause-only : goal.returns-in_err-analyser-in-Apply-clause-only

@@ -1,5 +1,4 @@
-use Rattle.std.proofs.Common.{refl, ◌∙◌}
-use Rattle.feed_lines.specs.Steps.{IsNoEnd}
+use Rattle.std.proofs.Common.{◌∙◌}
 use Rattle.feed_lines.proofs.ConnectionLemmas.{Spares-trans, Only-loud, KeepsSent-trans}
 use Rattle.feed_lines.proofs.PduLemmas.{goes_on}
 use Rattle.feed_lines.proofs.TakingLemmas.{next_lost, next_refused, next_pdu, refused_now, on_err}

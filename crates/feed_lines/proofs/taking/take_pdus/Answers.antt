@@ -1,10 +1,8 @@
-use Rattle.std.proofs.Common.{◌≡◌, ◌≢◌, ◌+◌, ◌≤◌, ℕ, Some, refl, sym, ap, subst, ◌∙◌, arith}
-use Rattle.feed_lines.specs.declared.feed.OpenFeed.{OpenFeed}
+use Rattle.std.proofs.Common.{◌≡◌, ◌+◌, ℕ, refl, sym, subst, ◌∙◌, arith}
 use Rattle.feed_lines.specs.declared.taking.Outcome.{Outcome}
 use Rattle.feed_lines.specs.declared.taking.Outcome.TheVariants.{Open as GoesOn, Ended}
 use Rattle.feed_lines.specs.Moves.{Only}
-use Rattle.feed_lines.specs.Feeds.{TakesNext}
-use Rattle.feed_lines.specs.Steps.{TookAs, OutcomeFits}
+use Rattle.feed_lines.specs.Steps.{OutcomeFits}
 use Rattle.feed_lines.proofs.ConnectionLemmas.{Spares-refl, Spares-trans}
 use Rattle.feed_lines.proofs.TakingLemmas.{pdus_start, pdus_next, pdus_ended, pdus_enough, pdus_halted, on_err}
 use Rattle.feed_lines.proofs.taking.take_pdus.Goals as goal

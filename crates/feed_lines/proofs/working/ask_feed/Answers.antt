@@ -1,4 +1,4 @@
-use Rattle.std.proofs.Common.{◌≡◌, ◌∙◌}
+use Rattle.std.proofs.Common.{◌∙◌}
 use Rattle.feed_lines.proofs.ConnectionLemmas.{Spares-refl}
 use Rattle.feed_lines.proofs.TakingLemmas.{on_err}
 use Rattle.feed_lines.proofs.WorkingLemmas.{asked_nothing, asked_whole, asked_lost, asked_halted}

@@ -1,4 +1,4 @@
-use Rattle.std.proofs.Common.{◌≡◌, ◌∙◌, sym}
+use Rattle.std.proofs.Common.{◌∙◌, sym}
 use Rattle.feed_lines.proofs.TakingLemmas.{on_err}
 use Rattle.feed_lines.proofs.WorkingLemmas.{not_unreachable, synced, synced_short, synced_ended}
 use Rattle.feed_lines.proofs.working.sync_some.Goals as goal
@@ -7,16 +7,16 @@ pub returns-then-is_enough-clause-works : goal.returns-then-is_enough-clause-wor
 returns-then-is_enough-clause-works g c =
     let one = (rw c.in-Open.is at c.in_ok-outcome.ensures) in
     λ state stands.
-        rw c.goes_on.ensures
-        (synced (g.K.Links.wire c.take_pdus.new.links) c.args.feed.link c.args.name.now c.args.count state c.args.analyser c.in_ok-outcome.analyser c.in-Open.feed
-        (sym c.is_enough.ensures ∙ c.if-is_enough.true) (one.took state stands))
+    rw c.goes_on.ensures
+    (synced (g.K.Links.wire c.take_pdus.new.links) c.args.feed.link c.args.name.now c.args.count state c.args.analyser c.in_ok-outcome.analyser c.in-Open.feed
+    (sym c.is_enough.ensures ∙ c.if-is_enough.true) (one.took state stands))
 
 pub returns-else-is_enough-clause-works : goal.returns-else-is_enough-clause-works
 returns-else-is_enough-clause-works g c =
     let one = (rw c.in-Open.is at c.in_ok-outcome.ensures) in
     λ state stands.
-        synced_short (g.K.Links.wire c.take_pdus.new.links) c.args.feed.link c.args.name.now c.args.count state c.args.analyser c.in_ok-outcome.analyser c.in-Open.feed
-        (sym c.is_enough.ensures ∙ c.if-is_enough.false) (one.took state stands)
+    synced_short (g.K.Links.wire c.take_pdus.new.links) c.args.feed.link c.args.name.now c.args.count state c.args.analyser c.in_ok-outcome.analyser c.in-Open.feed
+    (sym c.is_enough.ensures ∙ c.if-is_enough.false) (one.took state stands)
 
 pub returns-in-Ended-clause-works : goal.returns-in-Ended-clause-works
 returns-in-Ended-clause-works g c =

@@ -1,7 +1,3 @@
-use Rattle.std.proofs.Common.{◌≡◌, ◌∙◌, subst}
-use Rattle.feed_lines.specs.declared.taking.Outcome.{Outcome}
-use Rattle.feed_lines.specs.Feeds.{TakesPdus}
-use Rattle.feed_lines.specs.Steps.{TookAs}
 use Rattle.feed_lines.proofs.TakingLemmas.{on_err}
 use Rattle.feed_lines.proofs.WorkingLemmas.{not_unreachable, took_on, took_ended}
 use Rattle.feed_lines.proofs.working.take_some.Goals as goal
