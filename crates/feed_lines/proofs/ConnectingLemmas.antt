@@ -232,13 +232,6 @@ module _ (attempts_old attempts_mid attempts_new : Option (List Attempt)) (wire_
 pub asked_fresh : (old new : Session) (query : Option Query) → old ≡ fresh → AsksSession old.phase old new query → new ≡ record fresh { phase = AskedWhole }
 asked_fresh old new query is asks = let one : AsksSession Fresh fresh new query = subst (λ (s : Session). AsksSession s.phase s new query) is asks in one.1
 
--- and isn't over
-pub asked_goes_on : (old new : Session) (query : Option Query) → old ≡ fresh → AsksSession old.phase old new query → new.phase ≢ Over
-asked_goes_on old new query is asks = λ over.
-    let phase : new.phase ≡ AskedWhole = ap (λ (s : Session). s.phase) (asked_fresh old new query is asks) in
-    let none : ⊥ = cc in
-    absurd none
-
 pub usable_new : (stood stands : List Standing) (link : ℕ) → link ≡ length stood → stands ≡ stood ++ new_standing ∷ [] → IsUsable stands link
 usable_new stood stands link number is = subst (λ (l : List Standing). IsUsable l link) (sym is) (subst (λ k. IsUsable (stood ++ new_standing ∷ []) k) (sym number) (IsUsable-new stood))
 

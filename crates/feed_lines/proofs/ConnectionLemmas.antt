@@ -116,9 +116,6 @@ Spares-weaker first weaker = record {
 pub open_broken : (stood stands : List Standing) (link : ℕ) (call : Break) → IsUsable stood link → stands ≡ stands_broken link call stood → IsOpen stands link
 open_broken stood stands link call usable is = subst (λ (l : List Standing). IsOpen l link) (sym is) (IsOpen-broken stood link call (IsOpen-usable stood link usable))
 
-pub open_usable : (stood stands : List Standing) (link : ℕ) → IsUsable stood link → stands ≡ stood → IsOpen stands link
-open_usable stood stands link usable is = subst (λ (l : List Standing). IsOpen l link) (sym is) (IsOpen-usable stood link usable)
-
 -- ---- sending
 
 pub Sending-start : (wire : Option (List Link)) (link : ℕ) (bytes : List ℕ) → Sending wire wire link bytes bytes

@@ -93,16 +93,3 @@ goes_on old (EndOfData session serial) act new is apart on = on_end old.phase se
 goes_on old CacheReset act new is apart on = on_reset old.phase old act new apart on is
 goes_on old (ErrorReport code) act new is apart on = ends old act new _ _ is on
 goes_on old (Aspa announce customer providers) act new is apart on = on_aspa old.phase announce customer providers old act new apart on is
-
-asks_on_at : (phase : Phase) (old new : Session) (query : Option Query) → old.phase ≢ Over → Asks phase old new query → new.phase ≢ Over
-asks_on_at Fresh old new query apart asks = λ e. let at : new.phase ≡ AskedWhole = ap (λ (s : Session). s.phase) asks.1 in let none : ⊥ = cc in absurd none
-asks_on_at AskedWhole old new query apart asks = λ over. apart (ap (λ (s : Session). s.phase) (sym asks.1) ∙ over)
-asks_on_at AskedChanges old new query apart asks = λ over. apart (ap (λ (s : Session). s.phase) (sym asks.1) ∙ over)
-asks_on_at ReceivingWhole old new query apart asks = λ over. apart (ap (λ (s : Session). s.phase) (sym asks.1) ∙ over)
-asks_on_at ReceivingChanges old new query apart asks = λ over. apart (ap (λ (s : Session). s.phase) (sym asks.1) ∙ over)
-asks_on_at Ready old new query apart asks = λ e. let at : new.phase ≡ AskedChanges = ap (λ (s : Session). s.phase) asks.1 in let none : ⊥ = cc in absurd none
-asks_on_at Over old new query apart asks = λ over. apart (ap (λ (s : Session). s.phase) (sym asks.1) ∙ over)
-
--- to ask ends no session
-pub asks_on : (old new : Session) (query : Option Query) → old.phase ≢ Over → Asks old.phase old new query → new.phase ≢ Over
-asks_on old new query apart asks = asks_on_at old.phase old new query apart asks

@@ -59,9 +59,6 @@ TookAs-with wire link known p r (Ended telling) state ever joins took = λ links
 -- ---- a query
 
 module _ (wire new : Option (List Link)) (kept : OpenFeed) (feed : Feed) (query : Query) (bytes : List ℕ) (stands : StandsFor wire kept feed) (spelled : bytes ≡ query_bytes query) where
-  sent_more : Feed
-  sent_more = record feed { sent = feed.sent ++ query_bytes query }
-
   pub query_whole : (whole : Bool) → whole ≡ true → ((got gave : List ℕ) → Now wire kept.link (Has got gave) → Asks new kept.link got gave bytes whole)
       → StandsFor new kept (record feed { sent = feed.sent ++ query_bytes query }) × Ever new kept.link (λ t. Queries t feed query [] (Some (record feed { sent = feed.sent ++ query_bytes query })))
   query_whole whole is asks =
@@ -97,13 +94,6 @@ module _ (wire : Option (List Link)) (name : List ℕ) (kept : OpenFeed) (state 
     acts_sent query bytes whole is spelled went asks =
         let had = query_whole wire new kept feed query bytes stands spelled whole went asks in
         rw is (record feed { sent = feed.sent ++ query_bytes query }, had.0, sym stands.link, Ever-map (λ t q. (q, refl)) had.1)
-
-    pub acts_lost : (query : Query) (bytes : List ℕ) (whole : Bool) → act ≡ Send query → bytes ≡ query_bytes query → whole ≡ false
-        → ((got gave : List ℕ) → Now wire kept.link (Has got gave) → Asks new kept.link got gave bytes whole)
-        → TookAs new kept.link (λ t. TakesAct t name feed state act) (Ended (FeedEnds LostFeed)) state
-    acts_lost query bytes whole is spelled went asks =
-        let had = query_lost wire new kept feed query bytes stands spelled whole went asks in
-        rw is (Ever-map (λ t q. (q, refl)) had)
 
     pub acts_end : (ending : Ending) (after : Analysis) (code : Option ℕ) (bytes : List ℕ) (cause : Cause) → act ≡ End ending → Clears name ending state after
         → code ≡ code_on_end ending → bytes ≡ report_bytes code → cause ≡ cause_of_end ending

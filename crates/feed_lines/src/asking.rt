@@ -30,12 +30,14 @@ pub(crate) fn next_pdu<K: Links>(
     links: &mut K,
 ) -> Result<(Framer, Asked), NoMemory>
     requires { IsUsable (K.standings links.old) link }
-    ensures answer { IfOk result (λ r. (used sent : List ℕ) → Now (K.wire links.old) link (Has (used ++ framer) sent)
+    ensures answer { IfOk result (λ r. (used sent : List ℕ)
+        → Now (K.wire links.old) link (Has (used ++ framer) sent)
         → Answers (K.wire links.new) link used sent r.0 r.1) }
     ensures refused { IfOk result (λ r. RefusesNow r.0 r.1) }
     ensures usable { IfOk result (λ r. StaysUsable (K.standings links.new) link r.1) }
     ensures keeps { KeepsSent link (K.wire links.old) (K.wire links.new) }
-    ensures only { Only link (K.wire links.old) (K.wire links.new) (K.standings links.old) (K.standings links.new) }
+    ensures only { Only link (K.wire links.old) (K.wire links.new)
+        (K.standings links.old) (K.standings links.new) }
     ensures attempts { K.attempts links.new ≡ K.attempts links.old }
     ensures faults { K.faults links.old ≤ K.faults links.new }
 {
@@ -56,12 +58,14 @@ pub(crate) fn next_pdu<K: Links>(
 #[inline(never)]
 fn receive<K: Links>(framer: Framer, link: u32, links: &mut K) -> Result<Turn, NoMemory>
     requires { IsUsable (K.standings links.old) link }
-    ensures answer { IfOk result (λ turn. (before sent : List ℕ) → Now (K.wire links.old) link (Has (before ++ framer) sent)
+    ensures answer { IfOk result (λ turn. (before sent : List ℕ)
+        → Now (K.wire links.old) link (Has (before ++ framer) sent)
         → AnswersTurn (K.wire links.new) link before sent framer turn) }
     ensures grows { IfOk result (λ turn. Grows framer turn) }
     ensures usable { IfOk result (λ turn. TurnsUsable (K.standings links.new) link turn) }
     ensures keeps { KeepsSent link (K.wire links.old) (K.wire links.new) }
-    ensures only { Only link (K.wire links.old) (K.wire links.new) (K.standings links.old) (K.standings links.new) }
+    ensures only { Only link (K.wire links.old) (K.wire links.new)
+        (K.standings links.old) (K.standings links.new) }
     ensures attempts { K.attempts links.new ≡ K.attempts links.old }
     ensures faults { K.faults links.old ≤ K.faults links.new }
 {

@@ -31,14 +31,17 @@ pub(crate) fn connect_named<K: Links>(
     links: &mut K,
 ) -> Result<Option<Telling>, NoMemory>
     requires sound { IsSound (K.standings links.old) (2 ^ 61) feeds.old }
-    ensures connects { IfOk result (λ told. ConnectedNamed (K.attempts links.old) (K.attempts links.new)
-        (K.wire links.old) (K.wire links.new) name.now place.now feeds.old feeds.new told) }
+    ensures connects { IfOk result (λ told. ConnectedNamed
+        (K.attempts links.old) (K.attempts links.new) (K.wire links.old) (K.wire links.new)
+        name.now place.now feeds.old feeds.new told) }
     ensures err { OnErr result (links.new ≡ links.old) }
-    ensures others { Spares (IsNoFeeds (K.standings links.old) feeds.old) (K.wire links.old) (K.wire links.new)
-        (K.standings links.old) (K.standings links.new) }
-    ensures sound { IfOk result (λ told. (most : ℕ) → IsSound (K.standings links.old) most feeds.old
+    ensures others { Spares (IsNoFeeds (K.standings links.old) feeds.old)
+        (K.wire links.old) (K.wire links.new) (K.standings links.old) (K.standings links.new) }
+    ensures sound { IfOk result (λ told. (most : ℕ)
+        → IsSound (K.standings links.old) most feeds.old
         → IsSound (K.standings links.new) most feeds.new) }
-    ensures counted { IfOk result (λ told. IsCounted (K.faults links.old) (K.faults links.new) told) }
+    ensures counted { IfOk result (λ told.
+        IsCounted (K.faults links.old) (K.faults links.new) told) }
 {
     let query = spell_query(alloc, Query::Reset)?;
     let old = hold(feeds, name)?;
@@ -52,7 +55,8 @@ pub(crate) fn connect_named<K: Links>(
 fn close<K: Links>(slot: Option<OpenFeed>, links: &mut K)
     requires { IsSlotFit (K.standings links.old) slot }
     ensures closed { ClosedAs (K.wire links.old) (K.wire links.new) slot }
-    ensures spares { Spares (IsApart slot) (K.wire links.old) (K.wire links.new) (K.standings links.old) (K.standings links.new) }
+    ensures spares { Spares (IsApart slot) (K.wire links.old) (K.wire links.new)
+        (K.standings links.old) (K.standings links.new) }
     ensures attempts { K.attempts links.new ≡ K.attempts links.old }
     ensures faults { K.faults links.old ≤ K.faults links.new }
 {
@@ -70,11 +74,12 @@ fn start<K: Links>(
     links: &mut K,
 ) -> (Option<OpenFeed>, Option<Telling>)
     requires { query.now ≡ query_bytes Reset }
-    ensures starts { StartedAs (K.attempts links.old) (K.attempts links.new) (K.wire links.old) (K.wire links.new)
+    ensures starts { StartedAs (K.attempts links.old) (K.attempts links.new)
+        (K.wire links.old) (K.wire links.new)
         place.now result.0 result.1 }
     ensures fits { SlotFits (K.standings links.new) (length (K.standings links.old)) 0 result.0 }
-    ensures spares { Spares (λ other. other ≢ length (K.standings links.old)) (K.wire links.old) (K.wire links.new)
-        (K.standings links.old) (K.standings links.new) }
+    ensures spares { Spares (λ other. other ≢ length (K.standings links.old))
+        (K.wire links.old) (K.wire links.new) (K.standings links.old) (K.standings links.new) }
     ensures counted { IsCounted (K.faults links.old) (K.faults links.new) result.1 }
 {
     match links.connect(place) {
@@ -92,9 +97,11 @@ fn start_session<K: Links>(
 ) -> (Option<OpenFeed>, Option<Telling>)
     requires usable { IsUsable (K.standings links.old) link }
     requires query { query.now ≡ query_bytes Reset }
-    ensures starts { Now (K.wire links.old) link (Has [] []) → SessionStarts (K.wire links.new) link result.0 result.1 }
+    ensures starts { Now (K.wire links.old) link (Has [] [])
+        → SessionStarts (K.wire links.new) link result.0 result.1 }
     ensures fits { SlotFits (K.standings links.new) link 0 result.0 }
-    ensures only { Only link (K.wire links.old) (K.wire links.new) (K.standings links.old) (K.standings links.new) }
+    ensures only { Only link (K.wire links.old) (K.wire links.new)
+        (K.standings links.old) (K.standings links.new) }
     ensures reached { result.1 ≢ Some (FeedEnds Unreachable) }
     ensures attempts { K.attempts links.new ≡ K.attempts links.old }
     ensures faults { K.faults links.old ≤ K.faults links.new }

@@ -45,28 +45,34 @@ pub fn connect<K: Links>(
     requires few_refused { progress.refused < 2 ^ 62 }
 
     // What it did, where the connections are told.
-    ensures goes { IfOk result (λ next. Goes (K.attempts links.old) (K.attempts links.new) (K.wire links.old) (K.wire links.new)
+    ensures goes { IfOk result (λ next. Goes (K.attempts links.old) (K.attempts links.new)
+        (K.wire links.old) (K.wire links.new)
         (Holds (K.attempts links.old) (K.wire links.old) feeds.old progress)
         (Holds (K.attempts links.new) (K.wire links.new) feeds.new next)
         text.old.items text.new.items
-        (λ world old added new. ConnectLine world (record { line = line; name = name.now }) place.now old added new)) }
+        (λ world old added new. ConnectLine world (record { line = line; name = name.now })
+        place.now old added new)) }
 
     // Where memory ran out: all of its moves, but for the text, or none.
-    ensures part { OnErr result (Goes (K.attempts links.old) (K.attempts links.new) (K.wire links.old) (K.wire links.new)
+    ensures part { OnErr result (Goes (K.attempts links.old) (K.attempts links.new)
+        (K.wire links.old) (K.wire links.new)
         (Holds (K.attempts links.old) (K.wire links.old) feeds.old progress)
         (HasMoved (K.attempts links.new) (K.wire links.new))
         text.old.items text.new.items
-        (λ world old added new. ConnectPart world (record { line = line; name = name.now }) place.now old new)) }
+        (λ world old added new. ConnectPart world (record { line = line; name = name.now })
+        place.now old new)) }
     ensures err { OnErr result (text.new.items ≡ text.old.items) }
 
-    // Whatever is told: what it reports, and that a connection which wasn't to be had was a fault. Connections that no feed has stay
-    // as they were.
+    // Whatever is told: what it reports, and that a connection which wasn't to be had was a fault.
+    // Connections that no feed has stay as they were.
     ensures tells { IfOk result (λ next. (told : Option TellingOf)
-        × (text.new.items ≡ text.old.items ++ tells_text (record { line = line; name = name.now }) (option_to_list told))
+        × (text.new.items ≡ text.old.items
+        ++ tells_text (record { line = line; name = name.now }) (option_to_list told))
         × IsCounted (K.faults links.old) (K.faults links.new) told) }
-    ensures others { Spares (IsNoFeeds (K.standings links.old) feeds.old) (K.wire links.old) (K.wire links.new)
-        (K.standings links.old) (K.standings links.new) }
-    ensures sound { IfOk result (λ next. (most : ℕ) → IsSound (K.standings links.old) most feeds.old
+    ensures others { Spares (IsNoFeeds (K.standings links.old) feeds.old)
+        (K.wire links.old) (K.wire links.new) (K.standings links.old) (K.standings links.new) }
+    ensures sound { IfOk result (λ next. (most : ℕ)
+        → IsSound (K.standings links.old) most feeds.old
         → IsSound (K.standings links.new) most feeds.new) }
     ensures few { IfOk result (λ next. next.refused ≤ progress.refused + 1) }
 {
@@ -91,28 +97,34 @@ pub fn work<K: Links, L: Ledger>(
     requires few_refused { progress.refused < 2 ^ 62 }
 
     // What it did, where the connections are told.
-    ensures goes { IfOk result (λ next. Goes (K.attempts links.old) (K.attempts links.new) (K.wire links.old) (K.wire links.new)
+    ensures goes { IfOk result (λ next. Goes (K.attempts links.old) (K.attempts links.new)
+        (K.wire links.old) (K.wire links.new)
         (Holds (K.attempts links.old) (K.wire links.old) feeds.old progress)
         (Holds (K.attempts links.new) (K.wire links.new) feeds.new next)
         text.old.items text.new.items
-        (λ world old added new. WorkLine world (record { line = line; name = name.now }) work old added new)) }
+        (λ world old added new. WorkLine world (record { line = line; name = name.now })
+        work old added new)) }
 
     // Where memory ran out: all of its moves, but for the text, or some first of them.
-    ensures part { OnErr result (Goes (K.attempts links.old) (K.attempts links.new) (K.wire links.old) (K.wire links.new)
+    ensures part { OnErr result (Goes (K.attempts links.old) (K.attempts links.new)
+        (K.wire links.old) (K.wire links.new)
         (Holds (K.attempts links.old) (K.wire links.old) feeds.old progress)
         (HasMoved (K.attempts links.new) (K.wire links.new))
         text.old.items text.new.items
-        (λ world old added new. WorkPart world (record { line = line; name = name.now }) work old new)) }
+        (λ world old added new. WorkPart world (record { line = line; name = name.now })
+        work old new)) }
     ensures err { OnErr result (text.new.items ≡ text.old.items) }
 
-    // Whatever is told: what it reports, and nothing of a connection that wasn't to be had. Connections that no feed has stay as they
-    // were.
+    // Whatever is told: what it reports, and nothing of a connection that wasn't to be had.
+    // Connections that no feed has stay as they were.
     ensures tells { IfOk result (λ next. (told : Option TellingOf)
-        × (text.new.items ≡ text.old.items ++ tells_text (record { line = line; name = name.now }) (option_to_list told))
+        × (text.new.items ≡ text.old.items
+        ++ tells_text (record { line = line; name = name.now }) (option_to_list told))
         × (told ≢ Some (FeedEnds Unreachable))) }
-    ensures others { Spares (IsNoFeeds (K.standings links.old) feeds.old) (K.wire links.old) (K.wire links.new)
-        (K.standings links.old) (K.standings links.new) }
-    ensures sound { IfOk result (λ next. (most : ℕ) → IsSound (K.standings links.old) most feeds.old
+    ensures others { Spares (IsNoFeeds (K.standings links.old) feeds.old)
+        (K.wire links.old) (K.wire links.new) (K.standings links.old) (K.standings links.new) }
+    ensures sound { IfOk result (λ next. (most : ℕ)
+        → IsSound (K.standings links.old) most feeds.old
         → IsSound (K.standings links.new) (most + units_of work) feeds.new) }
     ensures few { IfOk result (λ next. next.refused ≤ progress.refused + 1) }
     ensures attempts { K.attempts links.new ≡ K.attempts links.old }
@@ -135,9 +147,12 @@ fn report(
 ) -> Result<Progress, NoMemory>
     requires { progress.refused < 2 ^ 62 }
     ensures text { OnOk result (text.new.items
-        ≡ text.old.items ++ tells_text (record { line = line; name = name.now }) (option_to_list told)) }
-    ensures next { IfOk result (λ next. next
-        ≡ record { analyser = progress.analyser; refused = progress.refused + length (option_to_list told) }) }
+        ≡ text.old.items
+        ++ tells_text (record { line = line; name = name.now }) (option_to_list told)) }
+    ensures next { IfOk result (λ next. next ≡ record {
+      analyser = progress.analyser;
+      refused = progress.refused + length (option_to_list told);
+    }) }
     ensures err { OnErr result (text.new.items ≡ text.old.items) }
 {
     let Some(telling) = told else {

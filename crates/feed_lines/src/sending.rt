@@ -41,7 +41,8 @@ pub(crate) fn send_query<K: Links>(bytes: &[u8], link: u32, links: &mut K) -> bo
     ensures asks { (got gave : List ℕ) → Now (K.wire links.old) link (Has got gave)
         → Asks (K.wire links.new) link got gave bytes.now result }
     ensures usable { result ≡ true → IsUsable (K.standings links.new) link }
-    ensures only { Only link (K.wire links.old) (K.wire links.new) (K.standings links.old) (K.standings links.new) }
+    ensures only { Only link (K.wire links.old) (K.wire links.new)
+        (K.standings links.old) (K.standings links.new) }
     ensures attempts { K.attempts links.new ≡ K.attempts links.old }
     ensures faults { K.faults links.old ≤ K.faults links.new }
 {
@@ -57,7 +58,8 @@ pub(crate) fn finish<K: Links>(bytes: &[u8], link: u32, links: &mut K)
     requires { IsUsable (K.standings links.old) link }
     ensures finishes { (got gave : List ℕ) → Now (K.wire links.old) link (Has got gave)
         → Finishes (K.wire links.new) link got gave bytes.now }
-    ensures only { Only link (K.wire links.old) (K.wire links.new) (K.standings links.old) (K.standings links.new) }
+    ensures only { Only link (K.wire links.old) (K.wire links.new)
+        (K.standings links.old) (K.standings links.new) }
     ensures attempts { K.attempts links.new ≡ K.attempts links.old }
     ensures faults { K.faults links.old ≤ K.faults links.new }
 {
@@ -72,7 +74,8 @@ fn send_all<K: Links>(bytes: &[u8], link: u32, links: &mut K) -> bool
         → Sends (K.wire links.new) link got gave bytes.now result }
     ensures usable { result ≡ true → IsUsable (K.standings links.new) link }
     ensures still_open { IsOpen (K.standings links.new) link }
-    ensures only { Only link (K.wire links.old) (K.wire links.new) (K.standings links.old) (K.standings links.new) }
+    ensures only { Only link (K.wire links.old) (K.wire links.new)
+        (K.standings links.old) (K.standings links.new) }
     ensures attempts { K.attempts links.new ≡ K.attempts links.old }
     ensures faults { K.faults links.old ≤ K.faults links.new }
 {

@@ -47,11 +47,15 @@ pub(crate) fn take_pdus<K: Links, L: Ledger>(
     requires room { feed.taken < 2 ^ 62 }
     ensures took { IfOk result (λ r. (state : Feed) → StandsFor (K.wire links.old) feed state
         → TookAs (K.wire links.new) feed.link
-        (λ t. TakesPdus t until_ready name.now count (record { feed = Some state; state = analyser })) r.0 r.1) }
+        (λ t. TakesPdus t until_ready name.now count
+        (record { feed = Some state; state = analyser })) r.0 r.1) }
     ensures halts { OnErr result ((state : Feed) → StandsFor (K.wire links.old) feed state
-        → Halted (K.wire links.new) feed.link (λ t. TakesSome t until_ready name.now count state analyser)) }
-    ensures only { Only feed.link (K.wire links.old) (K.wire links.new) (K.standings links.old) (K.standings links.new) }
-    ensures fits { IfOk result (λ r. OutcomeFits (K.standings links.new) feed.link (feed.taken + count) r.0) }
+        → Halted (K.wire links.new) feed.link
+        (λ t. TakesSome t until_ready name.now count state analyser)) }
+    ensures only { Only feed.link (K.wire links.old) (K.wire links.new)
+        (K.standings links.old) (K.standings links.new) }
+    ensures fits { IfOk result (λ r.
+        OutcomeFits (K.standings links.new) feed.link (feed.taken + count) r.0) }
     ensures ticks { steps.new ≡ steps.old }
     ensures attempts { K.attempts links.new ≡ K.attempts links.old }
     ensures faults { K.faults links.old ≤ K.faults links.new }
@@ -97,10 +101,13 @@ fn take_pdu<K: Links, L: Ledger>(
     requires fit { IsFit (K.standings links.old) feed }
     requires room { feed.taken < 2 ^ 63 }
     ensures took { IfOk result (λ r. (state : Feed) → StandsFor (K.wire links.old) feed state
-        → TookAs (K.wire links.new) feed.link (λ t. TakesNext t name.now state analyser) r.0 r.1) }
+        → TookAs (K.wire links.new) feed.link
+        (λ t. TakesNext t name.now state analyser) r.0 r.1) }
     ensures halts { OnErr result (KeepsSent feed.link (K.wire links.old) (K.wire links.new)) }
-    ensures only { Only feed.link (K.wire links.old) (K.wire links.new) (K.standings links.old) (K.standings links.new) }
-    ensures fits { IfOk result (λ r. OutcomeFits (K.standings links.new) feed.link (feed.taken + 1) r.0) }
+    ensures only { Only feed.link (K.wire links.old) (K.wire links.new)
+        (K.standings links.old) (K.standings links.new) }
+    ensures fits { IfOk result (λ r.
+        OutcomeFits (K.standings links.new) feed.link (feed.taken + 1) r.0) }
     ensures ticks { steps.new ≡ steps.old }
     ensures attempts { K.attempts links.new ≡ K.attempts links.old }
     ensures faults { K.faults links.old ≤ K.faults links.new }
@@ -150,10 +157,13 @@ fn perform<K: Links, L: Ledger>(
     requires usable { IsUsable (K.standings links.old) feed.link }
     requires phase { IsNoEnd act → feed.session.phase ≢ Over }
     ensures took { IfOk result (λ r. (state : Feed) → StandsFor (K.wire links.old) feed state
-        → TookAs (K.wire links.new) feed.link (λ t. TakesAct t name.now state analyser act) r.0 r.1) }
+        → TookAs (K.wire links.new) feed.link
+        (λ t. TakesAct t name.now state analyser act) r.0 r.1) }
     ensures halts { OnErr result (KeepsSent feed.link (K.wire links.old) (K.wire links.new)) }
-    ensures only { Only feed.link (K.wire links.old) (K.wire links.new) (K.standings links.old) (K.standings links.new) }
-    ensures fits { IfOk result (λ r. OutcomeFits (K.standings links.new) feed.link feed.taken r.0) }
+    ensures only { Only feed.link (K.wire links.old) (K.wire links.new)
+        (K.standings links.old) (K.standings links.new) }
+    ensures fits { IfOk result (λ r.
+        OutcomeFits (K.standings links.new) feed.link feed.taken r.0) }
     ensures ticks { steps.new ≡ steps.old }
     ensures attempts { K.attempts links.new ≡ K.attempts links.old }
     ensures faults { K.faults links.old ≤ K.faults links.new }
@@ -191,7 +201,8 @@ fn apply<L: Ledger>(
     analyser: Analyser,
     steps: &mut Steps<L>,
 ) -> Result<Analyser, NoMemory>
-    ensures applied { IfOk result (λ next. Happens analyser (Table (change_by name.now delta)) next) }
+    ensures applied { IfOk result (λ next.
+        Happens analyser (Table (change_by name.now delta)) next) }
     ensures ticks { steps.new ≡ steps.old }
 {
     let change = change_of(name.copy()?, delta);

@@ -52,11 +52,16 @@ pub(crate) fn work_on<K: Links, L: Ledger>(
     requires fit { IsFit (K.standings links.old) feed }
     requires room { feed.taken < 2 ^ 62 }
     ensures works { IfOk result (λ r. (state : Feed) → StandsFor (K.wire links.old) feed state
-        → WorkedAs (K.wire links.new) feed.link (λ t. Does t name.now work state analyser) r.slot r.told r.analyser) }
+        → WorkedAs (K.wire links.new) feed.link
+        (λ t. Does t name.now work state analyser)
+        r.slot r.told r.analyser) }
     ensures halts { OnErr result ((state : Feed) → StandsFor (K.wire links.old) feed state
-        → Halted (K.wire links.new) feed.link (λ t. Begins t name.now work state analyser)) }
-    ensures only { Only feed.link (K.wire links.old) (K.wire links.new) (K.standings links.old) (K.standings links.new) }
-    ensures fits { IfOk result (λ r. SlotFits (K.standings links.new) feed.link (feed.taken + units_of work) r.slot) }
+        → Halted (K.wire links.new) feed.link
+        (λ t. Begins t name.now work state analyser)) }
+    ensures only { Only feed.link (K.wire links.old) (K.wire links.new)
+        (K.standings links.old) (K.standings links.new) }
+    ensures fits { IfOk result (λ r.
+        SlotFits (K.standings links.new) feed.link (feed.taken + units_of work) r.slot) }
     ensures reached { IfOk result (λ r. r.told ≢ Some (FeedEnds Unreachable)) }
     ensures ticks { steps.new ≡ steps.old }
     ensures attempts { K.attempts links.new ≡ K.attempts links.old }
@@ -79,11 +84,16 @@ fn ask_feed<K: Links>(
 ) -> Result<Worked, NoMemory>
     requires fit { IsFit (K.standings links.old) feed }
     ensures works { IfOk result (λ r. (state : Feed) → StandsFor (K.wire links.old) feed state
-        → WorkedAs (K.wire links.new) feed.link (λ t. Does t name.now AskWork state analyser) r.slot r.told r.analyser) }
+        → WorkedAs (K.wire links.new) feed.link
+        (λ t. Does t name.now AskWork state analyser)
+        r.slot r.told r.analyser) }
     ensures halts { OnErr result ((state : Feed) → StandsFor (K.wire links.old) feed state
-        → Halted (K.wire links.new) feed.link (λ t. Begins t name.now AskWork state analyser)) }
-    ensures only { Only feed.link (K.wire links.old) (K.wire links.new) (K.standings links.old) (K.standings links.new) }
-    ensures fits { IfOk result (λ r. SlotFits (K.standings links.new) feed.link feed.taken r.slot) }
+        → Halted (K.wire links.new) feed.link
+        (λ t. Begins t name.now AskWork state analyser)) }
+    ensures only { Only feed.link (K.wire links.old) (K.wire links.new)
+        (K.standings links.old) (K.standings links.new) }
+    ensures fits { IfOk result (λ r.
+        SlotFits (K.standings links.new) feed.link feed.taken r.slot) }
     ensures reached { IfOk result (λ r. r.told ≢ Some (FeedEnds Unreachable)) }
     ensures attempts { K.attempts links.new ≡ K.attempts links.old }
     ensures faults { K.faults links.old ≤ K.faults links.new }
@@ -126,11 +136,16 @@ fn take_some<K: Links, L: Ledger>(
     requires fit { IsFit (K.standings links.old) feed }
     requires room { feed.taken < 2 ^ 62 }
     ensures works { IfOk result (λ r. (state : Feed) → StandsFor (K.wire links.old) feed state
-        → WorkedAs (K.wire links.new) feed.link (λ t. Does t name.now (TakeWork count) state analyser) r.slot r.told r.analyser) }
+        → WorkedAs (K.wire links.new) feed.link
+        (λ t. Does t name.now (TakeWork count) state analyser)
+        r.slot r.told r.analyser) }
     ensures halts { OnErr result ((state : Feed) → StandsFor (K.wire links.old) feed state
-        → Halted (K.wire links.new) feed.link (λ t. Begins t name.now (TakeWork count) state analyser)) }
-    ensures only { Only feed.link (K.wire links.old) (K.wire links.new) (K.standings links.old) (K.standings links.new) }
-    ensures fits { IfOk result (λ r. SlotFits (K.standings links.new) feed.link (feed.taken + count) r.slot) }
+        → Halted (K.wire links.new) feed.link
+        (λ t. Begins t name.now (TakeWork count) state analyser)) }
+    ensures only { Only feed.link (K.wire links.old) (K.wire links.new)
+        (K.standings links.old) (K.standings links.new) }
+    ensures fits { IfOk result (λ r.
+        SlotFits (K.standings links.new) feed.link (feed.taken + count) r.slot) }
     ensures reached { IfOk result (λ r. r.told ≢ Some (FeedEnds Unreachable)) }
     ensures ticks { steps.new ≡ steps.old }
     ensures attempts { K.attempts links.new ≡ K.attempts links.old }
@@ -156,11 +171,16 @@ fn sync_some<K: Links, L: Ledger>(
     requires fit { IsFit (K.standings links.old) feed }
     requires room { feed.taken < 2 ^ 62 }
     ensures works { IfOk result (λ r. (state : Feed) → StandsFor (K.wire links.old) feed state
-        → WorkedAs (K.wire links.new) feed.link (λ t. Does t name.now (SyncWork count) state analyser) r.slot r.told r.analyser) }
+        → WorkedAs (K.wire links.new) feed.link
+        (λ t. Does t name.now (SyncWork count) state analyser)
+        r.slot r.told r.analyser) }
     ensures halts { OnErr result ((state : Feed) → StandsFor (K.wire links.old) feed state
-        → Halted (K.wire links.new) feed.link (λ t. Begins t name.now (SyncWork count) state analyser)) }
-    ensures only { Only feed.link (K.wire links.old) (K.wire links.new) (K.standings links.old) (K.standings links.new) }
-    ensures fits { IfOk result (λ r. SlotFits (K.standings links.new) feed.link (feed.taken + count) r.slot) }
+        → Halted (K.wire links.new) feed.link
+        (λ t. Begins t name.now (SyncWork count) state analyser)) }
+    ensures only { Only feed.link (K.wire links.old) (K.wire links.new)
+        (K.standings links.old) (K.standings links.new) }
+    ensures fits { IfOk result (λ r.
+        SlotFits (K.standings links.new) feed.link (feed.taken + count) r.slot) }
     ensures reached { IfOk result (λ r. r.told ≢ Some (FeedEnds Unreachable)) }
     ensures ticks { steps.new ≡ steps.old }
     ensures attempts { K.attempts links.new ≡ K.attempts links.old }
