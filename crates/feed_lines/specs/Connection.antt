@@ -14,7 +14,7 @@ told_at wire link = option_map (λ links. slice_get links link) wire
 pub record Now (wire : Option (List Link)) (link : ℕ) (is : Link → Type 0) : Type 0 where
   pub told : (links : List Link) → wire ≡ Some links → (t : Link) × (slice_get links link ≡ Some t) × is t
 
--- these bytes were received and sent on it
+-- so much was received and sent on it
 pub record Has (received sent : List ℕ) (t : Link) : Type 0 where
   pub got : t.received ≡ received
   pub gave : t.sent ≡ sent
