@@ -1,4 +1,4 @@
--- The line of a refusal is one line that begins with `! `.
+-- The lines of a refusal and of a feed's end are each one line that begins with `! `.
 use Rattle.std.proofs.Common.{◌≡◌, ◌≢◌, ℕ, ◌≤◌, Bool, true, false, nat_le, nat_eq, cond, List, [], ◌∷◌, ◌++◌, codes, decimal, refl, arith}
 use Rattle.std.specs.List.{All, list_all}
 use Rattle.std.proofs.lemmas.Bool.{leb-true}
@@ -6,6 +6,9 @@ use Rattle.std.proofs.lemmas.List.Elements.{All-head, All-tail, All-nil, All-app
 use Rattle.std.proofs.lemmas.List.Sums.{AllPass-from_list_all}
 use Rattle.av_text.specs.Spellings.{IsInLine}
 use Rattle.av_text.proofs.LackLemmas.{decimal-lacks, from-lacks}
+use Rattle.report_text.specs.declared.feed.FeedEnd.{FeedEnd}
+use Rattle.report_text.specs.declared.feed.FeedEnd.TheVariants.{Unreachable, Lost, Short}
+use Rattle.report_text.specs.Feeds.{end_word, feed_line}
 use Rattle.report_text.specs.Refusals.{AnyPlace, of_line, of_unit, file_words, pdu_words, record_words, line_words, word_in, word_of, place_text, refusal_line}
 use Rattle.report_text.specs.Laws.{IsPlaceInLine, IsRefusalLine}
 use Rattle.report_text.proofs.InLineLemmas.{is_clean, clean, both, number}
@@ -51,5 +54,26 @@ refusal_is_one_line line place cause in_line =
           (clean (codes " cause ") refl))
           (number cause))
           (both (codes " ") (word_of cause) (clean (codes " ") refl) (word_of-in_line cause));
+      marked = refl;
+    }
+
+end_word-in_line : (end : FeedEnd) → IsInLine (end_word end)
+end_word-in_line Unreachable = clean (codes "unreachable") refl
+end_word-in_line Lost = clean (codes "lost") refl
+end_word-in_line Short = clean (codes "short") refl
+
+pub feed_end_is_one_line : (line : ℕ) (name : List ℕ) (end : FeedEnd) → IsInLine name → IsRefusalLine (feed_line line name end)
+feed_end_is_one_line line name end in_line =
+    record {
+      in_line =
+          both (codes "! line " ++ decimal line ++ codes " " ++ name ++ codes " ") (end_word end)
+          (both (codes "! line " ++ decimal line ++ codes " " ++ name) (codes " ")
+          (both (codes "! line " ++ decimal line ++ codes " ") name
+          (both (codes "! line " ++ decimal line) (codes " ")
+          (both (codes "! line ") (decimal line) (clean (codes "! line ") refl) (number line))
+          (clean (codes " ") refl))
+          in_line)
+          (clean (codes " ") refl))
+          (end_word-in_line end);
       marked = refl;
     }

@@ -8,6 +8,8 @@ use Rattle.path_model.specs.declared.witness.Witness.{Witness}
 use Rattle.av_text.specs.Spellings.{IsInLine}
 use Rattle.report_text.specs.declared.summary.Summary.{Summary}
 use Rattle.report_text.specs.Change.{change_line}
+use Rattle.report_text.specs.declared.feed.FeedEnd.{FeedEnd}
+use Rattle.report_text.specs.Feeds.{feed_line}
 use Rattle.report_text.specs.Refusals.{AnyPlace, of_line, of_unit, refusal_line}
 use Rattle.report_text.specs.Rows.{row_line}
 use Rattle.report_text.specs.Summary.{summary_line}
@@ -26,6 +28,9 @@ pub record IsRefusalLine (line : List ℕ) : Type 0 where
 abbrev pub EachRefusalIsOneLine : Type 0
 EachRefusalIsOneLine =
     (number : ℕ) (place : AnyPlace) (cause : ℕ) → IsPlaceInLine place → IsRefusalLine (refusal_line number place cause)
+
+abbrev pub EachFeedEndIsOneLine : Type 0
+EachFeedEndIsOneLine = (number : ℕ) (name : List ℕ) (end : FeedEnd) → IsInLine name → IsRefusalLine (feed_line number name end)
 
 -- a line, without its line feed, that doesn't begin so
 pub record IsAnswerLine (line : List ℕ) : Type 0 where
