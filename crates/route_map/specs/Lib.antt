@@ -1,0 +1,5 @@
+pub mod Families
+pub mod Flat
+pub mod Held
+pub mod OfPeer
+pub mod Updates

@@ -1,0 +1,19 @@
+//! A value for each route: a map by peer and then by prefix, laid out so that ten million routes take some 200 MB.
+//!
+//! The layers above see the list of its entries in key order and use the words of std's maps: **[`RouteMap::insert`] makes
+//! `insert_entry key_cmp` of that list and [`RouteMap::remove`] `remove_entry`, [`RouteMap::get`] looks up in it, and [`RouteMap::iter`]
+//! gives it**; [`RouteMap::of_peer`] and [`RouteMap::of_as`] give parts of it. Begin reading at [`RouteMap`], and then at `specs/Flat.antt`,
+//! which says how the routes of the peers make one list. The values are of any type that is `Copy`, or for all but `insert` of any type.
+#![tactic(auto)]
+
+mod filling;
+mod ipv4_subnet;
+mod iter;
+mod peer_iter;
+mod peer_routes;
+mod prefix_iter;
+mod route_map;
+
+pub use iter::Iter;
+pub use peer_iter::PeerIter;
+pub use route_map::RouteMap;

@@ -1,0 +1,214 @@
+//! The values of all routes.
+ghost use Rattle.std.specs.Prelude.{◌≡◌, ◌↔◌, ◌<◌, ◌^◌, [], Some, length, nat_eq, IfSome, IfNone, IfOk, OnOk, OnErr, IsTrue, option_copied};
+ghost use Rattle.std.specs.BTreeMap.{insert_entry, is_at};
+ghost use Rattle.std.specs.List.{filter};
+ghost use Rattle.std.specs.List.Sorted.{IsStrictlySortedBy};
+ghost use Rattle.std.specs.Map.{keys_of, lookup, remove_entry};
+ghost use Rattle.path_model.specs.Key.{key_cmp};
+ghost use Rattle.path_model.specs.Routes.{is_of_peer};
+ghost use Rattle.route_map.specs.Flat.{flat};
+ghost use Rattle.route_map.specs.Held.{found, value_at, without, HaveRoutes, Puts, TakesOut};
+ghost use Rattle.route_map.specs.OfPeer.{HasNoRouteOf, IsRouteOf, first_key};
+ghost use Rattle.route_map.specs.Updates.{Gets, Loses};
+
+use crate::iter::Iter;
+use crate::peer_iter::PeerIter;
+use crate::peer_routes::PeerRoutes;
+use av_base::NoMemory;
+use path_model::{Key, Peer};
+use std::alloc::Global;
+use std::collections::BTreeMap;
+use std::marker::Model;
+
+// How many routes there may be: their number is that of a `Vec`'s elements at most.
+const MOST_ROUTES: usize = 0x7fff_ffff_ffff_ffff;
+
+/// A value for each route. With values of 4 bytes an IPv4 route takes 14 to 22 bytes and an IPv6 route 30 to 48, less where the routes don't
+/// come in the order of their prefixes. The first route of a peer takes 450 to 700.
+#[derive(Drop)]
+pub struct RouteMap<V> {
+    alloc: Global,
+    // a peer without routes has no entry, as the invariant says
+    peers: BTreeMap<Peer, PeerRoutes<V>>,
+    // how many routes there are
+    len: usize,
+}
+
+impl<V> Model for RouteMap<V> {
+    ghost use Rattle.std.specs.Prelude.{List};
+    ghost use Rattle.path_model.specs.declared.key.Key.{Key};
+    ghost use Rattle.route_map.specs.Flat.{flat};
+    ghost use Rattle.route_map.specs.Held.{AreHeld};
+
+    ghost Value = { List (Key × V) };
+
+    ghost view = { λ m. flat m.peers.entries };
+
+    ghost invariant = { λ m. AreHeld m.peers.entries m.len };
+}
+
+impl<V> RouteMap<V> {
+    /// A map of no routes. It takes no memory.
+    pub fn new(alloc: Global) -> RouteMap<V>
+        ensures { result ≡ [] }
+    {
+        RouteMap {
+            alloc,
+            peers: BTreeMap::new(alloc),
+            len: 0,
+        }
+    }
+
+    /// How many routes have a value.
+    pub fn len(&self) -> usize
+        ensures len { result ≡ length self.now }
+        ensures few { result < 2 ^ 63 }
+        ensures in_order { IsStrictlySortedBy key_cmp (keys_of self.now) }
+    {
+        self.len
+    }
+
+    /// The value of a route; `None` exactly where it has none.
+    pub fn get(&self, key: &Key) -> Option<&V>
+        ensures { option_copied result ≡ lookup (is_at (key_cmp key.now)) self.now }
+    {
+        let _peers = self.peers.len();
+        match self.peers.get(&key.peer) {
+            None => None,
+            Some(routes) => routes.get(&key.prefix),
+        }
+    }
+
+    /// All routes, in key order.
+    pub fn iter(&self) -> Iter<'_, V>
+        ensures whole { result ≡ self.now }
+        ensures few { length result < 2 ^ 63 }
+        ensures in_order { IsStrictlySortedBy key_cmp (keys_of self.now) }
+    {
+        Iter {
+            asn: None,
+            first: None,
+            others: self.peers.iter(),
+        }
+    }
+
+    /// The routes of all peers of one AS, in key order. It costs a step for each peer of another AS, and then what these routes cost.
+    pub fn of_as(&self, asn: u32) -> Iter<'_, V>
+        ensures { result ≡ filter (λ e. nat_eq e.0.peer.asn asn) self.now }
+    {
+        Iter {
+            asn: Some(asn),
+            first: None,
+            others: self.peers.iter(),
+        }
+    }
+
+    /// The routes of one peer, in key order. It costs one look-up among the peers, and then what these routes cost.
+    pub fn of_peer(&self, peer: &Peer) -> PeerIter<'_, V>
+        ensures { result ≡ filter (λ e. is_of_peer peer.now e.0) self.now }
+    {
+        let _peers = self.peers.len();
+        match self.peers.get(peer) {
+            None => PeerIter {
+                peer: *peer,
+                routes: None,
+            },
+            Some(routes) => routes.iter_of(*peer),
+        }
+    }
+
+    /// The first route of one peer; `None` exactly where it has none.
+    pub fn first_of(&self, peer: &Peer) -> Option<Key>
+        ensures first { result ≡ first_key (filter (λ e. is_of_peer peer.now e.0) self.now) }
+        ensures none { IfNone result (HasNoRouteOf self.now peer.now) }
+        ensures some { IfSome result (IsRouteOf self.now peer.now) }
+    {
+        match self.of_peer(peer).next() {
+            None => None,
+            Some((key, _)) => Some(key),
+        }
+    }
+}
+
+impl<V: Copy> RouteMap<V> {
+    /// Gives a route a value, and answers the one that it had. Where there was no memory, nothing changed.
+    pub fn insert(&mut self, key: Key, value: V) -> Result<Option<V>, NoMemory>
+        ensures before { IfOk result (λ v. v ≡ lookup (is_at (key_cmp key)) self.old) }
+        ensures inserted { OnOk result (self.new ≡ insert_entry key_cmp self.old key value) }
+        ensures updates { OnOk result (Gets self.old key value self.new) }
+        ensures same { OnErr result (self.new ≡ self.old) }
+    {
+        if self.len == MOST_ROUTES {
+            return Err(NoMemory);
+        }
+        let _peers = self.peers.len();
+        let before = put(&mut self.peers, self.alloc, key, value)?;
+        self.len += usize::from(before.is_none());
+        Ok(before)
+    }
+}
+
+impl<V: Drop> RouteMap<V> {
+    /// Takes the value of a route out, where it has one, and answers it. It takes no memory, and what the last route of a peer took is
+    /// given back.
+    pub fn remove(&mut self, key: &Key) -> Option<V>
+        ensures before { result ≡ lookup (is_at (key_cmp key.now)) self.old }
+        ensures removed { self.new ≡ remove_entry (is_at (key_cmp key.now)) self.old }
+        ensures updates { Loses self.old key.now self.new }
+    {
+        let before = take(&mut self.peers, key);
+        self.len -= usize::from(before.is_some());
+        before
+    }
+}
+
+// Gives a route a value among those of its peer, and answers the one that it had.
+fn put<V: Copy>(
+    peers: &mut BTreeMap<Peer, PeerRoutes<V>>,
+    alloc: Global,
+    key: Key,
+    value: V,
+) -> Result<Option<V>, NoMemory>
+    ensures before { IfOk result (λ v. v ≡ value_at peers.old.entries key) }
+    ensures put { OnOk result (Puts peers.old.entries key value peers.new.entries) }
+    ensures same { OnErr result (peers.new.entries ≡ peers.old.entries) }
+{
+    if let Some(routes) = peers.get_mut(&key.peer) {
+        let before = routes.insert(key.prefix, value)?;
+        routes.fill(alloc);
+        return Ok(before);
+    }
+    let mut routes = PeerRoutes::new(alloc);
+    routes.insert(key.prefix, value)?;
+    peers.insert(key.peer, routes)?;
+    Ok(None)
+}
+
+// Takes a route out from those of its peer, which goes with its last route, and answers what the route had.
+fn take<V: Drop>(peers: &mut BTreeMap<Peer, PeerRoutes<V>>, key: &Key) -> Option<V>
+    ensures before { result ≡ lookup (is_at (key_cmp key.now)) (flat peers.old.entries) }
+    ensures removed { flat peers.new.entries ≡ without key.now (flat peers.old.entries) }
+    ensures kept { HaveRoutes peers.old.entries → HaveRoutes peers.new.entries }
+{
+    let _peers = peers.len();
+    let (before, emptied) = take_out(peers, key);
+    if emptied {
+        peers.remove(&key.peer);
+    }
+    before
+}
+
+// Takes a route out from those of its peer, and answers what it had, and whether the peer stands there without routes now.
+fn take_out<V: Drop>(peers: &mut BTreeMap<Peer, PeerRoutes<V>>, key: &Key) -> (Option<V>, bool)
+    ensures before { result.0 ≡ value_at peers.old.entries key.now }
+    ensures taken { TakesOut peers.old.entries key.now peers.new.entries }
+    ensures emptied { IsTrue result.1 ↔ (found peers.new.entries key.now.peer ≡ Some []) }
+{
+    match peers.get_mut(&key.peer) {
+        None => (None, false),
+        Some(routes) => {
+            let before = routes.remove(&key.prefix);
+            (before, routes.is_empty())
+        }
+    }
+}

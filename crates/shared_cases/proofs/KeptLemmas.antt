@@ -1,0 +1,142 @@
+-- What is kept of the cases when one of them changes.
+use Rattle.std.proofs.Common.{◌≡◌, ◌≢◌, ℕ, Bool, true, false, List, [], ◌∷◌, None, Some, refl, ap, sym, subst, ◌∙◌, ◌⊎◌, inl, inr, true≢false, ◌||◌}
+use Rattle.std.specs.declared.option.Option.{Option}
+use Rattle.std.proofs.lemmas.Bool.{or_parts}
+use Rattle.path_model.specs.declared.verdict.Verdict.{Verdict}
+use Rattle.path_model.specs.Trail.{Path}
+use Rattle.ramps.specs.Judgement.{Judgement}
+use Rattle.hop_index.specs.Index.{Entries}
+use Rattle.shared_cases.specs.declared.case.StoredCase.{StoredCase}
+use Rattle.shared_cases.specs.Cases.{Slots, at, Rewrites, IsSettled, IsSameCase, AreSameCases, marked_now}
+use Rattle.shared_cases.specs.Kept.{AreKept}
+use Rattle.shared_cases.specs.Numbers.{has}
+use Rattle.shared_cases.specs.Peers.{Members}
+use Rattle.shared_cases.specs.Taking.{lowered, new_case, raised}
+use Rattle.shared_cases.proofs.CaseLemmas.{IsSameName, Names, decide_eq, rewritten, same_names}
+use Rattle.shared_cases.proofs.NumberLemmas.{has_cases, has_first, has_later}
+
+settled_at : (old new : Slots) (n m : ℕ) (v : Option StoredCase) → Rewrites old new n v → IsSettled v → IsSettled (at old m) → (m ≡ n) ⊎ (m ≢ n) → IsSettled (at new m)
+settled_at old new n m v writes here was (inl e) = subst (λ (o : Option StoredCase). IsSettled o) (sym (ap (at new) e ∙ writes.here)) here
+settled_at old new n m v writes here was (inr other) = subst (λ (o : Option StoredCase). IsSettled o) (sym (writes.others m other)) was
+
+same_settled : (old new : Slots) (n m : ℕ) (v : Option StoredCase) → Rewrites old new n v → (IsSettled (at old n) → IsSettled v) → IsSettled (at old m) → (m ≡ n) ⊎ (m ≢ n) → IsSettled (at new m)
+same_settled old new n m v writes keeps was (inl e) =
+    settled_at old new n m v writes (keeps (subst (λ (k : ℕ). IsSettled (at old k)) e was)) was (inl e)
+same_settled old new n m v writes keeps was (inr other) = subst (λ (o : Option StoredCase). IsSettled o) (sym (writes.others m other)) was
+
+-- a case that is settled stands or goes
+pub still_settled : (old new : Slots) (n : ℕ) (v : Option StoredCase) (noted : List ℕ) → Rewrites old new n v → IsSettled v
+    → ((m : ℕ) → has noted m ≡ false → IsSettled (at old m)) → (m : ℕ) → has noted m ≡ false → IsSettled (at new m)
+still_settled old new n v noted writes here settled m absent = settled_at old new n m v writes here (settled m absent) (decide_eq m n)
+
+-- what is stored of a new case
+pub same_new : (slot : Option StoredCase) (asn : ℕ) (copy path : Path) (verdict : Verdict) (judgement : Judgement)
+    → slot ≡ Some (record { trail = copy; users = 1; judged = judgement; asn = asn; marked = verdict }) → copy ≡ path → verdict ≡ judgement.verdict → slot ≡ Some (new_case asn path judgement)
+same_new slot asn copy path verdict judgement here same_path same_verdict =
+    here ∙ (λ i. Some (record { trail = same_path i; users = 1; judged = judgement; asn = asn; marked = same_verdict i }))
+
+module _ (old new : Slots) (n : ℕ) (names : Names) (index : Entries) (peers : Members) (noted : List ℕ) (kept : AreKept old names index peers noted) where
+  -- a case with another number of users
+  rewrite_kept : (v : Option StoredCase) → Rewrites old new n v → IsSameName (at old n) v → (IsSettled (at old n) → IsSettled v) → AreKept new names index peers noted
+  rewrite_kept v writes same keeps = record {
+    indexed = rewritten old new n v names index peers writes same kept.indexed;
+    settled = λ m absent. same_settled old new n m v writes keeps (kept.settled m absent) (decide_eq m n);
+  }
+
+  pub raised_kept : Rewrites old new n (raised (at old n)) → AreKept new names index peers noted
+  raised_kept writes = rewrite_kept (raised (at old n)) writes (same (at old n)) (keeps (at old n)) where
+    same : (c : Option StoredCase) → IsSameName c (raised c)
+    same None = tt
+    same (Some c) = (refl, refl)
+
+    keeps : (c : Option StoredCase) → IsSettled c → IsSettled (raised c)
+    keeps None settled = tt
+    keeps (Some c) settled = settled
+
+  pub lowered_kept : Rewrites old new n (lowered (at old n)) → AreKept new names index peers noted
+  lowered_kept writes = rewrite_kept (lowered (at old n)) writes (same (at old n)) (keeps (at old n)) where
+    same : (c : Option StoredCase) → IsSameName c (lowered c)
+    same None = tt
+    same (Some c) = (refl, refl)
+
+    keeps : (c : Option StoredCase) → IsSettled c → IsSettled (lowered c)
+    keeps None settled = tt
+    keeps (Some c) settled = settled
+
+-- ---- marking
+pub record IsMarking (noted : ℕ → Bool) (first now : Slots) (rest : List ℕ) : Type 0 where
+  pub marked : (n : ℕ) → noted n ≡ true → (has rest n ≡ true) ⊎ (at now n ≡ marked_now (at first n))
+  pub within : (n : ℕ) → has rest n ≡ true → noted n ≡ true
+  pub others : (n : ℕ) → noted n ≡ false → at now n ≡ at first n
+  pub same : (n : ℕ) → marked_now (at now n) ≡ marked_now (at first n)
+
+marked_twice : (c : Option StoredCase) → marked_now (marked_now c) ≡ marked_now c
+marked_twice None = refl
+marked_twice (Some c) = refl
+
+module _ (noted : ℕ → Bool) (first now next : Slots) (x : ℕ) (rest : List ℕ) (so_far : IsMarking noted first now (x ∷ rest)) (writes : Rewrites now next x (marked_now (at now x))) where
+  marked_here : (n : ℕ) → n ≡ x → at next n ≡ marked_now (at first n)
+  marked_here n e = ap (at next) e ∙ writes.here ∙ so_far.same x ∙ ap (λ (k : ℕ). marked_now (at first k)) (sym e)
+
+  marked_kept : (n : ℕ) → at now n ≡ marked_now (at first n) → (n ≡ x) ⊎ (n ≢ x) → at next n ≡ marked_now (at first n)
+  marked_kept n was (inl e) = marked_here n e
+  marked_kept n was (inr other) = writes.others n other ∙ was
+
+  marked_next : (n : ℕ) → (has (x ∷ rest) n ≡ true) ⊎ (at now n ≡ marked_now (at first n)) → (has rest n ≡ true) ⊎ (at next n ≡ marked_now (at first n))
+  marked_next n (inl there) = elim (has_cases n x rest there) [ inl e ↦ inr (marked_here n e) | inr later ↦ inl later ]
+  marked_next n (inr was) = inr (marked_kept n was (decide_eq n x))
+
+  same_next : (n : ℕ) → (n ≡ x) ⊎ (n ≢ x) → marked_now (at next n) ≡ marked_now (at first n)
+  same_next n (inl e) = ap marked_now (ap (at next) e ∙ writes.here) ∙ marked_twice (at now x) ∙ so_far.same x ∙ ap (λ (k : ℕ). marked_now (at first k)) (sym e)
+  same_next n (inr other) = ap marked_now (writes.others n other) ∙ so_far.same n
+
+  pub marking_next : IsMarking noted first next rest
+  marking_next = record {
+    marked = λ n is. marked_next n (so_far.marked n is);
+    within = λ n later. so_far.within n (has_later n x rest later);
+    others = λ n isnt. writes.others n (λ e. true≢false (sym (so_far.within n (has_first n x rest e)) ∙ isnt)) ∙ so_far.others n isnt;
+    same = λ n. same_next n (decide_eq n x);
+  }
+
+settled_marked : (c : Option StoredCase) → IsSettled c → marked_now c ≡ c
+settled_marked None settled = refl
+settled_marked (Some c) settled = ap (λ (v : Verdict). Some (record c { marked = v })) (sym settled)
+
+pub settled_now : (c : Option StoredCase) → IsSettled (marked_now c)
+settled_now None = tt
+settled_now (Some c) = refl
+
+marked_by : (old new : Slots) (n : ℕ) (b : Bool) → (b ≡ true → at new n ≡ marked_now (at old n)) → (b ≡ false → at new n ≡ at old n) → (b ≡ false → IsSettled (at old n)) → at new n ≡ marked_now (at old n)
+marked_by old new n true marked others settled = marked refl
+marked_by old new n false marked others settled = others refl ∙ sym (settled_marked (at old n) (settled refl))
+
+-- each case has its verdict as the marked one: the noted are marked, and the others were
+pub all_marked : (old new : Slots) (names : Names) (index : Entries) (peers : Members) (noted : List ℕ) → AreKept old names index peers noted
+    → ((n : ℕ) → has noted n ≡ true → at new n ≡ marked_now (at old n)) → ((n : ℕ) → has noted n ≡ false → at new n ≡ at old n) → (n : ℕ) → at new n ≡ marked_now (at old n)
+all_marked old new names index peers noted kept marked others n = marked_by old new n (has noted n) (marked n) (others n) (kept.settled n)
+
+marked_same : (c : Option StoredCase) → IsSameName c (marked_now c)
+marked_same None = tt
+marked_same (Some c) = (refl, refl)
+
+pub marked_all_kept : (old new : Slots) (names : Names) (index : Entries) (peers : Members) (noted : List ℕ) → AreKept old names index peers noted
+    → ((n : ℕ) → at new n ≡ marked_now (at old n)) → AreKept new names index peers []
+marked_all_kept old new names index peers noted kept marked = record {
+  indexed = same_names old new names index peers (λ n. subst (λ (o : Option StoredCase). IsSameName (at old n) o) (sym (marked n)) (marked_same (at old n))) kept.indexed;
+  settled = λ n absent. subst (λ (o : Option StoredCase). IsSettled o) (sym (marked n)) (settled_now (at old n));
+}
+
+-- ---- other judgements
+same_case_name : (c d : Option StoredCase) → IsSameCase c d → IsSameName c d
+same_case_name None None same = tt
+same_case_name None (Some d) same = absurd same
+same_case_name (Some c) None same = absurd same
+same_case_name (Some c) (Some d) same = (same.0, same.1)
+
+pub rejudged_kept : (old new : Slots) (names : Names) (index : Entries) (peers : Members) (noted noted' touched : List ℕ) → AreKept old names index peers noted → AreSameCases old new
+    → ((n : ℕ) → has noted' n ≡ (has noted n || has touched n)) → ((n : ℕ) → has touched n ≡ false → at new n ≡ at old n) → AreKept new names index peers noted'
+rejudged_kept old new names index peers noted noted' touched kept same notes others = record {
+  indexed = same_names old new names index peers (λ n. same_case_name (at old n) (at new n) (same n)) kept.indexed;
+  settled = λ n absent. let both = or_parts (has noted n) (has touched n) (sym (notes n) ∙ absent) in
+      subst (λ (o : Option StoredCase). IsSettled o) (sym (others n both.1)) (kept.settled n both.0);
+}

@@ -1,0 +1,10 @@
+pub mod CaseLemmas
+pub mod FollowLemmas
+pub mod KeptLemmas
+pub mod MoveLemmas
+pub mod NameLemmas
+pub mod NumberLemmas
+pub mod PeerLemmas
+pub mod RejudgingLemmas
+pub mod RoleLemmas
+pub mod TouchLemmas

@@ -1,0 +1,25 @@
+-- What another role touches, and what it doesn't.
+use Rattle.std.proofs.Common.{◌≡◌, ◌≢◌, ℕ, true, None, Some, sym, subst, inl, true≢false}
+use Rattle.std.specs.Cmp.{nat_eq_equiv}
+use Rattle.std.specs.declared.option.Option.{Option}
+use Rattle.std.proofs.lemmas.Map.Views.{exact_unsigned_eq}
+use Rattle.path_model.specs.declared.role.Role.{Role}
+use Rattle.path_model.specs.Authority.{Table}
+use Rattle.path_model.specs.PrintedWitness.{IsPrinted}
+use Rattle.path_model.specs.Roles.{Relations, role_of}
+use Rattle.shared_cases.specs.declared.case.StoredCase.{StoredCase}
+use Rattle.shared_cases.specs.Cases.{is_of_peer}
+use Rattle.shared_cases.specs.Grounds.{by_table, IsJudged}
+use Rattle.shared_cases.proofs.TouchLemmas.{IsTouchedNumber}
+
+module _ (table : Table) (old new : Relations) where
+  -- a case of an AS with the same role keeps its right judgement
+  pub same_role_judged : (c : Option StoredCase) → ((asn : ℕ) → is_of_peer c asn ≡ true → role_of old asn ≡ role_of new asn) → IsJudged (by_table table old) c → IsJudged (by_table table new) c
+  same_role_judged None same right = tt
+  same_role_judged (Some c) same right =
+      subst (λ (role : Role). IsPrinted table role c.asn c.trail c.judged.verdict c.judged.witness) (same c.asn (nat_eq_equiv.refl c.asn)) right
+
+  -- and one of an AS with another role is touched
+  pub other_role_touches : (c : Option StoredCase) (asn : ℕ) → is_of_peer c asn ≡ true → role_of old asn ≢ role_of new asn → IsTouchedNumber (by_table table old) (by_table table new) c
+  other_role_touches None asn of_peer other = true≢false (sym of_peer)
+  other_role_touches (Some c) asn of_peer other = inl (subst (λ (a : ℕ). role_of old a ≢ role_of new a) (exact_unsigned_eq asn c.asn of_peer) other)

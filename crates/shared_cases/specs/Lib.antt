@@ -1,0 +1,10 @@
+pub mod Cases
+pub mod Codes
+pub mod Grounds
+pub mod Kept
+pub mod Names
+pub mod Numbers
+pub mod Peers
+pub mod Taking
+pub mod Touched
+pub mod Touching

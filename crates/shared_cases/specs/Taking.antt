@@ -1,0 +1,50 @@
+-- One user more of a case, and one less.
+use Rattle.std.specs.Prelude.{◌≡◌, ℕ, nat_lt, ◌+◌, ◌-◌, Bool, false, if◌then◌else◌, ◌⊎◌}
+use Rattle.std.specs.declared.option.Option.{Option}
+use Rattle.std.specs.declared.option.Option.TheVariants.{Some, None}
+use Rattle.path_model.specs.Trail.{Path}
+use Rattle.ramps.specs.Judgement.{Judgement}
+use Rattle.shared_cases.specs.declared.case.StoredCase.{StoredCase}
+use Rattle.shared_cases.specs.Cases.{Slots, at, Rewrites, IsStoredAs, IsAbsent}
+use Rattle.shared_cases.specs.Grounds.{Grounds, IsRightJudgement}
+
+-- a case with one user more
+abbrev pub raised : Option StoredCase → Option StoredCase
+raised None = None
+raised (Some c) = Some (record c { users = c.users + 1 })
+
+-- whether it has another user beside one
+abbrev pub is_shared : Option StoredCase → Bool
+is_shared None = false
+is_shared (Some c) = nat_lt 1 c.users
+
+-- a case with one user less
+abbrev pub lowered : Option StoredCase → Option StoredCase
+lowered None = None
+lowered (Some c) = Some (record c { users = c.users - 1 })
+
+-- what is left of a case after one of its users: nothing after the last one
+abbrev pub left : Option StoredCase → Option StoredCase
+left c = if is_shared c then lowered c else None
+
+-- a new case: it has one user, and its verdict is the marked one
+abbrev pub new_case : ℕ → Path → Judgement → StoredCase
+new_case asn path judgement =
+    record { trail = path; users = 1; judged = judgement; asn = asn; marked = judgement.verdict }
+
+-- the case of this AS and path is there under n, and has one user more
+pub record Joins (asn : ℕ) (path : Path) (before after : Slots) (n : ℕ) : Type 0 where
+  pub stored : IsStoredAs (at before n) asn path
+  pub raised : Rewrites before after n (raised (at before n))
+
+-- a case of this AS and path is new, under a number that had none, with its right judgement
+pub record Adds (g : Grounds) (asn : ℕ) (path : Path) (before after : Slots) (n : ℕ) : Type 0 where
+  pub absent : IsAbsent before asn path
+  pub vacant : at before n ≡ None
+  pub judgement : Judgement
+  pub right : IsRightJudgement g asn path judgement
+  pub added : Rewrites before after n (Some (new_case asn path judgement))
+
+-- one user more of the case of this AS and path, which has the number n
+abbrev pub Takes : Grounds → ℕ → Path → Slots → Slots → ℕ → Type 0
+Takes g asn path before after n = Joins asn path before after n ⊎ Adds g asn path before after n

@@ -1,0 +1,36 @@
+-- How the touched cases are found. Private contracts alone cite it.
+use Rattle.std.specs.Prelude.{ℕ, nat_eq, Bool, true, false, not, ◌&&◌, List}
+use Rattle.std.specs.List.{list_any}
+use Rattle.path_model.specs.declared.authority.Authority.{Authority}
+use Rattle.path_model.specs.declared.authority.Authority.TheVariants.{Silent, Refuses, Provides}
+use Rattle.path_model.specs.Authority.{said_by}
+use Rattle.hop_index.specs.Index.{Entries, found}
+use Rattle.hop_index.specs.Through.{ends_of}
+use Rattle.vap_table.specs.declared.moves.RowMove.{RowMove}
+
+abbrev pub same_authority : Authority → Authority → Bool
+same_authority Silent Silent = true
+same_authority Silent Refuses = false
+same_authority Silent Provides = false
+same_authority Refuses Silent = false
+same_authority Refuses Refuses = true
+same_authority Refuses Provides = false
+same_authority Provides Silent = false
+same_authority Provides Refuses = false
+same_authority Provides Provides = true
+
+-- the customer attests another thing of y than before
+abbrev pub differs : RowMove → ℕ → Bool
+differs m y = not (same_authority (said_by m.before y) (said_by m.after y))
+
+-- among these other ends of the customer's hops, one of the case n at which the customer attests another thing
+abbrev pub touches : RowMove → ℕ → List (ℕ × ℕ) → Bool
+touches m n ends = list_any (λ end. differs m end.0 && nat_eq n end.1) ends
+
+-- the move touches the case n
+abbrev pub is_touched : Entries → RowMove → ℕ → Bool
+is_touched index m n = touches m n (ends_of (found index m.customer))
+
+-- one of the moves touches the case n
+abbrev pub is_touched_by : Entries → List RowMove → ℕ → Bool
+is_touched_by index moves n = list_any (λ m. is_touched index m n) moves

@@ -1,0 +1,334 @@
+//! The cases.
+ghost use Rattle.std.specs.Prelude.{◌≡◌, ◌≤◌, ◌+◌, ℕ, true, false, [], None, Some, IfOk, IfNone, IfSome, IsTrue};
+ghost use Rattle.shared_cases.specs.Cases.{at, verdict_or, marked_or, marked_now, Rewrites, IsAbsent, IsStoredAs, AreDistinct, IsIndexOf, IsSettled, IsShown};
+ghost use Rattle.shared_cases.specs.Grounds.{grounds};
+ghost use Rattle.shared_cases.specs.Names.{name_of};
+ghost use Rattle.shared_cases.specs.Numbers.{has};
+ghost use Rattle.shared_cases.specs.Taking.{is_shared, left, lowered, raised, new_case, Takes};
+
+use crate::case::{Case, StoredCase};
+use crate::case_name::CaseName;
+use crate::numbers::Numbers;
+use crate::peers::Peers;
+use crate::slots;
+use av_base::{NoMemory, Steps};
+use hop_index::HopIndex;
+use path_model::{Roles, Trail, Verdict};
+use ramps::{Judged, judge};
+use slab::Slab;
+use std::alloc::Global;
+use std::collections::BTreeMap;
+use std::marker::Model;
+use std::sync::ledger::Ledger;
+use vap_table::Vaps;
+
+/// The cases that routes share, each under a number below 2^32 for as long as some route has it. A case takes about 250 bytes, 8 for
+/// each AS of its path, and what its hops take in the index.
+#[derive(Drop)]
+pub struct SharedCases {
+    pub(crate) alloc: Global,
+    pub(crate) slab: Slab<StoredCase>,
+    pub(crate) names: BTreeMap<CaseName, u32>,
+    pub(crate) index: HopIndex,
+    pub(crate) peers: Peers,
+    // each case whose verdict isn't the marked one, and maybe others
+    pub(crate) noted: Numbers,
+}
+
+impl Model for SharedCases {
+    ghost use Rattle.shared_cases.specs.Cases.{Slots};
+    ghost use Rattle.shared_cases.specs.Kept.{AreKept};
+
+    ghost Value = { Slots };
+
+    ghost view = { λ a. a.slab.slots };
+
+    ghost invariant = { λ a. AreKept a.slab.slots a.names.entries a.index a.peers a.noted };
+}
+
+impl SharedCases {
+    /// No cases. It takes no memory.
+    pub fn new(alloc: Global) -> SharedCases
+        ensures { result ≡ [] }
+    {
+        SharedCases {
+            alloc,
+            slab: Slab::new(alloc),
+            names: BTreeMap::new(alloc),
+            index: HopIndex::new(alloc),
+            peers: Peers::new(alloc),
+            noted: Numbers::new(alloc),
+        }
+    }
+
+    /// The case under a number; `None` exactly where there is none.
+    pub fn get(&self, number: usize) -> Option<Case<'_>>
+        ensures { IsShown result (at self.now number) }
+    {
+        let case = self.slab.get(number)?;
+        Some(Case {
+            asn: case.asn,
+            trail: &case.trail,
+            judged: &case.judged,
+            marked: case.marked,
+        })
+    }
+
+    /// The verdict of a case, or `Invalid` where there is no case.
+    pub fn verdict(&self, number: usize) -> Verdict
+        ensures { result ≡ verdict_or (at self.now number) }
+    {
+        match self.slab.get(number) {
+            None => Verdict::Invalid,
+            Some(case) => case.judged.verdict(),
+        }
+    }
+
+    /// The verdict of a case at the last mark or when it came, or `Invalid` where there is no case.
+    pub fn marked(&self, number: usize) -> Verdict
+        ensures { result ≡ marked_or (at self.now number) }
+    {
+        match self.slab.get(number) {
+            None => Verdict::Invalid,
+            Some(case) => case.marked,
+        }
+    }
+
+    /// The hops of the cases.
+    pub fn index(&self) -> &HopIndex
+        ensures { IsIndexOf self.now result.now }
+    {
+        &self.index
+    }
+
+    /// No two cases have the same peer AS and path: a law, and the body does nothing.
+    pub fn are_distinct(&self)
+        ensures { AreDistinct self.now }
+    {
+        let _names = &self.names;
+    }
+
+    /// Each case has its marked verdict, if this is true.
+    pub fn is_settled(&self) -> bool
+        ensures { IsTrue result → (n : ℕ) → IsSettled (at self.now n) }
+    {
+        self.noted.is_empty()
+    }
+
+    /// One route more has the case of this AS and path, and the number of the case, which stays until its last route leaves it. A new
+    /// case is judged, for one step, and its verdict is the marked one. The `hint` is tried first: where it is the right number, that
+    /// costs one comparison of paths, and else one look-up more.
+    pub fn take<L: Ledger>(
+        self,
+        asn: u32,
+        trail: Trail,
+        hint: Option<u32>,
+        table: &Vaps,
+        roles: &Roles,
+        steps: &mut Steps<L>,
+    ) -> Result<(SharedCases, u32), NoMemory>
+        ensures taken { IfOk result (λ r. Takes (grounds table.now roles.now) asn trail self r.0 r.1) }
+        ensures ticks { steps.new ≤ steps.old + 1 }
+    {
+        if let Some(number) = self.hinted(hint, asn, &trail) {
+            let cases = self.join(number)?;
+            return Ok((cases, number));
+        }
+        let name = CaseName::new(asn, trail);
+        if let Some(number) = self.find(&name) {
+            let cases = self.join(number)?;
+            return Ok((cases, number));
+        }
+        let judged = judge(table, roles.of(asn), asn, &name.trail, steps);
+        let (cases, number) = self.add(name, judged)?;
+        Ok((cases, number))
+    }
+
+    /// One route less has the case. The last one takes the case along. It takes no memory.
+    pub fn leave(self, number: u32) -> SharedCases
+        ensures { Rewrites self result number (left (at self number)) }
+    {
+        if slots::is_shared(&self.slab, number as usize) {
+            self.lower(number)
+        } else {
+            self.remove(number)
+        }
+    }
+
+    /// The present verdicts are the marked ones from now on. It takes no memory, and the time of the cases judged anew since the last mark.
+    pub fn mark(self) -> SharedCases
+        ensures { (n : ℕ) → at result n ≡ marked_now (at self n) }
+    {
+        let SharedCases {
+            alloc,
+            mut slab,
+            names,
+            index,
+            peers,
+            noted,
+        } = self;
+        mark_all(&mut slab, &noted);
+        SharedCases {
+            alloc,
+            slab,
+            names,
+            index,
+            peers,
+            noted: Numbers::new(alloc),
+        }
+    }
+
+    // The hint, if it is the number of the case of this AS and path.
+    fn hinted(&self, hint: Option<u32>, asn: u32, trail: &Trail) -> Option<u32>
+        ensures { IfSome result (λ n. IsStoredAs (at self.now n) asn trail.now) }
+    {
+        let number = hint?;
+        if slots::is_stored_as(&self.slab, number as usize, asn, trail) {
+            Some(number)
+        } else {
+            None
+        }
+    }
+
+    // The number of the case of this name.
+    fn find(&self, name: &CaseName) -> Option<u32>
+        requires { name.now ≡ name_of name.now.asn name.now.trail }
+        ensures some { IfSome result (λ n. IsStoredAs (at self.now n) name.now.asn name.now.trail) }
+        ensures none { IfNone result (IsAbsent self.now name.now.asn name.now.trail) }
+    {
+        self.names.get(name).copied()
+    }
+
+    // One user more.
+    fn join(self, number: u32) -> Result<SharedCases, NoMemory>
+        ensures { IfOk result (λ cases. Rewrites self cases number (raised (at self number))) }
+    {
+        let SharedCases {
+            alloc,
+            mut slab,
+            names,
+            index,
+            peers,
+            noted,
+        } = self;
+        slots::raise(&mut slab, number as usize)?;
+        Ok(SharedCases {
+            alloc,
+            slab,
+            names,
+            index,
+            peers,
+            noted,
+        })
+    }
+
+    // A new case.
+    fn add(self, name: CaseName, judged: Judged) -> Result<(SharedCases, u32), NoMemory>
+        requires named { name ≡ name_of name.asn name.trail }
+        requires absent { IsAbsent self name.asn name.trail }
+        ensures vacant { IfOk result (λ r. at self r.1 ≡ None) }
+        ensures added { IfOk result (λ r.
+            Rewrites self r.0 r.1 (Some (new_case name.asn name.trail judged))) }
+    {
+        let SharedCases {
+            alloc,
+            mut slab,
+            mut names,
+            index,
+            peers,
+            noted,
+        } = self;
+        let asn = name.asn;
+        let case = StoredCase {
+            trail: name.trail.copy()?,
+            users: 1,
+            marked: judged.verdict(),
+            judged,
+            asn,
+        };
+        let number = slab.insert(case)?;
+        let short = u32::try_from(number).ok().ok_or(NoMemory)?;
+        let index = index.add(number, name.trail.chain())?;
+        let peers = peers.add(asn, number)?;
+        names.insert(name, short)?;
+        let cases = SharedCases {
+            alloc,
+            slab,
+            names,
+            index,
+            peers,
+            noted,
+        };
+        Ok((cases, short))
+    }
+
+    // One user less of a case that has more than one.
+    fn lower(self, number: u32) -> SharedCases
+        ensures { Rewrites self result number (lowered (at self number)) }
+    {
+        let SharedCases {
+            alloc,
+            mut slab,
+            names,
+            index,
+            peers,
+            noted,
+        } = self;
+        slots::lower(&mut slab, number as usize);
+        SharedCases {
+            alloc,
+            slab,
+            names,
+            index,
+            peers,
+            noted,
+        }
+    }
+
+    // The case goes, if there is one, with its name and its hops.
+    fn remove(self, number: u32) -> SharedCases
+        ensures { Rewrites self result number None }
+    {
+        let SharedCases {
+            alloc,
+            mut slab,
+            mut names,
+            index,
+            peers,
+            noted,
+        } = self;
+        let Some(case) = slab.try_remove(number as usize) else {
+            return SharedCases {
+                alloc,
+                slab,
+                names,
+                index,
+                peers,
+                noted,
+            };
+        };
+        let index = index.remove(number as usize, case.trail.chain());
+        let peers = peers.remove(case.asn, number as usize);
+        names.remove(&CaseName::new(case.asn, case.trail));
+        SharedCases {
+            alloc,
+            slab,
+            names,
+            index,
+            peers,
+            noted,
+        }
+    }
+}
+
+// The verdicts of these cases become the marked ones.
+fn mark_all(slab: &mut Slab<StoredCase>, noted: &Numbers)
+    ensures marked { (n : ℕ) → has noted.now n ≡ true
+        → at slab.new.slots n ≡ marked_now (at slab.old.slots n) }
+    ensures others { (n : ℕ) → has noted.now n ≡ false
+        → at slab.new.slots n ≡ at slab.old.slots n }
+{
+    for number in noted.iter() {
+        slots::mark(slab, *number);
+    }
+}

@@ -1,0 +1,148 @@
+//! Cases judged anew, where another table or other roles touch them.
+ghost use Rattle.std.specs.Prelude.{◌≡◌, ◌≤◌, ◌+◌, ◌-◌, ℕ, true, false, length, IfOk};
+ghost use Rattle.std.specs.List.Sorted.{IsStrictlySortedBy};
+ghost use Rattle.std.specs.Ordering.{nat_cmp};
+ghost use Rattle.path_model.specs.Authority.{Table};
+ghost use Rattle.path_model.specs.ComputedTable.{table_of};
+ghost use Rattle.path_model.specs.Roles.{Relations};
+ghost use Rattle.vap_table.specs.Moves.{AreMoves};
+ghost use Rattle.shared_cases.specs.Cases.{at, AreSameCases};
+ghost use Rattle.shared_cases.specs.Grounds.{by_table, grounds, IsJudged};
+ghost use Rattle.shared_cases.specs.Numbers.{has};
+ghost use Rattle.shared_cases.specs.Touched.{AreWithinTouched, IsRoleMove};
+
+use crate::SharedCases;
+use crate::case::StoredCase;
+use crate::numbers::Numbers;
+use crate::slots::judge_anew;
+use crate::touched::{touched_by_moves, touched_by_role, touched_by_roles};
+use av_base::{NoMemory, Steps};
+use path_model::{Role, Roles};
+use slab::Slab;
+use std::sync::ledger::Ledger;
+use vap_table::{Moves, Vaps};
+
+impl SharedCases {
+    /// The table is another one from now on, by these moves. It judges anew, once each, the cases with a hop of which something else is
+    /// attested, and takes the time of a look-up for each move and of the hops of the customers that moved.
+    pub fn follow_table<L: Ledger>(
+        self,
+        moves: &Moves,
+        table: &Vaps,
+        roles: &Roles,
+        steps: &mut Steps<L>,
+    ) -> Result<SharedCases, NoMemory>
+        ensures same { IfOk result (λ cases. AreSameCases self cases) }
+        ensures judged { IfOk result (λ cases. (before : Table)
+            → AreMoves before (table_of table.now) moves.now
+            → (n : ℕ) → IsJudged (by_table before roles.now) (at self n)
+            → IsJudged (grounds table.now roles.now) (at cases n)) }
+        ensures ticks { (before : Table) → AreMoves before (table_of table.now) moves.now
+            → AreWithinTouched (by_table before roles.now) (grounds table.now roles.now) self
+            (steps.new - steps.old) }
+    {
+        let touched = touched_by_moves(self.alloc, &self.index, moves)?;
+        let cases = self.rejudge(&touched, table, roles, steps)?;
+        Ok(cases)
+    }
+
+    /// The role of one AS, which was `before`, is that of `roles` from now on. Where these differ it judges anew, once each, the cases of
+    /// that AS. It takes the time of one look-up and of these cases.
+    pub fn follow_role<L: Ledger>(
+        self,
+        asn: u32,
+        before: Role,
+        table: &Vaps,
+        roles: &Roles,
+        steps: &mut Steps<L>,
+    ) -> Result<SharedCases, NoMemory>
+        ensures same { IfOk result (λ cases. AreSameCases self cases) }
+        ensures judged { IfOk result (λ cases. (old : Relations)
+            → IsRoleMove asn before old roles.now
+            → (n : ℕ) → IsJudged (grounds table.now old) (at self n)
+            → IsJudged (grounds table.now roles.now) (at cases n)) }
+        ensures ticks { (old : Relations) → IsRoleMove asn before old roles.now
+            → AreWithinTouched (grounds table.now old) (grounds table.now roles.now) self
+            (steps.new - steps.old) }
+    {
+        let touched = touched_by_role(self.alloc, &self.peers, asn, before, roles.of(asn))?;
+        let cases = self.rejudge(&touched, table, roles, steps)?;
+        Ok(cases)
+    }
+
+    /// The roles are other ones from now on. It judges anew, once each, the cases of the ASes whose role is another one, and takes the time
+    /// of two look-ups for each AS that has cases, and of the cases judged.
+    pub fn follow_roles<L: Ledger>(
+        self,
+        before: &Roles,
+        table: &Vaps,
+        roles: &Roles,
+        steps: &mut Steps<L>,
+    ) -> Result<SharedCases, NoMemory>
+        ensures same { IfOk result (λ cases. AreSameCases self cases) }
+        ensures judged { IfOk result (λ cases.
+            (n : ℕ) → IsJudged (grounds table.now before.now) (at self n)
+            → IsJudged (grounds table.now roles.now) (at cases n)) }
+        ensures ticks { AreWithinTouched (grounds table.now before.now)
+            (grounds table.now roles.now) self (steps.new - steps.old) }
+    {
+        let touched = touched_by_roles(self.alloc, &self.peers, before, roles)?;
+        let cases = self.rejudge(&touched, table, roles, steps)?;
+        Ok(cases)
+    }
+
+    // These cases are judged anew, once each.
+    fn rejudge<L: Ledger>(
+        self,
+        touched: &Numbers,
+        table: &Vaps,
+        roles: &Roles,
+        steps: &mut Steps<L>,
+    ) -> Result<SharedCases, NoMemory>
+        ensures judged { IfOk result (λ cases. (n : ℕ) → has touched.now n ≡ true
+            → IsJudged (grounds table.now roles.now) (at cases n)) }
+        ensures others { IfOk result (λ cases. (n : ℕ) → has touched.now n ≡ false
+            → at cases n ≡ at self n) }
+        ensures same { IfOk result (λ cases. AreSameCases self cases) }
+        ensures rising { IsStrictlySortedBy nat_cmp touched.now }
+        ensures ticks { steps.new ≤ steps.old + length touched.now }
+    {
+        let SharedCases {
+            alloc,
+            mut slab,
+            names,
+            index,
+            peers,
+            mut noted,
+        } = self;
+        noted.insert_all(touched)?;
+        rejudge_all(&mut slab, touched, table, roles, steps);
+        Ok(SharedCases {
+            alloc,
+            slab,
+            names,
+            index,
+            peers,
+            noted,
+        })
+    }
+}
+
+fn rejudge_all<L: Ledger>(
+    slab: &mut Slab<StoredCase>,
+    touched: &Numbers,
+    table: &Vaps,
+    roles: &Roles,
+    steps: &mut Steps<L>,
+)
+    ensures judged { (n : ℕ) → has touched.now n ≡ true
+        → IsJudged (grounds table.now roles.now) (at slab.new.slots n) }
+    ensures others { (n : ℕ) → has touched.now n ≡ false
+        → at slab.new.slots n ≡ at slab.old.slots n }
+    ensures same { AreSameCases slab.old.slots slab.new.slots }
+    ensures ticks { steps.new ≤ steps.old + length touched.now }
+{
+    for number in touched.iter() {
+        judge_anew(slab, *number, table, roles, steps);
+    }
+}

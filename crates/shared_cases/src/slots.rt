@@ -1,0 +1,91 @@
+//! What is done to one case under its number.
+ghost use Rattle.std.specs.Prelude.{◌≡◌, ◌≢◌, ◌≤◌, ◌+◌, ◌↔◌, ℕ, IsTrue, OnOk};
+ghost use Rattle.shared_cases.specs.Cases.{at, marked_now, Rewrites, IsSameCase, IsStoredAs};
+ghost use Rattle.shared_cases.specs.Grounds.{grounds, IsJudged};
+ghost use Rattle.shared_cases.specs.Taking.{is_shared, lowered, raised};
+
+use crate::case::StoredCase;
+use av_base::{NoMemory, Steps};
+use path_model::{Roles, Trail};
+use ramps::judge;
+use slab::Slab;
+use std::sync::ledger::Ledger;
+use vap_table::Vaps;
+
+// Whether the number is that of the case of this AS and path.
+pub(crate) fn is_stored_as(slab: &Slab<StoredCase>, number: usize, asn: u32, trail: &Trail) -> bool
+    ensures { IsTrue result ↔ IsStoredAs (at slab.now.slots number) asn trail.now }
+{
+    match slab.get(number) {
+        None => false,
+        Some(case) => case.asn == asn && is_same_trail(&case.trail, trail),
+    }
+}
+
+// Whether two paths are the same.
+fn is_same_trail(one: &Trail, other: &Trail) -> bool
+    ensures { IsTrue result ↔ (one.now ≡ other.now) }
+{
+    one.is_set() == other.is_set() && one.chain().as_slice() == other.chain().as_slice()
+}
+
+// One user more.
+pub(crate) fn raise(slab: &mut Slab<StoredCase>, number: usize) -> Result<(), NoMemory>
+    ensures { OnOk result
+        (Rewrites slab.old.slots slab.new.slots number (raised (at slab.old.slots number))) }
+{
+    let Some(case) = slab.get_mut(number) else {
+        return Ok(());
+    };
+    case.users = case.users.checked_add(1).ok_or(NoMemory)?;
+    Ok(())
+}
+
+// Whether the case has another user beside one.
+pub(crate) fn is_shared(slab: &Slab<StoredCase>, number: usize) -> bool
+    ensures { result ≡ is_shared (at slab.now.slots number) }
+{
+    match slab.get(number) {
+        None => false,
+        Some(case) => case.users > 1,
+    }
+}
+
+// One user less, where there is one.
+pub(crate) fn lower(slab: &mut Slab<StoredCase>, number: usize)
+    ensures { Rewrites slab.old.slots slab.new.slots number (lowered (at slab.old.slots number)) }
+{
+    let Some(case) = slab.get_mut(number) else {
+        return;
+    };
+    case.users = case.users.saturating_sub(1);
+}
+
+// Its verdict becomes the marked one.
+pub(crate) fn mark(slab: &mut Slab<StoredCase>, number: usize)
+    ensures { Rewrites slab.old.slots slab.new.slots number (marked_now (at slab.old.slots number)) }
+{
+    let Some(case) = slab.get_mut(number) else {
+        return;
+    };
+    case.marked = case.judged.verdict();
+}
+
+// It is judged anew.
+pub(crate) fn judge_anew<L: Ledger>(
+    slab: &mut Slab<StoredCase>,
+    number: usize,
+    table: &Vaps,
+    roles: &Roles,
+    steps: &mut Steps<L>,
+)
+    ensures judged { IsJudged (grounds table.now roles.now) (at slab.new.slots number) }
+    ensures same { IsSameCase (at slab.old.slots number) (at slab.new.slots number) }
+    ensures others { (n : ℕ) → n ≢ number → at slab.new.slots n ≡ at slab.old.slots n }
+    ensures ticks { steps.new ≤ steps.old + 1 }
+{
+    let Some(case) = slab.get_mut(number) else {
+        return;
+    };
+    case.judged = judge(table, roles.of(case.asn), case.asn, &case.trail, steps);
+}
