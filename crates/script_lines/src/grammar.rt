@@ -7,7 +7,9 @@ ghost use Rattle.script_lines.specs.Grammar.{IsCommandName, IsComment, IsPrintab
 
 use crate::command::{Command, CommandName, LineFault};
 use crate::fields::{Ases, End, Fields, Then};
-use crate::kinds::{AddressWord, AsWord, CountWord, NameWord, PrefixWord, RoleWord, TextWord, WhomWord};
+use crate::kinds::{
+    AddressWord, AsWord, CountWord, NameWord, PrefixWord, RoleWord, TextWord, WhomWord,
+};
 use av_text::{Words, words};
 use path_model::Role;
 use std::alloc::Global;
@@ -145,8 +147,10 @@ fn read_fields(alloc: Global, name: CommandName, words: Words<'_>) -> Result<Com
             Ok(Command::Summary)
         }
         CommandName::Why => {
-            let (addr, (asn, (prefix, ()))) =
-                <Then<AddressWord, Then<AsWord, Then<PrefixWord, End>>>>::read(alloc, words)?;
+            let (addr, (asn, (prefix, ()))) = <Then<
+                AddressWord,
+                Then<AsWord, Then<PrefixWord, End>>,
+            >>::read(alloc, words)?;
             Ok(Command::Why(addr, asn, prefix))
         }
     }
