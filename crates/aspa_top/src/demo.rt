@@ -18,6 +18,7 @@ pub(crate) fn run_demo<W: Sink, L: Ledger>(
     ensures demonstrates { Demonstrates seed (W.written out.old) (W.written out.new) result }
     ensures sink_cause { result ≡ 4 → Rose (W.faults out.old) (W.faults out.new) }
     ensures sink_faults { W.faults out.old ≤ W.faults out.new }
+    ensures ticks { steps.new ≡ steps.old }
 {
     match perform(alloc, u64::from(seed), out, steps) {
         Ok(()) => 0,

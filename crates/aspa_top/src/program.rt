@@ -1,4 +1,4 @@
-//! The top call: a script from its words to its status.
+//! The top call: from the words to the status.
 ghost use Rattle.std.specs.Prelude.{◌≡◌, ◌≢◌, ◌+◌, ◌<◌, ◌≤◌, ◌⊎◌, ◌++◌, ℕ, List, length, map};
 ghost use Rattle.std.specs.String.{string_bytes};
 ghost use Rattle.std.specs.Io.KnownBytes.{IsAtEnd};
@@ -43,15 +43,16 @@ pub fn run<S: Source, F: Shelf, K: Links, W: Sink, L: Ledger>(
 ) -> u8
     // What is written at each status, for every script that tells its bytes and every shelf that tells its files, and however the
     // script is read and the text written.
-    ensures ran { IsRun (map string_bytes words.now.items) → RanIfTold SCRIPT_LIMIT (S.left script.old) (F.files shelf.old)
+    ensures ran { IsRun (map string_bytes words.now.items) → RanIfTold SCRIPT_LIMIT
+        (S.left script.old) (F.files shelf.old)
         (Rose (S.faults script.old) (S.faults script.new)) (Rose (F.faults shelf.old) (F.faults shelf.new))
         (W.written out.old) (W.written out.new) steps.old steps.new result }
 
-    // What is written of a workload, which uses neither script nor shelf.
+    // What is written of a workload, which uses neither script nor shelf nor the counter.
     ensures demonstrated { (seed : ℕ) → IsDemo (map string_bytes words.now.items) seed
         → Demonstrates seed (W.written out.old) (W.written out.new) result }
     ensures unused { (seed : ℕ) → IsDemo (map string_bytes words.now.items) seed
-        → (script.new ≡ script.old) × (shelf.new ≡ shelf.old) }
+        → (script.new ≡ script.old) × (shelf.new ≡ shelf.old) × (steps.new ≡ steps.old) }
 
     // When each status comes, beside what it says of the text.
     ensures known { IsStatus result }
@@ -59,7 +60,8 @@ pub fn run<S: Source, F: Shelf, K: Links, W: Sink, L: Ledger>(
     ensures own_words { result ≢ 2 → AreOwn (map string_bytes words.now.items) }
     ensures untouched { result ≡ 2 → (script.new ≡ script.old) × (shelf.new ≡ shelf.old)
         × (out.new ≡ out.old) × (steps.new ≡ steps.old) }
-    ensures at_end { IsRun (map string_bytes words.now.items) → (result ≡ 0) ⊎ (result ≡ 1) → IsAtEnd (S.left script.new) }
+    ensures at_end { IsRun (map string_bytes words.now.items) → (result ≡ 0) ⊎ (result ≡ 1)
+        → IsAtEnd (S.left script.new) }
     ensures input_cause { result ≡ 3 → (Rose (S.faults script.old) (S.faults script.new) × (out.new ≡ out.old))
         ⊎ Rose (F.faults shelf.old) (F.faults shelf.new) }
     ensures sink_cause { result ≡ 4 → Rose (W.faults out.old) (W.faults out.new) }

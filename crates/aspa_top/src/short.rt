@@ -23,7 +23,8 @@ pub(crate) fn perform_short<L: Ledger>(
 ) -> Result<Working, NoMemory>
     requires within { IsWithinShort short }
     requires room { working.refused < 2 ^ 62 }
-    ensures done { IfOk result (DoneShort working short text.old.items text.new.items steps.old steps.new) }
+    ensures done { IfOk result (DoneShort working short text.old.items text.new.items
+        steps.old steps.new) }
     ensures keeps { IfOk result (KeepsDumps working) }
     ensures err { OnErr result (text.new.items ≡ text.old.items) }
     ensures ticks { steps.new ≤ steps.old + 1 }

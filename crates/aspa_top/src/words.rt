@@ -40,7 +40,8 @@ pub(crate) fn form_of(words: &Vec<String>) -> Form
 // The number of the workload that two words ask for.
 fn seed_of(word: &String, number: &String) -> Option<u32>
     ensures some { IfSome result (IsDemo (string_bytes word.now ∷ string_bytes number.now ∷ [])) }
-    ensures none { IfNone result ((seed : ℕ) → ¬ IsDemo (string_bytes word.now ∷ string_bytes number.now ∷ []) seed) }
+    ensures none { IfNone result ((seed : ℕ)
+        → ¬ IsDemo (string_bytes word.now ∷ string_bytes number.now ∷ []) seed) }
 {
     if word.as_str() == "demo" {
         read_u32(number.as_bytes())

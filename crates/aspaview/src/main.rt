@@ -81,7 +81,8 @@ fn perform<S: Source, F: Shelf, K: Links, W: Sink, L: Ledger>(
     ensures other_words { result ≡ 2 → ¬ AreOwn (map string_bytes words.now.items) }
     ensures own_words { result ≢ 2 → AreOwn (map string_bytes words.now.items) }
     ensures untouched { result ≡ 2 → (script.new ≡ script.old) × (shelf.new ≡ shelf.old) × (out.new ≡ out.old) }
-    ensures at_end { IsRun (map string_bytes words.now.items) → (result ≡ 0) ⊎ (result ≡ 1) → IsAtEnd (S.left script.new) }
+    ensures at_end { IsRun (map string_bytes words.now.items) → (result ≡ 0) ⊎ (result ≡ 1)
+        → IsAtEnd (S.left script.new) }
     ensures input_cause { result ≡ 3 → (Rose (S.faults script.old) (S.faults script.new) × (out.new ≡ out.old))
         ⊎ Rose (F.faults shelf.old) (F.faults shelf.new) }
     ensures sink_cause { result ≡ 4 → Rose (W.faults out.old) (W.faults out.new) }

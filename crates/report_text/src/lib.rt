@@ -5,7 +5,8 @@
 //! changed, [`put_changed`] how many changed, [`put_why`] why a path has its verdict, and [`put_summary`] how many there are of each.
 //! `refusal_text` of `specs/Refusals.antt` and the `.._text` of `Feeds`, `Rows`, `Change`, `Why` and `Summary` are those lines: begin
 //! there, with the table of causes and their words. Whatever is refused and however a feed ends, the line is one line that begins with
-//! `! `, and no answer begins so (`laws`): who reads the program's output finds each of these, and nothing else, by its first two bytes.
+//! `! `, and no row, change, summary or reason begins so (`laws`): who reads the program's output finds each of them by its first two
+//! bytes.
 #![tactic(auto)]
 
 mod cause;

@@ -8,7 +8,8 @@ ghost use Rattle.path_model.specs.Key.{key_cmp};
 ghost use Rattle.path_model.specs.declared.change.Change.TheVariants.{RemovePeer};
 ghost use Rattle.path_model.specs.Routes.{changed, performed};
 ghost use Rattle.rib_store.specs.Held.{held_in};
-ghost use Rattle.rib_store.specs.Holding.{Holds, Forgets, HasNoRouteFrom, IsFirstRouteFrom, IsRemarked, all_remarked, at, least_subnet, mark_of, only_mark};
+ghost use Rattle.rib_store.specs.Holding.{Holds, Forgets, HasNoRouteFrom, IsFirstRouteFrom, IsRemarked};
+ghost use Rattle.rib_store.specs.Holding.{all_remarked, at, least_subnet, mark_of, only_mark};
 ghost use Rattle.rib_store.specs.Rows.{current_verdicts};
 
 use crate::rib::current;

@@ -62,7 +62,8 @@ impl RibStore {
         }
     }
 
-    /// Performs changes of the routes, from the first to the last. The end of a peer's session costs what the peer's routes cost.
+    /// Performs changes of the routes, from the first to the last. The end of a peer's session costs what
+    /// the peer's routes cost, and the keys that were marked and have no route any more.
     pub fn apply_routes<L: Ledger>(
         self,
         changes: Changes,

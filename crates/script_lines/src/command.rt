@@ -40,7 +40,7 @@ pub enum Command {
     Report,
     /// `changes`: each route that stands otherwise than it was marked; all are marked then.
     Changes,
-    /// `summary`: how many routes, customers and units there are.
+    /// `summary`: how many routes and customers there are, and how many records were passed over and lines refused.
     Summary,
     /// `why ADDRESS AS PREFIX`: the verdict of the route of that peer and prefix, and what shows it.
     Why(Addr, u32, Prefix),

@@ -7,9 +7,9 @@
 //! outcome, and as many refusals are counted as that text has (`laws`).
 //!
 //! `dump` reads the file piece by piece and takes off what comes next. `taking` performs it, and `body` a record by what it says.
-//! `rows` writes a report of the routes and `changes` what changed, line by line; `summary` sums up, and `stop` says why a line, or the reading of a file, ends early. Lemmas for
-//! the proofs above are in `proofs/`: `FrameLemmas` for the files that a call leaves as they were, `LawLemmas` and `UnitsLemmas` for
-//! units, and `RefusalLemmas` for the refusals in a text.
+//! `rows` writes a report of the routes and `changes` what changed, line by line; `summary` sums up, and `stop` says why a line, or
+//! the reading of a file, ends early. Lemmas for the proofs above are in `proofs/`: `FrameLemmas` for the files that a call leaves as
+//! they were, `LawLemmas` and `UnitsLemmas` for units, and `RefusalLemmas` for the refusals in a text.
 #![tactic(auto)]
 
 mod body;

@@ -1,7 +1,8 @@
 //! Tests of what is judged: paths with their verdicts and witnesses, the index of hops, and the store of routes.
 //!
 //! Each table has its expected values worked out by hand. `judgements` judges paths in a small world, with their witnesses,
-//! `long_chains` the longest path there is, `confirming` puts claims to the checker, `hops` looks up hops, and `routes` asks a store of routes.
+//! `long_chains` the longest path there is, `confirming` puts claims to the checker, `hops` looks up hops, and `routes` asks a store of
+//! routes.
 #![tactic(auto)]
 
 #[cfg(test)]

@@ -125,6 +125,7 @@ fn test_shelf(
     script: &[u8],
     files: Files<'_>,
     whole: &[u8],
+    ending: u8,
     fronts: &[&[u8]],
     k: usize,
 ) -> Result<(), NoMemory> {
@@ -133,6 +134,7 @@ fn test_shelf(
     if status == 3 {
         assert!(rt; is_one_of(&written, fronts), "at call {k}");
     } else {
+        assert_eq!(rt; status, ending, "at call {k}");
         assert_eq!(rt; written.as_slice(), whole, "at call {k}");
     }
     Ok(())
@@ -157,13 +159,14 @@ fn each_call_of_the_shelf_fails_in_turn(rt: HostRuntime) -> Result<(), NoMemory>
             AMENDED,
             AMENDED_FILES,
             b"valid\nvalid\n",
+            0,
             &fronts,
             k,
         )?;
     }
     let fronts = [b"".as_slice(), b"! line 2 d unit 2 cause 30 PeerIndex\n"];
     for k in 0..300 {
-        test_shelf(&rt, rt.alloc(), REPORT, DUMP, REPORTED, &fronts, k)?;
+        test_shelf(&rt, rt.alloc(), REPORT, DUMP, REPORTED, 1, &fronts, k)?;
     }
     Ok(())
 }

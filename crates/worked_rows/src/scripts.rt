@@ -128,7 +128,7 @@ fn lines(rt: HostRuntime) -> Result<(), NoMemory> {
     test_rows(&rt, rt.alloc(), &LINES)
 }
 
-// Words that aren't the one word `run`.
+// Words of neither form.
 const OTHER_WORDS: [&[&str]; 8] = [
     &[],
     &["run", "x"],
