@@ -18,7 +18,8 @@ use Rattle.stream_lines.proofs.FrameLemmas.{Leaves-refl, Leaves-opens}
 use Rattle.stream_lines.proofs.LawLemmas.{some_units}
 use Rattle.stream_lines.proofs.UnitsLemmas.{TakesUnits-join}
 use Rattle.aspa_top.specs.declared.working.Working.{Working}
-use Rattle.aspa_top.specs.Evaluation.{State, Does, OpensNamed, TakesNamed, TakesOpen, new_dump, with_dump, same_name, asking_of, taking_of, after_taking}
+use Rattle.aspa_top.specs.Tasks.{State, OpensNamed, TakesNamed, TakesOpen, new_dump, with_dump, same_name, asking_of, taking_of, after_taking}
+use Rattle.aspa_top.specs.Evaluation.{Does}
 use Rattle.aspa_top.specs.Performing.{HoldsOr, IsSound, StandsFor, Goes, GoesPart, Steps, dump_in, has_source}
 use Rattle.aspa_top.specs.World.{World, Tells}
 use Rattle.aspa_top.proofs.StandsLemmas.{HoldsOr-leaves, HoldsOr-none, HoldsOr-some, HoldsOr-is_some, HoldsOr-put, StandsFor-leaves, added_text, differ, is_same, refused_same}

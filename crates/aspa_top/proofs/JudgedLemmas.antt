@@ -11,7 +11,7 @@ use Rattle.path_model.specs.ComputedTable.{table_of}
 use Rattle.path_model.proofs.LawLemmas.{IsRight-unique, hops_decide}
 use Rattle.path_model.proofs.PartsLemmas.{one_row, table_is_current}
 use Rattle.av_text.specs.VerdictText.{verdict_text}
-use Rattle.aspa_top.specs.Evaluation.{IsJudged}
+use Rattle.aspa_top.specs.Tasks.{IsJudged}
 
 -- a verdict that is right by the computed table is right by the current one
 pub judged_by_computed : (parts : Parts) (role : Role) (neighbour : ℕ) (path : List ℕ) (trail : Path) (verdict : Verdict) → trail ≡ path_of false path

@@ -2,7 +2,7 @@
 use Rattle.std.proofs.Common.{ℕ, List, [], sym}
 use Rattle.std.specs.declared.option.Option.{Option}
 use Rattle.av_base.proofs.ToldLemmas.{append_known-nil, AppendsFront-trans}
-use Rattle.aspa_top.specs.Evaluation.{start}
+use Rattle.aspa_top.specs.Tasks.{start}
 use Rattle.aspa_top.specs.Program.{WentThrough, WritesFront}
 use Rattle.aspa_top.specs.Laws.{HasOneText}
 use Rattle.aspa_top.specs.World.{World}

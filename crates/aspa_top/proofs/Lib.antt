@@ -7,8 +7,10 @@ pub mod NamedLemmas
 pub mod OutcomeLemmas
 pub mod PerformingLemmas
 pub mod ProgramLemmas
-pub mod RowTextLemmas
 pub mod RunLemmas
+pub mod ShortLemmas
 pub mod StandsLemmas
 pub mod TableLemmas
+pub mod TaskLemmas
 pub mod TextLemmas
+pub mod WordsLemmas

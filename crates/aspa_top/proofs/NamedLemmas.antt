@@ -1,37 +1,37 @@
 -- The names in a script's lines have no line feed.
-use Rattle.std.proofs.Common.{ℕ, List, Ok, Err}
+use Rattle.std.proofs.Common.{ℕ, List, codes, Ok, Err}
 use Rattle.std.specs.declared.result.Result.{Result}
 use Rattle.av_text.specs.Spellings.{IsInLine}
 use Rattle.av_text.proofs.AnySpellingLemmas.{names_in_line}
+use Rattle.report_text.proofs.RefusalLemmas.{slurm-in_line}
 use Rattle.script_lines.specs.declared.command.Command.{Command}
-use Rattle.script_lines.specs.declared.command.Command.TheVariants.{Idle, Aspa, Aspa64, Slurm, Filter, Unfilter, Assert, Unassert, Role as SetRole, RoleDefault, Open, Take, Judge, Report}
+use Rattle.script_lines.specs.declared.command.Command.TheVariants.{Idle, Aspa, Aspa64, Slurm, Filter, Unfilter, Assert, Unassert, Role as SetRole, RoleDefault, Open, Take, Judge, Report, Changes, Summary, Why}
 use Rattle.script_lines.specs.declared.command.LineFault.{LineFault}
 use Rattle.script_lines.specs.Grammar.{IsReading}
 use Rattle.script_lines.proofs.SourceNameLemmas.{reading_named}
+use Rattle.aspa_top.specs.declared.task.Task.{Task}
+use Rattle.aspa_top.specs.declared.task.Task.TheVariants.{Short as ShortTask, Load, Open as OpenDump, Take as TakeUnits, Report as ReportRows, Changes as ListChanges}
+use Rattle.aspa_top.specs.Evaluation.{task_of}
+use Rattle.aspa_top.specs.Loading.{unit_name}
 
--- the name that a line gives has no line feed
+-- the name of the stream or of the file's units has no line feed
+abbrev pub IsNamedInLine : Task → Type 0
+IsNamedInLine (ShortTask short) = Unit {0}
+IsNamedInLine (Load kind file) = IsInLine (unit_name kind)
+IsNamedInLine (OpenDump name file) = IsInLine name
+IsNamedInLine (TakeUnits name count) = IsInLine name
+IsNamedInLine ReportRows = Unit {0}
+IsNamedInLine ListChanges = Unit {0}
+
 abbrev pub NamesInLine : Result Command LineFault → Type 0
-NamesInLine (Ok Idle) = Unit {0}
-NamesInLine (Ok (Aspa name file)) = IsInLine name
-NamesInLine (Ok (Aspa64 name file)) = IsInLine name
-NamesInLine (Ok (Slurm file)) = Unit {0}
-NamesInLine (Ok (Filter customer)) = Unit {0}
-NamesInLine (Ok (Unfilter customer)) = Unit {0}
-NamesInLine (Ok (Assert customer providers)) = Unit {0}
-NamesInLine (Ok (Unassert customer)) = Unit {0}
-NamesInLine (Ok (SetRole asn role)) = Unit {0}
-NamesInLine (Ok (RoleDefault role)) = Unit {0}
-NamesInLine (Ok (Open name file)) = IsInLine name
-NamesInLine (Ok (Take name count)) = IsInLine name
-NamesInLine (Ok (Judge role neighbour path)) = Unit {0}
-NamesInLine (Ok Report) = Unit {0}
+NamesInLine (Ok command) = IsNamedInLine (task_of command)
 NamesInLine (Err fault) = Unit {0}
 
 pub reading_in_line : (line : List ℕ) (reading : Result Command LineFault) → IsReading line reading → NamesInLine reading
 reading_in_line line (Ok Idle) reads = tt
 reading_in_line line (Ok (Aspa name file)) reads = names_in_line name (reading_named line (Aspa name file) reads)
 reading_in_line line (Ok (Aspa64 name file)) reads = names_in_line name (reading_named line (Aspa64 name file) reads)
-reading_in_line line (Ok (Slurm file)) reads = tt
+reading_in_line line (Ok (Slurm file)) reads = slurm-in_line
 reading_in_line line (Ok (Filter customer)) reads = tt
 reading_in_line line (Ok (Unfilter customer)) reads = tt
 reading_in_line line (Ok (Assert customer providers)) reads = tt
@@ -42,4 +42,7 @@ reading_in_line line (Ok (Open name file)) reads = names_in_line name (reading_n
 reading_in_line line (Ok (Take name count)) reads = names_in_line name (reading_named line (Take name count) reads).0
 reading_in_line line (Ok (Judge role neighbour path)) reads = tt
 reading_in_line line (Ok Report) reads = tt
+reading_in_line line (Ok Changes) reads = tt
+reading_in_line line (Ok Summary) reads = tt
+reading_in_line line (Ok (Why addr asn prefix)) reads = tt
 reading_in_line line (Err fault) reads = tt

@@ -10,26 +10,11 @@ use Rattle.av_base.specs.Files.{Files}
 use Rattle.av_base.proofs.ToldLemmas.{AppendsFront-start}
 use Rattle.av_text.specs.Lines.{lines_in}
 use Rattle.aspa_top.specs.Lines.{performed}
-use Rattle.aspa_top.specs.Evaluation.{start}
+use Rattle.aspa_top.specs.Tasks.{start}
 use Rattle.aspa_top.specs.Program.{WentThrough, Ended, StopsAtFile, WritesPart, IsWhole, Ran, RanIfTold}
 use Rattle.aspa_top.specs.World.{Tells, World, world_of}
 use Rattle.aspa_top.proofs.EvaluationLemmas.{begins_none}
 use Rattle.aspa_top.proofs.LawLemmas.{runs_write_fronts}
-
--- a list of one item
-pub one_item : {A B : Type 0} (f : A → B) (xs : List A) (x : A) → 1 ≤ length xs → length xs < 2 → x ≡ get_or xs 0 x
-    → map f xs ≡ f x ∷ []
-one_item f [] x some one is = absurd (omega arith)
-one_item f (y ∷ []) x some one is = ap (λ z. f z ∷ []) (sym is)
-one_item f (y ∷ z ∷ zs) x some one is = absurd (omega arith)
-
--- the one word is compared with `run`
-pub run_word : (result : Bool) (text : List ℕ) (words : List (List ℕ)) → words ≡ text ∷ []
-    → result ≡ bytes_eq text (codes "run") → IsTrue result ↔ (words ≡ codes "run" ∷ [])
-run_word result text words one compared = (
-  (λ yes. one ∙ ap (λ (t : List ℕ). t ∷ []) ((bytes_eq-Decides text (codes "run")).0 (sym compared ∙ yes))),
-  (λ same. compared ∙ (bytes_eq-Decides text (codes "run")).1 (let e : text ∷ [] ≡ codes "run" ∷ [] = sym one ∙ same in cc)),
-)
 
 -- a script within its limit is performed whole
 pub performed-whole : (limit : ℕ) (script : List ℕ) → length script ≤ limit → performed limit script ≡ lines_in true script

@@ -11,7 +11,8 @@ use Rattle.script_lines.specs.declared.command.Command.{Command}
 use Rattle.script_lines.specs.declared.command.LineFault.{LineFault}
 use Rattle.script_lines.specs.Grammar.{IsReading}
 use Rattle.aspa_top.specs.declared.working.Working.{Working}
-use Rattle.aspa_top.specs.Evaluation.{State, start, counted, Performs, Evaluates, Begins}
+use Rattle.aspa_top.specs.Tasks.{State, start}
+use Rattle.aspa_top.specs.Evaluation.{counted, Performs, Evaluates, Begins}
 use Rattle.stream_lines.specs.Counts.{refusals_in}
 use Rattle.aspa_top.specs.Performing.{StandsFor, Went, GoesBy, PartBy, UsesBy, counted_in, Performing}
 use Rattle.aspa_top.specs.Program.{BeginsNext, WentThrough, StopsAtFile, Ended, WritesPart}

@@ -16,7 +16,8 @@ use Rattle.stream_lines.specs.Streams.{Dump}
 use Rattle.stream_lines.specs.Held.{HeldDump}
 use Rattle.stream_lines.proofs.FrameLemmas.{Leaves-refl}
 use Rattle.aspa_top.specs.declared.working.Working.{Working}
-use Rattle.aspa_top.specs.Evaluation.{State, counted, same_name, Refuses, Does}
+use Rattle.aspa_top.specs.Tasks.{State, same_name, Refuses}
+use Rattle.aspa_top.specs.Evaluation.{counted, Does}
 use Rattle.aspa_top.specs.Performing.{HoldsOr, IsSound, StandsFor, Steps, counted_in, dump_in, has_source, most}
 use Rattle.aspa_top.specs.World.{World, Tells}
 

@@ -20,7 +20,8 @@ use Rattle.aspa_top.specs.declared.loading.Outcome.TheVariants.{Good}
 use Rattle.aspa_top.specs.declared.working.Working.{Working}
 use Rattle.aspa_top.specs.Loading.{ComesOf}
 use Rattle.aspa_top.specs.LoadingSteps.{ComesTold}
-use Rattle.aspa_top.specs.Evaluation.{State, Refuses, TakesFile, Loads, LoadsUnless, Does, is_taken, same_name, with_name}
+use Rattle.aspa_top.specs.Tasks.{State, Refuses, TakesFile, Loads, LoadsUnless, is_taken, same_name, with_name}
+use Rattle.aspa_top.specs.Evaluation.{Does}
 use Rattle.aspa_top.specs.Performing.{Goes, Happened, Held, HoldsOr, IsSound, IsTakenIn, LoadsAs, NamesBy, StandsFor, dump_in, has_source}
 use Rattle.aspa_top.specs.World.{World, Tells}
 use Rattle.aspa_top.proofs.StandsLemmas.{HoldsOr-is_some, StandsFor-leaves, added_text}

@@ -1,44 +1,72 @@
 -- The refusals in a text, line by line.
-use Rattle.std.proofs.Common.{◌≡◌, ◌≢◌, ℕ, ◌+◌, Bool, true, false, cond, List, [], ◌∷◌, ◌++◌, None, Some, Ok, Err, codes, refl, sym, ap, ◌∙◌, arith, zero-add}
+use Rattle.std.proofs.Common.{◌≡◌, ℕ, ◌+◌, Bool, true, false, cond, List, [], ◌∷◌, ◌++◌, None, Some, Ok, Err, refl, sym, ap, ◌∙◌, arith, zero-add}
 use Rattle.std.specs.declared.option.Option.{Option}
 use Rattle.std.specs.declared.result.Result.{Result}
-use Rattle.std.proofs.lemmas.List.Elements.{All-weaker}
-use Rattle.std.proofs.lemmas.Bool.Decides.{nat_tests}
+use Rattle.std.proofs.lemmas.List.{append_assoc}
+use Rattle.path_model.specs.declared.key.Key.{Key}
 use Rattle.path_model.specs.declared.verdict.Verdict.{Verdict}
 use Rattle.path_model.specs.declared.verdict.Verdict.TheVariants.{Valid, Unknown, Invalid}
+use Rattle.path_model.specs.Trail.{Path}
+use Rattle.std.specs.FinMap as fin
 use Rattle.av_text.specs.VerdictText.{verdict_text}
 use Rattle.av_text.specs.Spellings.{IsInLine}
-use Rattle.av_text.specs.Lines.{is_lf}
 use Rattle.av_text.proofs.LackLemmas.{verdict_text-lacks}
+use Rattle.report_text.specs.Laws.{IsPlaceInLine, IsAnswerLine}
 use Rattle.report_text.specs.Refusals.{AnyPlace, of_line, of_unit}
-use Rattle.report_text.specs.Laws.{IsPlaceInLine}
-use Rattle.vap_table.specs.declared.change.TableChange.TheVariants.{Filter as FilterByHand, Unfilter as UnfilterByHand, Assert as AssertByHand, Unassert as UnassertByHand}
+use Rattle.report_text.specs.Rows.{row_line, row_text}
+use Rattle.report_text.specs.Change.{change_line, change_text}
+use Rattle.report_text.specs.Summary.{summary_line, summary_text}
+use Rattle.report_text.specs.Why.{why_line, why_text}
+use Rattle.report_text.proofs.AnswerLemmas.{row_is_one_line, change_is_one_line, summary_is_one_line, reason_is_one_line}
 use Rattle.analyser.specs.declared.event.Event.{Event}
-use Rattle.analyser.specs.declared.event.Event.TheVariants.{Table as TableEvent, Role as RoleEvent, DefaultRole}
+use Rattle.analyser.specs.declared.event.Event.TheVariants.{Table as TableEvent}
 use Rattle.script_lines.specs.declared.command.Command.{Command}
-use Rattle.script_lines.specs.declared.command.Command.TheVariants.{Idle, Aspa, Aspa64, Slurm, Filter, Unfilter, Assert, Unassert, Role as SetRole, RoleDefault, Open, Take, Judge, Report}
 use Rattle.script_lines.specs.declared.command.LineFault.{LineFault}
+use Rattle.rib_store.specs.declared.journal.ChangedKey.{ChangedKey}
+use Rattle.stream_lines.specs.Changes.{changes_text}
 use Rattle.stream_lines.specs.Counts.{refusals_in}
+use Rattle.stream_lines.specs.Rows.{rows_text}
 use Rattle.stream_lines.specs.Streams.{Dump}
-use Rattle.stream_lines.proofs.RefusalLemmas.{begins, literal, lacks, refusals_in-line, silent, refused, units_counted}
-use Rattle.aspa_top.proofs.RowTextLemmas.{rows_counted}
+use Rattle.stream_lines.proofs.RefusalLemmas.{begins, lacks, refusals_in-line, silent, refused, units_counted}
 use Rattle.aspa_top.specs.declared.loading.FileKind.{FileKind}
-use Rattle.aspa_top.specs.declared.loading.FileKind.TheVariants.{Payloads, PayloadLines, Slurm as SlurmFile}
 use Rattle.aspa_top.specs.declared.loading.Outcome.{Outcome}
 use Rattle.aspa_top.specs.declared.loading.Outcome.TheVariants.{NoFile, Long as FileLong, Flawed, Good}
+use Rattle.aspa_top.specs.declared.task.Short.{Short as ShortTask}
+use Rattle.aspa_top.specs.declared.task.Short.TheVariants.{Idle as Nothing, Happen, Judge as JudgePath, Summary as SumUp, Why}
+use Rattle.aspa_top.specs.declared.task.Task.{Task}
+use Rattle.aspa_top.specs.declared.task.Task.TheVariants.{Short, Load, Open, Take, Report, Changes}
 use Rattle.aspa_top.specs.Loading.{unit_name}
-use Rattle.aspa_top.specs.Evaluation.{State, Causes, Refuses, TakesFile, LoadsUnless, OpensNamed, TakesOpen, TakesNamed, Does, line_cause, counted, is_taken, asking_of, taking_of, Evaluates}
-use Rattle.aspa_top.proofs.NamedLemmas.{NamesInLine, reading_in_line}
+use Rattle.aspa_top.specs.Tasks.{State, Causes, Refuses, TakesFile, LoadsUnless, OpensNamed, TakesOpen, TakesNamed, ExplainsRoute, DoesShort, DoesTask, is_taken, asking_of, taking_of}
+use Rattle.aspa_top.specs.Evaluation.{Does, line_cause, counted, task_of, Evaluates}
 use Rattle.aspa_top.specs.World.{World}
+use Rattle.aspa_top.proofs.NamedLemmas.{IsNamedInLine, NamesInLine, reading_in_line}
 
--- a verdict is one line, which doesn't begin with `! `
+-- an answer counts no refusal
+answer_counted : (line rest : List ℕ) → IsAnswerLine line → refusals_in ((line ++ 10 ∷ []) ++ rest) ≡ refusals_in rest
+answer_counted line rest is =
+    refusals_in-line line rest (lacks line is.in_line) ∙ ap (λ (b : Bool). cond b 1 0 + refusals_in rest) is.unmarked ∙ zero-add (refusals_in rest)
+
+-- nor does a verdict
 no_mark : (v : Verdict) → begins (verdict_text v) ≡ false
 no_mark Valid = refl
 no_mark Unknown = refl
 no_mark Invalid = refl
 
 refusals_in-verdict : (v : Verdict) (rest : List ℕ) → refusals_in ((verdict_text v ++ 10 ∷ []) ++ rest) ≡ refusals_in rest
-refusals_in-verdict v rest = refusals_in-line (verdict_text v) rest (lacks (verdict_text v) (verdict_text-lacks 10 v (omega arith))) ∙ ap (λ (b : Bool). cond b 1 0 + refusals_in rest) (no_mark v) ∙ zero-add (refusals_in rest)
+refusals_in-verdict v rest = answer_counted (verdict_text v) rest (record { in_line = verdict_text-lacks 10 v (omega arith); unmarked = no_mark v })
+
+rows_counted : (rows : List (Key × Verdict)) (rest : List ℕ) → refusals_in (rows_text rows ++ rest) ≡ refusals_in rest
+rows_counted [] rest = refl
+rows_counted (row ∷ rows) rest =
+    ap (λ (t : List ℕ). refusals_in t) (append_assoc (row_text row.0 row.1) (rows_text rows) rest)
+    ∙ answer_counted (row_line row.0 row.1) (rows_text rows ++ rest) (row_is_one_line row.0 row.1) ∙ rows_counted rows rest
+
+changes_counted : (changes : List ChangedKey) (rest : List ℕ) → refusals_in (changes_text changes ++ rest) ≡ refusals_in rest
+changes_counted [] rest = refl
+changes_counted (change ∷ changes) rest =
+    ap (λ (t : List ℕ). refusals_in t) (append_assoc (change_text change.key change.before change.after) (changes_text changes) rest)
+    ∙ answer_counted (change_line change.key change.before change.after) (changes_text changes ++ rest) (change_is_one_line change.key change.before change.after)
+    ∙ changes_counted changes rest
 
 -- ---- what is counted, whatever text comes behind
 
@@ -84,33 +112,44 @@ Takes-refused : (dump : Option Dump) (state : State) (name : List ℕ) (count : 
 Takes-refused None state name count text next rest in_line takes = Refuses-refused state of_line 36 text next rest tt takes
 Takes-refused (Some dump) state name count text next rest in_line takes = TakesOpen-refused dump.over state name count dump text next rest in_line takes
 
-slurm_in_line : IsInLine (codes "slurm")
-slurm_in_line = All-weaker (λ byte. is_lf byte ≡ false) (λ byte. byte ≢ 10) no_mark_byte (codes "slurm") (literal (codes "slurm") refl)
-  where
-    no_mark_byte : (byte : ℕ) → is_lf byte ≡ false → byte ≢ 10
-    no_mark_byte byte other = grind (arith, nat_tests)
+-- an answer is written, and no refusal is counted
+answered : (state next : State) (text answer rest : List ℕ) → text ≡ answer → refusals_in (answer ++ rest) ≡ refusals_in rest → next.refused ≡ state.refused
+    → next.refused + refusals_in rest ≡ state.refused + refusals_in (text ++ rest)
+answered state next text answer rest is none same =
+    ap (λ (n : ℕ). n + refusals_in rest) same ∙ ap (λ (n : ℕ). state.refused + n) (sym (ap (λ (t : List ℕ). refusals_in (t ++ rest)) is ∙ none))
+
+ExplainsRoute-refused : (path : Option Path) (state : State) (key : Key) (text : List ℕ) (next : State) (rest : List ℕ)
+    → ExplainsRoute path state key text next → next.refused + refusals_in rest ≡ state.refused + refusals_in (text ++ rest)
+ExplainsRoute-refused None state key text next rest explains = Refuses-refused state of_line 39 text next rest tt explains
+ExplainsRoute-refused (Some path) state key text next rest explains =
+    answered state next text (why_text explains.verdict explains.witness) rest explains.text_is
+    (answer_counted (why_line explains.verdict explains.witness) rest (reason_is_one_line explains.verdict explains.witness)) (ap (λ (s : State). s.refused) explains.left)
+
+DoesShort-refused : (state : State) (short : ShortTask) (text : List ℕ) (next : State) (rest : List ℕ)
+    → DoesShort state short text next → next.refused + refusals_in rest ≡ state.refused + refusals_in (text ++ rest)
+DoesShort-refused state Nothing text next rest does = silent text rest state.refused next.refused does.0 (ap (λ (s : State). s.refused) does.1)
+DoesShort-refused state (Happen event) text next rest does = Causes-refused state event text next rest does
+DoesShort-refused state (JudgePath role neighbour path) text next rest does =
+    answered state next text (verdict_text does.0.verdict ++ 10 ∷ []) rest does.0.text_is (refusals_in-verdict does.0.verdict rest) (ap (λ (s : State). s.refused) does.1)
+DoesShort-refused state SumUp text next rest does =
+    answered state next text (summary_text does.summary) rest does.text_is (answer_counted (summary_line does.summary) rest (summary_is_one_line does.summary)) (ap (λ (s : State). s.refused) does.left)
+DoesShort-refused state (Why key) text next rest does = ExplainsRoute-refused (fin.get state.analysis.routes key) state key text next rest does
+
+DoesTask-refused : (world : World) (state : State) (task : Task) (text : List ℕ) (next : State) (rest : List ℕ) → IsNamedInLine task
+    → DoesTask world state task text next → next.refused + refusals_in rest ≡ state.refused + refusals_in (text ++ rest)
+DoesTask-refused world state (Short short) text next rest in_line does = DoesShort-refused state short text next rest does
+DoesTask-refused world state (Load kind file) text next rest in_line does = Loads-refused (is_taken state kind) world state kind file text next rest in_line does
+DoesTask-refused world state (Open name file) text next rest in_line does = Opens-refused (state.sources name) (state.dumps name) (world.named file) state name text next rest does
+DoesTask-refused world state (Take name count) text next rest in_line does = Takes-refused (state.dumps name) state name count text next rest in_line does
+DoesTask-refused world state Report text next rest in_line does =
+    answered state next text (rows_text does.rows) rest does.text_is (rows_counted does.rows rest) (ap (λ (s : State). s.refused) does.left)
+DoesTask-refused world state Changes text next rest in_line does =
+    answered state next text (changes_text does.changes) rest does.text_is (changes_counted does.changes rest) (ap (λ (s : State). s.refused) does.left)
 
 -- one line counts what its text has
 Does-refused : (world : World) (state : State) (reading : Result Command LineFault) (text : List ℕ) (next : State) (rest : List ℕ) → NamesInLine reading
     → Does world state reading text next → next.refused + refusals_in rest ≡ state.refused + refusals_in (text ++ rest)
-Does-refused world state (Ok Idle) text next rest in_line does = silent text rest state.refused next.refused does.0 (ap (λ (s : State). s.refused) does.1)
-Does-refused world state (Ok (Aspa name file)) text next rest in_line does = Loads-refused (is_taken state (Payloads name)) world state (Payloads name) file text next rest in_line does
-Does-refused world state (Ok (Aspa64 name file)) text next rest in_line does = Loads-refused (is_taken state (PayloadLines name)) world state (PayloadLines name) file text next rest in_line does
-Does-refused world state (Ok (Slurm file)) text next rest in_line does = Loads-refused false world state SlurmFile file text next rest slurm_in_line does
-Does-refused world state (Ok (Filter customer)) text next rest in_line does = Causes-refused state (TableEvent (FilterByHand customer)) text next rest does
-Does-refused world state (Ok (Unfilter customer)) text next rest in_line does = Causes-refused state (TableEvent (UnfilterByHand customer)) text next rest does
-Does-refused world state (Ok (Assert customer providers)) text next rest in_line does = Causes-refused state (TableEvent (AssertByHand customer providers)) text next rest does
-Does-refused world state (Ok (Unassert customer)) text next rest in_line does = Causes-refused state (TableEvent (UnassertByHand customer)) text next rest does
-Does-refused world state (Ok (SetRole asn role)) text next rest in_line does = Causes-refused state (RoleEvent asn role) text next rest does
-Does-refused world state (Ok (RoleDefault role)) text next rest in_line does = Causes-refused state (DefaultRole role) text next rest does
-Does-refused world state (Ok (Open name file)) text next rest in_line does = Opens-refused (state.sources name) (state.dumps name) (world.named file) state name text next rest does
-Does-refused world state (Ok (Take name count)) text next rest in_line does = Takes-refused (state.dumps name) state name count text next rest in_line does
-Does-refused world state (Ok (Judge role neighbour path)) text next rest in_line does =
-    ap (λ (s : State). s.refused + refusals_in rest) does.1
-    ∙ ap (λ (n : ℕ). state.refused + n) (sym (ap (λ (t : List ℕ). refusals_in (t ++ rest)) does.0.text_is ∙ refusals_in-verdict does.0.verdict rest))
-Does-refused world state (Ok Report) text next rest in_line does =
-    ap (λ (s : State). s.refused + refusals_in rest) does.left
-    ∙ ap (λ (n : ℕ). state.refused + n) (sym (ap (λ (t : List ℕ). refusals_in (t ++ rest)) does.text_is ∙ rows_counted does.rows rest))
+Does-refused world state (Ok command) text next rest in_line does = DoesTask-refused world state (task_of command) text next rest in_line does
 Does-refused world state (Err fault) text next rest in_line does = Refuses-refused state of_line (line_cause fault) text next rest tt does
 
 -- as many refusals are counted as the text has lines that begin with `! `

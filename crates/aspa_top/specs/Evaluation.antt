@@ -1,56 +1,22 @@
 -- The text of a script, by evaluating each line from scratch: from the world, what the lines before have left, and the line itself.
-use Rattle.std.specs.Prelude.{◌≡◌, ℕ, ◌+◌, nat_eq, Bool, true, false, is_some, cond, List, [], ◌∷◌, ◌++◌}
-use Rattle.std.specs.Cmp.Lexicographic.{pointwise}
-use Rattle.std.specs.declared.option.Option.{Option}
-use Rattle.std.specs.declared.option.Option.TheVariants.{Some, None}
+use Rattle.std.specs.Prelude.{◌≡◌, ℕ, ◌+◌, List, [], ◌∷◌, ◌++◌}
 use Rattle.std.specs.declared.result.Result.{Result}
 use Rattle.std.specs.declared.result.Result.TheVariants.{Ok, Err}
-use Rattle.path_model.specs.declared.key.Key.{Key}
-use Rattle.path_model.specs.declared.role.Role.{Role}
-use Rattle.path_model.specs.declared.verdict.Verdict.{Verdict}
-use Rattle.path_model.specs.Trail.{path_of}
-use Rattle.path_model.specs.RightVerdict.{IsRight}
-use Rattle.path_model.specs.Authority.{Table}
-use Rattle.path_model.specs.CurrentTable.{Parts, IsCurrentTable}
+use Rattle.vap_table.specs.declared.change.TableChange.{TableChange}
 use Rattle.vap_table.specs.declared.change.TableChange.TheVariants.{Filter as FilterByHand, Unfilter as UnfilterByHand, Assert as AssertByHand, Unassert as UnassertByHand}
-use Rattle.rib_store.specs.State.{State as Analysis, no_state, AreRows}
-use Rattle.analyser.specs.declared.event.Event.{Event}
 use Rattle.analyser.specs.declared.event.Event.TheVariants.{Table as TableEvent, Role as RoleEvent, DefaultRole}
-use Rattle.analyser.specs.Events.{Happens}
-use Rattle.av_text.specs.VerdictText.{verdict_text}
 use Rattle.script_lines.specs.declared.command.Command.{Command}
-use Rattle.script_lines.specs.declared.command.Command.TheVariants.{Idle, Aspa, Aspa64, Slurm, Filter, Unfilter, Assert, Unassert, Role as SetRole, RoleDefault, Open, Take, Judge, Report}
+use Rattle.script_lines.specs.declared.command.Command.TheVariants.{Idle, Aspa, Aspa64, Slurm, Filter, Unfilter, Assert, Unassert, Role as SetRole, RoleDefault, Open, Take, Judge, Report, Changes, Summary, Why}
 use Rattle.script_lines.specs.declared.command.LineFault.{LineFault}
 use Rattle.script_lines.specs.declared.command.LineFault.TheVariants.{Long, Command as NoCommand, Words, Number, NoMemory}
 use Rattle.script_lines.specs.Grammar.{IsReading}
-use Rattle.report_text.specs.Refusals.{AnyPlace, of_line, of_unit, refusal_text}
-use Rattle.stream_lines.specs.Rows.{rows_text}
-use Rattle.stream_lines.specs.Streams.{Dump, Taking, Asking, TakesUnits}
-use Rattle.aspa_top.specs.declared.loading.FileKind.{FileKind}
+use Rattle.report_text.specs.Refusals.{of_line}
 use Rattle.aspa_top.specs.declared.loading.FileKind.TheVariants.{Payloads, PayloadLines, Slurm as SlurmFile}
-use Rattle.aspa_top.specs.declared.loading.Outcome.{Outcome}
-use Rattle.aspa_top.specs.declared.loading.Outcome.TheVariants.{NoFile, Long as FileLong, Flawed, Good}
-use Rattle.aspa_top.specs.Loading.{ComesOf, unit_name}
+use Rattle.aspa_top.specs.declared.task.Short.TheVariants.{Idle as Nothing, Happen, Judge as JudgePath, Summary as SumUp, Why as WhyRoute}
+use Rattle.aspa_top.specs.declared.task.Task.{Task}
+use Rattle.aspa_top.specs.declared.task.Task.TheVariants.{Short, Load, Open as OpenDump, Take as TakeUnits, Report as ReportRows, Changes as ListChanges}
+use Rattle.aspa_top.specs.Tasks.{State, Refuses, DoesTask, TaskUsesFile}
 use Rattle.aspa_top.specs.World.{World}
-
--- What some lines have left: the analysis, which names are those of attestation sources and which those of dumps, and how many lines,
--- passed records, refused lines and judgements there were.
-pub record State : Type 0 where
-  pub analysis : Analysis
-  pub sources : List ℕ → Bool
-  pub dumps : List ℕ → Option Dump
-  pub lines : ℕ
-  pub passed : ℕ
-  pub refused : ℕ
-  pub judgements : ℕ
-
--- before the first line
-abbrev pub start : State
-start = record { analysis = no_state; sources = λ name. false; dumps = λ name. None; lines = 0; passed = 0; refused = 0; judgements = 0 }
-
--- whether two names are the same
-abbrev pub same_name : List ℕ → List ℕ → Bool
-same_name name other = pointwise nat_eq name other
 
 -- the number of the cause for which a line is refused; want of memory is none
 abbrev pub line_cause : LineFault → ℕ
@@ -60,150 +26,33 @@ line_cause Words = 33
 line_cause Number = 34
 line_cause NoMemory = 0
 
--- the line is refused, at this place for this cause, and nothing else changes
-abbrev pub Refuses : State → AnyPlace → ℕ → List ℕ → State → Type 0
-Refuses state place cause text next =
-    (text ≡ refusal_text state.lines place cause) × (next ≡ record state { refused = state.refused + 1 })
+-- the table changes
+abbrev pub table_event : TableChange → Task
+table_event change = Short (Happen (TableEvent change))
 
--- nothing is written, an event happens, and nothing else changes
-pub record Causes (state : State) (event : Event) (text : List ℕ) (next : State) : Type 0 where
-  pub silent : text ≡ []
-  pub analysis : Analysis
-  pub happens : Happens state.analysis event analysis
-  pub left : next ≡ record state { analysis = analysis }
-
--- ---- `aspa NAME FILE`, `aspa64 NAME FILE`, `slurm FILE`
-
--- whether the name that the file would go under is a dump's
-abbrev pub is_taken : State → FileKind → Bool
-is_taken state (Payloads name) = is_some (state.dumps name)
-is_taken state (PayloadLines name) = is_some (state.dumps name)
-is_taken state SlurmFile = false
-
--- the names of sources with the one that a good file goes under
-abbrev pub with_name : FileKind → (List ℕ → Bool) → List ℕ → Bool
-with_name (Payloads name) sources other = cond (same_name name other) true (sources other)
-with_name (PayloadLines name) sources other = cond (same_name name other) true (sources other)
-with_name SlurmFile sources other = sources other
-
--- a good file changes the table, and its name is in use
-pub record Holds (state : State) (kind : FileKind) (event : Event) (text : List ℕ) (next : State) : Type 0 where
-  pub silent : text ≡ []
-  pub analysis : Analysis
-  pub happens : Happens state.analysis event analysis
-  pub left : next ≡ record state { analysis = analysis; sources = with_name kind state.sources }
-
--- What comes of a file is taken: a good one changes the table, and by another one the line is refused.
-abbrev pub TakesFile : State → FileKind → Outcome → List ℕ → State → Type 0
-TakesFile state kind NoFile text next = Refuses state of_line 37 text next
-TakesFile state kind FileLong text next = Refuses state of_line 40 text next
-TakesFile state kind (Flawed flaw) text next = Refuses state (of_unit (unit_name kind) flaw.unit) flaw.cause text next
-TakesFile state kind (Good change) text next = Holds state kind (TableEvent change) text next
-
--- the file of this name is loaded
-pub record LoadsFile (world : World) (state : State) (kind : FileKind) (file text : List ℕ) (next : State) : Type 0 where
-  pub outcome : Outcome
-  pub comes : ComesOf kind (world.named file) outcome
-  pub takes : TakesFile state kind outcome text next
-
--- unless its own name is taken
-abbrev pub LoadsUnless : Bool → World → State → FileKind → List ℕ → List ℕ → State → Type 0
-LoadsUnless true world state kind file text next = Refuses state of_line 35 text next
-LoadsUnless false world state kind file text next = LoadsFile world state kind file text next
-
-abbrev pub Loads : World → State → FileKind → List ℕ → List ℕ → State → Type 0
-Loads world state kind file text next = LoadsUnless (is_taken state kind) world state kind file text next
-
--- ---- `open NAME FILE`
-
--- a dump that was just opened
-abbrev pub new_dump : List ℕ → Dump
-new_dump bytes = record { left = bytes; taken = 0; peers = None; over = false }
-
--- the dumps with this one under its name
-abbrev pub with_dump : List ℕ → Dump → (List ℕ → Option Dump) → List ℕ → Option Dump
-with_dump name dump dumps other = cond (same_name name other) (Some dump) (dumps other)
-
--- whether a source has the name, the dump of that name, and what the world has under the file's name
-abbrev pub OpensNamed : Bool → Option Dump → Option (List ℕ) → State → List ℕ → List ℕ → State → Type 0
-OpensNamed true dump named state name text next = Refuses state of_line 35 text next
-OpensNamed false (Some dump) named state name text next = Refuses state of_line 35 text next
-OpensNamed false None None state name text next = Refuses state of_line 37 text next
-OpensNamed false None (Some bytes) state name text next =
-    (text ≡ []) × (next ≡ record state { dumps = with_dump name (new_dump bytes) state.dumps })
-
-abbrev pub Opens : World → State → List ℕ → List ℕ → List ℕ → State → Type 0
-Opens world state name file text next = OpensNamed (state.sources name) (state.dumps name) (world.named file) state name text next
-
--- ---- `take NAME N`
-
-abbrev pub asking_of : State → List ℕ → Asking
-asking_of state name = record { line = state.lines; name = name }
-
-abbrev pub taking_of : State → Dump → Taking
-taking_of state dump = record { dump = dump; state = state.analysis; passed = state.passed; refused = state.refused }
-
-abbrev pub after_taking : State → List ℕ → Taking → State
-after_taking state name end = record state {
-  analysis = end.state;
-  dumps = with_dump name end.dump state.dumps;
-  passed = end.passed;
-  refused = end.refused;
-}
-
--- so many units are taken from the dump, or all that come until it is over
-pub record TakesAll (state : State) (name : List ℕ) (count : ℕ) (dump : Dump) (text : List ℕ) (next : State) : Type 0 where
-  pub end : Taking
-  pub takes : TakesUnits (asking_of state name) count (taking_of state dump) text end
-  pub next_is : next ≡ after_taking state name end
-
-abbrev pub TakesOpen : Bool → State → List ℕ → ℕ → Dump → List ℕ → State → Type 0
-TakesOpen true state name count dump text next = Refuses state of_line 38 text next
-TakesOpen false state name count dump text next = TakesAll state name count dump text next
-
-abbrev pub TakesNamed : Option Dump → State → List ℕ → ℕ → List ℕ → State → Type 0
-TakesNamed None state name count text next = Refuses state of_line 36 text next
-TakesNamed (Some dump) state name count text next = TakesOpen dump.over state name count dump text next
-
-abbrev pub Takes : State → List ℕ → ℕ → List ℕ → State → Type 0
-Takes state name count text next = TakesNamed (state.dumps name) state name count text next
-
--- ---- `judge ROLE NEIGHBOUR AS..` and `report`
-
--- the text is the right verdict of the path by the current table of these parts
-pub record IsJudged (parts : Parts) (role : Role) (neighbour : ℕ) (path : List ℕ) (text : List ℕ) : Type 0 where
-  pub table : Table
-  pub current : IsCurrentTable parts table
-  pub verdict : Verdict
-  pub right : IsRight table role neighbour (path_of false path) verdict
-  pub text_is : text ≡ verdict_text verdict ++ 10 ∷ []
-
--- the text has one line for each route in key order, with its current verdict
-pub record Reports (state : State) (text : List ℕ) (next : State) : Type 0 where
-  pub rows : List (Key × Verdict)
-  pub are : AreRows state.analysis rows
-  pub text_is : text ≡ rows_text rows
-  pub left : next ≡ state
-
--- ---- one line
+-- what a command asks for
+abbrev pub task_of : Command → Task
+task_of Idle = Short Nothing
+task_of (Aspa name file) = Load (Payloads name) file
+task_of (Aspa64 name file) = Load (PayloadLines name) file
+task_of (Slurm file) = Load SlurmFile file
+task_of (Filter customer) = table_event (FilterByHand customer)
+task_of (Unfilter customer) = table_event (UnfilterByHand customer)
+task_of (Assert customer providers) = table_event (AssertByHand customer providers)
+task_of (Unassert customer) = table_event (UnassertByHand customer)
+task_of (SetRole asn role) = Short (Happen (RoleEvent asn role))
+task_of (RoleDefault role) = Short (Happen (DefaultRole role))
+task_of (Open name file) = OpenDump name file
+task_of (Take name count) = TakeUnits name count
+task_of (Judge role neighbour path) = Short (JudgePath role neighbour path)
+task_of Report = ReportRows
+task_of Changes = ListChanges
+task_of Summary = Short SumUp
+task_of (Why addr asn prefix) = Short (WhyRoute (record { peer = record { addr = addr; asn = asn }; prefix = prefix }))
 
 -- What a line that was read so writes, and what it leaves. The state counts the line already.
 abbrev pub Does : World → State → Result Command LineFault → List ℕ → State → Type 0
-Does world state (Ok Idle) text next = (text ≡ []) × (next ≡ state)
-Does world state (Ok (Aspa name file)) text next = Loads world state (Payloads name) file text next
-Does world state (Ok (Aspa64 name file)) text next = Loads world state (PayloadLines name) file text next
-Does world state (Ok (Slurm file)) text next = Loads world state SlurmFile file text next
-Does world state (Ok (Filter customer)) text next = Causes state (TableEvent (FilterByHand customer)) text next
-Does world state (Ok (Unfilter customer)) text next = Causes state (TableEvent (UnfilterByHand customer)) text next
-Does world state (Ok (Assert customer providers)) text next = Causes state (TableEvent (AssertByHand customer providers)) text next
-Does world state (Ok (Unassert customer)) text next = Causes state (TableEvent (UnassertByHand customer)) text next
-Does world state (Ok (SetRole asn role)) text next = Causes state (RoleEvent asn role) text next
-Does world state (Ok (RoleDefault role)) text next = Causes state (DefaultRole role) text next
-Does world state (Ok (Open name file)) text next = Opens world state name file text next
-Does world state (Ok (Take name count)) text next = Takes state name count text next
-Does world state (Ok (Judge role neighbour path)) text next =
-    IsJudged state.analysis.parts role neighbour path text × (next ≡ record state { judgements = state.judgements + 1 })
-Does world state (Ok Report) text next = Reports state text next
+Does world state (Ok command) text next = DoesTask world state (task_of command) text next
 Does world state (Err fault) text next = Refuses state of_line (line_cause fault) text next
 
 -- every line counts
@@ -240,18 +89,5 @@ pub record Begins (world : World) (before : State) (line part : List ℕ) : Type
 
 -- a line that was read so opens or reads a file
 abbrev pub UsesFile : State → Result Command LineFault → Type 0
-UsesFile state (Ok Idle) = ⊥
-UsesFile state (Ok (Aspa name file)) = Unit {0}
-UsesFile state (Ok (Aspa64 name file)) = Unit {0}
-UsesFile state (Ok (Slurm file)) = Unit {0}
-UsesFile state (Ok (Filter customer)) = ⊥
-UsesFile state (Ok (Unfilter customer)) = ⊥
-UsesFile state (Ok (Assert customer providers)) = ⊥
-UsesFile state (Ok (Unassert customer)) = ⊥
-UsesFile state (Ok (SetRole asn role)) = ⊥
-UsesFile state (Ok (RoleDefault role)) = ⊥
-UsesFile state (Ok (Open name file)) = Unit {0}
-UsesFile state (Ok (Take name count)) = (dump : Dump) × (state.dumps name ≡ Some dump)
-UsesFile state (Ok (Judge role neighbour path)) = ⊥
-UsesFile state (Ok Report) = ⊥
+UsesFile state (Ok command) = TaskUsesFile state (task_of command)
 UsesFile state (Err fault) = ⊥

@@ -1,7 +1,9 @@
 -- Laws of the definitions, each the contract of a public function of the module `laws`.
 use Rattle.std.specs.Prelude.{◌≡◌, ℕ, List}
+use Rattle.stream_lines.specs.Counts.{refusals_in}
 use Rattle.std.specs.declared.option.Option.{Option}
-use Rattle.aspa_top.specs.Evaluation.{State, start, Evaluates}
+use Rattle.aspa_top.specs.Tasks.{State, start}
+use Rattle.aspa_top.specs.Evaluation.{Evaluates}
 use Rattle.aspa_top.specs.Program.{WentThrough, WritesFront}
 use Rattle.aspa_top.specs.World.{World}
 
@@ -20,3 +22,8 @@ EachScriptHasOneText = (world : World) (lines : List (List ℕ)) → HasOneText 
 abbrev pub RunsWriteFronts : Type 0
 RunsWriteFronts = (world : World) (lines : List (List ℕ)) (old new : Option (List ℕ)) (ticks_old ticks_new : ℕ) →
     WentThrough world lines old new ticks_old ticks_new → WritesFront world lines old new
+
+-- what the lines have left counts as many refusals as their text has lines that begin with `! `
+abbrev pub RefusalsAreCounted : Type 0
+RefusalsAreCounted = (world : World) (lines : List (List ℕ)) (text : List ℕ) (end : State)
+    → Evaluates world start lines text end → end.refused ≡ refusals_in text

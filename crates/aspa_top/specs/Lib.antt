@@ -5,4 +5,6 @@ pub mod Loading
 pub mod LoadingSteps
 pub mod Performing
 pub mod Program
+pub mod Tasks
+pub mod Words
 pub mod World

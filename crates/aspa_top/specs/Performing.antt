@@ -10,12 +10,12 @@ use Rattle.indexmap.specs.IndexMap.{IndexMap, get}
 use Rattle.indexmap.specs.IndexSet.{IndexSet, contains}
 use Rattle.av_base.specs.Files.{Files}
 use Rattle.script_lines.specs.declared.command.Command.{Command}
-use Rattle.script_lines.specs.declared.command.Command.TheVariants.{Idle, Aspa, Aspa64, Slurm, Filter, Unfilter, Assert, Unassert, Role as SetRole, RoleDefault, Open, Take, Judge, Report}
 use Rattle.script_lines.specs.declared.command.LineFault.{LineFault}
 use Rattle.script_lines.specs.Grammar.{IsReading}
 use Rattle.path_model.specs.declared.role.Role.{Role}
 use Rattle.path_model.specs.CurrentTable.{Parts}
 use Rattle.vap_table.specs.declared.change.TableChange.{TableChange}
+use Rattle.rib_store.specs.Changes.{IsMarked}
 use Rattle.rib_store.specs.State.{State as Analysis}
 use Rattle.analyser.specs.declared.event.Event.{Event}
 use Rattle.analyser.specs.declared.event.Event.TheVariants.{Table as TableEvent}
@@ -25,30 +25,37 @@ use Rattle.stream_lines.specs.Holding.{HoldsDump}
 use Rattle.stream_lines.specs.Streams.{Dump}
 use Rattle.aspa_top.specs.declared.loading.FileKind.{FileKind}
 use Rattle.aspa_top.specs.declared.loading.FileKind.TheVariants.{Payloads, PayloadLines, Slurm as SlurmFile}
+use Rattle.aspa_top.specs.declared.task.Short.{Short as ShortTask}
+use Rattle.aspa_top.specs.declared.task.Short.TheVariants.{Idle as Nothing, Happen, Judge, Summary as SumUp, Why}
+use Rattle.aspa_top.specs.declared.task.Task.{Task}
+use Rattle.aspa_top.specs.declared.task.Task.TheVariants.{Short, Load, Open, Take, Report, Changes}
 use Rattle.aspa_top.specs.declared.working.Working.{Working}
 use Rattle.aspa_top.specs.World.{World, Tells}
-use Rattle.aspa_top.specs.Evaluation.{State, start, same_name, IsJudged, Loads, Does, Evaluates, UsesFile}
+use Rattle.aspa_top.specs.Tasks.{State, start, same_name, IsJudged, Loads, DoesShort}
+use Rattle.aspa_top.specs.Evaluation.{Does, Evaluates, UsesFile, task_of}
 
 -- the most units that a line takes
 abbrev pub most : ℕ
 most = 100000000
 
--- the path of a judgement isn't longer than a path can be, and a line takes no more units than it may
+-- The path of a judgement isn't longer than a path can be, and a line takes no more units than it may.
+abbrev pub IsWithinShort : ShortTask → Type 0
+IsWithinShort Nothing = Unit {0}
+IsWithinShort (Happen event) = Unit {0}
+IsWithinShort (Judge role neighbour path) = length path ≤ 65535
+IsWithinShort SumUp = Unit {0}
+IsWithinShort (Why key) = Unit {0}
+
+abbrev pub IsWithinTask : Task → Type 0
+IsWithinTask (Short short) = IsWithinShort short
+IsWithinTask (Load kind file) = Unit {0}
+IsWithinTask (Open name file) = Unit {0}
+IsWithinTask (Take name count) = count ≤ most
+IsWithinTask Report = Unit {0}
+IsWithinTask Changes = Unit {0}
+
 abbrev pub IsWithinBounds : Command → Type 0
-IsWithinBounds Idle = Unit {0}
-IsWithinBounds (Aspa name file) = Unit {0}
-IsWithinBounds (Aspa64 name file) = Unit {0}
-IsWithinBounds (Slurm file) = Unit {0}
-IsWithinBounds (Filter customer) = Unit {0}
-IsWithinBounds (Unfilter customer) = Unit {0}
-IsWithinBounds (Assert customer providers) = Unit {0}
-IsWithinBounds (Unassert customer) = Unit {0}
-IsWithinBounds (SetRole asn role) = Unit {0}
-IsWithinBounds (RoleDefault role) = Unit {0}
-IsWithinBounds (Open name file) = Unit {0}
-IsWithinBounds (Take name count) = count ≤ most
-IsWithinBounds (Judge role neighbour path) = length path ≤ 65535
-IsWithinBounds Report = Unit {0}
+IsWithinBounds command = IsWithinTask (task_of command)
 
 -- the verdict of a path is added, by the table of these parts
 abbrev pub Judges : Parts → Role → ℕ → List ℕ → List ℕ → List ℕ → Type 0
@@ -60,6 +67,11 @@ pub record Happened (working : Working) (event : Event) (next : Working) : Type 
   pub analysis : Analysis
   pub happens : Happens working.analyser event analysis
   pub left : next ≡ record working { analyser = analysis }
+
+-- all verdicts were marked as they stand, and nothing else is altered
+pub record Marked (working next : Working) : Type 0 where
+  pub marked : IsMarked working.analyser next.analyser
+  pub left : next ≡ record working { analyser = next.analyser }
 
 -- the dump that is open under a name
 abbrev pub dump_in : Working → List ℕ → Option HeldDump
@@ -154,6 +166,26 @@ Goes working reading files_old files_new all_old all_new ticks_old ticks_new nex
 abbrev pub Steps : Working → Result Command LineFault → Option Files → Option Files → List ℕ → List ℕ → Working → Type 0
 Steps working reading files_old files_new text_old text_new next = (written : Option (List ℕ)) (ticks : ℕ)
     → Goes working reading files_old files_new (append_known written text_old) (append_known written text_new) ticks ticks next
+
+-- a short task is done: its text is added to what is held, each judgement ticks, and the working state goes on
+pub record ShortDone (state : State) (short : ShortTask) (files : Option Files) (text_old text_new : List ℕ) (ticks_old ticks_new : ℕ) (next : Working) : Type 0 where
+  pub text : List ℕ
+  pub after : State
+  pub does : DoesShort state short text after
+  pub added : text_new ≡ text_old ++ text
+  pub stands : StandsFor files next after
+  pub ticked : ticks_new + state.judgements ≡ ticks_old + after.judgements
+
+abbrev pub DoneShort : Working → ShortTask → List ℕ → List ℕ → ℕ → ℕ → Working → Type 0
+DoneShort working short text_old text_new ticks_old ticks_new next =
+    (files : Option Files) (state : State) → StandsFor files working state → ShortDone state short files text_old text_new ticks_old ticks_new next
+
+-- the dumps stayed, and at most one refusal was counted
+pub record KeepsDumps (working next : Working) : Type 0 where
+  pub dumps : (name : List ℕ) → dump_in next name ≡ dump_in working name
+  pub lines : next.lines ≡ working.lines
+  pub passed : next.passed ≡ working.passed
+  pub refused : next.refused ≤ working.refused + 1
 
 -- a file is loaded: the text is added to what is held, and the working state goes on
 pub record Loaded (world : World) (state : State) (kind : FileKind) (file : List ℕ) (files : Option Files)

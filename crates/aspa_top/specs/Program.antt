@@ -1,9 +1,11 @@
--- What a run of a script has done when it ends with a status.
+-- What a run of a script, or of a workload, has done when it ends with a status.
 use Rattle.std.specs.Prelude.{◌≡◌, ℕ, ◌+◌, ◌<◌, ◌≤◌, ◌⊎◌, List, [], ◌∷◌, ◌++◌, length, codes, IfSome}
 use Rattle.std.specs.Io.KnownBytes.{append_known}
 use Rattle.std.specs.declared.option.Option.{Option}
 use Rattle.std.specs.declared.option.Option.TheVariants.{Some}
 use Rattle.std.specs.declared.result.Result.{Result}
+use Rattle.av_text.specs.Number.{IsNumber}
+use Rattle.stated_workload.specs.Text as demo
 use Rattle.av_base.specs.Files.{Files}
 use Rattle.av_base.specs.Told.{AppendsFront, AppendsPart}
 use Rattle.script_lines.specs.declared.command.Command.{Command}
@@ -12,11 +14,22 @@ use Rattle.aspa_top.specs.Lines.{performed}
 use Rattle.script_lines.specs.Grammar.{IsReading}
 use Rattle.aspa_top.specs.World.{World, world_of}
 use Rattle.stream_lines.specs.Counts.{refusals_in}
-use Rattle.aspa_top.specs.Evaluation.{State, start, Evaluates, Begins, UsesFile, counted}
+use Rattle.aspa_top.specs.Tasks.{State, start}
+use Rattle.aspa_top.specs.Evaluation.{Evaluates, Begins, UsesFile, counted}
 
--- the one form of words that the program is called with
+-- The forms of words that the program is called with: `run` performs a script,
 abbrev pub IsRun : List (List ℕ) → Type 0
 IsRun words = words ≡ codes "run" ∷ []
+
+-- and `demo N` the workload of this number.
+pub record IsDemo (words : List (List ℕ)) (seed : ℕ) : Type 0 where
+  pub word : List ℕ
+  pub words_are : words ≡ codes "demo" ∷ word ∷ []
+  pub number : IsNumber word seed
+
+-- words of either form
+abbrev pub AreOwn : List (List ℕ) → Type 0
+AreOwn words = IsRun words ⊎ ((seed : ℕ) × IsDemo words seed)
 
 -- of the lines that are left the first went some way, perhaps none
 abbrev pub BeginsNext : World → State → List (List ℕ) → List ℕ → Type 0
@@ -116,3 +129,10 @@ pub record Completes (limit : ℕ) (script : Option (List ℕ)) (script_failed s
       → (bytes : List ℕ) → script ≡ Some bytes → length bytes ≤ limit → (status ≡ 0) ⊎ (status ≡ 1) ⊎ (status ≡ 5)
   pub beyond : ¬ script_failed → ¬ shelf_failed → ¬ sink_failed
       → (bytes : List ℕ) → script ≡ Some bytes → limit < length bytes → (status ≡ 6) ⊎ (status ≡ 5)
+
+-- What the workload of a number has written when it ends with a status: always a front of its text; at 0 the whole, and at 4 not all.
+pub record Demonstrates (seed : ℕ) (old new : Option (List ℕ)) (status : ℕ) : Type 0 where
+  pub front : demo.WritesFront seed old new
+  pub whole : status ≡ 0 → demo.WritesText seed old new
+  pub cut : status ≡ 4 → demo.WritesPart seed old new
+  pub ends : (status ≡ 0) ⊎ (status ≡ 4) ⊎ (status ≡ 5)

@@ -2,7 +2,7 @@
 ghost use Rattle.std.specs.Prelude.{◌≡◌, ◌+◌, ◌^◌, ◌<◌, ◌++◌, IfOk, OnOk, OnErr};
 ghost use Rattle.report_text.specs.Places.{place_of};
 ghost use Rattle.report_text.specs.Refusals.{IsCause, refusal_text};
-ghost use Rattle.aspa_top.specs.Performing.{Happened};
+ghost use Rattle.aspa_top.specs.Performing.{Happened, Marked};
 
 use crate::working::Working;
 use analyser::Event;
@@ -45,4 +45,14 @@ pub(crate) fn happen<L: Ledger>(
         analyser,
         ..working
     })
+}
+
+/// Marks all verdicts as they stand. It takes no memory.
+pub(crate) fn mark(working: Working) -> Working
+    ensures { Marked working result }
+{
+    Working {
+        analyser: working.analyser.mark(),
+        ..working
+    }
 }

@@ -1,5 +1,5 @@
 //! Laws of the definitions: the contract of each function is the law, and its body does nothing.
-ghost use Rattle.aspa_top.specs.Laws.{EachScriptHasOneText, RunsWriteFronts};
+ghost use Rattle.aspa_top.specs.Laws.{EachScriptHasOneText, RefusalsAreCounted, RunsWriteFronts};
 
 /// In each world each script has one text.
 pub fn each_script_has_one_text()
@@ -9,4 +9,9 @@ pub fn each_script_has_one_text()
 /// What a run that ends early has written is a front of the text of all lines that it was to perform.
 pub fn runs_write_fronts()
     ensures { RunsWriteFronts }
+{}
+
+/// As many refusals are counted as the text of the lines has lines that begin with `! `: it is the number that `summary` shows.
+pub fn refusals_are_counted()
+    ensures { RefusalsAreCounted }
 {}

@@ -1,23 +1,29 @@
-//! The whole program as one call: [`run`] performs a script and writes its text.
+//! The whole program as one call: [`run`] performs a script, or a stated workload, and writes its text.
 //!
 //! The layer above uses one contract, that of [`run`]: for every script and whatever the shelf names, however anything is read and
 //! however the text is written, what is written is the text that evaluating each line from scratch gives, and each status has its
-//! cause. That text is defined in `specs/Evaluation.antt`, over what a run meets outside (`specs/World.antt`), what a line is
-//! (crate `script_lines`) and what the lines of a script are (`Lines` of `av_text`); `specs/Program.antt` says what each status means.
-//! Begin reading there.
+//! cause. That text is defined in `specs/Evaluation.antt` (line by line, and what each command asks for) and `specs/Tasks.antt` (what
+//! comes of that), over what a run meets outside (`specs/World.antt`), what a line is (crate `script_lines`) and what the lines of a
+//! script are (`Lines` of `av_text`); `specs/Program.antt` says what each status means. Begin
+//! reading there. What a workload writes is defined in the crate `stated_workload` (`Text`).
 #![tactic(auto)]
 
 mod acting;
+mod demo;
 mod dumps;
 mod evaluation;
+mod explaining;
 mod judging;
 mod laws;
 mod loading;
 mod performing;
 mod program;
 mod script;
+mod short;
 mod tables;
+mod task;
+mod words;
 mod working;
 
-pub use laws::{each_script_has_one_text, runs_write_fronts};
+pub use laws::{each_script_has_one_text, refusals_are_counted, runs_write_fronts};
 pub use program::{SCRIPT_LIMIT, run};

@@ -7,20 +7,18 @@ ghost use Rattle.aspa_top.specs.Evaluation.{line_cause as number_of};
 ghost use Rattle.aspa_top.specs.Performing.{Goes, GoesBy, GoesPart, IsSound, IsWithinBounds, PartBy, Uses, UsesBy};
 ghost use Rattle.aspa_top.specs.World.{names_of};
 
-use crate::acting::{happen, refuse};
+use crate::acting::{mark, refuse};
 use crate::dumps::{open, take};
-use crate::judging::put_judgement;
-use crate::loading::FileKind;
+use crate::short::perform_short;
 use crate::tables::load;
+use crate::task::{Task, task_of};
 use crate::working::Working;
-use analyser::Event;
 use av_base::{Shelf, Sink, Steps};
 use report_text::Place;
 use script_lines::{Command, LineFault, read};
 use std::alloc::Global;
 use std::sync::ledger::Ledger;
-use stream_lines::{Stop, put_rows};
-use vap_table::TableChange;
+use stream_lines::{Stop, put_changes, put_rows};
 
 /// Performs one line, and adds its text to what is held.
 pub(crate) fn perform_line<F: Shelf, W: Sink, L: Ledger>(
@@ -100,48 +98,18 @@ fn perform_command<F: Shelf, W: Sink, L: Ledger>(
     ensures held { IsErrOf result Stop.Sink → 0 < length text.new.items }
     ensures sink_cause { IsErrOf result Stop.Sink → Rose (W.faults out.old) (W.faults out.new) }
 {
-    match command {
-        Command::Idle => Ok(working),
-        Command::Aspa(name, file) => {
-            let kind = FileKind::Payloads(name);
-            Ok(load(alloc, working, kind, &file, shelf, text, steps)?)
-        }
-        Command::Aspa64(name, file) => {
-            let kind = FileKind::PayloadLines(name);
-            Ok(load(alloc, working, kind, &file, shelf, text, steps)?)
-        }
-        Command::Slurm(file) => {
-            let kind = FileKind::Slurm;
-            Ok(load(alloc, working, kind, &file, shelf, text, steps)?)
-        }
-        Command::Filter(customer) => {
-            let event = Event::Table(TableChange::Filter(customer));
-            Ok(happen(working, event, steps)?)
-        }
-        Command::Unfilter(customer) => {
-            let event = Event::Table(TableChange::Unfilter(customer));
-            Ok(happen(working, event, steps)?)
-        }
-        Command::Assert(customer, providers) => {
-            let event = Event::Table(TableChange::Assert(customer, providers));
-            Ok(happen(working, event, steps)?)
-        }
-        Command::Unassert(customer) => {
-            let event = Event::Table(TableChange::Unassert(customer));
-            Ok(happen(working, event, steps)?)
-        }
-        Command::Role(asn, role) => Ok(happen(working, Event::Role(asn, role), steps)?),
-        Command::RoleDefault(role) => Ok(happen(working, Event::DefaultRole(role), steps)?),
-        Command::Open(name, file) => Ok(open(alloc, working, name, &file, shelf, text)?),
-        Command::Take(name, count) => take(alloc, working, &name, count, shelf, out, text, steps),
-        Command::Judge(role, neighbour, path) => {
-            let table = working.analyser.store().table();
-            put_judgement(alloc, table, role, neighbour, &path, text, steps)?;
-            Ok(working)
-        }
-        Command::Report => {
+    match task_of(command) {
+        Task::Short(short) => Ok(perform_short(alloc, working, short, text, steps)?),
+        Task::Load(kind, file) => Ok(load(alloc, working, kind, &file, shelf, text, steps)?),
+        Task::Open(name, file) => Ok(open(alloc, working, name, &file, shelf, text)?),
+        Task::Take(name, count) => take(alloc, working, &name, count, shelf, out, text, steps),
+        Task::Report => {
             put_rows(working.analyser.store(), out, text)?;
             Ok(working)
+        }
+        Task::Changes => {
+            put_changes(working.analyser.store(), out, text)?;
+            Ok(mark(working))
         }
     }
 }

@@ -1,13 +1,15 @@
-//! The top call: a script from its words to its status.
-ghost use Rattle.std.specs.Prelude.{◌≡◌, ◌≢◌, ◌↔◌, ◌+◌, ◌<◌, ◌≤◌, ◌⊎◌, ◌++◌, ℕ, List, length, map, IsTrue};
+//! The top call: from the words to the status.
+ghost use Rattle.std.specs.Prelude.{◌≡◌, ◌≢◌, ◌+◌, ◌<◌, ◌≤◌, ◌⊎◌, ◌++◌, ℕ, List, length, map};
 ghost use Rattle.std.specs.String.{string_bytes};
 ghost use Rattle.std.specs.Io.KnownBytes.{IsAtEnd};
 ghost use Rattle.av_base.specs.Told.{Rose};
-ghost use Rattle.aspa_top.specs.Program.{Completes, IsEnding, IsRun, IsStatus, Ran, RanIfTold};
+ghost use Rattle.aspa_top.specs.Program.{AreOwn, Completes, Demonstrates, IsDemo, IsEnding, IsRun, IsStatus, Ran, RanIfTold};
 ghost use Rattle.aspa_top.specs.World.{Tells, World, names_of};
 
+use crate::demo::run_demo;
 use crate::evaluation::evaluate;
 use crate::script::read_all;
+use crate::words::{Form, form_of};
 use av_base::{Links, Shelf, Sink, Source, Steps};
 use std::alloc::Global;
 use std::sync::ledger::Ledger;
@@ -16,19 +18,20 @@ use stream_lines::{ReadFault, Stop};
 /// The most bytes that a script may have.
 pub const SCRIPT_LIMIT: usize = 67_108_864;
 
-/// Performs the script where the words are `run`, and answers the program's status. The words stand without the program's name.
+/// Performs the script where the words are `run`, or the workload of a number where they are `demo N`, and answers the program's status.
+/// The words stand without the program's name.
 ///
 /// | Status | Comes |
 /// |---|---|
-/// | 0 | the whole script was performed, all its text was written, and no line of it begins with `! ` |
+/// | 0 | the whole script was performed, all its text was written, and no line of it begins with `! `; or the workload's text was |
 /// | 1 | the same, and some line does: a line of the script was refused |
-/// | 2 | the words are others than the one word `run`; nothing is read, written, opened or connected |
+/// | 2 | the words are of neither form; nothing is read, written, opened or connected |
 /// | 3 | the script's source failed before a line was performed, or the shelf failed at a line that opens or reads a file |
 /// | 4 | the sink failed, and not all of the text was written |
 /// | 5 | there was no memory |
 /// | 6 | the script has more than [`SCRIPT_LIMIT`] bytes; the lines whose LF is among the first so many were performed |
 ///
-/// At 3, 4 and 5 what was written is a front of the script's text. The links aren't used yet.
+/// At 3, 4 and 5 what was written is a front of that text. The links aren't used yet.
 pub fn run<S: Source, F: Shelf, K: Links, W: Sink, L: Ledger>(
     alloc: Global,
     words: &Vec<String>,
@@ -40,17 +43,25 @@ pub fn run<S: Source, F: Shelf, K: Links, W: Sink, L: Ledger>(
 ) -> u8
     // What is written at each status, for every script that tells its bytes and every shelf that tells its files, and however the
     // script is read and the text written.
-    ensures ran { RanIfTold SCRIPT_LIMIT (S.left script.old) (F.files shelf.old)
+    ensures ran { IsRun (map string_bytes words.now.items) → RanIfTold SCRIPT_LIMIT
+        (S.left script.old) (F.files shelf.old)
         (Rose (S.faults script.old) (S.faults script.new)) (Rose (F.faults shelf.old) (F.faults shelf.new))
         (W.written out.old) (W.written out.new) steps.old steps.new result }
 
+    // What is written of a workload, which uses neither script nor shelf nor the counter.
+    ensures demonstrated { (seed : ℕ) → IsDemo (map string_bytes words.now.items) seed
+        → Demonstrates seed (W.written out.old) (W.written out.new) result }
+    ensures unused { (seed : ℕ) → IsDemo (map string_bytes words.now.items) seed
+        → (script.new ≡ script.old) × (shelf.new ≡ shelf.old) × (steps.new ≡ steps.old) }
+
     // When each status comes, beside what it says of the text.
     ensures known { IsStatus result }
-    ensures other_words { result ≡ 2 → ¬ IsRun (map string_bytes words.now.items) }
-    ensures run_words { result ≢ 2 → IsRun (map string_bytes words.now.items) }
+    ensures other_words { result ≡ 2 → ¬ AreOwn (map string_bytes words.now.items) }
+    ensures own_words { result ≢ 2 → AreOwn (map string_bytes words.now.items) }
     ensures untouched { result ≡ 2 → (script.new ≡ script.old) × (shelf.new ≡ shelf.old)
         × (out.new ≡ out.old) × (steps.new ≡ steps.old) }
-    ensures at_end { (result ≡ 0) ⊎ (result ≡ 1) → IsAtEnd (S.left script.new) }
+    ensures at_end { IsRun (map string_bytes words.now.items) → (result ≡ 0) ⊎ (result ≡ 1)
+        → IsAtEnd (S.left script.new) }
     ensures input_cause { result ≡ 3 → (Rose (S.faults script.old) (S.faults script.new) × (out.new ≡ out.old))
         ⊎ Rose (F.faults shelf.old) (F.faults shelf.new) }
     ensures sink_cause { result ≡ 4 → Rose (W.faults out.old) (W.faults out.new) }
@@ -67,20 +78,10 @@ pub fn run<S: Source, F: Shelf, K: Links, W: Sink, L: Ledger>(
     ensures shelf_faults { F.faults shelf.old ≤ F.faults shelf.new }
     ensures links { links.new ≡ links.old }
 {
-    if is_run(words) {
-        run_script(alloc, script, shelf, out, steps)
-    } else {
-        2
-    }
-}
-
-// Whether the words are `run`.
-fn is_run(words: &Vec<String>) -> bool
-    ensures { IsTrue result ↔ IsRun (map string_bytes words.now.items) }
-{
-    match words.as_slice() {
-        [word] => word.as_str() == "run",
-        _ => false,
+    match form_of(words) {
+        Form::Run => run_script(alloc, script, shelf, out, steps),
+        Form::Demo(seed) => run_demo(alloc, seed, out, steps),
+        Form::Other => 2,
     }
 }
 

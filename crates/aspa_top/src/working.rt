@@ -29,7 +29,7 @@ impl Working {
     ghost use Rattle.std.specs.Prelude.{ℕ};
     ghost use Rattle.std.specs.declared.option.Option.{Option};
     ghost use Rattle.av_base.specs.Files.{Files};
-    ghost use Rattle.aspa_top.specs.Evaluation.{start};
+    ghost use Rattle.aspa_top.specs.Tasks.{start};
     ghost use Rattle.aspa_top.specs.Performing.{IsSound, IsTakenIn, StandsFor};
 
     /// Before the first line. It takes no memory.

@@ -9,7 +9,7 @@ ghost use Rattle.std.specs.Prelude.{◌≡◌, ◌≢◌, ◌≤◌, ◌⊎◌, 
 ghost use Rattle.std.specs.String.{string_bytes};
 ghost use Rattle.std.specs.Io.KnownBytes.{IsAtEnd};
 ghost use Rattle.av_base.specs.Told.{Rose};
-ghost use Rattle.aspa_top.specs.Program.{Completes, IsRun, IsStatus, RanIfTold};
+ghost use Rattle.aspa_top.specs.Program.{AreOwn, Completes, Demonstrates, IsDemo, IsRun, IsStatus, RanIfTold};
 ghost use Rattle.aspa_top.specs.World.{names_of};
 
 mod file_shelf;
@@ -69,14 +69,20 @@ fn perform<S: Source, F: Shelf, K: Links, W: Sink, L: Ledger>(
     requires name { blank.name ≡ L.name }
     requires parts { blank.parts ≡ L.parts }
     requires one { L.parts ≡ 1 }
-    ensures ran { (ticks : ℕ) × RanIfTold SCRIPT_LIMIT (S.left script.old) (F.files shelf.old)
+    ensures ran { IsRun (map string_bytes words.now.items) → (ticks : ℕ) × RanIfTold SCRIPT_LIMIT
+        (S.left script.old) (F.files shelf.old)
         (Rose (S.faults script.old) (S.faults script.new)) (Rose (F.faults shelf.old) (F.faults shelf.new))
         (W.written out.old) (W.written out.new) 0 ticks result }
+    ensures demonstrated { (seed : ℕ) → IsDemo (map string_bytes words.now.items) seed
+        → Demonstrates seed (W.written out.old) (W.written out.new) result }
+    ensures unused { (seed : ℕ) → IsDemo (map string_bytes words.now.items) seed
+        → (script.new ≡ script.old) × (shelf.new ≡ shelf.old) }
     ensures known { IsStatus result }
-    ensures other_words { result ≡ 2 → ¬ IsRun (map string_bytes words.now.items) }
-    ensures run_words { result ≢ 2 → IsRun (map string_bytes words.now.items) }
+    ensures other_words { result ≡ 2 → ¬ AreOwn (map string_bytes words.now.items) }
+    ensures own_words { result ≢ 2 → AreOwn (map string_bytes words.now.items) }
     ensures untouched { result ≡ 2 → (script.new ≡ script.old) × (shelf.new ≡ shelf.old) × (out.new ≡ out.old) }
-    ensures at_end { (result ≡ 0) ⊎ (result ≡ 1) → IsAtEnd (S.left script.new) }
+    ensures at_end { IsRun (map string_bytes words.now.items) → (result ≡ 0) ⊎ (result ≡ 1)
+        → IsAtEnd (S.left script.new) }
     ensures input_cause { result ≡ 3 → (Rose (S.faults script.old) (S.faults script.new) × (out.new ≡ out.old))
         ⊎ Rose (F.faults shelf.old) (F.faults shelf.new) }
     ensures sink_cause { result ≡ 4 → Rose (W.faults out.old) (W.faults out.new) }

@@ -1,1 +1,3 @@
+pub mod AnswerLemmas
+mod InLineLemmas
 pub mod RefusalLemmas

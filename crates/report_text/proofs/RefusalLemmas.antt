@@ -1,4 +1,4 @@
--- The line of a refusal is one line that begins with `! `.
+-- The lines of a refusal and of a feed's end are each one line that begins with `! `.
 use Rattle.std.proofs.Common.{◌≡◌, ◌≢◌, ℕ, ◌≤◌, Bool, true, false, nat_le, nat_eq, cond, List, [], ◌∷◌, ◌++◌, codes, decimal, refl, arith}
 use Rattle.std.specs.List.{All, list_all}
 use Rattle.std.proofs.lemmas.Bool.{leb-true}
@@ -6,17 +6,12 @@ use Rattle.std.proofs.lemmas.List.Elements.{All-head, All-tail, All-nil, All-app
 use Rattle.std.proofs.lemmas.List.Sums.{AllPass-from_list_all}
 use Rattle.av_text.specs.Spellings.{IsInLine}
 use Rattle.av_text.proofs.LackLemmas.{decimal-lacks, from-lacks}
+use Rattle.report_text.specs.declared.feed.FeedEnd.{FeedEnd}
+use Rattle.report_text.specs.declared.feed.FeedEnd.TheVariants.{Unreachable, Lost, Short}
+use Rattle.report_text.specs.Feeds.{end_word, feed_line}
 use Rattle.report_text.specs.Refusals.{AnyPlace, of_line, of_unit, file_words, pdu_words, record_words, line_words, word_in, word_of, place_text, refusal_line}
 use Rattle.report_text.specs.Laws.{IsPlaceInLine, IsRefusalLine}
-
--- no byte below a space, by test
-abbrev is_clean : List ℕ → Bool
-is_clean text = list_all (λ byte. nat_le 32 byte) text
-
-clean : (text : List ℕ) → is_clean text ≡ true → IsInLine text
-clean text passes =
-    from-lacks 32 10 text (omega arith)
-    (All-weaker (λ byte. nat_le 32 byte ≡ true) (λ byte. 32 ≤ byte) (λ byte h. leb-true 32 byte h) text (AllPass-from_list_all (λ byte. nat_le 32 byte) text passes))
+use Rattle.report_text.proofs.InLineLemmas.{is_clean, clean, both, number}
 
 either-clean : (b : Bool) (one other : List ℕ) → is_clean one ≡ true → is_clean other ≡ true → is_clean (cond b one other) ≡ true
 either-clean true one other a c = a
@@ -34,12 +29,6 @@ unfolding word_of
 word_of-in_line cause =
     let words : List (ℕ × List ℕ) = file_words ++ pdu_words ++ record_words ++ line_words in
     clean (word_of cause) (word_in-clean words cause (AllPass-from_list_all (λ (e : ℕ × List ℕ). is_clean e.1) words refl))
-
-both : (one other : List ℕ) → IsInLine one → IsInLine other → IsInLine (one ++ other)
-both one other a b = All-append (λ byte. byte ≢ 10) one other a b
-
-number : (n : ℕ) → IsInLine (decimal n)
-number n = decimal-lacks 10 n (omega arith)
 
 place-in_line : (place : AnyPlace) → IsPlaceInLine place → IsInLine (place_text place)
 place-in_line of_line in_line = All-nil (λ byte. byte ≢ 10)
@@ -65,5 +54,26 @@ refusal_is_one_line line place cause in_line =
           (clean (codes " cause ") refl))
           (number cause))
           (both (codes " ") (word_of cause) (clean (codes " ") refl) (word_of-in_line cause));
+      marked = refl;
+    }
+
+end_word-in_line : (end : FeedEnd) → IsInLine (end_word end)
+end_word-in_line Unreachable = clean (codes "unreachable") refl
+end_word-in_line Lost = clean (codes "lost") refl
+end_word-in_line Short = clean (codes "short") refl
+
+pub feed_end_is_one_line : (line : ℕ) (name : List ℕ) (end : FeedEnd) → IsInLine name → IsRefusalLine (feed_line line name end)
+feed_end_is_one_line line name end in_line =
+    record {
+      in_line =
+          both (codes "! line " ++ decimal line ++ codes " " ++ name ++ codes " ") (end_word end)
+          (both (codes "! line " ++ decimal line ++ codes " " ++ name) (codes " ")
+          (both (codes "! line " ++ decimal line ++ codes " ") name
+          (both (codes "! line " ++ decimal line) (codes " ")
+          (both (codes "! line ") (decimal line) (clean (codes "! line ") refl) (number line))
+          (clean (codes " ") refl))
+          in_line)
+          (clean (codes " ") refl))
+          (end_word-in_line end);
       marked = refl;
     }

@@ -1,8 +1,19 @@
 -- Laws of the definitions, each the contract of a public function of the module `laws`.
-use Rattle.std.specs.Prelude.{◌≡◌, ℕ, nat_eq, true, List, codes}
+use Rattle.std.specs.Prelude.{◌≡◌, ℕ, nat_eq, true, false, List, codes}
+use Rattle.std.specs.declared.option.Option.{Option}
 use Rattle.std.specs.List.{starts_with}
+use Rattle.path_model.specs.declared.key.Key.{Key}
+use Rattle.path_model.specs.declared.verdict.Verdict.{Verdict}
+use Rattle.path_model.specs.declared.witness.Witness.{Witness}
 use Rattle.av_text.specs.Spellings.{IsInLine}
+use Rattle.report_text.specs.declared.summary.Summary.{Summary}
+use Rattle.report_text.specs.Change.{change_line}
+use Rattle.report_text.specs.declared.feed.FeedEnd.{FeedEnd}
+use Rattle.report_text.specs.Feeds.{feed_line}
 use Rattle.report_text.specs.Refusals.{AnyPlace, of_line, of_unit, refusal_line}
+use Rattle.report_text.specs.Rows.{row_line}
+use Rattle.report_text.specs.Summary.{summary_line}
+use Rattle.report_text.specs.Why.{why_line}
 
 -- a place whose name has no line feed
 abbrev pub IsPlaceInLine : AnyPlace → Type 0
@@ -17,3 +28,23 @@ pub record IsRefusalLine (line : List ℕ) : Type 0 where
 abbrev pub EachRefusalIsOneLine : Type 0
 EachRefusalIsOneLine =
     (number : ℕ) (place : AnyPlace) (cause : ℕ) → IsPlaceInLine place → IsRefusalLine (refusal_line number place cause)
+
+abbrev pub EachFeedEndIsOneLine : Type 0
+EachFeedEndIsOneLine = (number : ℕ) (name : List ℕ) (end : FeedEnd) → IsInLine name → IsRefusalLine (feed_line number name end)
+
+-- a line, without its line feed, that doesn't begin so
+pub record IsAnswerLine (line : List ℕ) : Type 0 where
+  pub in_line : IsInLine line
+  pub unmarked : starts_with nat_eq line (codes "! ") ≡ false
+
+abbrev pub EachRowIsOneLine : Type 0
+EachRowIsOneLine = (key : Key) (verdict : Verdict) → IsAnswerLine (row_line key verdict)
+
+abbrev pub EachChangeIsOneLine : Type 0
+EachChangeIsOneLine = (key : Key) (before after : Option Verdict) → IsAnswerLine (change_line key before after)
+
+abbrev pub EachSummaryIsOneLine : Type 0
+EachSummaryIsOneLine = (summary : Summary) → IsAnswerLine (summary_line summary)
+
+abbrev pub EachReasonIsOneLine : Type 0
+EachReasonIsOneLine = (verdict : Verdict) (witness : Witness) → IsAnswerLine (why_line verdict witness)

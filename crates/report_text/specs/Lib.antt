@@ -1,4 +1,5 @@
 pub mod Change
+pub mod Feeds
 pub mod Laws
 pub mod Places
 pub mod Refusals

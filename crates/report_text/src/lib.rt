@@ -1,16 +1,18 @@
 //! The lines that the program reports with.
 //!
 //! The layer above uses one contract: **each `put_` call appends the one line that it names, whole, or leaves the text as it was.**
-//! [`put_refusal`] reports a refusal, [`put_row`] a route's verdict, [`put_change`] a route whose verdict changed, [`put_changed`] how
-//! many changed, [`put_why`] why a path has its verdict, and [`put_summary`] how many there are of each. `refusal_text` of
-//! `specs/Refusals.antt` and the `.._text` of `Rows`, `Change`, `Why` and `Summary` are those lines: begin there, with the table of
-//! causes and their words. Whatever is refused, the line is one line that begins with `! ` (`laws`), so who reads the program's output
-//! finds each refusal by its first two bytes.
+//! [`put_refusal`] reports a refusal, [`put_feed`] a feed's end, [`put_row`] a route's verdict, [`put_change`] a route whose verdict
+//! changed, [`put_changed`] how many changed, [`put_why`] why a path has its verdict, and [`put_summary`] how many there are of each.
+//! `refusal_text` of `specs/Refusals.antt` and the `.._text` of `Feeds`, `Rows`, `Change`, `Why` and `Summary` are those lines: begin
+//! there, with the table of causes and their words. Whatever is refused and however a feed ends, the line is one line that begins with
+//! `! `, and no row, change, summary or reason begins so (`laws`): who reads the program's output finds each of them by its first two
+//! bytes.
 #![tactic(auto)]
 
 mod cause;
 mod change;
 mod count;
+mod feed;
 mod laws;
 mod place;
 mod refusal;
@@ -19,7 +21,8 @@ mod summary;
 mod why;
 
 pub use change::{put_change, put_changed};
-pub use laws::each_refusal_is_one_line;
+pub use feed::{FeedEnd, put_feed};
+pub use laws::{each_feed_end_is_one_line, each_refusal_is_one_line, no_answer_reads_as_a_refusal};
 pub use place::Place;
 pub use refusal::put_refusal;
 pub use row::put_row;

@@ -3,10 +3,10 @@ use Rattle.std.proofs.Common.{inl, inr, ℕ, ◌≤◌, List, [], ◌∷◌, Opt
 use Rattle.path_model.specs.declared.role.Role.{Role as RoleOf}
 use Rattle.path_model.specs.Name.{IsName}
 use Rattle.script_lines.specs.declared.command.Command.{Command}
-use Rattle.script_lines.specs.declared.command.Command.TheVariants.{Idle, Aspa, Aspa64, Slurm, Filter, Unfilter, Assert, Unassert, Role, RoleDefault, Open, Take, Judge, Report}
+use Rattle.script_lines.specs.declared.command.Command.TheVariants.{Idle, Aspa, Aspa64, Slurm, Filter, Unfilter, Assert, Unassert, Role, RoleDefault, Open, Take, Judge, Report, Changes, Summary, Why}
 use Rattle.script_lines.specs.declared.command.CommandName.{CommandName}
-use Rattle.script_lines.specs.declared.command.CommandName.TheVariants.{Aspa as AspaName, Aspa64 as Aspa64Name, Slurm as SlurmName, Filter as FilterName, Unfilter as UnfilterName, Assert as AssertName, Unassert as UnassertName, Role as RoleName, Open as OpenName, Take as TakeName, Judge as JudgeName, Report as ReportName}
-use Rattle.script_lines.specs.Kinds.{WordKind, NAME, TEXT, ROLE, NUMBER, WHOM, ValueOf, Spells}
+use Rattle.script_lines.specs.declared.command.CommandName.TheVariants.{Aspa as AspaName, Aspa64 as Aspa64Name, Slurm as SlurmName, Filter as FilterName, Unfilter as UnfilterName, Assert as AssertName, Unassert as UnassertName, Role as RoleName, Open as OpenName, Take as TakeName, Judge as JudgeName, Report as ReportName, Changes as ChangesName, Summary as SummaryName, Why as WhyName}
+use Rattle.script_lines.specs.Kinds.{WordKind, NAME, TEXT, ROLE, ADDRESS, PREFIX, NUMBER, WHOM, ValueOf, Spells}
 use Rattle.script_lines.specs.Forms.{Form, end, ases, ◌then◌, Builds, IsSpelled}
 use Rattle.script_lines.specs.Commands.{form_of, sets_role, made_by}
 use Rattle.script_lines.specs.Grammar.{IsReading}
@@ -27,12 +27,17 @@ IsNamed (Open name file) = IsName name
 IsNamed (Take name count) = IsName name × (count ≤ 100000000)
 IsNamed (Judge role neighbour path) = Unit {0}
 IsNamed Report = Unit {0}
+IsNamed Changes = Unit {0}
+IsNamed Summary = Unit {0}
+IsNamed (Why addr asn prefix) = Unit {0}
 
 -- a value that its word may have
 abbrev IsValue : (kind : WordKind) → ValueOf kind → Type 0
 IsValue NAME name = IsName name
 IsValue TEXT text = Unit {0}
 IsValue ROLE role = Unit {0}
+IsValue ADDRESS addr = Unit {0}
+IsValue PREFIX prefix = Unit {0}
 IsValue (NUMBER least most) n = n ≤ most
 IsValue WHOM whom = Unit {0}
 
@@ -40,6 +45,8 @@ spelled_value : (kind : WordKind) (word : List ℕ) (value : ValueOf kind) → S
 spelled_value NAME word name is = subst IsName (sym is.1) is.0
 spelled_value TEXT word text is = tt
 spelled_value ROLE word role is = tt
+spelled_value ADDRESS word addr is = tt
+spelled_value PREFIX word prefix is = tt
 spelled_value (NUMBER least most) word n is = is.2
 spelled_value WHOM word whom is = tt
 
@@ -67,6 +74,9 @@ makes_named OpenName = λ name is file any. is
 makes_named TakeName = λ name is count within. (is, within)
 makes_named JudgeName = λ role any neighbour other path. tt
 makes_named ReportName = tt
+makes_named ChangesName = tt
+makes_named SummaryName = tt
+makes_named WhyName = λ addr any asn within prefix other. tt
 
 spelled_named : (form : Form) (build : Builds form) (words : List (List ℕ)) (command : Command)
     → MakesNamed form build → IsSpelled form build words command → IsNamed command

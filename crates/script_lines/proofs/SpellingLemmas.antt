@@ -1,17 +1,24 @@
 -- Words spell values or don't, each at most one, kind by kind and form by form.
-use Rattle.std.proofs.Common.{◌≡◌, ◌⊎◌, inl, inr, ℕ, zero, suc, ◌<◌, ◌≤◌, ◌^◌, List, [], ◌∷◌, length, map, codes, decimal, slice_get, Option, Some, None, lit<, lit≤, refl, sym, ap, ◌∙◌, arith, subst}
+use Rattle.std.proofs.Common.{◌≡◌, ◌⊎◌, inl, inr, ℕ, zero, suc, ◌<◌, ◌≤◌, ◌^◌, List, [], ◌∷◌, ◌++◌, length, map, codes, decimal, slice_get, Option, Some, None, lit<, lit≤, refl, sym, ap, ◌∙◌, arith, subst}
 use Rattle.std.specs.Bool.{IsTrue}
 use Rattle.std.specs.List.{All}
 use Rattle.std.proofs.lemmas.Bool.{cases_lt}
 use Rattle.std.proofs.lemmas.List.Elements.{All-head, All-tail, All-cons, All-nil}
+use Rattle.path_model.specs.declared.addr.Addr.{Addr}
+use Rattle.path_model.specs.declared.peer.Peer.{Peer}
 use Rattle.path_model.specs.Name.{IsName, is_name_byte}
+use Rattle.path_model.specs.Prefix.{IsAddr, Subnet, IsSubnet}
 use Rattle.path_model.proofs.Decide.{Decided, decided_both, decided_true}
+use Rattle.av_text.specs.AddressText.{addr_text, IsAddrText}
 use Rattle.av_text.specs.Number.{Is32Bit, IsNoNumber}
+use Rattle.av_text.specs.PrefixText.{prefix_text}
+use Rattle.av_text.specs.Spellings.{SpellsOne}
+use Rattle.av_text.proofs.AnySpellingLemmas.{addr_or_none, prefix_or_none, prefix_text_injective, peer_text_injective}
 use Rattle.av_text.proofs.NumberLemmas.{number_or_none, no_number-other, map-decimal_injective}
 use Rattle.av_text.proofs.SpellingLemmas.{decided_text, role_text_injective, decided_role}
 use Rattle.script_lines.specs.declared.command.Command.{Command}
 use Rattle.script_lines.specs.Word.{IsVisible}
-use Rattle.script_lines.specs.Kinds.{WordKind, NAME, TEXT, ROLE, NUMBER, WHOM, ValueOf, Spells, HasForm, LacksNumber}
+use Rattle.script_lines.specs.Kinds.{WordKind, NAME, TEXT, ROLE, ADDRESS, PREFIX, NUMBER, WHOM, ValueOf, Spells, HasForm, LacksNumber}
 use Rattle.script_lines.specs.Forms.{Form, end, ases, ◌then◌, Builds, IsSpelled, Fits, SomeNoAs, SomeNoNumber}
 use Rattle.script_lines.proofs.AsLemmas.{no_as_first, no_as_later}
 use Rattle.script_lines.proofs.FormLemmas.{ases-spelled}
@@ -53,11 +60,18 @@ decided_itself : (P : Type 0) (word : List ℕ) → Decided P → Decided ((text
 decided_itself P word (inl is) = inl (word, (is, refl))
 decided_itself P word (inr not) = inr (λ some. not some.1.0)
 
+-- a word that spells a value or none
+decided_spelling : {A : Type 0} (IsValue : A → Type 0) (spell : A → List ℕ) (word : List ℕ) → SpellsOne A IsValue spell word → Decided ((value : A) × (IsValue value × (word ≡ spell value)))
+decided_spelling IsValue spell word (inl is) = inl (is.0, (is.1, is.2))
+decided_spelling IsValue spell word (inr none) = inr (λ some. none some.0 some.1.0 some.1.1)
+
 -- whether a word may stand there
 decided_kind : (kind : WordKind) (word : List ℕ) → Decided (HasForm kind word)
 decided_kind NAME word = decided_itself (IsName word) word (decided_is_name word)
 decided_kind TEXT word = decided_itself (All IsVisible word) word (decided_all IsVisible decided_visible word)
 decided_kind ROLE word = decided_role word
+decided_kind ADDRESS word = decided_spelling IsAddr addr_text word (addr_or_none word)
+decided_kind PREFIX word = decided_spelling IsSubnet prefix_text word (prefix_or_none word)
 decided_kind (NUMBER least most) word = inl tt
 decided_kind WHOM word = inl tt
 
@@ -66,6 +80,8 @@ value_or_lacks : (kind : WordKind) (word : List ℕ) → HasForm kind word → L
 value_or_lacks NAME word form = inr form
 value_or_lacks TEXT word form = inr form
 value_or_lacks ROLE word form = inr form
+value_or_lacks ADDRESS word form = inr form
+value_or_lacks PREFIX word form = inr form
 value_or_lacks (NUMBER least most) word form =
     elim (number_or_none word) [
       | inl none ↦ inl (lacks-none least most word none)
@@ -94,11 +110,19 @@ one_whom word None (Some n) a b = absurd (default_no_number n b.0 (sym a ∙ b.1
 one_whom word (Some m) None a b = absurd (default_no_number m a.0 (sym b ∙ a.1))
 one_whom word (Some m) (Some n) a b = ap Some (one_number word m n a b)
 
+-- a word spells one address: with the same AS behind it, that of one peer
+one_addr : (word : List ℕ) (one other : Addr) → IsAddrText word one → IsAddrText word other → one ≡ other
+one_addr word one other a b = ap (λ (p : Peer). p.addr)
+    (peer_text_injective (record { addr = one; asn = 0 }) (record { addr = other; asn = 0 }) (a.0, omega arith) (b.0, omega arith)
+    (ap (λ (text : List ℕ). text ++ 32 ∷ decimal 0) (sym a.1 ∙ b.1)))
+
 -- a word spells one value,
 one_value : (kind : WordKind) (word : List ℕ) (one other : ValueOf kind) → Spells kind word one → Spells kind word other → one ≡ other
 one_value NAME word one other a b = a.1 ∙ sym b.1
 one_value TEXT word one other a b = a.1 ∙ sym b.1
 one_value ROLE word one other a b = role_text_injective one other (sym a ∙ b)
+one_value ADDRESS word one other a b = one_addr word one other a b
+one_value PREFIX word one other a b = prefix_text_injective one other a.0 b.0 (sym a.1 ∙ b.1)
 one_value (NUMBER least most) word one other a b = one_number word one other a.0 b.0
 one_value WHOM word one other a b = one_whom word one other a b
 
@@ -107,6 +131,8 @@ no_lack : (kind : WordKind) (word : List ℕ) (value : ValueOf kind) → Spells 
 no_lack NAME word value is lacks = lacks
 no_lack TEXT word value is lacks = lacks
 no_lack ROLE word value is lacks = lacks
+no_lack ADDRESS word value is lacks = lacks
+no_lack PREFIX word value is lacks = lacks
 no_lack (NUMBER least most) word value is lacks = lacks value is
 no_lack WHOM word value is lacks = lacks value is
 

@@ -4,10 +4,10 @@ use Rattle.std.specs.declared.option.Option.{Option}
 use Rattle.std.specs.declared.option.Option.TheVariants.{Some, None}
 use Rattle.path_model.specs.declared.role.Role.{Role as RoleOf}
 use Rattle.script_lines.specs.declared.command.Command.{Command}
-use Rattle.script_lines.specs.declared.command.Command.TheVariants.{Aspa, Aspa64, Slurm, Filter, Unfilter, Assert, Unassert, Role, RoleDefault, Open, Take, Judge, Report}
+use Rattle.script_lines.specs.declared.command.Command.TheVariants.{Aspa, Aspa64, Slurm, Filter, Unfilter, Assert, Unassert, Role, RoleDefault, Open, Take, Judge, Report, Changes, Summary, Why}
 use Rattle.script_lines.specs.declared.command.CommandName.{CommandName}
-use Rattle.script_lines.specs.declared.command.CommandName.TheVariants.{Aspa as AspaName, Aspa64 as Aspa64Name, Slurm as SlurmName, Filter as FilterName, Unfilter as UnfilterName, Assert as AssertName, Unassert as UnassertName, Role as RoleName, Open as OpenName, Take as TakeName, Judge as JudgeName, Report as ReportName}
-use Rattle.script_lines.specs.Kinds.{WordKind, NAME, TEXT, ROLE, NUMBER, WHOM}
+use Rattle.script_lines.specs.declared.command.CommandName.TheVariants.{Aspa as AspaName, Aspa64 as Aspa64Name, Slurm as SlurmName, Filter as FilterName, Unfilter as UnfilterName, Assert as AssertName, Unassert as UnassertName, Role as RoleName, Open as OpenName, Take as TakeName, Judge as JudgeName, Report as ReportName, Changes as ChangesName, Summary as SummaryName, Why as WhyName}
+use Rattle.script_lines.specs.Kinds.{WordKind, NAME, TEXT, ROLE, ADDRESS, PREFIX, NUMBER, WHOM}
 use Rattle.script_lines.specs.Forms.{Form, end, ases, ◌then◌, Builds, IsSpelled}
 
 -- an AS, and how many units of a stream
@@ -31,6 +31,9 @@ name_text OpenName = codes "open"
 name_text TakeName = codes "take"
 name_text JudgeName = codes "judge"
 name_text ReportName = codes "report"
+name_text ChangesName = codes "changes"
+name_text SummaryName = codes "summary"
+name_text WhyName = codes "why"
 
 -- the words behind it,
 abbrev pub form_of : CommandName → Form
@@ -46,6 +49,9 @@ form_of OpenName = NAME then TEXT then end
 form_of TakeName = NAME then COUNT then end
 form_of JudgeName = ROLE then AS then ases 0
 form_of ReportName = end
+form_of ChangesName = end
+form_of SummaryName = end
+form_of WhyName = ADDRESS then AS then PREFIX then end
 
 -- a role is that of one AS, or of all ASes without one of their own
 abbrev pub sets_role : Option ℕ → RoleOf → Command
@@ -66,6 +72,9 @@ made_by OpenName = λ name file. Open name file
 made_by TakeName = λ name count. Take name count
 made_by JudgeName = λ role neighbour path. Judge role neighbour path
 made_by ReportName = Report
+made_by ChangesName = Changes
+made_by SummaryName = Summary
+made_by WhyName = λ addr asn prefix. Why addr asn prefix
 
 -- the words behind a command's name spell this command
 abbrev pub SpellsCommand : CommandName → List (List ℕ) → Command → Type 0

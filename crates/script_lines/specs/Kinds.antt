@@ -2,17 +2,23 @@
 use Rattle.std.specs.Prelude.{◌≡◌, ℕ, ◌≤◌, List, codes, All}
 use Rattle.std.specs.declared.option.Option.{Option}
 use Rattle.std.specs.declared.option.Option.TheVariants.{Some, None}
+use Rattle.path_model.specs.declared.addr.Addr.{Addr}
 use Rattle.path_model.specs.declared.role.Role.{Role}
 use Rattle.path_model.specs.Name.{IsName}
+use Rattle.path_model.specs.Prefix.{Subnet}
+use Rattle.av_text.specs.AddressText.{IsAddrText}
+use Rattle.av_text.specs.PrefixText.{IsPrefixText}
 use Rattle.av_text.specs.RoleText.{role_text}
 use Rattle.av_text.specs.Number.{IsNumber}
 use Rattle.script_lines.specs.Word.{IsVisible}
 
--- NAME, a text such as FILE, ROLE, a number from a least one to a most, and whom a role is given: an AS or all others
+-- NAME, a text such as FILE, ROLE, ADDRESS, PREFIX, a number from a least one to a most, and whom a role is given: an AS or all others
 pub data WordKind : Type 0 where
   NAME : WordKind
   TEXT : WordKind
   ROLE : WordKind
+  ADDRESS : WordKind
+  PREFIX : WordKind
   NUMBER : ℕ → ℕ → WordKind
   WHOM : WordKind
 
@@ -21,6 +27,8 @@ abbrev pub ValueOf : WordKind → Type 0
 ValueOf NAME = List ℕ
 ValueOf TEXT = List ℕ
 ValueOf ROLE = Role
+ValueOf ADDRESS = Addr
+ValueOf PREFIX = Subnet
 ValueOf (NUMBER least most) = ℕ
 ValueOf WHOM = Option ℕ
 
@@ -34,6 +42,8 @@ abbrev pub Spells : (kind : WordKind) → List ℕ → ValueOf kind → Type 0
 Spells NAME word name = IsName word × (name ≡ word)
 Spells TEXT word text = All IsVisible word × (text ≡ word)
 Spells ROLE word role = word ≡ role_text role
+Spells ADDRESS word addr = IsAddrText word addr
+Spells PREFIX word prefix = IsPrefixText word prefix
 Spells (NUMBER least most) word n = IsNumber word n × (least ≤ n) × (n ≤ most)
 Spells WHOM word whom = IsWhom word whom
 
@@ -42,6 +52,8 @@ abbrev pub HasForm : WordKind → List ℕ → Type 0
 HasForm NAME word = (name : List ℕ) × Spells NAME word name
 HasForm TEXT word = (text : List ℕ) × Spells TEXT word text
 HasForm ROLE word = (role : Role) × Spells ROLE word role
+HasForm ADDRESS word = (addr : Addr) × Spells ADDRESS word addr
+HasForm PREFIX word = (prefix : Subnet) × Spells PREFIX word prefix
 HasForm (NUMBER least most) word = Unit {0}
 HasForm WHOM word = Unit {0}
 
@@ -50,5 +62,7 @@ abbrev pub LacksNumber : WordKind → List ℕ → Type 0
 LacksNumber NAME word = ⊥
 LacksNumber TEXT word = ⊥
 LacksNumber ROLE word = ⊥
+LacksNumber ADDRESS word = ⊥
+LacksNumber PREFIX word = ⊥
 LacksNumber (NUMBER least most) word = (n : ℕ) → ¬ Spells (NUMBER least most) word n
 LacksNumber WHOM word = (whom : Option ℕ) → ¬ Spells WHOM word whom

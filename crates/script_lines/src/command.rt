@@ -4,7 +4,7 @@ ghost use Rattle.script_lines.specs.declared.command.LineFault.TheVariants.{NoMe
 
 use crate::word::Word;
 use av_base::NoMemory;
-use path_model::{AsList, Name, Role};
+use path_model::{Addr, AsList, Name, Prefix, Role};
 use thiserror::Error;
 
 /// What a line of a script asks for. ASes and providers stand in the order written, with repeats.
@@ -38,6 +38,12 @@ pub enum Command {
     Judge(Role, u32, AsList),
     /// `report`: each route of the table, with the verdict of its path.
     Report,
+    /// `changes`: each route that stands otherwise than it was marked; all are marked then.
+    Changes,
+    /// `summary`: how many routes and customers there are, and how many records were passed over and lines refused.
+    Summary,
+    /// `why ADDRESS AS PREFIX`: the verdict of the route of that peer and prefix, and what shows it.
+    Why(Addr, u32, Prefix),
 }
 
 /// A command, by the first word of its lines.
@@ -55,6 +61,9 @@ pub(crate) enum CommandName {
     Take,
     Judge,
     Report,
+    Changes,
+    Summary,
+    Why,
 }
 
 /// Why a line was refused, in the order of the tests, or that there was no memory to read it.

@@ -7,7 +7,9 @@ ghost use Rattle.script_lines.specs.Grammar.{IsCommandName, IsComment, IsPrintab
 
 use crate::command::{Command, CommandName, LineFault};
 use crate::fields::{Ases, End, Fields, Then};
-use crate::kinds::{AsWord, CountWord, NameWord, RoleWord, TextWord, WhomWord};
+use crate::kinds::{
+    AddressWord, AsWord, CountWord, NameWord, PrefixWord, RoleWord, TextWord, WhomWord,
+};
 use av_text::{Words, words};
 use path_model::Role;
 use std::alloc::Global;
@@ -73,6 +75,9 @@ fn command_name(word: &[u8]) -> Option<CommandName>
         b"take" => Some(CommandName::Take),
         b"judge" => Some(CommandName::Judge),
         b"report" => Some(CommandName::Report),
+        b"changes" => Some(CommandName::Changes),
+        b"summary" => Some(CommandName::Summary),
+        b"why" => Some(CommandName::Why),
         _ => None,
     }
 }
@@ -132,6 +137,21 @@ fn read_fields(alloc: Global, name: CommandName, words: Words<'_>) -> Result<Com
         CommandName::Report => {
             End::read(alloc, words)?;
             Ok(Command::Report)
+        }
+        CommandName::Changes => {
+            End::read(alloc, words)?;
+            Ok(Command::Changes)
+        }
+        CommandName::Summary => {
+            End::read(alloc, words)?;
+            Ok(Command::Summary)
+        }
+        CommandName::Why => {
+            let (addr, (asn, (prefix, ()))) = <Then<
+                AddressWord,
+                Then<AsWord, Then<PrefixWord, End>>,
+            >>::read(alloc, words)?;
+            Ok(Command::Why(addr, asn, prefix))
         }
     }
 }

@@ -3,8 +3,8 @@ ghost use Rattle.std.specs.Prelude.{◌≡◌, ◌↔◌, codes, IfOk, IfErr, Is
 
 use crate::command::LineFault;
 use crate::word::Word;
-use av_text::{read_name, read_role, read_u32};
-use path_model::{Name, Role};
+use av_text::{read_addr, read_name, read_prefix, read_role, read_u32};
+use path_model::{Addr, Name, Prefix, Role};
 use std::alloc::Global;
 
 /// A kind of word.
@@ -79,6 +79,46 @@ impl Kind for RoleWord {
     fn read(_alloc: Global, word: &[u8]) -> Result<Role, LineFault> {
         match read_role(word) {
             Some(role) => Ok(role),
+            None => Err(LineFault::Words),
+        }
+    }
+}
+
+/// An ADDRESS.
+pub(crate) struct AddressWord;
+
+impl Kind for AddressWord {
+    ghost use Rattle.script_lines.specs.Kinds.{ADDRESS};
+
+    type Value = Addr;
+
+    ghost kind = { ADDRESS };
+
+    ghost value = { λ addr. addr };
+
+    fn read(_alloc: Global, word: &[u8]) -> Result<Addr, LineFault> {
+        match read_addr(word) {
+            Some(addr) => Ok(addr),
+            None => Err(LineFault::Words),
+        }
+    }
+}
+
+/// A PREFIX.
+pub(crate) struct PrefixWord;
+
+impl Kind for PrefixWord {
+    ghost use Rattle.script_lines.specs.Kinds.{PREFIX};
+
+    type Value = Prefix;
+
+    ghost kind = { PREFIX };
+
+    ghost value = { λ prefix. prefix };
+
+    fn read(_alloc: Global, word: &[u8]) -> Result<Prefix, LineFault> {
+        match read_prefix(word) {
+            Some(prefix) => Ok(prefix),
             None => Err(LineFault::Words),
         }
     }

@@ -1,7 +1,9 @@
+pub mod ChangesLemmas
 pub mod FrameLemmas
 pub mod LawLemmas
 pub mod NextLemmas
 pub mod RefusalLemmas
 pub mod RowsLemmas
+pub mod SummaryLemmas
 pub mod TakingLemmas
 pub mod UnitsLemmas

@@ -2,7 +2,10 @@
 use Rattle.std.specs.Prelude.{◌≡◌, ℕ, ◌+◌, List, ◌++◌}
 use Rattle.av_text.specs.Spellings.{IsInLine}
 use Rattle.stream_lines.specs.Counts.{refusals_in}
+use Rattle.report_text.specs.declared.summary.Summary.{Summary}
+use Rattle.rib_store.specs.State.{State}
 use Rattle.stream_lines.specs.Streams.{Asking, Taking, TakesUnits}
+use Rattle.stream_lines.specs.Summary.{IsSummary}
 
 -- so many units of a dump have one text, and leave one state
 pub record HasOneOutcome (asking : Asking) (count : ℕ) (old : Taking) : Type 0 where
@@ -18,3 +21,12 @@ UnitsHaveOneOutcome = (asking : Asking) (count : ℕ) (old : Taking) → HasOneO
 abbrev pub RefusedUnitsAreCounted : Type 0
 RefusedUnitsAreCounted = (asking : Asking) (count : ℕ) (old new : Taking) (text rest : List ℕ) → IsInLine asking.name
     → TakesUnits asking count old text new → new.refused + refusals_in rest ≡ old.refused + refusals_in (text ++ rest)
+
+-- a state, with these two numbers, has one summary
+pub record HasOneSummary (state : State) (passed refused : ℕ) : Type 0 where
+  pub summary : Summary
+  pub is : IsSummary state passed refused summary
+  pub only : (other : Summary) → IsSummary state passed refused other → other ≡ summary
+
+abbrev pub EachStateHasOneSummary : Type 0
+EachStateHasOneSummary = (state : State) (passed refused : ℕ) → HasOneSummary state passed refused

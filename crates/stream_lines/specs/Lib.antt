@@ -1,3 +1,4 @@
+pub mod Changes
 pub mod Counts
 pub mod Frames
 pub mod Held
@@ -7,5 +8,6 @@ pub mod Next
 pub mod Rows
 pub mod Stops
 pub mod Streams
+pub mod Summary
 pub mod Taking
 pub mod TakingSteps

@@ -7,20 +7,24 @@
 //! outcome, and as many refusals are counted as that text has (`laws`).
 //!
 //! `dump` reads the file piece by piece and takes off what comes next. `taking` performs it, and `body` a record by what it says.
-//! `rows` writes a report of the routes, line by line, and `stop` says why a line, or the reading of a file, ends early. Lemmas for
-//! the proofs above are in `proofs/`: `FrameLemmas` for the files that a call leaves as they were, `LawLemmas` and `UnitsLemmas` for
-//! units, and `RefusalLemmas` for the refusals in a text.
+//! `rows` writes a report of the routes and `changes` what changed, line by line; `summary` sums up, and `stop` says why a line, or
+//! the reading of a file, ends early. Lemmas for the proofs above are in `proofs/`: `FrameLemmas` for the files that a call leaves as
+//! they were, `LawLemmas` and `UnitsLemmas` for units, and `RefusalLemmas` for the refusals in a text.
 #![tactic(auto)]
 
 mod body;
+mod changes;
 mod dump;
 mod laws;
 mod rows;
 mod stop;
+mod summary;
 mod taking;
 
+pub use changes::put_changes;
 pub use dump::OpenDump;
-pub use laws::{refused_units_are_counted, units_have_one_outcome};
+pub use laws::{each_state_has_one_summary, refused_units_are_counted, units_have_one_outcome};
 pub use rows::put_rows;
 pub use stop::{ReadFault, Stop};
+pub use summary::summary_of;
 pub use taking::{Asked, Progress, take_units};

@@ -217,11 +217,19 @@ fn phase_behind(phase: Phase, sent: Sent, did: Did) -> Phase {
         Did::AskedAll => Phase::AskedWhole,
         Did::Whole(_) => Phase::Ready,
         Did::Part(_) => Phase::Ready,
-        Did::Nothing => match (sent, phase) {
-            (Sent::Response(_), Phase::AskedWhole) => Phase::ReceivingWhole,
-            (Sent::Response(_), Phase::AskedChanges) => Phase::ReceivingChanges,
+        Did::Nothing => match sent {
+            Sent::Response(_) => phase_behind_response(phase),
             _ => phase,
         },
+    }
+}
+
+// The phase behind the beginning of an answer that is taken.
+fn phase_behind_response(phase: Phase) -> Phase {
+    match phase {
+        Phase::AskedWhole => Phase::ReceivingWhole,
+        Phase::AskedChanges => Phase::ReceivingChanges,
+        _ => phase,
     }
 }
 
@@ -290,15 +298,19 @@ fn a_whole_answer_gives_all_rows(rt: HostRuntime) -> Result<(), Fail> {
     Ok(())
 }
 
+// The first provider of a row, and how many it has.
+fn first_and_count(row: &Option<AsList>) -> Option<(u32, usize)> {
+    match row {
+        Some(row) => Some((row.get(0).unwrap_or(0), row.len())),
+        None => None,
+    }
+}
+
 // What a patch says of its customers: each with its first provider and how many it has.
 fn named(alloc: Global, patch: &Patch) -> Result<Vec<(u32, Option<(u32, usize)>)>, NoMemory> {
     let mut named = Vec::new(alloc);
     for (customer, row) in patch.entries() {
-        let providers = match row {
-            Some(row) => Some((row.get(0).unwrap_or(0), row.len())),
-            None => None,
-        };
-        named.push((customer, providers))?;
+        named.push((customer, first_and_count(row)))?;
     }
     Ok(named)
 }

@@ -194,7 +194,7 @@ const MERGES: [Merge; 5] = [
 #[test]
 fn paths_are_merged(rt: HostRuntime) -> Result<(), NoMemory> {
     let alloc = rt.alloc();
-    for (path, path4, want) in MERGES {
+    for (path, path4, want) in &MERGES {
         let path = hex(alloc, path)?;
         let path4 = hex(alloc, path4)?;
         match (
@@ -204,7 +204,7 @@ fn paths_are_merged(rt: HostRuntime) -> Result<(), NoMemory> {
             (Ok(one), Ok(other)) => match (one.path(), other.path()) {
                 (Some(one), Some(other)) => {
                     let items = merge4(alloc, &one, &other)?.copy()?;
-                    assert_eq!(rt; items.as_slice(), want);
+                    assert_eq!(rt; items.as_slice(), *want);
                     assert_eq!(rt; items.len(), want.len());
                     assert_eq!(rt; items.is_empty(), want.is_empty());
                     assert_eq!(rt; items.get(0), want.first());
@@ -252,12 +252,12 @@ const LISTS: [Listed; 10] = [
 
 #[test]
 fn lists_of_prefixes(rt: HostRuntime) -> Result<(), NoMemory> {
-    for (text, six, want) in LISTS {
+    for (text, six, want) in &LISTS {
         let bytes = hex(rt.alloc(), text)?;
-        match (prefixes(&bytes, six), want) {
+        match (prefixes(&bytes, *six), want) {
             (Some(found), Some(want)) => {
                 let mut left = found;
-                for (addr, len) in want {
+                for (addr, len) in *want {
                     match left.next() {
                         Some(prefix) => {
                             assert_eq!(rt; (prefix.addr(), prefix.len()), (*addr, *len), "{text}")
@@ -333,14 +333,14 @@ fn count(list: Option<Prefixes<'_>>) -> usize {
 #[test]
 fn prefixes_of_other_families(rt: HostRuntime) -> Result<(), NoMemory> {
     let alloc = rt.alloc();
-    for (text, counts, in_table) in REACHED {
+    for (text, counts, in_table) in &REACHED {
         let bytes = hex(alloc, text)?;
         match (read(&bytes, false, Form::Message), counts) {
             (Ok(attrs), Some((announced, withdrawn))) => {
                 let found = count(attrs.announced());
-                assert_eq!(rt; found, announced, "{text}");
+                assert_eq!(rt; found, *announced, "{text}");
                 let gone = count(attrs.withdrawn());
-                assert_eq!(rt; gone, withdrawn, "{text}");
+                assert_eq!(rt; gone, *withdrawn, "{text}");
             }
             (Err(Attributes), None) => {}
             _ => assert!(rt; false, "{text}"),
@@ -348,10 +348,10 @@ fn prefixes_of_other_families(rt: HostRuntime) -> Result<(), NoMemory> {
         // In a table both are passed over.
         match read(&bytes, false, Form::Table) {
             Ok(attrs) => {
-                assert!(rt; in_table && attrs.announced().is_none(), "{text}");
+                assert!(rt; *in_table && attrs.announced().is_none(), "{text}");
                 assert!(rt; attrs.withdrawn().is_none(), "{text}");
             }
-            Err(Attributes) => assert!(rt; !in_table, "{text}"),
+            Err(Attributes) => assert!(rt; !*in_table, "{text}"),
         }
     }
     // A repeated one is refused, even where the first is of another family.

@@ -316,7 +316,7 @@ fn is_key(key: &Key, peer: Peer, addr: Addr, len: u8) -> bool {
 
 #[test]
 fn records_say_what_they_should(rt: HostRuntime) -> Result<(), NoMemory> {
-    for (records, wants) in DUMPS {
+    for (records, wants) in &DUMPS {
         let stream = joined(rt.alloc(), records)?;
         read_stream(&rt, rt.alloc(), &stream, 65_536, wants)?;
     }

@@ -1,115 +1,130 @@
-//! Scripts over a shelf with files of payloads and SLURM files.
-ghost use Rattle.std.specs.Prelude.{◌≡◌};
-
-use crate::scripts::outcome_over;
-use av_base::{MemShelf, NoMemory, Plan, PlanStep};
+//! Scripts over files of payloads and SLURM files.
+use crate::hostile_dumps::test_fronts;
+use crate::rows::{FileRow, test_file_rows, test_run};
+use crate::vectors::{LONG_NUMBER, ONE, OTHER, SLURM};
+use av_base::NoMemory;
 use std::alloc::Global;
-
-// Customer 64496 attests the provider 64497, and the same customer 64498.
-const ONE: &[u8] = b"\x30\x11\xa0\x03\x02\x01\x01\x02\x03\x00\xfb\xf0\x30\x05\x02\x03\x00\xfb\xf1";
-
-const OTHER: &[u8] =
-    b"\x30\x11\xa0\x03\x02\x01\x01\x02\x03\x00\xfb\xf0\x30\x05\x02\x03\x00\xfb\xf2";
-
-// The first again, with a needless zero byte in front of its customer.
-const LONG_NUMBER: &[u8] =
-    b"\x30\x12\xa0\x03\x02\x01\x01\x02\x04\x00\x00\xfb\xf0\x30\x05\x02\x03\x00\xfb\xf1";
-
-// A SLURM file that filters customer 64496 and asserts its provider 64499.
-const SLURM: &[u8] =
-    b"{\"slurmVersion\":2,\"validationOutputFilters\":{\"prefixFilters\":[],\"bgpsecFilters\":[],\"aspaFilters\":[{\"customerAsn\":64496}]},\"locallyAddedAssertions\":{\"prefixAssertions\":[],\"bgpsecAssertions\":[],\"aspaAssertions\":[{\"customerAsn\":64496,\"providerAsns\":[64499]}]}}";
+use std::process::Abort;
 
 // The most bytes that a file may have.
 const LIMIT: usize = 67_108_864;
 
-// A shelf on which `f` and `g` have these bytes.
-fn shelf_of(alloc: Global, f: &[u8], g: &[u8], steps: &[PlanStep]) -> Result<MemShelf, NoMemory> {
-    let mut shelf = MemShelf::new(alloc, Plan::new(alloc, steps)?);
-    shelf.put("f", f)?;
-    shelf.put("g", g)?;
-    Ok(shelf)
-}
-
-// What a script over these files writes and its status.
-fn outcome_of(alloc: Global, script: &[u8], f: &[u8], g: &[u8]) -> Result<(u8, Vec<u8>), NoMemory> {
-    let shelf = shelf_of(alloc, f, g, &[])?;
-    outcome_over(alloc, script, shelf)
-}
-
 const VERDICTS: &[u8] =
     b"aspa a f\njudge customer 64497 64497 64496\njudge customer 64498 64498 64496\n";
 
-#[test]
-fn a_payload_file(rt: HostRuntime) -> Result<(), NoMemory> {
-    let (status, written) = outcome_of(rt.alloc(), VERDICTS, ONE, b"")?;
-    assert_eq!(rt; status, 0);
-    assert_eq!(rt; written.as_slice(), b"valid\ninvalid\n".as_slice());
-    Ok(())
-}
-
-#[test]
-fn a_payload_line(rt: HostRuntime) -> Result<(), NoMemory> {
-    let script =
-        b"aspa64 a f\njudge customer 64497 64497 64496\njudge customer 64498 64498 64496\n";
-    let line = b"MBGgAwIBAQIDAPvwMAUCAwD78Q==\n";
-    let (status, written) = outcome_of(rt.alloc(), script, line, b"")?;
-    assert_eq!(rt; status, 0);
-    assert_eq!(rt; written.as_slice(), b"valid\ninvalid\n".as_slice());
-    Ok(())
-}
-
-// A refused file changes nothing, and the first refused payload is named.
-#[test]
-fn a_refused_payload_file(rt: HostRuntime) -> Result<(), NoMemory> {
-    let alloc = rt.alloc();
-    let (status, written) = outcome_of(alloc, VERDICTS, LONG_NUMBER, b"")?;
-    assert_eq!(rt; status, 1);
-    let text = b"! line 1 a unit 1 cause 5 NotDer\nunknown\nunknown\n";
-    assert_eq!(rt; written.as_slice(), text.as_slice());
-    let mut both = Vec::from_slice(alloc, ONE)?;
-    both.extend_from_slice(LONG_NUMBER)?;
-    let (status, written) = outcome_of(alloc, VERDICTS, &both, b"")?;
-    assert_eq!(rt; status, 1);
-    let text = b"! line 1 a unit 2 cause 5 NotDer\nunknown\nunknown\n";
-    assert_eq!(rt; written.as_slice(), text.as_slice());
-    Ok(())
-}
-
-// Sources are united, filters leave assertions alone, and a filter can be taken back.
-#[test]
-fn two_sources_and_amendments(rt: HostRuntime) -> Result<(), NoMemory> {
-    let script =
-        b"aspa a f\naspa b g\njudge customer 64498 64498 64496\nfilter 64496\njudge customer 64498 64498 64496\nassert 64496 64499\njudge customer 64498 64498 64496\njudge customer 64499 64499 64496\nunfilter 64496\njudge customer 64497 64497 64496\n";
-    let (status, written) = outcome_of(rt.alloc(), script, ONE, OTHER)?;
-    assert_eq!(rt; status, 0);
-    let text = b"valid\nunknown\ninvalid\nvalid\nvalid\n";
-    assert_eq!(rt; written.as_slice(), text.as_slice());
-    Ok(())
-}
+const PAYLOADS: [FileRow; 10] = [
+    (VERDICTS, &[("f", &[ONE])], b"valid\ninvalid\n", 0),
+    (
+        b"aspa64 a f\njudge customer 64497 64497 64496\njudge customer 64498 64498 64496\n",
+        &[("f", &[b"MBGgAwIBAQIDAPvwMAUCAwD78Q==\n"])],
+        b"valid\ninvalid\n",
+        0,
+    ),
+    // A refused file changes nothing, and the first refused payload is named.
+    (
+        VERDICTS,
+        &[("f", &[LONG_NUMBER])],
+        b"! line 1 a unit 1 cause 5 NotDer\nunknown\nunknown\n",
+        1,
+    ),
+    (
+        VERDICTS,
+        &[("f", &[ONE, LONG_NUMBER])],
+        b"! line 1 a unit 2 cause 5 NotDer\nunknown\nunknown\n",
+        1,
+    ),
+    // A length of four bytes that are all set, and one that isn't definite.
+    (
+        b"aspa a f\n",
+        &[("f", &[b"\x30\x84\xff\xff\xff\xff"])],
+        b"! line 1 a unit 1 cause 5 NotDer\n",
+        1,
+    ),
+    (
+        b"aspa a f\n",
+        &[("f", &[b"\x30\x80"])],
+        b"! line 1 a unit 1 cause 5 NotDer\n",
+        1,
+    ),
+    // An empty file has no payload, and takes its name.
+    (
+        b"aspa a f\nopen a f\n",
+        &[("f", &[])],
+        b"! line 2 cause 35 NameTaken\n",
+        1,
+    ),
+    (
+        b"aspa a f\nopen a f\n",
+        &[("f", &[ONE])],
+        b"! line 2 cause 35 NameTaken\n",
+        1,
+    ),
+    // Sources are united, filters leave assertions alone, and a filter can be taken back.
+    (
+        b"aspa a f\naspa b g\njudge customer 64498 64498 64496\nfilter 64496\njudge customer 64498 64498 64496\nassert 64496 64499\njudge customer 64498 64498 64496\njudge customer 64499 64499 64496\nunfilter 64496\njudge customer 64497 64497 64496\n",
+        &[("f", &[ONE]), ("g", &[OTHER])],
+        b"valid\nunknown\ninvalid\nvalid\nvalid\n",
+        0,
+    ),
+    (
+        b"aspa a h\nslurm h\n",
+        &[("f", &[ONE])],
+        b"! line 1 cause 37 NoFile\n! line 2 cause 37 NoFile\n",
+        1,
+    ),
+];
 
 const AMENDED: &[u8] =
     b"aspa a f\nslurm g\njudge customer 64499 64499 64496\njudge customer 64497 64497 64496\n";
 
+const AMENDMENTS: [FileRow; 3] = [
+    (
+        AMENDED,
+        &[("f", &[ONE]), ("g", &[SLURM])],
+        b"valid\ninvalid\n",
+        0,
+    ),
+    (
+        AMENDED,
+        &[("f", &[ONE]), ("g", &[b"{"])],
+        b"! line 2 slurm unit 1 cause 11 Json\ninvalid\nvalid\n",
+        1,
+    ),
+    (
+        b"slurm f\n",
+        &[("f", &[])],
+        b"! line 1 slurm unit 1 cause 11 Json\n",
+        1,
+    ),
+];
+
 #[test]
-fn a_slurm_file(rt: HostRuntime) -> Result<(), NoMemory> {
-    let alloc = rt.alloc();
-    let (status, written) = outcome_of(alloc, AMENDED, ONE, SLURM)?;
-    assert_eq!(rt; status, 0);
-    assert_eq!(rt; written.as_slice(), b"valid\ninvalid\n".as_slice());
-    let (status, written) = outcome_of(alloc, AMENDED, ONE, b"{")?;
-    assert_eq!(rt; status, 1);
-    let text = b"! line 2 slurm unit 1 cause 11 Json\ninvalid\nvalid\n";
-    assert_eq!(rt; written.as_slice(), text.as_slice());
-    Ok(())
+fn payload_files(rt: HostRuntime) -> Result<(), NoMemory> {
+    test_file_rows(&rt, rt.alloc(), &PAYLOADS)
 }
 
 #[test]
-fn a_missing_file(rt: HostRuntime) -> Result<(), NoMemory> {
-    let (status, written) = outcome_of(rt.alloc(), b"aspa a h\nslurm h\n", ONE, b"")?;
-    assert_eq!(rt; status, 1);
-    let text = b"! line 1 cause 37 NoFile\n! line 2 cause 37 NoFile\n";
-    assert_eq!(rt; written.as_slice(), text.as_slice());
-    Ok(())
+fn slurm_files(rt: HostRuntime) -> Result<(), NoMemory> {
+    test_file_rows(&rt, rt.alloc(), &AMENDMENTS)
+}
+
+#[test]
+fn cut_files(rt: HostRuntime) -> Result<(), NoMemory> {
+    let alloc = rt.alloc();
+    let text = b"! line 1 a unit 1 cause 5 NotDer\n";
+    test_fronts(&rt, alloc, b"aspa a f\n", b"", ONE, text)?;
+    let text = b"! line 1 slurm unit 1 cause 11 Json\n";
+    test_fronts(&rt, alloc, b"slurm f\n", b"", SLURM, text)
+}
+
+// Runs a script over a file of these bytes, which is refused so.
+fn test_refused_file(
+    rt: &impl Abort,
+    alloc: Global,
+    bytes: &[u8],
+    text: &[u8],
+) -> Result<(), NoMemory> {
+    test_run(rt, alloc, b"aspa a f\n", &[("f", &[bytes])], text, 1)
 }
 
 // A file of the most bytes is read, and one byte more is too many, whatever the bytes are.
@@ -117,52 +132,7 @@ fn a_missing_file(rt: HostRuntime) -> Result<(), NoMemory> {
 fn the_limit_of_a_file(rt: HostRuntime) -> Result<(), NoMemory> {
     let alloc = rt.alloc();
     let mut bytes = vec![in alloc; b'\n'; LIMIT]?;
-    let (status, written) = outcome_of(alloc, b"aspa a f\n", &bytes, b"")?;
-    assert_eq!(rt; status, 1);
-    assert_eq!(rt;
-        written.as_slice(),
-        b"! line 1 a unit 1 cause 5 NotDer\n".as_slice()
-    );
+    test_refused_file(&rt, alloc, &bytes, b"! line 1 a unit 1 cause 5 NotDer\n")?;
     bytes.push(b'\n')?;
-    let (status, written) = outcome_of(alloc, b"aspa a f\n", &bytes, b"")?;
-    assert_eq!(rt; status, 1);
-    assert_eq!(rt;
-        written.as_slice(),
-        b"! line 1 cause 40 FileLong\n".as_slice()
-    );
-    Ok(())
-}
-
-/// Calls that move a few bytes each, and then one that fails.
-pub fn failing_at(alloc: Global, k: usize) -> Result<Vec<PlanStep>, NoMemory> {
-    let mut steps = Vec::new(alloc);
-    for i in 0..k {
-        steps.push(PlanStep::AtMost(1 + (i % 3) as u32))?;
-    }
-    steps.push(PlanStep::Fail)?;
-    Ok(steps)
-}
-
-// A failing shelf ends the run with 3, and the text of the lines before is written. However the files are cut, the text is the same.
-#[test]
-fn each_call_of_the_shelf_fails_in_turn(rt: HostRuntime) -> Result<(), NoMemory> {
-    let alloc = rt.alloc();
-    let script = b"judge customer 1 1\naspa a f\nslurm g\njudge customer 64499 64499 64496\n";
-    let (_, whole) = outcome_of(alloc, script, ONE, SLURM)?;
-    for k in 0..200 {
-        let plan = failing_at(alloc, k)?;
-        let shelf = shelf_of(alloc, ONE, SLURM, &plan)?;
-        let (status, written) = outcome_over(alloc, script, shelf)?;
-        if status == 0 {
-            assert_eq!(rt; written.as_slice(), whole.as_slice());
-        } else {
-            assert_eq!(rt;
-                (status, written.as_slice()),
-                (3, b"valid\n".as_slice()),
-                "at call {k}"
-            );
-        }
-    }
-    assert_eq!(rt; whole.as_slice(), b"valid\nvalid\n".as_slice());
-    Ok(())
+    test_refused_file(&rt, alloc, &bytes, b"! line 1 cause 40 FileLong\n")
 }

@@ -1,14 +1,13 @@
-//! Tests over the libraries, of what no contract says: that the definitions mean what they should, and that a call succeeds.
+//! Tests of the whole program through its top call, of what no contract says: that a run does what it should.
 //!
-//! Each table has its expected values worked out by hand. `scripts` goes through [`aspa_top::run`] over the forms in memory;
-//! `file_scripts` likewise over a shelf with files of attestations, and `dump_scripts` with dumps. `readings` reads lines by themselves,
-//! `judgements` judges paths in a small world, with their witnesses, `long_chains` the longest path there is, `confirming` puts claims to
-//! the checker, `faults` lets each call of the outside fail in turn, and `outside`, `texts` and `hops` call the lower layers once
-//! each.
+//! Each table has its expected values worked out by hand. `scripts` has scripts alone, `file_scripts` those over files of attestations,
+//! `dump_scripts` those over dumps, `change_scripts` those that ask what changed, and `hostile_dumps` those over dumps that are cut or
+//! refused; `faults` lets each call of the outside fail in turn. `runs` makes one run over the forms in memory, `rows` compares it with
+//! what is wanted, and `vectors` has the bytes.
 #![tactic(auto)]
 
 #[cfg(test)]
-mod confirming;
+mod change_scripts;
 #[cfg(test)]
 mod dump_scripts;
 #[cfg(test)]
@@ -16,22 +15,12 @@ mod faults;
 #[cfg(test)]
 mod file_scripts;
 #[cfg(test)]
-mod hops;
+mod hostile_dumps;
 #[cfg(test)]
-mod judgements;
+mod rows;
 #[cfg(test)]
-mod ladder;
-#[cfg(test)]
-mod long_chains;
-#[cfg(test)]
-mod outside;
-#[cfg(test)]
-mod readings;
+mod runs;
 #[cfg(test)]
 mod scripts;
 #[cfg(test)]
-mod texts;
-#[cfg(test)]
-mod wording;
-#[cfg(test)]
-mod world;
+mod vectors;

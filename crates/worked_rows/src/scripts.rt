@@ -1,75 +1,10 @@
-ghost use Rattle.std.specs.Prelude.{◌≡◌};
-
-use aspa_top::{SCRIPT_LIMIT, run};
-use av_base::{MemShelf, MemSink, MemSource, NoLinks, NoMemory, Plan, PlanStep, Steps};
+//! Scripts of assertions and judgements, and lines that are refused.
+use crate::rows::{Row, test_rows};
+use crate::runs::{SOUND, outcome};
+use aspa_top::SCRIPT_LIMIT;
+use av_base::NoMemory;
 use std::alloc::Global;
-use std::marker::Brand;
-use std::sync::ledger::{Blank, Ledger};
-
-/// The status of a run over the forms in memory without files, and what was written.
-pub fn outcome(
-    alloc: Global,
-    words: &[&str],
-    script: &[u8],
-    reads: &[PlanStep],
-    writes: &[PlanStep],
-) -> Result<(u8, Vec<u8>), NoMemory> {
-    let mut owned = Vec::new(alloc);
-    for word in words {
-        owned.push(String::from_str(alloc, word)?)?;
-    }
-    let mut source = MemSource::new(alloc, script, Plan::new(alloc, reads)?)?;
-    let mut sink = MemSink::new(alloc, Plan::new(alloc, writes)?);
-    let mut shelf = MemShelf::new(alloc, Plan::new(alloc, &[])?);
-    let status = status_of(alloc, &owned, &mut source, &mut shelf, &mut sink);
-    Ok((status, Vec::from_slice(alloc, sink.written())?))
-}
-
-/// The status of a run of this script over this shelf, and what was written.
-pub fn outcome_over(
-    alloc: Global,
-    script: &[u8],
-    mut shelf: MemShelf,
-) -> Result<(u8, Vec<u8>), NoMemory> {
-    let mut owned = Vec::new(alloc);
-    owned.push(String::from_str(alloc, "run")?)?;
-    let mut source = MemSource::new(alloc, script, Plan::new(alloc, &[])?)?;
-    let mut sink = MemSink::new(alloc, Plan::new(alloc, &[])?);
-    let status = status_of(alloc, &owned, &mut source, &mut shelf, &mut sink);
-    Ok((status, Vec::from_slice(alloc, sink.written())?))
-}
-
-// Runs with a counter that is made here.
-fn status_of(
-    alloc: Global,
-    words: &Vec<String>,
-    script: &mut MemSource,
-    shelf: &mut MemShelf,
-    sink: &mut MemSink,
-) -> u8 {
-    run_counted::<Brand>(alloc, words, script, shelf, sink, Blank::new(1))
-}
-
-// Runs with a counter of steps of its own.
-fn run_counted<L: Ledger>(
-    alloc: Global,
-    words: &Vec<String>,
-    script: &mut MemSource,
-    shelf: &mut MemShelf,
-    sink: &mut MemSink,
-    blank: Blank,
-) -> u8
-    requires name { blank.name ≡ L.name }
-    requires parts { blank.parts ≡ L.parts }
-    requires one { L.parts ≡ 1 }
-{
-    let mut steps = Steps::<L>::new(blank);
-    let mut links = NoLinks::new();
-    run(alloc, words, script, shelf, &mut links, sink, &mut steps)
-}
-
-// A script, what it writes, and its status.
-type Row = (&'static [u8], &'static [u8], u8);
+use std::process::Abort;
 
 const ROWS: [Row; 15] = [
     // The example of the README.
@@ -118,10 +53,10 @@ const ROWS: [Row; 15] = [
         b"invalid\nunknown\ninvalid\n",
         0,
     ),
-    // The largest numbers, and one more.
+    // The largest numbers, and one more; no units.
     (
-        b"assert 4294967295 4294967294\njudge customer 4294967294 4294967294 4294967295\nassert 4294967296 1\n",
-        b"valid\n! line 3 cause 34 Number\n",
+        b"assert 4294967295 4294967294\njudge customer 4294967294 4294967294 4294967295\nassert 4294967296 1\ntake d 0\n",
+        b"valid\n! line 3 cause 34 Number\n! line 4 cause 34 Number\n",
         1,
     ),
     // Assertions of one customer are united, and those after a judgement don't count for it.
@@ -185,121 +120,95 @@ const LINES: [Row; 24] = [
 
 #[test]
 fn rows(rt: HostRuntime) -> Result<(), NoMemory> {
-    for (script, text, status) in ROWS {
-        let (ended, written) = outcome(rt.alloc(), &["run"], script, &[], &[])?;
-        assert_eq!(rt; written.as_slice(), text);
-        assert_eq!(rt; ended, status);
-    }
-    Ok(())
+    test_rows(&rt, rt.alloc(), &ROWS)
 }
 
 #[test]
 fn lines(rt: HostRuntime) -> Result<(), NoMemory> {
-    for (script, text, status) in LINES {
-        let (ended, written) = outcome(rt.alloc(), &["run"], script, &[], &[])?;
-        assert_eq!(rt; written.as_slice(), text);
-        assert_eq!(rt; ended, status);
-    }
-    Ok(())
+    test_rows(&rt, rt.alloc(), &LINES)
 }
+
+// Words of neither form.
+const OTHER_WORDS: [&[&str]; 8] = [
+    &[],
+    &["run", "x"],
+    &["Run"],
+    &[""],
+    &["demo"],
+    &["demo", "01"],
+    &["demo", "4294967296"],
+    &["demo", "1", "2"],
+];
 
 #[test]
 fn other_words(rt: HostRuntime) -> Result<(), NoMemory> {
-    let script = b"judge customer 1 1\n";
-    let alloc = rt.alloc();
-    assert_eq!(rt;
-        outcome(alloc, &[], script, &[], &[])?,
-        (2, Vec::new(alloc))
-    );
-    assert_eq!(rt;
-        outcome(alloc, &["run", "x"], script, &[], &[])?,
-        (2, Vec::new(alloc))
-    );
-    assert_eq!(rt;
-        outcome(alloc, &["demo", "1"], script, &[], &[])?,
-        (2, Vec::new(alloc))
-    );
-    assert_eq!(rt;
-        outcome(alloc, &["Run"], script, &[], &[])?,
-        (2, Vec::new(alloc))
-    );
-    assert_eq!(rt;
-        outcome(alloc, &[""], script, &[], &[])?,
-        (2, Vec::new(alloc))
-    );
-    Ok(())
+    test_other_words(&rt, rt.alloc(), &OTHER_WORDS)
 }
 
-// A line may have 4,096 bytes, and a comment any number.
-#[test]
-fn long_lines(rt: HostRuntime) -> Result<(), NoMemory> {
-    let alloc = rt.alloc();
-    for (byte, count, ending, text) in [
-        (
-            b'a',
-            4096,
-            b"\n".as_slice(),
-            b"! line 1 cause 32 Command\n".as_slice(),
-        ),
-        (
-            b'a',
-            4096,
-            b"\r\n".as_slice(),
-            b"! line 1 cause 32 Command\n".as_slice(),
-        ),
-        (
-            b'a',
-            4097,
-            b"\n".as_slice(),
-            b"! line 1 cause 31 Long\n".as_slice(),
-        ),
-        (
-            b'a',
-            4097,
-            b"".as_slice(),
-            b"! line 1 cause 31 Long\n".as_slice(),
-        ),
-        (b' ', 4096, b"\n".as_slice(), b"".as_slice()),
-        (
-            b' ',
-            4097,
-            b"\n".as_slice(),
-            b"! line 1 cause 31 Long\n".as_slice(),
-        ),
-        (b'#', 5001, b"\n".as_slice(), b"".as_slice()),
-    ] {
-        let mut script = vec![in alloc; byte; count]?;
-        script.extend_from_slice(ending)?;
-        let (_, written) = outcome(alloc, &["run"], &script, &[], &[])?;
-        assert_eq!(rt; written.as_slice(), text);
+fn test_other_words(rt: &impl Abort, alloc: Global, all: &[&[&str]]) -> Result<(), NoMemory> {
+    for words in all {
+        let (status, written) = outcome(alloc, words, b"judge customer 1 1\n", &[], SOUND)?;
+        assert_eq!(rt; (status, written.len()), (2, 0), "{words:?}");
     }
     Ok(())
 }
 
-// A script of the most bytes ends with 0. Over the limit the lines that end within it are performed, and others aren't.
-// The script is one long comment in front of a few short lines: what is tried is the limit, not a count of lines.
+// A byte, how many of it begin a script, how the script ends, and what it writes.
+type LongLine = (u8, usize, &'static [u8], &'static [u8]);
+
+// A line may have 4,096 bytes, and a comment any number.
+const LONG_LINES: [LongLine; 7] = [
+    (b'a', 4096, b"\n", b"! line 1 cause 32 Command\n"),
+    (b'a', 4096, b"\r\n", b"! line 1 cause 32 Command\n"),
+    (b'a', 4097, b"\n", b"! line 1 cause 31 Long\n"),
+    (b'a', 4097, b"", b"! line 1 cause 31 Long\n"),
+    (b' ', 4096, b"\n", b""),
+    (b' ', 4097, b"\n", b"! line 1 cause 31 Long\n"),
+    (b'#', 5001, b"\n", b""),
+];
+
+#[test]
+fn long_lines(rt: HostRuntime) -> Result<(), NoMemory> {
+    test_long_lines(&rt, rt.alloc(), &LONG_LINES)
+}
+
+fn test_long_lines(rt: &impl Abort, alloc: Global, all: &[LongLine]) -> Result<(), NoMemory> {
+    for (byte, count, ending, text) in all {
+        let mut script = vec![in alloc; *byte; *count]?;
+        script.extend_from_slice(ending)?;
+        let (_, written) = outcome(alloc, &["run"], &script, &[], SOUND)?;
+        assert_eq!(rt; written.as_slice(), *text);
+    }
+    Ok(())
+}
+
+// The status of a script of one comment in front of a few lines, and what it writes.
+fn behind_a_comment(alloc: Global, length: usize, lines: &[u8]) -> Result<(u8, Vec<u8>), NoMemory> {
+    let mut script = vec![in alloc; b'#'; length]?;
+    script.extend_from_slice(lines)?;
+    outcome(alloc, &["run"], &script, &[], SOUND)
+}
+
+// A script of the most bytes ends with 0.
 #[test]
 fn the_limit_of_a_script(rt: HostRuntime) -> Result<(), NoMemory> {
     let alloc = rt.alloc();
-    let mut script = vec![in alloc; b'#'; SCRIPT_LIMIT]?;
-    let (status, _) = outcome(alloc, &["run"], &script, &[], &[])?;
+    let (status, _) = behind_a_comment(alloc, SCRIPT_LIMIT, b"")?;
     assert_eq!(rt; status, 0);
-    script.push(b'\n')?;
-    let (status, written) = outcome(alloc, &["run"], &script, &[], &[])?;
+    let (status, written) = behind_a_comment(alloc, SCRIPT_LIMIT, b"\n")?;
     assert_eq!(rt; (status, written.len()), (6, 0));
+    Ok(())
+}
 
-    // The last LF within the limit ends a line that is performed; the line that is cut by the limit isn't.
-    let line = b"judge customer 1 1\n";
-    script.truncate(SCRIPT_LIMIT - line.len() - 1);
-    script.push(b'\n')?;
-    script.extend_from_slice(line)?;
-    script.extend_from_slice(line)?;
-    let (status, written) = outcome(alloc, &["run"], &script, &[], &[])?;
-    assert_eq!(rt; status, 6);
-    assert_eq!(rt; written.as_slice(), b"valid\n".as_slice());
-    script.remove(0);
-    let (status, written) = outcome(alloc, &["run"], &script, &[], &[])?;
-    assert_eq!(rt; status, 6);
-    assert_eq!(rt; written.as_slice(), b"valid\n".as_slice());
+// Over the limit the lines that end within it are performed, and the line that it cuts isn't. A line has 19 bytes.
+#[test]
+fn lines_at_the_limit(rt: HostRuntime) -> Result<(), NoMemory> {
+    let alloc = rt.alloc();
+    let lines = b"\njudge customer 1 1\njudge customer 1 1\n";
+    for before in [SCRIPT_LIMIT - 20, SCRIPT_LIMIT - 21] {
+        let (status, written) = behind_a_comment(alloc, before, lines)?;
+        assert_eq!(rt; status, 6);
+        assert_eq!(rt; written.as_slice(), b"valid\n".as_slice());
+    }
     Ok(())
 }

@@ -1,173 +1,231 @@
-use Rattle.std.proofs.Common.{◌≡◌, ◌+◌, ◌-◌, ◌≤◌, refl, ap, ◌∙◌, arith}
+use Rattle.std.proofs.Common.{◌≡◌, ◌+◌, ◌-◌, ◌≤◌, Ok, refl, sym, ap, subst, ◌∙◌, arith, rules}
 use Rattle.std.specs.Io.KnownBytes.{append_known}
-use Rattle.rib_store.specs.State.{State as Analysis}
-use Rattle.aspa_top.proofs.PerformingLemmas.{idle, happened, judged, reported, reported_part, part_none, part_whole, IsSound-happened}
+use Rattle.av_base.proofs.PouringLemmas.{Grows-refl}
+use Rattle.script_lines.specs.declared.command.Command.TheVariants.{Open, Take, Report, Changes}
+use Rattle.aspa_top.specs.declared.task.Task.{Task}
+use Rattle.aspa_top.specs.declared.working.Working.{Working}
+use Rattle.aspa_top.specs.Tasks.{DoesTask}
+use Rattle.aspa_top.proofs.PerformingLemmas.{goes_as, ok_goes_as, part_as, uses_as, uses_load, within_as, listed, listed_part, IsSound-marked, reported, reported_part, part_none, part_whole}
+use Rattle.aspa_top.proofs.ShortLemmas.{IsSound-short, short_goes}
 use Rattle.aspa_top.proofs.StandsLemmas.{IsSound-kept}
 use Rattle.aspa_top.proofs.TableLemmas.{loaded}
 use Rattle.aspa_top.proofs.performing.perform_command.Goals as goal
 
-pub returns-in-Idle-clause-goes : goal.returns-in-Idle-clause-goes
-returns-in-Idle-clause-goes g c = rw c.in-Idle.is (idle _ _ _ _)
+pub perform_short-requires-clause-within : goal.perform_short-requires-clause-within
+perform_short-requires-clause-within g c = within_as c.args.command _ (sym c.task_of.ensures ∙ c.in-Short.is) c.requires.within
 
-pub returns-in-Idle-clause-part : goal.returns-in-Idle-clause-part
-returns-in-Idle-clause-part g c = part_none _ _ _ _ _ refl
+pub perform_short-requires-clause-room : goal.perform_short-requires-clause-room
+perform_short-requires-clause-room g c = omega (arith, c.requires.sound.refused, c.requires.room.1)
 
-pub returns-in-Idle-clause-sound : goal.returns-in-Idle-clause-sound
-returns-in-Idle-clause-sound g c = IsSound-kept _ _ _ _ c.args.working c.args.working (omega (arith, c.requires.room.0)) (omega arith) c.requires.sound (λ q. refl) (omega arith) (omega arith)
+pub take-requires-clause-few : goal.take-requires-clause-few
+take-requires-clause-few g c = within_as c.args.command _ (sym c.task_of.ensures ∙ c.in-Take.is) c.requires.within
 
-pub returns-in_err-happen-in-Filter-clause-part : goal.returns-in_err-happen-in-Filter-clause-part
-returns-in_err-happen-in-Filter-clause-part g c = part_none _ _ _ _ _ refl
+pub returns-in_ok-perform_short-in-Short : goal.returns-in_ok-perform_short-in-Short
+returns-in_ok-perform_short-in-Short g c =
+    let same = sym c.task_of.ensures ∙ c.in-Short.is in
+    let goes = short_goes c.args.working _ c.args.command _ _ _ _ _ same c.in_ok-perform_short-in-Short.ensures.done _ (g.W.Sink.written c.args.out.now) in
+    record {
+      goes = goes;
+      sound = IsSound-short c.args.working _ _ _ _ (omega (arith, c.requires.room.0)) c.requires.sound c.in_ok-perform_short-in-Short.ensures.keeps;
+      lines = c.in_ok-perform_short-in-Short.ensures.keeps.lines;
+      part = part_whole c.args.working _ _ _ _ _ _ _ _ goes;
+      grows = Grows-refl _;
+      ticks = c.perform_short.ensures.ticks;
+      names = refl;
+      shelf_faults = omega arith;
+      sink_faults = omega arith;
+      uses = search rules;
+      shelf_cause = search rules;
+      held = search rules;
+      sink_cause = search rules;
+    }
 
-pub returns-in_ok-happen-in-Filter-clause-goes : goal.returns-in_ok-happen-in-Filter-clause-goes
-returns-in_ok-happen-in-Filter-clause-goes g c =
-    rw c.in-Filter.is (happened c.args.working _ _ _ c.in_ok-happen-in-Filter.ensures.happened (λ world state text after causes. causes) _ _ _ _ c.happen.ensures.ticks)
+pub returns-in_err-perform_short-in-Short : goal.returns-in_err-perform_short-in-Short
+returns-in_err-perform_short-in-Short g c =
+    record {
+      goes = search rules;
+      sound = search rules;
+      lines = search rules;
+      part = part_none c.args.working _ _ _ _ (ap (append_known (g.W.Sink.written c.args.out.now)) c.in_err-perform_short-in-Short.ensures.err);
+      grows = Grows-refl _;
+      ticks = c.perform_short.ensures.ticks;
+      names = refl;
+      shelf_faults = omega arith;
+      sink_faults = omega arith;
+      uses = search rules;
+      shelf_cause = search rules;
+      held = search rules;
+      sink_cause = search rules;
+    }
 
-pub returns-in_ok-happen-in-Filter-clause-part : goal.returns-in_ok-happen-in-Filter-clause-part
-returns-in_ok-happen-in-Filter-clause-part g c = part_whole _ _ _ _ _ _ _ _ _ (returns-in_ok-happen-in-Filter-clause-goes g c)
+pub returns-in_ok-load-in-Load : goal.returns-in_ok-load-in-Load
+returns-in_ok-load-in-Load g c =
+    let same = sym c.task_of.ensures ∙ c.in-Load.is in
+    let goes = loaded _ _ c.args.working _ _ _ _ _ _ (λ world state text after loads. subst (λ (task : Task). DoesTask world state task text after) (sym same) loads)
+    c.in_ok-load-in-Load.ensures.loads (g.W.Sink.written c.args.out.now) _ _ c.load.ensures.ticks in
+    record {
+      goes = goes;
+      sound = c.in_ok-load-in-Load.ensures.sound;
+      lines = c.in_ok-load-in-Load.ensures.lines;
+      part = part_whole c.args.working _ _ _ _ _ _ _ _ goes;
+      grows = Grows-refl _;
+      ticks = omega (arith, c.load.ensures.ticks);
+      names = c.load.ensures.names;
+      shelf_faults = c.load.ensures.faults;
+      sink_faults = omega arith;
+      uses = search rules;
+      shelf_cause = search rules;
+      held = search rules;
+      sink_cause = search rules;
+    }
 
-pub returns-in_ok-happen-in-Filter-clause-sound : goal.returns-in_ok-happen-in-Filter-clause-sound
-returns-in_ok-happen-in-Filter-clause-sound g c =
-    IsSound-happened c.args.working _ _ _ _ _ _ (omega (arith, c.requires.room.0)) (omega arith) c.requires.sound c.in_ok-happen-in-Filter.ensures.happened
+pub returns-in_err-load-in-Load : goal.returns-in_err-load-in-Load
+returns-in_err-load-in-Load g c =
+    record {
+      goes = search rules;
+      sound = search rules;
+      lines = search rules;
+      part = part_none c.args.working _ _ _ _ (ap (append_known (g.W.Sink.written c.args.out.now)) c.in_err-load-in-Load.ensures.err);
+      grows = Grows-refl _;
+      ticks = omega (arith, c.load.ensures.ticks);
+      names = c.load.ensures.names;
+      shelf_faults = c.load.ensures.faults;
+      sink_faults = omega arith;
+      uses = λ failed. uses_load c.args.working c.args.command _ _ (sym c.task_of.ensures ∙ c.in-Load.is) _;
+      shelf_cause = search rules;
+      held = search rules;
+      sink_cause = search rules;
+    }
 
-pub returns-in_err-happen-in-Unfilter-clause-part : goal.returns-in_err-happen-in-Unfilter-clause-part
-returns-in_err-happen-in-Unfilter-clause-part g c = part_none _ _ _ _ _ refl
+pub returns-in_ok-open-in-Open : goal.returns-in_ok-open-in-Open
+returns-in_ok-open-in-Open g c =
+    let same = sym c.task_of.ensures ∙ c.in-Open.is in
+    let goes = goes_as c.args.working _ c.args.command (Open c.in-Open.name c.in-Open.file) same _ _ _ _ _ _ (c.in_ok-open-in-Open.ensures.steps (g.W.Sink.written c.args.out.now) c.args.steps.now) in
+    record {
+      goes = goes;
+      sound = c.in_ok-open-in-Open.ensures.sound;
+      lines = c.in_ok-open-in-Open.ensures.lines;
+      part = part_whole c.args.working _ _ _ _ _ _ _ _ goes;
+      grows = Grows-refl _;
+      ticks = omega arith;
+      names = c.open.ensures.names;
+      shelf_faults = c.open.ensures.faults;
+      sink_faults = omega arith;
+      uses = search rules;
+      shelf_cause = search rules;
+      held = search rules;
+      sink_cause = search rules;
+    }
 
-pub returns-in_ok-happen-in-Unfilter-clause-goes : goal.returns-in_ok-happen-in-Unfilter-clause-goes
-returns-in_ok-happen-in-Unfilter-clause-goes g c =
-    rw c.in-Unfilter.is (happened c.args.working _ _ _ c.in_ok-happen-in-Unfilter.ensures.happened (λ world state text after causes. causes) _ _ _ _ c.happen-in-Unfilter.ensures.ticks)
+pub returns-in_err-open-in-Open : goal.returns-in_err-open-in-Open
+returns-in_err-open-in-Open g c =
+    record {
+      goes = search rules;
+      sound = search rules;
+      lines = search rules;
+      part = part_none c.args.working _ _ _ _ (ap (append_known (g.W.Sink.written c.args.out.now)) c.in_err-open-in-Open.ensures.err);
+      grows = Grows-refl _;
+      ticks = omega arith;
+      names = c.open.ensures.names;
+      shelf_faults = c.open.ensures.faults;
+      sink_faults = omega arith;
+      uses = λ failed. uses_as c.args.working c.args.working c.args.command (Open c.in-Open.name c.in-Open.file) (sym c.task_of.ensures ∙ c.in-Open.is) _ (λ state stands. tt);
+      shelf_cause = search rules;
+      held = search rules;
+      sink_cause = search rules;
+    }
 
-pub returns-in_ok-happen-in-Unfilter-clause-part : goal.returns-in_ok-happen-in-Unfilter-clause-part
-returns-in_ok-happen-in-Unfilter-clause-part g c = part_whole _ _ _ _ _ _ _ _ _ (returns-in_ok-happen-in-Unfilter-clause-goes g c)
+pub returns-in-Take : goal.returns-in-Take
+returns-in-Take g c =
+    let same = sym c.task_of.ensures ∙ c.in-Take.is in
+    record {
+      goes = ok_goes_as c.args.working c.args.command (Take c.in-Take.name c.in-Take.count) same c.take.result _ _ _ _ _ _ c.take.ensures.ticks c.take.ensures.goes;
+      sound = c.take.ensures.sound;
+      lines = c.take.ensures.lines;
+      part = part_as c.args.working c.args.working c.args.command (Take c.in-Take.name c.in-Take.count) same _ _ _ c.take.ensures.part;
+      grows = c.take.ensures.grows;
+      ticks = omega (arith, c.take.ensures.ticks);
+      names = c.take.ensures.names;
+      shelf_faults = c.take.ensures.shelf_faults;
+      sink_faults = c.take.ensures.sink_faults;
+      uses = λ failed. uses_as c.args.working c.args.working c.args.command (Take c.in-Take.name c.in-Take.count) same _ (c.take.ensures.uses failed);
+      shelf_cause = c.take.ensures.shelf_cause;
+      held = c.take.ensures.held;
+      sink_cause = c.take.ensures.sink_cause;
+    }
 
-pub returns-in_ok-happen-in-Unfilter-clause-sound : goal.returns-in_ok-happen-in-Unfilter-clause-sound
-returns-in_ok-happen-in-Unfilter-clause-sound g c =
-    IsSound-happened c.args.working _ _ _ _ _ _ (omega (arith, c.requires.room.0)) (omega arith) c.requires.sound c.in_ok-happen-in-Unfilter.ensures.happened
+pub returns-in_ok-put_rows-in-Report : goal.returns-in_ok-put_rows-in-Report
+returns-in_ok-put_rows-in-Report g c =
+    let same = sym c.task_of.ensures ∙ c.in-Report.is in
+    let goes = goes_as c.args.working _ c.args.command Report same _ _ _ _ _ _ (reported c.args.working _ _ _ _ _ c.store.ensures c.in_ok-put_rows-in-Report.ensures.whole) in
+    record {
+      goes = goes;
+      sound = IsSound-kept _ _ _ _ c.args.working c.args.working (omega (arith, c.requires.room.0)) (omega arith) c.requires.sound (λ q. refl) (omega arith) (omega arith);
+      lines = refl;
+      part = part_whole c.args.working _ _ _ _ _ _ _ _ goes;
+      grows = c.put_rows.ensures.grows;
+      ticks = omega arith;
+      names = refl;
+      shelf_faults = omega arith;
+      sink_faults = c.put_rows.ensures.sink_faults;
+      uses = search rules;
+      shelf_cause = search rules;
+      held = search rules;
+      sink_cause = search rules;
+    }
 
-pub returns-in_err-happen-in-Assert-clause-part : goal.returns-in_err-happen-in-Assert-clause-part
-returns-in_err-happen-in-Assert-clause-part g c = part_none _ _ _ _ _ refl
+pub returns-in_err-put_rows-in-Report : goal.returns-in_err-put_rows-in-Report
+returns-in_err-put_rows-in-Report g c =
+    record {
+      goes = search rules;
+      sound = search rules;
+      lines = search rules;
+      part = part_as c.args.working c.args.working c.args.command Report (sym c.task_of.ensures ∙ c.in-Report.is) _ _ _ (reported_part c.args.working _ _ _ _ c.store.ensures c.put_rows.ensures.front);
+      grows = c.put_rows.ensures.grows;
+      ticks = omega arith;
+      names = refl;
+      shelf_faults = omega arith;
+      sink_faults = c.put_rows.ensures.sink_faults;
+      uses = search rules;
+      shelf_cause = search rules;
+      held = search rules;
+      sink_cause = search rules;
+    }
 
-pub returns-in_ok-happen-in-Assert-clause-goes : goal.returns-in_ok-happen-in-Assert-clause-goes
-returns-in_ok-happen-in-Assert-clause-goes g c =
-    rw c.in-Assert.is (happened c.args.working _ _ _ c.in_ok-happen-in-Assert.ensures.happened (λ world state text after causes. causes) _ _ _ _ c.happen-in-Assert.ensures.ticks)
+pub returns-in_ok-put_changes-in-Changes : goal.returns-in_ok-put_changes-in-Changes
+returns-in_ok-put_changes-in-Changes g c =
+    let same = sym c.task_of.ensures ∙ c.in-Changes.is in
+    let goes = goes_as c.args.working _ c.args.command Changes same _ _ _ _ _ _ (listed c.args.working _ _ _ _ _ _ c.store-in-Changes.ensures c.in_ok-put_changes-in-Changes.ensures.whole c.mark.ensures) in
+    record {
+      goes = goes;
+      sound = IsSound-marked c.args.working _ _ _ _ (omega (arith, c.requires.room.0)) c.requires.sound c.mark.ensures;
+      lines = ap (λ (w : Working). w.lines) c.mark.ensures.left;
+      part = part_whole c.args.working _ _ _ _ _ _ _ _ goes;
+      grows = c.put_changes.ensures.grows;
+      ticks = omega arith;
+      names = refl;
+      shelf_faults = omega arith;
+      sink_faults = c.put_changes.ensures.sink_faults;
+      uses = search rules;
+      shelf_cause = search rules;
+      held = search rules;
+      sink_cause = search rules;
+    }
 
-pub returns-in_ok-happen-in-Assert-clause-part : goal.returns-in_ok-happen-in-Assert-clause-part
-returns-in_ok-happen-in-Assert-clause-part g c = part_whole _ _ _ _ _ _ _ _ _ (returns-in_ok-happen-in-Assert-clause-goes g c)
-
-pub returns-in_ok-happen-in-Assert-clause-sound : goal.returns-in_ok-happen-in-Assert-clause-sound
-returns-in_ok-happen-in-Assert-clause-sound g c =
-    IsSound-happened c.args.working _ _ _ _ _ _ (omega (arith, c.requires.room.0)) (omega arith) c.requires.sound c.in_ok-happen-in-Assert.ensures.happened
-
-pub returns-in_err-happen-in-Unassert-clause-part : goal.returns-in_err-happen-in-Unassert-clause-part
-returns-in_err-happen-in-Unassert-clause-part g c = part_none _ _ _ _ _ refl
-
-pub returns-in_ok-happen-in-Unassert-clause-goes : goal.returns-in_ok-happen-in-Unassert-clause-goes
-returns-in_ok-happen-in-Unassert-clause-goes g c =
-    rw c.in-Unassert.is (happened c.args.working _ _ _ c.in_ok-happen-in-Unassert.ensures.happened (λ world state text after causes. causes) _ _ _ _ c.happen-in-Unassert.ensures.ticks)
-
-pub returns-in_ok-happen-in-Unassert-clause-part : goal.returns-in_ok-happen-in-Unassert-clause-part
-returns-in_ok-happen-in-Unassert-clause-part g c = part_whole _ _ _ _ _ _ _ _ _ (returns-in_ok-happen-in-Unassert-clause-goes g c)
-
-pub returns-in_ok-happen-in-Unassert-clause-sound : goal.returns-in_ok-happen-in-Unassert-clause-sound
-returns-in_ok-happen-in-Unassert-clause-sound g c =
-    IsSound-happened c.args.working _ _ _ _ _ _ (omega (arith, c.requires.room.0)) (omega arith) c.requires.sound c.in_ok-happen-in-Unassert.ensures.happened
-
-pub returns-in_err-happen-in-Role-clause-part : goal.returns-in_err-happen-in-Role-clause-part
-returns-in_err-happen-in-Role-clause-part g c = part_none _ _ _ _ _ refl
-
-pub returns-in_ok-happen-in-Role-clause-goes : goal.returns-in_ok-happen-in-Role-clause-goes
-returns-in_ok-happen-in-Role-clause-goes g c =
-    rw c.in-Role.is (happened c.args.working _ _ _ c.in_ok-happen-in-Role.ensures.happened (λ world state text after causes. causes) _ _ _ _ c.happen-in-Role.ensures.ticks)
-
-pub returns-in_ok-happen-in-Role-clause-part : goal.returns-in_ok-happen-in-Role-clause-part
-returns-in_ok-happen-in-Role-clause-part g c = part_whole _ _ _ _ _ _ _ _ _ (returns-in_ok-happen-in-Role-clause-goes g c)
-
-pub returns-in_ok-happen-in-Role-clause-sound : goal.returns-in_ok-happen-in-Role-clause-sound
-returns-in_ok-happen-in-Role-clause-sound g c =
-    IsSound-happened c.args.working _ _ _ _ _ _ (omega (arith, c.requires.room.0)) (omega arith) c.requires.sound c.in_ok-happen-in-Role.ensures.happened
-
-pub returns-in_err-happen-in-RoleDefault-clause-part : goal.returns-in_err-happen-in-RoleDefault-clause-part
-returns-in_err-happen-in-RoleDefault-clause-part g c = part_none _ _ _ _ _ refl
-
-pub returns-in_ok-happen-in-RoleDefault-clause-goes : goal.returns-in_ok-happen-in-RoleDefault-clause-goes
-returns-in_ok-happen-in-RoleDefault-clause-goes g c =
-    rw c.in-RoleDefault.is (happened c.args.working _ _ _ c.in_ok-happen-in-RoleDefault.ensures.happened (λ world state text after causes. causes) _ _ _ _ c.happen-in-RoleDefault.ensures.ticks)
-
-pub returns-in_ok-happen-in-RoleDefault-clause-part : goal.returns-in_ok-happen-in-RoleDefault-clause-part
-returns-in_ok-happen-in-RoleDefault-clause-part g c = part_whole _ _ _ _ _ _ _ _ _ (returns-in_ok-happen-in-RoleDefault-clause-goes g c)
-
-pub returns-in_ok-happen-in-RoleDefault-clause-sound : goal.returns-in_ok-happen-in-RoleDefault-clause-sound
-returns-in_ok-happen-in-RoleDefault-clause-sound g c =
-    IsSound-happened c.args.working _ _ _ _ _ _ (omega (arith, c.requires.room.0)) (omega arith) c.requires.sound c.in_ok-happen-in-RoleDefault.ensures.happened
-
-pub returns-in_err-load-in-Aspa-clause-part : goal.returns-in_err-load-in-Aspa-clause-part
-returns-in_err-load-in-Aspa-clause-part g c = part_none _ _ _ _ _ (ap (append_known (g.W.Sink.written c.args.out.now)) c.in_err-load-in-Aspa.ensures.err)
-
-pub returns-in_err-load-in-Aspa-clause-uses : goal.returns-in_err-load-in-Aspa-clause-uses
-returns-in_err-load-in-Aspa-clause-uses g c = rw c.in-Aspa.is (λ failed state stands. tt)
-
-pub returns-in_ok-load-in-Aspa-clause-goes : goal.returns-in_ok-load-in-Aspa-clause-goes
-returns-in_ok-load-in-Aspa-clause-goes g c =
-    rw c.in-Aspa.is (loaded _ _ c.args.working _ _ _ _ _ _ (λ world state text after loads. loads) c.in_ok-load-in-Aspa.ensures.loads (g.W.Sink.written c.args.out.now) _ _ c.load.ensures.ticks)
-
-pub returns-in_ok-load-in-Aspa-clause-part : goal.returns-in_ok-load-in-Aspa-clause-part
-returns-in_ok-load-in-Aspa-clause-part g c = part_whole _ _ _ _ _ _ _ _ _ (returns-in_ok-load-in-Aspa-clause-goes g c)
-
-pub returns-in_err-load-in-Aspa64-clause-part : goal.returns-in_err-load-in-Aspa64-clause-part
-returns-in_err-load-in-Aspa64-clause-part g c = part_none _ _ _ _ _ (ap (append_known (g.W.Sink.written c.args.out.now)) c.in_err-load-in-Aspa64.ensures.err)
-
-pub returns-in_err-load-in-Aspa64-clause-uses : goal.returns-in_err-load-in-Aspa64-clause-uses
-returns-in_err-load-in-Aspa64-clause-uses g c = rw c.in-Aspa64.is (λ failed state stands. tt)
-
-pub returns-in_ok-load-in-Aspa64-clause-goes : goal.returns-in_ok-load-in-Aspa64-clause-goes
-returns-in_ok-load-in-Aspa64-clause-goes g c =
-    rw c.in-Aspa64.is (loaded _ _ c.args.working _ _ _ _ _ _ (λ world state text after loads. loads) c.in_ok-load-in-Aspa64.ensures.loads (g.W.Sink.written c.args.out.now) _ _ c.load-in-Aspa64.ensures.ticks)
-
-pub returns-in_ok-load-in-Aspa64-clause-part : goal.returns-in_ok-load-in-Aspa64-clause-part
-returns-in_ok-load-in-Aspa64-clause-part g c = part_whole _ _ _ _ _ _ _ _ _ (returns-in_ok-load-in-Aspa64-clause-goes g c)
-
-pub returns-in_err-load-in-Slurm-clause-part : goal.returns-in_err-load-in-Slurm-clause-part
-returns-in_err-load-in-Slurm-clause-part g c = part_none _ _ _ _ _ (ap (append_known (g.W.Sink.written c.args.out.now)) c.in_err-load-in-Slurm.ensures.err)
-
-pub returns-in_err-load-in-Slurm-clause-uses : goal.returns-in_err-load-in-Slurm-clause-uses
-returns-in_err-load-in-Slurm-clause-uses g c = rw c.in-Slurm.is (λ failed state stands. tt)
-
-pub returns-in_ok-load-in-Slurm-clause-goes : goal.returns-in_ok-load-in-Slurm-clause-goes
-returns-in_ok-load-in-Slurm-clause-goes g c =
-    rw c.in-Slurm.is (loaded _ _ c.args.working _ _ _ _ _ _ (λ world state text after loads. loads) c.in_ok-load-in-Slurm.ensures.loads (g.W.Sink.written c.args.out.now) _ _ c.load-in-Slurm.ensures.ticks)
-
-pub returns-in_ok-load-in-Slurm-clause-part : goal.returns-in_ok-load-in-Slurm-clause-part
-returns-in_ok-load-in-Slurm-clause-part g c = part_whole _ _ _ _ _ _ _ _ _ (returns-in_ok-load-in-Slurm-clause-goes g c)
-
-pub returns-in_err-open-in-Open-clause-part : goal.returns-in_err-open-in-Open-clause-part
-returns-in_err-open-in-Open-clause-part g c = part_none _ _ _ _ _ (ap (append_known (g.W.Sink.written c.args.out.now)) c.in_err-open-in-Open.ensures.err)
-
-pub returns-in_err-open-in-Open-clause-uses : goal.returns-in_err-open-in-Open-clause-uses
-returns-in_err-open-in-Open-clause-uses g c = rw c.in-Open.is (λ failed state stands. tt)
-
-pub returns-in_ok-open-in-Open-clause-part : goal.returns-in_ok-open-in-Open-clause-part
-returns-in_ok-open-in-Open-clause-part g c = rw c.in-Open.is (part_whole _ _ _ _ _ _ _ _ _ (c.in_ok-open-in-Open.ensures.steps (g.W.Sink.written c.args.out.now) 0))
-
-pub returns-in_err-put_judgement-in-Judge-clause-part : goal.returns-in_err-put_judgement-in-Judge-clause-part
-returns-in_err-put_judgement-in-Judge-clause-part g c = part_none _ _ _ _ _ (ap (append_known (g.W.Sink.written c.args.out.now)) c.in_err-put_judgement-in-Judge.ensures.err)
-
-pub returns-in_ok-put_judgement-in-Judge-clause-goes : goal.returns-in_ok-put_judgement-in-Judge-clause-goes
-returns-in_ok-put_judgement-in-Judge-clause-goes g c =
-    rw c.in-Judge.is (judged c.args.working c.in-Judge.role c.in-Judge.neighbour c.in-Judge.path _ _ _ _ _ _ _ (c.table-table.ensures ∙ ap (λ (a : Analysis). a.parts) c.store.ensures) c.in_ok-put_judgement-in-Judge.ensures.judged c.in_ok-put_judgement-in-Judge.ensures.ticked)
-
-pub returns-in_ok-put_judgement-in-Judge-clause-part : goal.returns-in_ok-put_judgement-in-Judge-clause-part
-returns-in_ok-put_judgement-in-Judge-clause-part g c = part_whole _ _ _ _ _ _ _ _ _ (returns-in_ok-put_judgement-in-Judge-clause-goes g c)
-
-pub returns-in_ok-put_judgement-in-Judge-clause-sound : goal.returns-in_ok-put_judgement-in-Judge-clause-sound
-returns-in_ok-put_judgement-in-Judge-clause-sound g c = IsSound-kept _ _ _ _ c.args.working c.args.working (omega (arith, c.requires.room.0)) (omega arith) c.requires.sound (λ q. refl) (omega arith) (omega arith)
-
-pub returns-in_err-put_rows-in-Report-clause-part : goal.returns-in_err-put_rows-in-Report-clause-part
-returns-in_err-put_rows-in-Report-clause-part g c = rw c.in-Report.is (reported_part c.args.working _ _ _ _ c.store-in-Report.ensures c.put_rows.ensures.front)
-
-pub returns-in_ok-put_rows-in-Report-clause-goes : goal.returns-in_ok-put_rows-in-Report-clause-goes
-returns-in_ok-put_rows-in-Report-clause-goes g c = rw c.in-Report.is (reported c.args.working _ _ _ _ _ c.store-in-Report.ensures c.in_ok-put_rows-in-Report.ensures.whole)
-
-pub returns-in_ok-put_rows-in-Report-clause-part : goal.returns-in_ok-put_rows-in-Report-clause-part
-returns-in_ok-put_rows-in-Report-clause-part g c = rw c.in-Report.is (reported_part c.args.working _ _ _ _ c.store-in-Report.ensures c.put_rows.ensures.front)
-
-pub returns-in_ok-put_rows-in-Report-clause-sound : goal.returns-in_ok-put_rows-in-Report-clause-sound
-returns-in_ok-put_rows-in-Report-clause-sound g c = IsSound-kept _ _ _ _ c.args.working c.args.working (omega (arith, c.requires.room.0)) (omega arith) c.requires.sound (λ q. refl) (omega arith) (omega arith)
+pub returns-in_err-put_changes-in-Changes : goal.returns-in_err-put_changes-in-Changes
+returns-in_err-put_changes-in-Changes g c =
+    record {
+      goes = search rules;
+      sound = search rules;
+      lines = search rules;
+      part = part_as c.args.working c.args.working c.args.command Changes (sym c.task_of.ensures ∙ c.in-Changes.is) _ _ _ (listed_part c.args.working _ _ _ _ c.store-in-Changes.ensures c.put_changes.ensures.front);
+      grows = c.put_changes.ensures.grows;
+      ticks = omega arith;
+      names = refl;
+      shelf_faults = omega arith;
+      sink_faults = c.put_changes.ensures.sink_faults;
+      uses = search rules;
+      shelf_cause = search rules;
+      held = search rules;
+      sink_cause = search rules;
+    }

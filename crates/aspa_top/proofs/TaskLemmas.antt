@@ -1,0 +1,266 @@
+-- A task has one text, and leaves one state.
+use Rattle.std.proofs.Common.{◌≡◌, ℕ, Bool, true, false, List, [], ◌∷◌, ◌++◌, None, Some, refl, sym, ap, subst, ◌∙◌}
+use Rattle.std.specs.FinMap as fin
+use Rattle.std.specs.declared.option.Option.{Option}
+use Rattle.std.specs.Option.{unwrap_or}
+use Rattle.path_model.specs.declared.role.Role.{Role}
+use Rattle.path_model.specs.declared.key.Key.{Key}
+use Rattle.path_model.specs.declared.verdict.Verdict.{Verdict}
+use Rattle.path_model.specs.declared.witness.Witness.{Witness}
+use Rattle.path_model.specs.Authority.{Table}
+use Rattle.path_model.specs.PrintedWitness.{IsPrinted}
+use Rattle.path_model.specs.Roles.{role_of}
+use Rattle.path_model.specs.Trail.{Path, path_of}
+use Rattle.path_model.specs.ComputedTable.{table_of}
+use Rattle.path_model.proofs.PartsLemmas.{table_is_current, parts_have_one_table}
+use Rattle.path_model.proofs.LawLemmas.{some_right, one_printed}
+use Rattle.path_model.proofs.WitnessLemmas.{printed_facts}
+use Rattle.av_text.specs.VerdictText.{verdict_text}
+use Rattle.report_text.specs.Summary.{summary_text}
+use Rattle.report_text.specs.Why.{why_text}
+use Rattle.rib_store.specs.State.{State as Analysis}
+use Rattle.rib_store.specs.Shown.{IsExplained}
+use Rattle.rib_store.proofs.ChangeLawLemmas.{has_one_list_of_changes}
+use Rattle.rib_store.proofs.MarkLemmas.{has_one_marking}
+use Rattle.rib_store.proofs.ReportLemmas.{has_one_report}
+use Rattle.analyser.specs.declared.event.Event.{Event}
+use Rattle.analyser.specs.declared.event.Event.TheVariants.{Table as TableEvent}
+use Rattle.analyser.proofs.EventLemmas.{one_outcome_of}
+use Rattle.stream_lines.specs.Changes.{changes_text}
+use Rattle.stream_lines.specs.Streams.{Dump}
+use Rattle.stream_lines.specs.Rows.{rows_text}
+use Rattle.stream_lines.proofs.LawLemmas.{some_units, units_unique}
+use Rattle.stream_lines.proofs.SummaryLemmas.{some_summary, one_summary}
+use Rattle.aspa_top.specs.declared.loading.FileKind.{FileKind}
+use Rattle.aspa_top.specs.declared.loading.Outcome.{Outcome}
+use Rattle.aspa_top.specs.declared.loading.Outcome.TheVariants.{NoFile, Long as FileLong, Flawed, Good}
+use Rattle.aspa_top.specs.declared.task.Short.{Short as ShortTask}
+use Rattle.aspa_top.specs.declared.task.Short.TheVariants.{Idle, Happen, Judge, Summary as SumUp, Why}
+use Rattle.aspa_top.specs.declared.task.Task.{Task}
+use Rattle.aspa_top.specs.declared.task.Task.TheVariants.{Short, Load, Open, Take, Report, Changes}
+use Rattle.aspa_top.specs.Tasks.{State, Causes, Holds, TakesFile, LoadsUnless, OpensNamed, TakesOpen, TakesNamed, IsJudged, Reports, SumsUp, ShowsChanges, ExplainsRoute, DoesShort, DoesTask, is_taken, with_name, asking_of, taking_of, after_taking}
+use Rattle.aspa_top.specs.World.{World}
+use Rattle.aspa_top.proofs.JudgedLemmas.{IsJudged-unique}
+use Rattle.aspa_top.proofs.OutcomeLemmas.{some_outcome, outcome_unique}
+
+-- ---- a text
+
+-- a text and a state of which this is said
+abbrev pub Some_that : (List ℕ → State → Type 0) → Type 0
+Some_that Says = (text : List ℕ) × (next : State) × Says text next
+
+some_event : (state : State) (event : Event) → Some_that (Causes state event)
+some_event state event =
+    let one = one_outcome_of state.analysis event in
+    ([], record state { analysis = one.outcome }, record { silent = refl; analysis = one.outcome; happens = one.happens; left = refl })
+
+some_holding : (state : State) (kind : FileKind) (event : Event) → Some_that (Holds state kind event)
+some_holding state kind event =
+    let one = one_outcome_of state.analysis event in
+    ([], record state { analysis = one.outcome; sources = with_name kind state.sources }, record { silent = refl; analysis = one.outcome; happens = one.happens; left = refl })
+
+some_taking : (state : State) (kind : FileKind) (outcome : Outcome) → Some_that (TakesFile state kind outcome)
+some_taking state kind NoFile = (_, _, (refl, refl))
+some_taking state kind FileLong = (_, _, (refl, refl))
+some_taking state kind (Flawed flaw) = (_, _, (refl, refl))
+some_taking state kind (Good change) = some_holding state kind (TableEvent change)
+
+some_load : (taken : Bool) (world : World) (state : State) (kind : FileKind) (file : List ℕ) → Some_that (LoadsUnless taken world state kind file)
+some_load true world state kind file = (_, _, (refl, refl))
+some_load false world state kind file =
+    let found = some_outcome kind (world.named file) in
+    let takes = some_taking state kind found.0 in
+    (takes.0, takes.1, record { outcome = found.0; comes = found.1; takes = takes.2 })
+
+some_opening : (has : Bool) (dump : Option Dump) (named : Option (List ℕ)) (state : State) (name : List ℕ) → Some_that (OpensNamed has dump named state name)
+some_opening true dump named state name = (_, _, (refl, refl))
+some_opening false (Some dump) named state name = (_, _, (refl, refl))
+some_opening false None None state name = (_, _, (refl, refl))
+some_opening false None (Some bytes) state name = ([], _, (refl, refl))
+
+some_units_of : (over : Bool) (state : State) (name : List ℕ) (count : ℕ) (dump : Dump) → Some_that (TakesOpen over state name count dump)
+some_units_of true state name count dump = (_, _, (refl, refl))
+some_units_of false state name count dump =
+    let units = some_units (asking_of state name) count (taking_of state dump) in
+    (units.0, after_taking state name units.1, record { end = units.1; takes = units.2; next_is = refl })
+
+some_take : (dump : Option Dump) (state : State) (name : List ℕ) (count : ℕ) → Some_that (TakesNamed dump state name count)
+some_take None state name count = (_, _, (refl, refl))
+some_take (Some dump) state name count = some_units_of dump.over state name count dump
+
+some_report : (state : State) → Some_that (Reports state)
+some_report state =
+    let one = has_one_report state.analysis in
+    (rows_text one.rows, state, record { rows = one.rows; are = one.are; text_is = refl; left = refl })
+
+some_changes : (state : State) → Some_that (ShowsChanges state)
+some_changes state =
+    let list = has_one_list_of_changes state.analysis in
+    let marking = has_one_marking state.analysis in (
+      changes_text list.changes,
+      record state { analysis = marking.marking },
+      record { changes = list.changes; are = list.are; text_is = refl; analysis = marking.marking; marked = marking.is; left = refl },
+    )
+
+some_reason : (path : Option Path) (state : State) (key : Key) → fin.get state.analysis.routes key ≡ path → Some_that (ExplainsRoute path state key)
+some_reason None state key route = (_, _, (refl, refl))
+some_reason (Some path) state key route =
+    let table = table_of state.analysis.parts in
+    let role = role_of state.analysis.roles key.peer.asn in
+    let one = one_printed table role key.peer.asn path in (
+      why_text one.verdict one.witness,
+      state,
+      record {
+        verdict = one.verdict;
+        witness = one.witness;
+        explained = record {
+          path = path;
+          route = route;
+          table = table;
+          current = table_is_current state.analysis.parts;
+          printed = one.printed;
+          facts = printed_facts table role key.peer.asn path one.verdict one.witness one.printed;
+        };
+        text_is = refl;
+        left = refl;
+      },
+    )
+
+some_short : (state : State) (short : ShortTask) → Some_that (DoesShort state short)
+some_short state Idle = ([], state, (refl, refl))
+some_short state (Happen event) = some_event state event
+some_short state (Judge role neighbour path) =
+    let parts = state.analysis.parts in
+    let found = some_right (table_of parts) role neighbour (path_of false path) in
+    (verdict_text found.0 ++ 10 ∷ [], _, (record { table = table_of parts; current = table_is_current parts; verdict = found.0; right = found.1; text_is = refl }, refl))
+some_short state SumUp =
+    let found = some_summary state.analysis state.passed state.refused in
+    (summary_text found.0, state, record { summary = found.0; is = found.1; text_is = refl; left = refl })
+some_short state (Why key) = some_reason (fin.get state.analysis.routes key) state key refl
+
+-- each task has a text
+pub some_task : (world : World) (state : State) (task : Task) → Some_that (DoesTask world state task)
+some_task world state (Short short) = some_short state short
+some_task world state (Load kind file) = some_load (is_taken state kind) world state kind file
+some_task world state (Open name file) = some_opening (state.sources name) (state.dumps name) (world.named file) state name
+some_task world state (Take name count) = some_take (state.dumps name) state name count
+some_task world state Report = some_report state
+some_task world state Changes = some_changes state
+
+-- ---- and no other
+
+-- two texts and states that are said to be the same
+pub both : {S : Type 0} (one other text : List ℕ) (end last state : S) → (one ≡ text) × (end ≡ state)
+    → (other ≡ text) × (last ≡ state) → (one ≡ other) × (end ≡ last)
+both {S} one other text end last state a b = (a.0 ∙ sym b.0, a.1 ∙ sym b.1)
+
+-- an event has no two outcomes
+Causes-unique : (state : State) (event : Event) (one other : List ℕ) (end last : State)
+    → Causes state event one end → Causes state event other last → (one ≡ other) × (end ≡ last)
+Causes-unique state event one other end last a b =
+    let outcome = one_outcome_of state.analysis event in (
+      a.silent ∙ sym b.silent,
+      a.left ∙ ap (λ (n : Analysis). record state { analysis = n }) (outcome.only a.analysis a.happens ∙ sym (outcome.only b.analysis b.happens)) ∙ sym b.left,
+    )
+
+Holds-unique : (state : State) (kind : FileKind) (event : Event) (one other : List ℕ) (end last : State)
+    → Holds state kind event one end → Holds state kind event other last → (one ≡ other) × (end ≡ last)
+Holds-unique state kind event one other end last a b =
+    let outcome = one_outcome_of state.analysis event in (
+      a.silent ∙ sym b.silent,
+      a.left ∙ ap (λ (n : Analysis). record state { analysis = n; sources = with_name kind state.sources }) (outcome.only a.analysis a.happens ∙ sym (outcome.only b.analysis b.happens)) ∙ sym b.left,
+    )
+
+-- nor has what comes of a file
+TakesFile-unique : (state : State) (kind : FileKind) (outcome : Outcome) (one other : List ℕ) (end last : State)
+    → TakesFile state kind outcome one end → TakesFile state kind outcome other last → (one ≡ other) × (end ≡ last)
+TakesFile-unique state kind NoFile one other end last a b = both one other _ end last _ a b
+TakesFile-unique state kind FileLong one other end last a b = both one other _ end last _ a b
+TakesFile-unique state kind (Flawed flaw) one other end last a b = both one other _ end last _ a b
+TakesFile-unique state kind (Good change) one other end last a b = Holds-unique state kind (TableEvent change) one other end last a b
+
+Loads-unique : (taken : Bool) (world : World) (state : State) (kind : FileKind) (file one other : List ℕ) (end last : State)
+    → LoadsUnless taken world state kind file one end → LoadsUnless taken world state kind file other last → (one ≡ other) × (end ≡ last)
+Loads-unique true world state kind file one other end last a b = both one other _ end last _ a b
+Loads-unique false world state kind file one other end last a b =
+    let same = outcome_unique kind (world.named file) b.outcome a.outcome b.comes a.comes in
+    TakesFile-unique state kind a.outcome one other end last a.takes (subst (λ (o : Outcome). TakesFile state kind o other last) same b.takes)
+
+Opens-unique : (has : Bool) (dump : Option Dump) (named : Option (List ℕ)) (state : State) (name one other : List ℕ) (end last : State)
+    → OpensNamed has dump named state name one end → OpensNamed has dump named state name other last → (one ≡ other) × (end ≡ last)
+Opens-unique true dump named state name one other end last a b = both one other _ end last _ a b
+Opens-unique false (Some dump) named state name one other end last a b = both one other _ end last _ a b
+Opens-unique false None None state name one other end last a b = both one other _ end last _ a b
+Opens-unique false None (Some bytes) state name one other end last a b = both one other _ end last _ a b
+
+TakesOpen-unique : (over : Bool) (state : State) (name : List ℕ) (count : ℕ) (dump : Dump) (one other : List ℕ) (end last : State)
+    → TakesOpen over state name count dump one end → TakesOpen over state name count dump other last → (one ≡ other) × (end ≡ last)
+TakesOpen-unique true state name count dump one other end last a b = both one other _ end last _ a b
+TakesOpen-unique false state name count dump one other end last a b =
+    let units = units_unique (asking_of state name) count (taking_of state dump) one other a.end b.end a.takes b.takes in
+    (units.0, a.next_is ∙ ap (after_taking state name) units.1 ∙ sym b.next_is)
+
+Takes-unique : (dump : Option Dump) (state : State) (name : List ℕ) (count : ℕ) (one other : List ℕ) (end last : State)
+    → TakesNamed dump state name count one end → TakesNamed dump state name count other last → (one ≡ other) × (end ≡ last)
+Takes-unique None state name count one other end last a b = both one other _ end last _ a b
+Takes-unique (Some dump) state name count one other end last a b = TakesOpen-unique dump.over state name count dump one other end last a b
+
+Reports-unique : (state : State) (one other : List ℕ) (end last : State)
+    → Reports state one end → Reports state other last → (one ≡ other) × (end ≡ last)
+Reports-unique state one other end last a b =
+    let rows = has_one_report state.analysis in
+    (a.text_is ∙ ap rows_text (rows.only a.rows a.are ∙ sym (rows.only b.rows b.are)) ∙ sym b.text_is, a.left ∙ sym b.left)
+
+SumsUp-unique : (state : State) (one other : List ℕ) (end last : State)
+    → SumsUp state one end → SumsUp state other last → (one ≡ other) × (end ≡ last)
+SumsUp-unique state one other end last a b =
+    (a.text_is ∙ ap summary_text (one_summary state.analysis state.passed state.refused a.summary b.summary a.is b.is) ∙ sym b.text_is, a.left ∙ sym b.left)
+
+ShowsChanges-unique : (state : State) (one other : List ℕ) (end last : State)
+    → ShowsChanges state one end → ShowsChanges state other last → (one ≡ other) × (end ≡ last)
+ShowsChanges-unique state one other end last a b =
+    let list = has_one_list_of_changes state.analysis in
+    let marking = has_one_marking state.analysis in (
+      a.text_is ∙ ap changes_text (list.only a.changes a.are ∙ sym (list.only b.changes b.are)) ∙ sym b.text_is,
+      a.left ∙ ap (λ (n : Analysis). record state { analysis = n }) (marking.only a.analysis a.marked ∙ sym (marking.only b.analysis b.marked)) ∙ sym b.left,
+    )
+
+-- a route has one reason
+one_reason : (state : Analysis) (key : Key) (v w : Verdict) (x y : Witness) → IsExplained state key v x → IsExplained state key w y → (v ≡ w) × (x ≡ y)
+one_reason state key v w x y a b =
+    let role = role_of state.roles key.peer.asn in
+    let path : a.path ≡ b.path = ap (λ (o : Option Path). unwrap_or o a.path) (sym a.route ∙ b.route) in
+    let tables = parts_have_one_table state.parts in
+    let table : a.table ≡ b.table = λ i q. (tables.only a.table a.current q ∙ sym (tables.only b.table b.current q)) i in
+    let one = one_printed b.table role key.peer.asn b.path in
+    let first : IsPrinted b.table role key.peer.asn b.path v x =
+    subst (λ (p : Path). IsPrinted b.table role key.peer.asn p v x) path (subst (λ (t : Table). IsPrinted t role key.peer.asn a.path v x) table a.printed) in
+    let v_is = one.only v x first in
+    let w_is = one.only w y b.printed in
+    (v_is.0 ∙ sym w_is.0, v_is.1 ∙ sym w_is.1)
+
+ExplainsRoute-unique : (path : Option Path) (state : State) (key : Key) (one other : List ℕ) (end last : State)
+    → ExplainsRoute path state key one end → ExplainsRoute path state key other last → (one ≡ other) × (end ≡ last)
+ExplainsRoute-unique None state key one other end last a b = both one other _ end last _ a b
+ExplainsRoute-unique (Some path) state key one other end last a b =
+    let same = one_reason state.analysis key a.verdict b.verdict a.witness b.witness a.explained b.explained in
+    (a.text_is ∙ (λ i. why_text (same.0 i) (same.1 i)) ∙ sym b.text_is, a.left ∙ sym b.left)
+
+DoesShort-unique : (state : State) (short : ShortTask) (one other : List ℕ) (end last : State)
+    → DoesShort state short one end → DoesShort state short other last → (one ≡ other) × (end ≡ last)
+DoesShort-unique state Idle one other end last a b = both one other _ end last _ a b
+DoesShort-unique state (Happen event) one other end last a b = Causes-unique state event one other end last a b
+DoesShort-unique state (Judge role neighbour path) one other end last a b =
+    (IsJudged-unique state.analysis.parts role neighbour path one other a.0 b.0, a.1 ∙ sym b.1)
+DoesShort-unique state SumUp one other end last a b = SumsUp-unique state one other end last a b
+DoesShort-unique state (Why key) one other end last a b = ExplainsRoute-unique (fin.get state.analysis.routes key) state key one other end last a b
+
+-- a task has no two texts, and leaves no two states
+pub DoesTask-unique : (world : World) (state : State) (task : Task) (one other : List ℕ) (end last : State)
+    → DoesTask world state task one end → DoesTask world state task other last → (one ≡ other) × (end ≡ last)
+DoesTask-unique world state (Short short) one other end last a b = DoesShort-unique state short one other end last a b
+DoesTask-unique world state (Load kind file) one other end last a b = Loads-unique (is_taken state kind) world state kind file one other end last a b
+DoesTask-unique world state (Open name file) one other end last a b = Opens-unique (state.sources name) (state.dumps name) (world.named file) state name one other end last a b
+DoesTask-unique world state (Take name count) one other end last a b = Takes-unique (state.dumps name) state name count one other end last a b
+DoesTask-unique world state Report one other end last a b = Reports-unique state one other end last a b
+DoesTask-unique world state Changes one other end last a b = ShowsChanges-unique state one other end last a b

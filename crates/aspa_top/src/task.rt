@@ -1,0 +1,80 @@
+//! What a command asks for.
+ghost use Rattle.std.specs.Prelude.{◌≡◌};
+ghost use Rattle.aspa_top.specs.Evaluation.{table_event, task_of};
+
+use crate::loading::FileKind;
+use analyser::Event;
+use path_model::{AsList, Key, Name, Peer, Role};
+use script_lines::{Command, Word};
+use vap_table::TableChange;
+
+/// What a line does to the world, or with it.
+#[derive(Drop)]
+pub(crate) enum Task {
+    /// It uses no file, and adds one line at most.
+    Short(Short),
+    /// It loads a file that changes the table.
+    Load(FileKind, Word),
+    /// It opens a dump under a name.
+    Open(Name, Word),
+    /// It takes at most so many units of the stream of that name.
+    Take(Name, u32),
+    /// It reports each route.
+    Report,
+    /// It reports each key that changed, and marks all.
+    Changes,
+}
+
+/// What is done within memory.
+#[derive(Drop)]
+pub(crate) enum Short {
+    /// Nothing.
+    Idle,
+    /// An event happens.
+    Happen(Event),
+    /// A written path is judged.
+    Judge(Role, u32, AsList),
+    /// All is counted.
+    Summary,
+    /// A route is explained.
+    Why(Key),
+}
+
+/// What the command asks for.
+pub(crate) fn task_of(command: Command) -> Task
+    ensures { result ≡ task_of command }
+{
+    match command {
+        Command::Idle => Task::Short(Short::Idle),
+        Command::Aspa(name, file) => Task::Load(FileKind::Payloads(name), file),
+        Command::Aspa64(name, file) => Task::Load(FileKind::PayloadLines(name), file),
+        Command::Slurm(file) => Task::Load(FileKind::Slurm, file),
+        Command::Filter(customer) => table_event(TableChange::Filter(customer)),
+        Command::Unfilter(customer) => table_event(TableChange::Unfilter(customer)),
+        Command::Assert(customer, providers) => {
+            table_event(TableChange::Assert(customer, providers))
+        }
+        Command::Unassert(customer) => table_event(TableChange::Unassert(customer)),
+        Command::Role(asn, role) => Task::Short(Short::Happen(Event::Role(asn, role))),
+        Command::RoleDefault(role) => Task::Short(Short::Happen(Event::DefaultRole(role))),
+        Command::Open(name, file) => Task::Open(name, file),
+        Command::Take(name, count) => Task::Take(name, count),
+        Command::Judge(role, neighbour, path) => {
+            Task::Short(Short::Judge(role, neighbour, path))
+        }
+        Command::Report => Task::Report,
+        Command::Changes => Task::Changes,
+        Command::Summary => Task::Short(Short::Summary),
+        Command::Why(addr, asn, prefix) => {
+            let peer = Peer { addr, asn };
+            Task::Short(Short::Why(Key { peer, prefix }))
+        }
+    }
+}
+
+// The table changes.
+fn table_event(change: TableChange) -> Task
+    ensures { result ≡ table_event change }
+{
+    Task::Short(Short::Happen(Event::Table(change)))
+}

@@ -1,0 +1,302 @@
+-- A line on a feed has no two outcomes on the same connections.
+use Rattle.std.proofs.Common.{◌≡◌, ◌≢◌, ℕ, zero, suc, ◌+◌, inl, inr, Bool, true, false, List, [], ◌∷◌, ◌++◌, length, None, Some, Ok, Err, refl, sym, ◌∙◌, ap, subst, append_assoc, length-append, arith}
+use Rattle.std.specs.Prelude.{slice_get, IfSome}
+use Rattle.std.proofs.lemmas.List.{append_cancel_left, append_cancel_right}
+use Rattle.std.specs.declared.option.Option.{Option}
+use Rattle.std.specs.declared.result.Result.{Result}
+use Rattle.std.specs.FinMap as map
+use Rattle.av_base.specs.Connections.{Link, Attempt, Made, Failed}
+use Rattle.rtr_pdu.specs.declared.pdu.Pdu.{Pdu}
+use Rattle.rtr_pdu.specs.declared.pdu.PduFault.{PduFault}
+use Rattle.rtr_pdu.specs.declared.pdu.PduFault.TheVariants.{PduVersion as BadVersion, PduLength as BadLength, PduType as BadType, NoProviders as HasNoProviders, NoMemory}
+use Rattle.rtr_pdu.specs.Units.{Answers}
+use Rattle.rtr_pdu.proofs.NextLemmas.{one_next}
+use Rattle.rtr_session.specs.declared.act.Act.{Act}
+use Rattle.rtr_session.specs.declared.act.Act.TheVariants.{Nothing, Send, Apply, End}
+use Rattle.rtr_session.specs.declared.act.Ending.{Ending}
+use Rattle.rtr_session.specs.declared.act.Ending.TheVariants.{Unexpected, UnknownWithdrawal, SessionChanged, PeerReported}
+use Rattle.rtr_session.specs.declared.act.Query.{Query}
+use Rattle.rtr_session.specs.declared.act.Query.TheVariants.{Reset}
+use Rattle.rtr_session.specs.State.{State as Session}
+use Rattle.rtr_session.proofs.CaseLemmas.{one_case, one_query}
+use Rattle.vap_table.specs.declared.change.TableChange.TheVariants.{Replace}
+use Rattle.rib_store.specs.State.{State as Analysis}
+use Rattle.analyser.specs.declared.event.Event.TheVariants.{Table}
+use Rattle.analyser.proofs.EventLemmas.{one_outcome_of}
+use Rattle.report_text.specs.Refusals.{of_line, of_unit, refusal_line}
+use Rattle.report_text.specs.Feeds.{feed_line}
+use Rattle.report_text.proofs.RefusalLemmas.{refusal_is_one_line, feed_end_is_one_line}
+use Rattle.feed_lines.specs.declared.telling.Cause.{Cause}
+use Rattle.feed_lines.specs.declared.telling.Telling.{Telling}
+use Rattle.feed_lines.specs.declared.telling.Telling.TheVariants.{NoName, StreamOver, Pdu as PduRefused, End as FeedEnds}
+use Rattle.feed_lines.specs.declared.working.Work.{Work}
+use Rattle.feed_lines.specs.declared.working.Work.TheVariants.{Ask, Take, Sync}
+use Rattle.feed_lines.specs.Tellings.{Asking, IsCauseOf, number_of, tells_text}
+use Rattle.feed_lines.specs.Feeds.{Feed, Taking, Coming, OnePdu, BadPdu, NoMore, HasSent, LostAtSend, Queries, IsComing, Clears, TakesAct, TakesPdu, TakesComing, TakesFrom, TakesPdus, Syncs, AsksFeed, AsksBy, after_pdu, asked_of, change_by, query_bytes, short_of}
+use Rattle.feed_lines.specs.Lines.{World, State, Connects, StartsBy, Does, Works, WorksBy, Writes, with_feed}
+use Rattle.feed_lines.specs.Laws.{FeedLinesHaveOneOutcome, EachTellingIsOneLine}
+
+-- ---- what comes next
+
+-- what is left of the received bytes, and how it begins
+record Shown (t : Link) (used : List ℕ) : Type 0 where
+  left : List ℕ
+  rest : List ℕ
+  answer : Result (Option Pdu) PduFault
+  received : t.received ≡ used ++ left
+  known : answer ≢ Err NoMemory
+  answers : Answers left rest answer
+
+no_err : (found : Option Pdu) → Ok found ≢ Err NoMemory
+no_err found = λ e. let none : ⊥ = cc in absurd none
+
+abbrev shown_pdu : (t : Link) (used bytes : List ℕ) (pdu : Pdu) → IsComing t used (OnePdu bytes pdu) → Shown t used
+shown_pdu t used bytes pdu is = record {
+  left = bytes ++ is.1.0;
+  rest = is.1.0;
+  answer = Ok (Some pdu);
+  received = is.1.1 ∙ append_assoc used bytes is.1.0;
+  known = no_err (Some pdu);
+  answers = (bytes, refl, is.0);
+}
+
+abbrev shown_bad : (t : Link) (used left : List ℕ) (fault : PduFault) → IsComing t used (BadPdu left fault) → Shown t used
+shown_bad t used left fault is = record {
+  left = left;
+  rest = left;
+  answer = Err fault;
+  received = is.2;
+  known = λ e. is.1 (let same : fault ≡ NoMemory = cc in same);
+  answers = (is.0, refl);
+}
+
+abbrev shown_none : (t : Link) (used : List ℕ) → IsComing t used NoMore → Shown t used
+shown_none t used is = record { left = is.0.0; rest = is.0.0; answer = Ok None; received = is.0.1; known = no_err None; answers = (is.0.2, refl) }
+
+-- both show the same bytes, and the same answer
+record SameShown (left other rest more : List ℕ) (one two : Result (Option Pdu) PduFault) : Type 0 where
+  lefts : left ≡ other
+  rests : rest ≡ more
+  answers : one ≡ two
+
+same_shown : (t : Link) (used : List ℕ) (one two : Shown t used) → SameShown one.left two.left one.rest two.rest one.answer two.answer
+same_shown t used one two =
+    let left = append_cancel_left used one.left two.left (sym one.received ∙ two.received) in
+    let next = one_next one.left in
+    let first = next.only one.rest one.answer one.known one.answers in
+    let second = next.only two.rest two.answer two.known (subst (λ (l : List ℕ). Answers l two.rest two.answer) (sym left) two.answers) in
+    record { lefts = left; rests = first.0 ∙ sym second.0; answers = first.1 ∙ sym second.1 }
+
+same_coming : (t : Link) (used : List ℕ) (a b : Coming) → IsComing t used a → IsComing t used b → a ≡ b
+same_coming t used (OnePdu x p) (OnePdu y q) a b =
+    let one = shown_pdu t used x p a in
+    let two = shown_pdu t used y q b in
+    let same = same_shown t used one two in
+    let pdus : p ≡ q = (let e : Ok (Some p) ≡ Ok (Some q) = same.answers in cc) in
+    let bytes = append_cancel_right x y a.1.0 (same.lefts ∙ ap (λ (l : List ℕ). y ++ l) (sym same.rests)) in
+    λ i. OnePdu (bytes i) (pdus i)
+same_coming t used (OnePdu x p) (BadPdu l f) a b =
+    let e = (same_shown t used (shown_pdu t used x p a) (shown_bad t used l f b)).answers in
+    let none : ⊥ = cc in
+    absurd none
+same_coming t used (OnePdu x p) NoMore a b =
+    let e = (same_shown t used (shown_pdu t used x p a) (shown_none t used b)).answers in
+    let none : ⊥ = cc in
+    absurd none
+same_coming t used (BadPdu l f) (OnePdu y q) a b =
+    let e = (same_shown t used (shown_bad t used l f a) (shown_pdu t used y q b)).answers in
+    let none : ⊥ = cc in
+    absurd none
+same_coming t used (BadPdu l f) (BadPdu k h) a b =
+    let same = same_shown t used (shown_bad t used l f a) (shown_bad t used k h b) in
+    let faults : f ≡ h = (let e = same.answers in cc) in
+    λ i. BadPdu (same.lefts i) (faults i)
+same_coming t used (BadPdu l f) NoMore a b =
+    let e = (same_shown t used (shown_bad t used l f a) (shown_none t used b)).answers in
+    let none : ⊥ = cc in
+    absurd none
+same_coming t used NoMore (OnePdu y q) a b =
+    let e = (same_shown t used (shown_none t used a) (shown_pdu t used y q b)).answers in
+    let none : ⊥ = cc in
+    absurd none
+same_coming t used NoMore (BadPdu k h) a b =
+    let e = (same_shown t used (shown_none t used a) (shown_bad t used k h b)).answers in
+    let none : ⊥ = cc in
+    absurd none
+same_coming t used NoMore NoMore a b = refl
+
+-- ---- one PDU
+
+-- two that are said to be the same
+both : {A S : Type 0} (one other text : A) (end last state : S) → (one ≡ text) × (end ≡ state) → (other ≡ text) × (last ≡ state) → (one ≡ other) × (end ≡ last)
+both {A} {S} one other text end last state a b = (a.0 ∙ sym b.0, a.1 ∙ sym b.1)
+
+-- bytes don't go whole on a connection that broke at them
+whole_or_cut : (t : Link) (sent bytes : List ℕ) → HasSent t sent bytes → LostAtSend t sent bytes → ⊥
+whole_or_cut t sent bytes whole cut = omega (
+  arith,
+  ap length whole.1,
+  length-append (sent ++ bytes) whole.0,
+  length-append sent bytes,
+  ap length cut.gave,
+  length-append sent cut.front,
+  ap length cut.whole,
+  length-append cut.front cut.rest,
+  cut.some_left,
+)
+
+queries_unique : (t : Link) (feed : Feed) (query : Query) (one other : List Telling) (slot last : Option Feed) → Queries t feed query one slot → Queries t feed query other last → (one ≡ other) × (slot ≡ last)
+queries_unique t feed query one other slot last a b = elim a [
+  | inl whole ↦ elim b [
+    | inl again ↦ (whole.1 ∙ sym again.1, whole.2 ∙ sym again.2)
+    | inr cut ↦ absurd (whole_or_cut t feed.sent (query_bytes query) whole.0 cut.0)
+  ]
+  | inr cut ↦ elim b [
+    | inl whole ↦ absurd (whole_or_cut t feed.sent (query_bytes query) whole.0 cut.0)
+    | inr again ↦ (cut.2 ∙ sym again.2, cut.3 ∙ sym again.3)
+  ]
+]
+
+same_taking : (end last : Taking) → end.feed ≡ last.feed → end.state ≡ last.state → end ≡ last
+same_taking end last feeds states = λ i. record { feed = feeds i; state = states i }
+
+clears_unique : (name : List ℕ) (ending : Ending) (old one other : Analysis) → Clears name ending old one → Clears name ending old other → one ≡ other
+clears_unique name SessionChanged old one other a b = let outcome = one_outcome_of old (Table (Replace name map.empty)) in outcome.only one a ∙ sym (outcome.only other b)
+clears_unique name Unexpected old one other a b = a ∙ sym b
+clears_unique name UnknownWithdrawal old one other a b = a ∙ sym b
+clears_unique name PeerReported old one other a b = a ∙ sym b
+
+act_unique : (t : Link) (name : List ℕ) (feed : Feed) (state : Analysis) (act : Act) (one other : List Telling) (end last : Taking) → TakesAct t name feed state act one end → TakesAct t name feed state act other last
+    → (one ≡ other) × (end ≡ last)
+act_unique t name feed state Nothing one other end last a b = both one other _ end last _ a b
+act_unique t name feed state (Send query) one other end last a b =
+    let same = queries_unique t feed query one other end.feed last.feed a.0 b.0 in
+    (same.0, same_taking end last same.1 (a.1 ∙ sym b.1))
+act_unique t name feed state (Apply delta) one other end last a b =
+    let outcome = one_outcome_of state (Table (change_by name delta)) in
+    (a.0 ∙ sym b.0, same_taking end last (a.1 ∙ sym b.1) (outcome.only end.state a.2 ∙ sym (outcome.only last.state b.2)))
+act_unique t name feed state (End ending) one other end last a b =
+    (a.2 ∙ sym b.2, same_taking end last (a.3 ∙ sym b.3) (clears_unique name ending state end.state last.state a.1 b.1))
+
+pdu_unique : (t : Link) (name : List ℕ) (feed : Feed) (state : Analysis) (bytes : List ℕ) (pdu : Pdu) (one other : List Telling) (end last : Taking) → TakesPdu t name feed state bytes pdu one end
+    → TakesPdu t name feed state bytes pdu other last → (one ≡ other) × (end ≡ last)
+pdu_unique t name feed state bytes pdu one other end last a b =
+    let case = one_case feed.session pdu in
+    let first = case.only a.act a.session a.client in
+    let second = case.only b.act b.session b.client in
+    let acts = second.0 ∙ sym first.0 in
+    let sessions = second.1 ∙ sym first.1 in
+    act_unique t name (after_pdu feed bytes a.session) state a.act one other end last a.acts
+    (subst (λ (act : Act). TakesAct t name (after_pdu feed bytes a.session) state act other last) acts
+    (subst (λ (session : Session). TakesAct t name (after_pdu feed bytes session) state b.act other last) sessions b.acts))
+
+cause_unique : (fault : PduFault) (one other : Cause) → IsCauseOf fault one → IsCauseOf fault other → one ≡ other
+cause_unique BadVersion one other a b = a ∙ sym b
+cause_unique BadLength one other a b = a ∙ sym b
+cause_unique BadType one other a b = a ∙ sym b
+cause_unique HasNoProviders one other a b = a ∙ sym b
+cause_unique NoMemory one other a b = absurd a
+
+coming_unique : (t : Link) (name : List ℕ) (feed : Feed) (state : Analysis) (coming : Coming) (one other : List Telling) (end last : Taking) → TakesComing t name feed state coming one end
+    → TakesComing t name feed state coming other last → (one ≡ other) × (end ≡ last)
+coming_unique t name feed state (OnePdu bytes pdu) one other end last a b = pdu_unique t name feed state bytes pdu one other end last a b
+coming_unique t name feed state (BadPdu left fault) one other end last a b =
+    (a.tells_are ∙ ap (λ (cause : Cause). PduRefused (feed.taken + 1) cause ∷ []) (cause_unique fault a.cause b.cause a.cause_is b.cause_is) ∙ sym b.tells_are, a.new_is ∙ sym b.new_is)
+coming_unique t name feed state NoMore one other end last a b = (a.2 ∙ sym b.2, a.3 ∙ sym b.3)
+
+from_unique : (feed : Option Feed) (t : Link) (name : List ℕ) (old : Taking) (one other : List Telling) (end last : Taking) → TakesFrom feed t name old one end → TakesFrom feed t name old other last → (one ≡ other) × (end ≡ last)
+from_unique None t name old one other end last a b = both one other _ end last _ a b
+from_unique (Some feed) t name old one other end last a b =
+    let same = same_coming t feed.used b.coming a.coming b.comes a.comes in
+    coming_unique t name feed old.state a.coming one other end last a.takes (subst (λ (c : Coming). TakesComing t name feed old.state c other last) same b.takes)
+
+-- ---- several
+
+pdus_unique : (t : Link) (until : Bool) (name : List ℕ) (count : ℕ) (old : Taking) (one other : List Telling) (end last : Taking) → TakesPdus t until name count old one end → TakesPdus t until name count old other last
+    → (one ≡ other) × (end ≡ last)
+pdus_unique t until name zero old one other end last a b = both one other [] end last old a b
+pdus_unique t until name (suc count) old one other end last a b =
+    let first = from_unique (asked_of until old.feed) t name old a.first b.first a.mid b.mid a.takes b.takes in
+    let goes_on : TakesPdus t until name count a.mid b.rest last = subst (λ (m : Taking). TakesPdus t until name count m b.rest last) (sym first.1) b.goes_on in
+    let rest = pdus_unique t until name count a.mid a.rest b.rest end last a.goes_on goes_on in
+    (a.tells_are ∙ ap (λ (l : List Telling). l ++ a.rest) first.0 ∙ ap (λ (l : List Telling). b.first ++ l) rest.0 ∙ sym b.tells_are, rest.1)
+
+syncs_unique : (t : Link) (name : List ℕ) (count : ℕ) (old : Taking) (one other : List Telling) (end last : Taking) → Syncs t name count old one end → Syncs t name count old other last → (one ≡ other) × (end ≡ last)
+syncs_unique t name count old one other end last a b =
+    let same = pdus_unique t true name count old a.first b.first end last a.takes b.takes in
+    (a.tells_are ∙ ap (λ (l : List Telling). l ++ short_of (asked_of true end.feed)) same.0 ∙ ap (λ (k : Taking). b.first ++ short_of (asked_of true k.feed)) same.1 ∙ sym b.tells_are, same.1)
+
+asked_unique : (t : Link) (feed : Feed) (query : Option Query) (one other : List Telling) (slot last : Option Feed) → AsksBy t feed query one slot → AsksBy t feed query other last → (one ≡ other) × (slot ≡ last)
+asked_unique t feed None one other slot last a b = both one other _ slot last _ a b
+asked_unique t feed (Some query) one other slot last a b = queries_unique t feed query one other slot last a b
+
+asks_unique : (t : Link) (feed : Feed) (one other : List Telling) (slot last : Option Feed) → AsksFeed t feed one slot → AsksFeed t feed other last → (one ≡ other) × (slot ≡ last)
+asks_unique t feed one other slot last a b =
+    let due = one_query feed.session in
+    let first = due.only a.query a.session a.asks in
+    let second = due.only b.query b.session b.asks in
+    let queries = second.0 ∙ sym first.0 in
+    let sessions = second.1 ∙ sym first.1 in
+    asked_unique t (record feed { session = a.session }) a.query one other slot last a.sends
+    (subst (λ (q : Option Query). AsksBy t (record feed { session = a.session }) q other last) queries
+    (subst (λ (s : Session). AsksBy t (record feed { session = s }) b.query other last) sessions b.sends))
+
+does_unique : (t : Link) (name : List ℕ) (work : Work) (feed : Feed) (state : Analysis) (one other : List Telling) (end last : Taking) → Does t name work feed state one end → Does t name work feed state other last
+    → (one ≡ other) × (end ≡ last)
+does_unique t name Ask feed state one other end last a b =
+    let same = asks_unique t feed one other end.feed last.feed a.0 b.0 in
+    (same.0, same_taking end last same.1 (a.1 ∙ sym b.1))
+does_unique t name (Take count) feed state one other end last a b = pdus_unique t false name count _ one other end last a b
+does_unique t name (Sync count) feed state one other end last a b = syncs_unique t name count _ one other end last a b
+
+-- ---- by names
+
+works_unique : (world : World) (old : State) (name : List ℕ) (work : Work) (held : Option (Option Feed)) (one other : List Telling) (end last : State) → WorksBy world old name work held one end
+    → WorksBy world old name work held other last → (one ≡ other) × (end ≡ last)
+works_unique world old name work None one other end last a b = both one other _ end last _ a b
+works_unique world old name work (Some None) one other end last a b = both one other _ end last _ a b
+works_unique world old name work (Some (Some feed)) one other end last a b =
+    let link : b.does.t ≡ a.does.t = (let e = a.does.there in let f = b.does.there in cc) in
+    let same = does_unique a.does.t name work feed old.analysis one other a.end b.end a.does.so (subst (λ (t : Link). Does t name work feed old.analysis other b.end) link b.does.so) in
+    (same.0, a.left ∙ ap (λ (k : Taking). record old { feeds = with_feed name k.feed old.feeds; analysis = k.state }) same.1 ∙ sym b.left)
+
+starts_unique : (world : World) (place : List ℕ) (attempt : Attempt) (one other : List Telling) (slot last : Option Feed) → StartsBy world place attempt one slot → StartsBy world place attempt other last → (one ≡ other) × (slot ≡ last)
+starts_unique world place (Made link) one other slot last a b =
+    let same : b.t ≡ a.t = (let e = a.there in let f = b.there in cc) in
+    queries_unique a.t _ Reset one other slot last a.so.1 (subst (λ (t : Link). Queries t _ Reset other last) same b.so.1)
+starts_unique world place (Failed at) one other slot last a b = (a.1 ∙ sym b.1, a.2 ∙ sym b.2)
+
+attempt_unique : (all : Option (List Attempt)) (attempts : List Attempt) (number : ℕ) (one other : Attempt) → all ≡ Some attempts → IfSome all (λ l. slice_get l number ≡ Some one) → IfSome all (λ l. slice_get l number ≡ Some other) → one ≡ other
+attempt_unique None attempts number one other told a b = let none : ⊥ = cc in absurd none
+attempt_unique (Some l) attempts number one other told a b = (let e : Some one ≡ Some other = sym a ∙ b in cc)
+
+connects_unique : (world : World) (attempts : List Attempt) → world.attempts ≡ Some attempts → (old : State) (name place : List ℕ) (one other : List Telling) (end last : State) → Connects world old name place one end
+    → Connects world old name place other last → (one ≡ other) × (end ≡ last)
+connects_unique world attempts told old name place one other end last a b =
+    let attempt = attempt_unique world.attempts attempts old.made b.attempt a.attempt told b.attempted a.attempted in
+    let same = starts_unique world place a.attempt one other a.slot b.slot a.starts (subst (λ (at : Attempt). StartsBy world place at other b.slot) attempt b.starts) in
+    (same.0, a.left ∙ ap (λ (s : Option Feed). record old { feeds = with_feed name s old.feeds; made = old.made + 1 }) same.1 ∙ sym b.left)
+
+writes_unique : (asking : Asking) (does : List Telling → State → Type 0) (one other : List ℕ) (end last : State)
+    → ((a b : List Telling) (s t : State) → does a s → does b t → (a ≡ b) × (s ≡ t)) → Writes asking does one end → Writes asking does other last → (one ≡ other) × (end ≡ last)
+writes_unique asking does one other end last unique a b =
+    let same = unique a.tells b.tells a.after b.after a.done b.done in (
+      a.text_is ∙ ap (tells_text asking) same.0 ∙ sym b.text_is,
+      a.left ∙ ap (λ (l : List Telling). record a.after { refused = a.after.refused + length l }) same.0 ∙ ap (λ (s : State). record s { refused = s.refused + length b.tells }) same.1 ∙ sym b.left,
+    )
+
+pub one_outcome : FeedLinesHaveOneOutcome
+one_outcome world attempts told asking old = record {
+  connects = λ place one other end last a b. writes_unique asking (Connects world old asking.name place) one other end last (λ p q s t. connects_unique world attempts told old asking.name place p q s t) a b;
+  works = λ work one other end last a b. writes_unique asking (Works world old asking.name work) one other end last (λ p q s t. works_unique world old asking.name work (old.feeds asking.name) p q s t) a b;
+}
+
+-- ---- what is reported
+
+pub telling_is_one_line : EachTellingIsOneLine
+telling_is_one_line asking NoName in_line = record { line = refusal_line asking.line of_line 36; whole = refl; marked = refusal_is_one_line asking.line of_line 36 tt }
+telling_is_one_line asking StreamOver in_line = record { line = refusal_line asking.line of_line 38; whole = refl; marked = refusal_is_one_line asking.line of_line 38 tt }
+telling_is_one_line asking (PduRefused number cause) in_line =
+    record { line = refusal_line asking.line (of_unit asking.name number) (number_of cause); whole = refl; marked = refusal_is_one_line asking.line (of_unit asking.name number) (number_of cause) in_line }
+telling_is_one_line asking (FeedEnds how) in_line =
+    record { line = feed_line asking.line asking.name how; whole = refl; marked = feed_end_is_one_line asking.line asking.name how in_line }

@@ -1,0 +1,9 @@
+pub mod ConnectingLemmas
+pub mod ConnectionLemmas
+pub mod GoingLemmas
+pub mod LawLemmas
+pub mod LineLemmas
+pub mod NamedLemmas
+pub mod PduLemmas
+pub mod TakingLemmas
+pub mod WorkingLemmas

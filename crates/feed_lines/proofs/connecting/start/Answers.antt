@@ -1,0 +1,31 @@
+use Rattle.std.proofs.Common.{subst}
+use Rattle.feed_lines.specs.Moves.{Only}
+use Rattle.feed_lines.specs.Steps.{SlotFits}
+use Rattle.feed_lines.proofs.ConnectionLemmas.{Spares-trans}
+use Rattle.feed_lines.proofs.ConnectingLemmas.{spares_connect, new_now, started_made, started_failed, usable_new, spares_same}
+use Rattle.feed_lines.proofs.connecting.start.Goals as goal
+
+pub start_session-requires-clause-usable : goal.start_session-requires-clause-usable
+start_session-requires-clause-usable g c = usable_new (g.K.Links.standings c.args.links.now) (g.K.Links.standings c.connect.new.self) c.in-Ok.link c.in-Ok.ensures.number c.in-Ok.ensures.ok_standings
+
+pub returns-in-Ok-clause-starts : goal.returns-in-Ok-clause-starts
+returns-in-Ok-clause-starts g c =
+    started_made (g.K.Links.attempts c.args.links.now) (g.K.Links.attempts c.connect.new.self) (g.K.Links.attempts c.start_session.new.links) (g.K.Links.wire c.connect.new.self) (g.K.Links.wire c.start_session.new.links)
+    c.args.place.now c.in-Ok.link c.start_session.result.0 c.start_session.result.1 (g.K.Links.wire c.args.links.now) c.in-Ok.ensures.made c.start_session.ensures.attempts
+    (new_now _ _ (g.K.Links.standings c.args.links.now) c.args.place.now c.in-Ok.link c.in-Ok.ensures.ok (g.met.K.Links.agrees c.args.links.now) c.in-Ok.ensures.number)
+    c.start_session.ensures.only.later c.start_session.ensures.starts
+
+pub returns-in-Ok-clause-fits : goal.returns-in-Ok-clause-fits
+returns-in-Ok-clause-fits g c = subst (λ k. SlotFits (g.K.Links.standings c.start_session.new.links) k 0 c.start_session.result.0) c.in-Ok.ensures.number c.start_session.ensures.fits
+
+pub returns-in-Ok-clause-spares : goal.returns-in-Ok-clause-spares
+returns-in-Ok-clause-spares g c =
+    Spares-trans
+    (spares_connect _ _ (g.K.Links.standings c.args.links.now) (g.K.Links.standings c.connect.new.self) c.args.place.now _ c.in-Ok.ensures.ok (g.met.K.Links.agrees c.args.links.now) c.in-Ok.ensures.ok_standings c.connect.ensures.later)
+    (subst (λ k. Only k (g.K.Links.wire c.connect.new.self) (g.K.Links.wire c.start_session.new.links) (g.K.Links.standings c.connect.new.self) (g.K.Links.standings c.start_session.new.links)) c.in-Ok.ensures.number c.start_session.ensures.only)
+
+pub returns-in-Err-clause-starts : goal.returns-in-Err-clause-starts
+returns-in-Err-clause-starts g c = started_failed _ _ _ _ c.args.place.now c.in-Err.ensures.failed
+
+pub returns-in-Err-clause-spares : goal.returns-in-Err-clause-spares
+returns-in-Err-clause-spares g c = spares_same _ _ _ _ _ c.connect.ensures.later c.in-Err.ensures.err c.in-Err.ensures.err_standings

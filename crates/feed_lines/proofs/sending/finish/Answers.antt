@@ -1,0 +1,8 @@
+use Rattle.feed_lines.proofs.ConnectionLemmas.{Spares-trans, Only-loud, finishes}
+use Rattle.feed_lines.proofs.sending.finish.Goals as goal
+
+pub returns-clause-finishes : goal.returns-clause-finishes
+returns-clause-finishes g c = λ got gave now. finishes _ got gave c.args.bytes.now c.send_all.result (c.send_all.ensures.sends got gave now) c.close.ensures.closed
+
+pub returns-clause-only : goal.returns-clause-only
+returns-clause-only g c = Spares-trans c.send_all.ensures.only (Only-loud _ _ c.close.ensures.later c.close.ensures.closed c.close.ensures.standings)

@@ -1,0 +1,88 @@
+-- What the calls on one connection leave, now and whatever becomes of it; only private contracts cite this.
+use Rattle.std.specs.Prelude.{◌≡◌, ◌≢◌, ℕ, ◌<◌, ◌⊎◌, Bool, true, false, List, ◌++◌, length, slice_get}
+use Rattle.std.specs.declared.option.Option.{Option}
+use Rattle.std.specs.declared.option.Option.TheVariants.{Some}
+use Rattle.av_base.specs.Connections.{Link, Later, IsUsable, IsOpen}
+use Rattle.av_base.specs.declared.standing.Standing.{Standing}
+use Rattle.rtr_pdu.specs.declared.pdu.PduFault.{PduFault}
+use Rattle.rtr_pdu.specs.Pdus.{IsFrame}
+use Rattle.rtr_pdu.specs.Units.{IsPartial, IsRefused}
+use Rattle.feed_lines.specs.declared.asking.Asked.{Asked}
+use Rattle.feed_lines.specs.declared.asking.Asked.TheVariants.{Pdu as Took, Refused, Lost}
+use Rattle.feed_lines.specs.declared.asking.Turn.{Turn}
+use Rattle.feed_lines.specs.declared.asking.Turn.TheVariants.{More, End}
+use Rattle.feed_lines.specs.Connection.{Now, Has, Spares}
+use Rattle.feed_lines.specs.Tellings.{IsCauseOf}
+use Rattle.feed_lines.specs.Feeds.{HasEnded, IsClosed, LostAtSend}
+
+-- so it will be, whatever becomes of the connections that are told
+abbrev pub Ever : Option (List Link) → ℕ → (Link → Type 0) → Type 0
+Ever wire link holds = (links final : List Link) → wire ≡ Some links → Later links final → (t : Link) → slice_get final link ≡ Some t → holds t
+
+-- all others stayed as they were
+abbrev pub Only : ℕ → Option (List Link) → Option (List Link) → List Standing → List Standing → Type 0
+Only link old new stood stands = Spares (λ other. other ≢ link) old new stood stands
+
+-- nothing was sent on it
+pub record KeepsSent (link : ℕ) (old new : Option (List Link)) : Type 0 where
+  pub keeps : (gave : List ℕ) → Now old link (λ t. t.sent ≡ gave) → Now new link (λ t. t.sent ≡ gave)
+
+-- ---- receiving
+
+-- some bytes came and are held behind the others, or nothing more comes
+abbrev pub AnswersTurn : Option (List Link) → ℕ → List ℕ → List ℕ → List ℕ → Turn → Type 0
+AnswersTurn wire link before sent held (More framer) = Now wire link (Has (before ++ framer) sent)
+AnswersTurn wire link before sent held (End framer) = Now wire link (λ t. Has (before ++ held) sent t × HasEnded t)
+
+-- the connection may still be used, or at least closed
+abbrev pub TurnsUsable : List Standing → ℕ → Turn → Type 0
+TurnsUsable stands link (More framer) = IsUsable stands link
+TurnsUsable stands link (End framer) = IsOpen stands link
+
+-- some bytes more are held
+abbrev pub Grows : List ℕ → Turn → Type 0
+Grows held (More framer) = length held < length framer
+Grows held (End framer) = framer ≡ held
+
+-- turn by turn, all that is received is held behind what was held
+pub record Asking (old now : Option (List Link)) (link : ℕ) (held_old held : List ℕ) : Type 0 where
+  pub keeps : (used sent : List ℕ) → Now old link (Has (used ++ held_old) sent) → Now now link (Has (used ++ held) sent)
+
+-- the next PDU was asked for: what follows the used bytes begins with it, or with a refused one, or nothing more comes
+abbrev pub Answers : Option (List Link) → ℕ → List ℕ → List ℕ → List ℕ → Asked → Type 0
+Answers wire link used sent held (Took pdu) = (bytes : List ℕ) × IsFrame bytes pdu × Now wire link (Has (used ++ bytes ++ held) sent)
+Answers wire link used sent held (Refused cause) = Now wire link (Has (used ++ held) sent)
+Answers wire link used sent held Lost = IsPartial held × Now wire link (λ t. Has (used ++ held) sent t × HasEnded t)
+
+-- what is held is refused
+abbrev pub RefusesNow : List ℕ → Asked → Type 0
+RefusesNow held (Took pdu) = Unit {0}
+RefusesNow held (Refused cause) = (fault : PduFault) × IsRefused held fault × IsCauseOf fault cause
+RefusesNow held Lost = Unit {0}
+
+abbrev pub StaysUsable : List Standing → ℕ → Asked → Type 0
+StaysUsable stands link (Took pdu) = IsUsable stands link
+StaysUsable stands link (Refused cause) = IsUsable stands link
+StaysUsable stands link Lost = IsOpen stands link
+
+-- ---- sending
+
+-- these bytes were sent behind the others, or the connection broke before all of them had gone
+abbrev pub Sends : Option (List Link) → ℕ → List ℕ → List ℕ → List ℕ → Bool → Type 0
+Sends wire link got gave bytes true = Now wire link (Has got (gave ++ bytes))
+Sends wire link got gave bytes false = Now wire link (λ t. (t.received ≡ got) × LostAtSend t gave bytes)
+
+-- all before the rest were sent
+pub record Sending (old now : Option (List Link)) (link : ℕ) (bytes rest : List ℕ) : Type 0 where
+  pub front : List ℕ
+  pub whole : bytes ≡ front ++ rest
+  pub keeps : (got gave : List ℕ) → Now old link (Has got gave) → Now now link (Has got (gave ++ front))
+
+-- they went whole, or the connection broke and was closed
+abbrev pub Asks : Option (List Link) → ℕ → List ℕ → List ℕ → List ℕ → Bool → Type 0
+Asks wire link got gave bytes true = Now wire link (Has got (gave ++ bytes))
+Asks wire link got gave bytes false = Now wire link (λ t. (t.received ≡ got) × LostAtSend t gave bytes × IsClosed t)
+
+-- they went, or a front of them where it broke, and it was closed
+abbrev pub Finishes : Option (List Link) → ℕ → List ℕ → List ℕ → List ℕ → Type 0
+Finishes wire link got gave bytes = Now wire link (λ t. (t.received ≡ got) × ((t.sent ≡ gave ++ bytes) ⊎ LostAtSend t gave bytes) × IsClosed t)

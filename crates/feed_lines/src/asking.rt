@@ -1,0 +1,81 @@
+//! Asking a connection for its next PDU.
+ghost use Rattle.std.specs.Prelude.{◌≡◌, ℕ, ◌<◌, ◌≤◌, List, ◌++◌, length, IfOk};
+ghost use Rattle.av_base.specs.Connections.{IsUsable};
+ghost use Rattle.feed_lines.specs.Connection.{Has, Now};
+ghost use Rattle.feed_lines.specs.Moves.{Answers, AnswersTurn, Grows, KeepsSent, Only, RefusesNow, StaysUsable, TurnsUsable};
+
+use crate::telling::{Cause, refusal};
+use av_base::{Links, NoMemory, PIECE};
+use rtr_pdu::{Framer, Pdu};
+
+/// What a connection answered that was asked for a PDU.
+#[derive(Drop)]
+pub(crate) enum Asked {
+    Pdu(Pdu),
+    Refused(Cause),
+    Lost,
+}
+
+/// What one receive gave.
+#[derive(Drop)]
+pub(crate) enum Turn {
+    More(Framer),
+    End(Framer),
+}
+
+/// Takes the next PDU that a connection gives. Those that are held come before bytes are received.
+pub(crate) fn next_pdu<K: Links>(
+    framer: Framer,
+    link: u32,
+    links: &mut K,
+) -> Result<(Framer, Asked), NoMemory>
+    requires { IsUsable (K.standings links.old) link }
+    ensures answer { IfOk result (λ r. (used sent : List ℕ)
+        → Now (K.wire links.old) link (Has (used ++ framer) sent)
+        → Answers (K.wire links.new) link used sent r.0 r.1) }
+    ensures refused { IfOk result (λ r. RefusesNow r.0 r.1) }
+    ensures usable { IfOk result (λ r. StaysUsable (K.standings links.new) link r.1) }
+    ensures keeps { KeepsSent link (K.wire links.old) (K.wire links.new) }
+    ensures only { Only link (K.wire links.old) (K.wire links.new)
+        (K.standings links.old) (K.standings links.new) }
+    ensures attempts { K.attempts links.new ≡ K.attempts links.old }
+    ensures faults { K.faults links.old ≤ K.faults links.new }
+{
+    let mut framer = framer;
+    'pieces: loop {
+        match framer.next() {
+            Ok(Some(pdu)) => return Ok((framer, Asked::Pdu(pdu))),
+            Ok(None) => match receive(framer, link, links)? {
+                Turn::More(more) => framer = more,
+                Turn::End(held) => return Ok((held, Asked::Lost)),
+            },
+            Err(fault) => return Ok((framer, Asked::Refused(refusal(fault)?))),
+        }
+    }
+}
+
+// Receives once. Its buffer must not be cleared wherever it is called from.
+#[inline(never)]
+fn receive<K: Links>(framer: Framer, link: u32, links: &mut K) -> Result<Turn, NoMemory>
+    requires { IsUsable (K.standings links.old) link }
+    ensures answer { IfOk result (λ turn. (before sent : List ℕ)
+        → Now (K.wire links.old) link (Has (before ++ framer) sent)
+        → AnswersTurn (K.wire links.new) link before sent framer turn) }
+    ensures grows { IfOk result (λ turn. Grows framer turn) }
+    ensures usable { IfOk result (λ turn. TurnsUsable (K.standings links.new) link turn) }
+    ensures keeps { KeepsSent link (K.wire links.old) (K.wire links.new) }
+    ensures only { Only link (K.wire links.old) (K.wire links.new)
+        (K.standings links.old) (K.standings links.new) }
+    ensures attempts { K.attempts links.new ≡ K.attempts links.old }
+    ensures faults { K.faults links.old ≤ K.faults links.new }
+{
+    let mut buffer = [0u8; PIECE];
+    match links.recv(link, &mut buffer) {
+        Ok(0) => Ok(Turn::End(framer)),
+        Ok(count) => {
+            let (piece, _) = buffer.split_at(count);
+            Ok(Turn::More(framer.feed(piece)?))
+        }
+        Err(_) => Ok(Turn::End(framer)),
+    }
+}

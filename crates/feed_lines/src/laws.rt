@@ -1,0 +1,12 @@
+//! Laws of the definitions: the contract of each function is the law, and its body does nothing.
+ghost use Rattle.feed_lines.specs.Laws.{EachTellingIsOneLine, FeedLinesHaveOneOutcome};
+
+/// On the same connections, with attempts that are told, a line has no two texts, and leaves no two states.
+pub fn feed_lines_have_one_outcome()
+    ensures { FeedLinesHaveOneOutcome }
+{}
+
+/// Whatever is reported of a feed whose name has no line feed is one line of text that begins with `! `.
+pub fn each_telling_is_one_line()
+    ensures { EachTellingIsOneLine }
+{}

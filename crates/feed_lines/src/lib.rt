@@ -1,0 +1,30 @@
+//! What one line of a script does with a feed: the program as a client of RPKI caches.
+//!
+//! The layer above uses two contracts. [`connect`] performs a `feed` line: it closes the feed's old connection, connects, and asks for
+//! everything. [`work`] performs an `ask`, `take` or `sync` line on the feed of a name. What they do and report is defined in
+//! `specs/Lines.antt`, over what one PDU and several make of a feed (`specs/Feeds.antt`): begin reading there. Each relation reads the
+//! connection as it stands when the run ends, so what is proved of a line stays true whatever the later lines do; how the [`Feeds`] that
+//! are held stand for those of the definitions is said in `specs/Holding.antt`. Two outcomes of a line on the same connections are
+//! the same one, and each thing that is reported is one line of text (`laws`).
+//!
+//! `asking` receives PDUs, `sending` sends queries and error reports, `taking` takes PDUs one after another, `working` performs what a
+//! line asks of a feed that goes on, `named` finds it by its name, `connecting` starts one, and `lines` writes what is reported.
+//! Lemmas for the proofs above are in `proofs/`: `GoingLemmas` for what becomes of the outside, `LawLemmas` for the laws.
+#![tactic(auto)]
+
+mod asking;
+mod connecting;
+mod feed;
+mod laws;
+mod lines;
+mod named;
+mod sending;
+mod taking;
+mod telling;
+mod working;
+
+pub use feed::Feeds;
+pub use laws::{each_telling_is_one_line, feed_lines_have_one_outcome};
+pub use lines::{Progress, connect, work};
+pub use telling::{Cause, Telling};
+pub use working::Work;

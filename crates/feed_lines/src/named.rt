@@ -1,0 +1,92 @@
+//! Feeds by their names.
+ghost use Rattle.std.specs.Prelude.{◌≡◌, ◌≢◌, ℕ, ◌+◌, ◌^◌, ◌<◌, ◌≤◌, Some, None, is_some, true, IfOk, IfSome, IfNone, OnOk, OnErr};
+ghost use Rattle.feed_lines.specs.Connection.{Spares};
+ghost use Rattle.report_text.specs.declared.feed.FeedEnd.TheVariants.{Unreachable};
+ghost use Rattle.feed_lines.specs.declared.telling.Telling.TheVariants.{End as FeedEnds};
+ghost use Rattle.feed_lines.specs.Holding.{IsNoFeeds, IsSound, feed_in};
+ghost use Rattle.feed_lines.specs.Lines.{units_of};
+ghost use Rattle.feed_lines.specs.Named.{BeganNamed, Puts, Same, WasHeld, WorkedNamed};
+
+use crate::feed::{Feeds, OpenFeed};
+use crate::telling::Telling;
+use crate::working::{Work, Worked, work_on};
+use analyser::Analyser;
+use av_base::{Links, NoMemory, Steps};
+use path_model::Name;
+use std::alloc::Global;
+use std::mem;
+use std::sync::ledger::Ledger;
+
+/// Does what the line asks for with the feed of a name.
+pub(crate) fn work_named<K: Links, L: Ledger>(
+    alloc: Global,
+    name: &Name,
+    work: Work,
+    feeds: &mut Feeds,
+    analyser: Analyser,
+    links: &mut K,
+    steps: &mut Steps<L>,
+) -> Result<(Option<Telling>, Analyser), NoMemory>
+    requires sound { IsSound (K.standings links.old) (2 ^ 61) feeds.old }
+    ensures works { IfOk result (λ r. WorkedNamed (K.attempts links.old) (K.attempts links.new)
+        (K.wire links.old) (K.wire links.new) name.now work feeds.old feeds.new analyser r.0 r.1) }
+    ensures halts { OnErr result (BeganNamed (K.attempts links.old) (K.attempts links.new)
+        (K.wire links.old) (K.wire links.new) name.now work feeds.old analyser) }
+    ensures sound { IfOk result (λ r. (most : ℕ)
+        → IsSound (K.standings links.old) most feeds.old
+        → IsSound (K.standings links.new) (most + units_of work) feeds.new) }
+    ensures reached { IfOk result (λ r. r.0 ≢ Some (FeedEnds Unreachable)) }
+    ensures ticks { steps.new ≡ steps.old }
+    ensures others { Spares (IsNoFeeds (K.standings links.old) feeds.old)
+        (K.wire links.old) (K.wire links.new) (K.standings links.old) (K.standings links.new) }
+    ensures attempts { K.attempts links.new ≡ K.attempts links.old }
+    ensures faults { K.faults links.old ≤ K.faults links.new }
+{
+    match lend(feeds, name) {
+        None => Ok((Some(Telling::NoName), analyser)),
+        Some(None) => Ok((Some(Telling::StreamOver), analyser)),
+        Some(Some(feed)) => {
+            let Worked {
+                slot,
+                told,
+                analyser,
+            } = work_on(alloc, name, feed, work, analyser, links, steps)?;
+            give(feeds, name, slot);
+            Ok((told, analyser))
+        }
+    }
+}
+
+// Takes a feed out, so that it may be worked on. Its name stays, as if it were over.
+fn lend(feeds: &mut Feeds, name: &Name) -> Option<Option<OpenFeed>>
+    ensures was { result ≡ feed_in feeds.old name.now }
+    ensures now { IfSome result (λ slot. Puts feeds.old feeds.new name.now None) }
+    ensures same { IfNone result (Same feeds.old feeds.new) }
+{
+    match feeds.held.get_mut(name) {
+        Some(slot) => Some(mem::replace(slot, None)),
+        None => None,
+    }
+}
+
+/// Puts a feed back under its name.
+pub(crate) fn give(feeds: &mut Feeds, name: &Name, slot: Option<OpenFeed>)
+    requires { is_some (feed_in feeds.old name.now) ≡ true }
+    ensures { Puts feeds.old feeds.new name.now slot }
+{
+    if let Some(place) = feeds.held.get_mut(name) {
+        *place = slot;
+    }
+}
+
+/// Brings a name into use and takes its feed out, if there is one.
+pub(crate) fn hold(feeds: &mut Feeds, name: &Name) -> Result<Option<OpenFeed>, NoMemory>
+    ensures was { IfOk result (λ slot. WasHeld (feed_in feeds.old name.now) slot) }
+    ensures now { OnOk result (Puts feeds.old feeds.new name.now None) }
+{
+    let key = name.copy()?;
+    match feeds.held.insert(key, None)? {
+        Some(slot) => Ok(slot),
+        None => Ok(None),
+    }
+}

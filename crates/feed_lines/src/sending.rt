@@ -1,0 +1,93 @@
+//! Sending queries and error reports.
+ghost use Rattle.std.specs.Prelude.{◌≡◌, ℕ, ◌≤◌, List, true, IfOk};
+ghost use Rattle.av_base.specs.Connections.{IsOpen, IsUsable};
+ghost use Rattle.feed_lines.specs.Connection.{Has, Now};
+ghost use Rattle.feed_lines.specs.Moves.{Asks, Finishes, Only, Sends};
+ghost use Rattle.feed_lines.specs.Feeds.{query_bytes, report_bytes};
+
+use av_base::{Links, NoMemory};
+use rtr_pdu::{Pdu, write};
+use rtr_session::Query;
+use std::alloc::Global;
+
+/// The bytes of a query.
+pub(crate) fn spell_query(alloc: Global, query: Query) -> Result<Vec<u8>, NoMemory>
+    ensures { IfOk result (λ bytes. bytes.items ≡ query_bytes query) }
+{
+    let mut bytes = Vec::new(alloc);
+    match query {
+        Query::Reset => write(&Pdu::ResetQuery, &mut bytes)?,
+        Query::Serial { session, serial } => {
+            write(&Pdu::SerialQuery { session, serial }, &mut bytes)?
+        }
+    }
+    Ok(bytes)
+}
+
+/// The bytes of the error report with this code, or none.
+pub(crate) fn spell_report(alloc: Global, code: Option<u16>) -> Result<Vec<u8>, NoMemory>
+    ensures { IfOk result (λ bytes. bytes.items ≡ report_bytes code) }
+{
+    let mut bytes = Vec::new(alloc);
+    if let Some(code) = code {
+        write(&Pdu::ErrorReport { code }, &mut bytes)?;
+    }
+    Ok(bytes)
+}
+
+/// Sends a query, and answers whether all of it went. Otherwise the connection is closed.
+pub(crate) fn send_query<K: Links>(bytes: &[u8], link: u32, links: &mut K) -> bool
+    requires { IsUsable (K.standings links.old) link }
+    ensures asks { (got gave : List ℕ) → Now (K.wire links.old) link (Has got gave)
+        → Asks (K.wire links.new) link got gave bytes.now result }
+    ensures usable { result ≡ true → IsUsable (K.standings links.new) link }
+    ensures only { Only link (K.wire links.old) (K.wire links.new)
+        (K.standings links.old) (K.standings links.new) }
+    ensures attempts { K.attempts links.new ≡ K.attempts links.old }
+    ensures faults { K.faults links.old ≤ K.faults links.new }
+{
+    if send_all(bytes, link, links) {
+        return true;
+    }
+    links.close(link);
+    false
+}
+
+/// Sends the last bytes, as many of them as go, and closes the connection.
+pub(crate) fn finish<K: Links>(bytes: &[u8], link: u32, links: &mut K)
+    requires { IsUsable (K.standings links.old) link }
+    ensures finishes { (got gave : List ℕ) → Now (K.wire links.old) link (Has got gave)
+        → Finishes (K.wire links.new) link got gave bytes.now }
+    ensures only { Only link (K.wire links.old) (K.wire links.new)
+        (K.standings links.old) (K.standings links.new) }
+    ensures attempts { K.attempts links.new ≡ K.attempts links.old }
+    ensures faults { K.faults links.old ≤ K.faults links.new }
+{
+    send_all(bytes, link, links);
+    links.close(link);
+}
+
+// Sends all these bytes, and answers whether they went.
+fn send_all<K: Links>(bytes: &[u8], link: u32, links: &mut K) -> bool
+    requires { IsUsable (K.standings links.old) link }
+    ensures sends { (got gave : List ℕ) → Now (K.wire links.old) link (Has got gave)
+        → Sends (K.wire links.new) link got gave bytes.now result }
+    ensures usable { result ≡ true → IsUsable (K.standings links.new) link }
+    ensures still_open { IsOpen (K.standings links.new) link }
+    ensures only { Only link (K.wire links.old) (K.wire links.new)
+        (K.standings links.old) (K.standings links.new) }
+    ensures attempts { K.attempts links.new ≡ K.attempts links.old }
+    ensures faults { K.faults links.old ≤ K.faults links.new }
+{
+    let mut rest = bytes;
+    while !rest.is_empty() {
+        match links.send(link, rest) {
+            Ok(count) => {
+                let (_, left) = rest.split_at(count);
+                rest = left;
+            }
+            Err(_) => return false,
+        }
+    }
+    true
+}

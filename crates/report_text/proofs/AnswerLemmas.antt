@@ -1,0 +1,203 @@
+-- The lines of answers are lines, and none of them begins with `! `.
+use Rattle.std.proofs.Common.{◌≡◌, ◌≢◌, ℕ, suc, ◌+◌, ◌/◌, ◌%◌, ◌^◌, ◌≤◌, ◌&&◌, take, Bool, true, false, cond, nat_eq, nat_lt, List, [], ◌∷◌, ◌++◌, codes, decimal, refl, sym, subst, ◌∙◌, arith}
+use Rattle.std.specs.List.{starts_with}
+use Rattle.std.specs.Cmp.Lexicographic.{pointwise}
+use Rattle.std.specs.Char.{digit_char}
+use Rattle.std.specs.declared.option.Option.{Option}
+use Rattle.std.specs.declared.option.Option.TheVariants.{Some, None}
+use Rattle.std.proofs.lemmas.List.{append_assoc}
+use Rattle.std.proofs.lemmas.List.Elements.{All-append, All-cons, All-nil}
+use Rattle.std.proofs.lemmas.Bool.Decides.{nat_tests}
+use Rattle.path_model.specs.declared.addr.Addr.{Addr}
+use Rattle.path_model.specs.declared.addr.Addr.TheVariants.{V4, V6}
+use Rattle.path_model.specs.declared.key.Key.{Key}
+use Rattle.path_model.specs.declared.verdict.Verdict.{Verdict}
+use Rattle.path_model.specs.declared.verdict.Verdict.TheVariants.{Valid, Unknown, Invalid}
+use Rattle.path_model.specs.declared.witness.Witness.{Witness}
+use Rattle.path_model.specs.declared.witness.Witness.TheVariants.{Valid as ByLabelling, Empty, Set, Neighbour, Blocked, Unsettled}
+use Rattle.av_text.specs.AddressText.{addr_text, hex4, octets_text, groups_text, parts_text}
+use Rattle.av_text.specs.Marks.{Lacks}
+use Rattle.av_text.specs.VerdictText.{verdict_text}
+use Rattle.av_text.specs.PeerText.{peer_text}
+use Rattle.av_text.specs.PrefixText.{prefix_text}
+use Rattle.av_text.specs.Spellings.{IsInLine}
+use Rattle.av_text.proofs.AnySpellingLemmas.{peers_in_line, prefixes_in_line, verdicts_in_line}
+use Rattle.av_text.proofs.LackLemmas.{decimal-lacks}
+use Rattle.report_text.specs.declared.summary.Summary.{Summary}
+use Rattle.report_text.specs.Change.{mark_text, marks_text, change_line}
+use Rattle.report_text.specs.Laws.{IsAnswerLine}
+use Rattle.report_text.specs.Rows.{row_line}
+use Rattle.report_text.specs.Summary.{verdicts_part, sources_part, summary_line}
+use Rattle.report_text.specs.Why.{hops_text, labelling_text, witness_text, why_line}
+use Rattle.report_text.proofs.InLineLemmas.{clean, both, number}
+
+-- ---- lines that begin with an address
+
+and_first : (a b : Bool) → a ≡ false → (a && b) ≡ false
+and_first true b e = absurd cc
+and_first false b e = refl
+
+-- whether a line begins with `! `
+abbrev begins : List ℕ → Bool
+begins line = starts_with nat_eq line (codes "! ")
+
+first_differs : (x : ℕ) (back : List ℕ) → x ≢ 33 → begins (x ∷ back) ≡ false
+first_differs x back other =
+    let test : nat_eq 33 x ≡ false = grind (arith, nat_tests) in
+    and_first (nat_eq 33 x) (pointwise nat_eq (32 ∷ []) (take 1 back)) test
+
+-- a text's first byte, if it has one, isn't `!`
+abbrev StartsOther : List ℕ → Type 0
+StartsOther text = (x : ℕ) (more : List ℕ) → text ≡ x ∷ more → x ≢ 33
+
+begins_other : (text : List ℕ) → StartsOther text → begins text ≡ false
+begins_other [] starts = refl
+begins_other (x ∷ more) starts = first_differs x more (starts x more refl)
+
+head_other : (first : ℕ) (rest : List ℕ) → first ≢ 33 → StartsOther (first ∷ rest)
+head_other first rest other = λ x more is same. let heads : first ≡ x = cc in other (heads ∙ same)
+
+-- the first part has no `!`, and what comes behind begins with none
+starts_at : (front : List ℕ) (mark : ℕ) (back : List ℕ) → Lacks 33 front → mark ≢ 33 → StartsOther (front ++ mark ∷ back)
+starts_at [] mark back lacks other = head_other mark back other
+starts_at (x ∷ front) mark back lacks other = head_other x (front ++ mark ∷ back) (lacks 0 x (omega arith))
+
+digit_above : (d : ℕ) → 48 ≤ digit_char d
+digit_above d = by_size (nat_lt d 10) where
+  by_size : (small : Bool) → 48 ≤ cond small (48 + d) (87 + d)
+  by_size true = omega arith
+  by_size false = omega arith
+
+-- parts without `!`
+parts_start : (spell : ℕ → List ℕ) (mark base marks n : ℕ) (back : List ℕ) → ((d : ℕ) → Lacks 33 (spell d)) → mark ≢ 33
+    → StartsOther (parts_text spell mark base (suc marks) n ++ back)
+parts_start spell mark base marks n back lacks other =
+    let rest = parts_text spell mark base marks (n % base ^ suc marks) in
+    subst StartsOther (sym (append_assoc (spell (n / base ^ suc marks)) (mark ∷ rest) back))
+    (starts_at (spell (n / base ^ suc marks)) mark (rest ++ back) (lacks (n / base ^ suc marks)) other)
+
+several_start : (spell : ℕ → List ℕ) (mark base marks fewer n : ℕ) (back : List ℕ) → marks ≡ suc fewer → ((d : ℕ) → Lacks 33 (spell d)) → mark ≢ 33
+    → StartsOther (parts_text spell mark base marks n ++ back)
+several_start spell mark base marks fewer n back some lacks other =
+    subst (λ (m : ℕ). StartsOther (parts_text spell mark base m n ++ back)) (sym some) (parts_start spell mark base fewer n back lacks other)
+
+digit_other : (d : ℕ) → digit_char d ≢ 33
+digit_other d same = let above = digit_above d in omega (arith, above, same)
+
+hex4_lacks : (g : ℕ) → Lacks 33 (hex4 g)
+hex4_lacks g =
+    let P : ℕ → Type 0 = λ byte. byte ≢ 33 in
+    All-cons P (digit_char (g / 4096)) (digit_char (g / 256 % 16) ∷ digit_char (g / 16 % 16) ∷ digit_char (g % 16) ∷ []) (digit_other (g / 4096))
+    (All-cons P (digit_char (g / 256 % 16)) (digit_char (g / 16 % 16) ∷ digit_char (g % 16) ∷ []) (digit_other (g / 256 % 16))
+    (All-cons P (digit_char (g / 16 % 16)) (digit_char (g % 16) ∷ []) (digit_other (g / 16 % 16))
+    (All-cons P (digit_char (g % 16)) [] (digit_other (g % 16)) (All-nil P))))
+
+octets_start : (n : ℕ) (back : List ℕ) → StartsOther (octets_text 3 n ++ back)
+octets_start n back = several_start decimal 46 256 3 2 n back refl (λ d. decimal-lacks 33 d (omega arith)) (λ e. cc)
+
+groups_start : (n : ℕ) (back : List ℕ) → StartsOther (groups_text 7 n ++ back)
+groups_start n back = several_start hex4 58 65536 7 6 n back refl hex4_lacks (λ e. cc)
+
+addr_start : (a : Addr) (back : List ℕ) → StartsOther (addr_text a ++ back)
+addr_start a back = elim a as (λ x. StartsOther (addr_text x ++ back)) [ V4 n ↦ octets_start n back | V6 n ↦ groups_start n back ]
+
+-- a key, and then some words
+of_key : (key : Key) (words : List ℕ) → IsInLine words → IsAnswerLine (peer_text key.peer ++ 32 ∷ prefix_text key.prefix ++ 32 ∷ words)
+of_key key words in_line =
+    let P : ℕ → Type 0 = λ byte. byte ≢ 10 in
+    let more = (32 ∷ prefix_text key.prefix) ++ (32 ∷ words) in
+    let is = append_assoc (peer_text key.peer) (32 ∷ prefix_text key.prefix) (32 ∷ words)
+    ∙ append_assoc (addr_text key.peer.addr) (32 ∷ decimal key.peer.asn) more in
+    record {
+      in_line = All-append P (peer_text key.peer ++ (32 ∷ prefix_text key.prefix)) (32 ∷ words)
+          (All-append P (peer_text key.peer) (32 ∷ prefix_text key.prefix) (peers_in_line key.peer)
+          (All-cons P 32 (prefix_text key.prefix) (λ e. cc) (prefixes_in_line key.prefix)))
+          (All-cons P 32 words (λ e. cc) in_line);
+      unmarked = begins_other (peer_text key.peer ++ 32 ∷ prefix_text key.prefix ++ 32 ∷ words)
+          (subst StartsOther (sym is) (addr_start key.peer.addr ((32 ∷ decimal key.peer.asn) ++ more)));
+    }
+
+-- ---- rows and changes
+
+pub row_is_one_line : (key : Key) (verdict : Verdict) → IsAnswerLine (row_line key verdict)
+row_is_one_line key verdict = of_key key (verdict_text verdict) (verdicts_in_line verdict)
+
+mark_in_line : (mark : Option Verdict) → IsInLine (mark_text mark)
+mark_in_line None = clean (codes "none") refl
+mark_in_line (Some verdict) = verdicts_in_line verdict
+
+marks_in_line : (before after : Option Verdict) → IsInLine (marks_text before after)
+marks_in_line before after = both (mark_text before) (32 ∷ mark_text after) (mark_in_line before) (both (codes " ") (mark_text after) (clean (codes " ") refl) (mark_in_line after))
+
+pub change_is_one_line : (key : Key) (before after : Option Verdict) → IsAnswerLine (change_line key before after)
+change_is_one_line key before after = of_key key (marks_text before after) (marks_in_line before after)
+
+-- ---- summaries
+
+-- a word and a number behind a text
+counted : (text word : List ℕ) (n : ℕ) → IsInLine text → IsInLine word → IsInLine (text ++ word ++ decimal n)
+counted text word n in_line clean_word = both (text ++ word) (decimal n) (both text word in_line clean_word) (number n)
+
+worded : (word : List ℕ) (n : ℕ) → IsInLine word → IsInLine (word ++ decimal n)
+worded word n clean_word = both word (decimal n) clean_word (number n)
+
+verdicts_part_in_line : (summary : Summary) → IsInLine (verdicts_part summary)
+verdicts_part_in_line summary =
+    counted (codes " valid " ++ decimal summary.valid ++ codes " unknown " ++ decimal summary.unknown) (codes " invalid ") summary.invalid
+    (counted (codes " valid " ++ decimal summary.valid) (codes " unknown ") summary.unknown
+    (worded (codes " valid ") summary.valid (clean (codes " valid ") refl))
+    (clean (codes " unknown ") refl))
+    (clean (codes " invalid ") refl)
+
+sources_part_in_line : (summary : Summary) → IsInLine (sources_part summary)
+sources_part_in_line summary =
+    counted (codes " customers " ++ decimal summary.customers ++ codes " passed " ++ decimal summary.passed) (codes " refused ") summary.refused
+    (counted (codes " customers " ++ decimal summary.customers) (codes " passed ") summary.passed
+    (worded (codes " customers ") summary.customers (clean (codes " customers ") refl))
+    (clean (codes " passed ") refl))
+    (clean (codes " refused ") refl)
+
+pub summary_is_one_line : (summary : Summary) → IsAnswerLine (summary_line summary)
+summary_is_one_line summary = record {
+  in_line = both (codes "summary routes " ++ decimal summary.routes ++ verdicts_part summary) (sources_part summary)
+      (both (codes "summary routes " ++ decimal summary.routes) (verdicts_part summary)
+      (worded (codes "summary routes ") summary.routes (clean (codes "summary routes ") refl)) (verdicts_part_in_line summary))
+      (sources_part_in_line summary);
+  unmarked = refl;
+}
+
+-- ---- reasons
+
+hops_in_line : (first : ℕ) (last : Option ℕ) → IsInLine (hops_text first last)
+hops_in_line first None = number first
+hops_in_line first (Some last) = both (decimal first) (32 ∷ decimal last) (number first) (both (codes " ") (decimal last) (clean (codes " ") refl) (number last))
+
+labelling_in_line : (climbs free descents : ℕ) → IsInLine (labelling_text climbs free descents)
+labelling_in_line climbs free descents =
+    counted (codes "climbs " ++ decimal climbs ++ codes " free " ++ decimal free) (codes " descents ") descents
+    (counted (codes "climbs " ++ decimal climbs) (codes " free ") free (worded (codes "climbs ") climbs (clean (codes "climbs ") refl)) (clean (codes " free ") refl))
+    (clean (codes " descents ") refl)
+
+witness_in_line : (witness : Witness) → IsInLine (witness_text witness)
+witness_in_line (ByLabelling climbs free descents) = labelling_in_line climbs free descents
+witness_in_line Empty = clean (codes "empty") refl
+witness_in_line Set = clean (codes "set") refl
+witness_in_line Neighbour = clean (codes "neighbour") refl
+witness_in_line (Blocked first last) = both (codes "blocked ") (hops_text first last) (clean (codes "blocked ") refl) (hops_in_line first last)
+witness_in_line (Unsettled first last climbs free descents) =
+    both (codes "unsettled " ++ hops_text first last) (32 ∷ labelling_text climbs free descents)
+    (both (codes "unsettled ") (hops_text first last) (clean (codes "unsettled ") refl) (hops_in_line first last))
+    (both (codes " ") (labelling_text climbs free descents) (clean (codes " ") refl) (labelling_in_line climbs free descents))
+
+-- no verdict begins with `!`
+why_unmarked : (verdict : Verdict) (back : List ℕ) → begins (verdict_text verdict ++ back) ≡ false
+why_unmarked Valid back = refl
+why_unmarked Unknown back = refl
+why_unmarked Invalid back = refl
+
+pub reason_is_one_line : (verdict : Verdict) (witness : Witness) → IsAnswerLine (why_line verdict witness)
+reason_is_one_line verdict witness = record {
+  in_line = both (verdict_text verdict) (32 ∷ witness_text witness) (verdicts_in_line verdict)
+      (both (codes " ") (witness_text witness) (clean (codes " ") refl) (witness_in_line witness));
+  unmarked = why_unmarked verdict (32 ∷ witness_text witness);
+}

@@ -1,0 +1,53 @@
+//! Hops of cases, added, found and removed.
+use av_base::NoMemory;
+use hop_index::HopIndex;
+use path_model::AsList;
+use std::alloc::Global;
+use std::process::Abort;
+
+// Case 7.
+const CHAIN: [u32; 4] = [1, 2, 3, 2];
+
+// Case 5.
+const OTHER: [u32; 2] = [3, 2];
+
+// The hops of these two cases and of one that has none.
+fn indexed(alloc: Global) -> Result<HopIndex, NoMemory> {
+    let chain = AsList::from_slice(alloc, &CHAIN)?;
+    let other = AsList::from_slice(alloc, &OTHER)?;
+    let lone = AsList::from_slice(alloc, &[2])?;
+    HopIndex::new(alloc)
+        .add(7, &chain)?
+        .add(5, &other)?
+        .add(9, &lone)
+}
+
+// Compares the hops of an AS, each its other end and its case.
+fn test_hops(rt: &impl Abort, index: &HopIndex, asn: u32, wanted: &[(u32, usize)]) {
+    let mut left = wanted.iter();
+    for hop in index.through(asn) {
+        assert!(rt; left.next() == Some(&hop));
+    }
+    assert!(rt; left.next().is_none());
+}
+
+#[test]
+fn finds_hops(rt: HostRuntime) -> Result<(), NoMemory> {
+    test_hops(&rt, &HopIndex::new(rt.alloc()), 2, &[]);
+    let index = indexed(rt.alloc())?;
+    test_hops(&rt, &index, 2, &[(1, 7), (3, 5), (3, 7)]);
+    test_hops(&rt, &index, 1, &[(2, 7)]);
+    test_hops(&rt, &index, 4, &[]);
+    Ok(())
+}
+
+#[test]
+fn forgets_hops(rt: HostRuntime) -> Result<(), NoMemory> {
+    let alloc = rt.alloc();
+    let index = indexed(alloc)?.remove(7, &AsList::from_slice(alloc, &CHAIN)?);
+    test_hops(&rt, &index, 2, &[(3, 5)]);
+    test_hops(&rt, &index, 1, &[]);
+    let index = index.remove(5, &AsList::from_slice(alloc, &OTHER)?);
+    test_hops(&rt, &index, 3, &[]);
+    Ok(())
+}

@@ -1,0 +1,23 @@
+//! Tests of what is judged: paths with their verdicts and witnesses, the index of hops, and the store of routes.
+//!
+//! Each table has its expected values worked out by hand. `judgements` judges paths in a small world, with their witnesses,
+//! `long_chains` the longest path there is, `confirming` puts claims to the checker, `hops` looks up hops, and `routes` asks a store of
+//! routes.
+#![tactic(auto)]
+
+#[cfg(test)]
+mod confirming;
+#[cfg(test)]
+mod hops;
+#[cfg(test)]
+mod judgements;
+#[cfg(test)]
+mod ladder;
+#[cfg(test)]
+mod long_chains;
+#[cfg(test)]
+mod routes;
+#[cfg(test)]
+mod wording;
+#[cfg(test)]
+mod world;

@@ -1,0 +1,225 @@
+//! Lines by themselves: of each command some that are right, and some wrong in the number of words, in a spelling and in a number.
+use av_base::NoMemory;
+use path_model::Role;
+use script_lines::{Command, LineFault, read};
+use std::alloc::Global;
+use std::process::Abort;
+
+// What a line is read as.
+#[derive(Clone, Copy)]
+enum Reading {
+    Idle,
+    Aspa(&'static str, &'static str),
+    Aspa64(&'static str, &'static str),
+    Slurm(&'static str),
+    Filter(u32),
+    Unfilter(u32),
+    Assert(u32, &'static [u32]),
+    Unassert(u32),
+    Role(u32, Role),
+    RoleDefault(Role),
+    Open(&'static str, &'static str),
+    Take(&'static str, u32),
+    Judge(Role, u32, &'static [u32]),
+    Report,
+    Refused(LineFault),
+}
+
+// A line, and what it is read as.
+type Row = (&'static [u8], Reading);
+
+// Nothing to do, and no command.
+const IDLE: [Row; 7] = [
+    (b"", Reading::Idle),
+    (b" \t", Reading::Idle),
+    (b"#", Reading::Idle),
+    (b"#assert \xff 1 2", Reading::Idle),
+    (b"Assert 1 2", Reading::Refused(LineFault::Command)),
+    (b"assert1 2", Reading::Refused(LineFault::Command)),
+    (b"demo 1", Reading::Refused(LineFault::Command)),
+];
+
+const ASSERTIONS: [Row; 10] = [
+    (b"assert 1 2", Reading::Assert(1, &[2])),
+    (
+        b" assert\t4294967295  0 7 7 ",
+        Reading::Assert(4_294_967_295, &[0, 7, 7]),
+    ),
+    (b"assert", Reading::Refused(LineFault::Words)),
+    (b"assert 1", Reading::Refused(LineFault::Words)),
+    (b"assert x", Reading::Refused(LineFault::Words)),
+    (b"assert 1 2\x00", Reading::Refused(LineFault::Words)),
+    (b"assert x 2\r", Reading::Refused(LineFault::Words)),
+    (b"assert AS1 2", Reading::Refused(LineFault::Number)),
+    (
+        b"assert 1 2 4294967296",
+        Reading::Refused(LineFault::Number),
+    ),
+    (b"assert 1 02 3", Reading::Refused(LineFault::Number)),
+];
+
+const FILES: [Row; 15] = [
+    (
+        b"aspa cache-1_a.b payloads/v4.asa",
+        Reading::Aspa("cache-1_a.b", "payloads/v4.asa"),
+    ),
+    (b"aspa\ta  ~!\"#\t", Reading::Aspa("a", "~!\"#")),
+    (b"aspa a", Reading::Refused(LineFault::Words)),
+    (b"aspa a f g", Reading::Refused(LineFault::Words)),
+    (b"aspa a/b f", Reading::Refused(LineFault::Words)),
+    (b"aspa a f\x7f", Reading::Refused(LineFault::Words)),
+    (b"aspa64 1 -", Reading::Aspa64("1", "-")),
+    (b"aspa64 a", Reading::Refused(LineFault::Words)),
+    (b"aspa64 a: f", Reading::Refused(LineFault::Words)),
+    (b"aspa64 a f g", Reading::Refused(LineFault::Words)),
+    (b"aspa6 a f", Reading::Refused(LineFault::Command)),
+    (b"slurm local.json", Reading::Slurm("local.json")),
+    (b"slurm", Reading::Refused(LineFault::Words)),
+    (b"slurm my file", Reading::Refused(LineFault::Words)),
+    (b"slurm \xc3\xa9", Reading::Refused(LineFault::Words)),
+];
+
+const AMENDMENTS: [Row; 12] = [
+    (b"filter 0", Reading::Filter(0)),
+    (b"filter", Reading::Refused(LineFault::Words)),
+    (b"filter 1 2", Reading::Refused(LineFault::Words)),
+    (b"filter x 2", Reading::Refused(LineFault::Words)),
+    (b"filter AS1", Reading::Refused(LineFault::Number)),
+    (b"unfilter 4294967295", Reading::Unfilter(4_294_967_295)),
+    (b"unfilter 1 2", Reading::Refused(LineFault::Words)),
+    (b"unfilter 4294967296", Reading::Refused(LineFault::Number)),
+    (b"unassert 64500", Reading::Unassert(64_500)),
+    (b"unassert", Reading::Refused(LineFault::Words)),
+    (b"unassert 64500 1", Reading::Refused(LineFault::Words)),
+    (b"unassert 064500", Reading::Refused(LineFault::Number)),
+];
+
+const DUMPS: [Row; 15] = [
+    (
+        b"role 64501 customer",
+        Reading::Role(64_501, Role::Customer),
+    ),
+    (
+        b"role default rs-client",
+        Reading::RoleDefault(Role::RsClient),
+    ),
+    (b"role 1 nobody", Reading::Refused(LineFault::Words)),
+    (b"role default", Reading::Refused(LineFault::Words)),
+    (b"role x nobody", Reading::Refused(LineFault::Words)),
+    (b"role x customer", Reading::Refused(LineFault::Number)),
+    (b"open d updates.mrt", Reading::Open("d", "updates.mrt")),
+    (b"open d", Reading::Refused(LineFault::Words)),
+    (b"take d 1", Reading::Take("d", 1)),
+    (b"take d 100000000", Reading::Take("d", 100_000_000)),
+    (b"take d", Reading::Refused(LineFault::Words)),
+    (b"take d 0", Reading::Refused(LineFault::Number)),
+    (b"take d 100000001", Reading::Refused(LineFault::Number)),
+    (b"report", Reading::Report),
+    (b"report now", Reading::Refused(LineFault::Words)),
+];
+
+const JUDGEMENTS: [Row; 14] = [
+    (b"judge rs-client 5", Reading::Judge(Role::RsClient, 5, &[])),
+    (
+        b"judge mutual 2 2 1 1",
+        Reading::Judge(Role::Mutual, 2, &[2, 1, 1]),
+    ),
+    (
+        b"judge provider 0 0",
+        Reading::Judge(Role::Provider, 0, &[0]),
+    ),
+    (b"judge", Reading::Refused(LineFault::Words)),
+    (b"judge rs", Reading::Refused(LineFault::Words)),
+    (b"judge 1 customer 1", Reading::Refused(LineFault::Words)),
+    (b"judge rsclient 1 1", Reading::Refused(LineFault::Words)),
+    (b"judge PEER 1 1", Reading::Refused(LineFault::Words)),
+    // What is spelled wrong comes before what is no number, wherever it stands.
+    (b"judge bogus x 1", Reading::Refused(LineFault::Words)),
+    (b"judge peer x 1\x7f", Reading::Refused(LineFault::Words)),
+    (b"judge peer x 1", Reading::Refused(LineFault::Number)),
+    (b"judge peer 1 -1", Reading::Refused(LineFault::Number)),
+    (b"judge peer 1 1 1.", Reading::Refused(LineFault::Number)),
+    (b"judge peer 00 1", Reading::Refused(LineFault::Number)),
+];
+
+// Whether a line was read so.
+fn is_read_so(read: &Result<Command, LineFault>, reading: Reading) -> bool {
+    match (read, reading) {
+        (Ok(Command::Idle), Reading::Idle) => true,
+        (Ok(Command::Aspa(name, file)), Reading::Aspa(called, of)) => {
+            name.text() == called && file.text() == of
+        }
+        (Ok(Command::Aspa64(name, file)), Reading::Aspa64(called, of)) => {
+            name.text() == called && file.text() == of
+        }
+        (Ok(Command::Slurm(file)), Reading::Slurm(of)) => file.text() == of,
+        (Ok(Command::Filter(customer)), Reading::Filter(wanted)) => *customer == wanted,
+        (Ok(Command::Unfilter(customer)), Reading::Unfilter(wanted)) => *customer == wanted,
+        (Ok(Command::Unassert(customer)), Reading::Unassert(wanted)) => *customer == wanted,
+        (Ok(Command::Assert(customer, providers)), Reading::Assert(wanted, all)) => {
+            *customer == wanted && providers.as_slice() == all
+        }
+        (Ok(Command::Role(asn, role)), Reading::Role(wanted, of)) => {
+            *asn == wanted && *role == of
+        }
+        (Ok(Command::RoleDefault(role)), Reading::RoleDefault(of)) => *role == of,
+        (Ok(Command::Open(name, file)), Reading::Open(called, of)) => {
+            name.text() == called && file.text() == of
+        }
+        (Ok(Command::Take(name, count)), Reading::Take(called, wanted)) => {
+            name.text() == called && *count == wanted
+        }
+        (Ok(Command::Report), Reading::Report) => true,
+        (Ok(Command::Judge(role, neighbour, path)), Reading::Judge(of, wanted, all)) => {
+            *role == of && *neighbour == wanted && path.as_slice() == all
+        }
+        (Err(fault), Reading::Refused(cause)) => *fault == cause,
+        _ => false,
+    }
+}
+
+// Reads each line of a table.
+fn test_lines(rt: &impl Abort, alloc: Global, rows: &[Row]) {
+    for (i, (line, reading)) in rows.iter().enumerate() {
+        assert!(rt; is_read_so(&read(alloc, line), *reading), "row {i}");
+    }
+}
+
+#[test]
+fn reads_lines(rt: HostRuntime) {
+    let alloc = rt.alloc();
+    test_lines(&rt, alloc, &IDLE);
+    test_lines(&rt, alloc, &ASSERTIONS);
+    test_lines(&rt, alloc, &FILES);
+    test_lines(&rt, alloc, &AMENDMENTS);
+    test_lines(&rt, alloc, &DUMPS);
+    test_lines(&rt, alloc, &JUDGEMENTS);
+}
+
+// Reads a line of one byte so many times.
+fn test_long_line(
+    rt: &impl Abort,
+    alloc: Global,
+    byte: u8,
+    count: usize,
+    reading: Reading,
+) -> Result<(), NoMemory> {
+    let line = vec![in alloc; byte; count]?;
+    assert!(rt; is_read_so(&read(alloc, &line), reading));
+    Ok(())
+}
+
+// 4,096 bytes may stand in a line, and in a comment any number.
+#[test]
+fn reads_long_lines(rt: HostRuntime) -> Result<(), NoMemory> {
+    let alloc = rt.alloc();
+    test_long_line(
+        &rt,
+        alloc,
+        b'x',
+        4_096,
+        Reading::Refused(LineFault::Command),
+    )?;
+    test_long_line(&rt, alloc, b'x', 4_097, Reading::Refused(LineFault::Long))?;
+    test_long_line(&rt, alloc, b'#', 4_097, Reading::Idle)
+}
