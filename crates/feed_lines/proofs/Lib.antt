@@ -5,5 +5,6 @@ pub mod LawLemmas
 pub mod LineLemmas
 pub mod NamedLemmas
 pub mod PduLemmas
+pub mod StandingLemmas
 pub mod TakingLemmas
 pub mod WorkingLemmas

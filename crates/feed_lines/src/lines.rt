@@ -75,6 +75,7 @@ pub fn connect<K: Links>(
         → IsSound (K.standings links.old) most feeds.old
         → IsSound (K.standings links.new) most feeds.new) }
     ensures few { IfOk result (λ next. next.refused ≤ progress.refused + 1) }
+    ensures faults { K.faults links.old ≤ K.faults links.new }
 {
     let told = connect_named(alloc, name, place, feeds, links)?;
     let next = report(line, name, told, progress, text)?;

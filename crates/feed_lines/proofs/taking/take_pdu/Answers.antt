@@ -44,3 +44,21 @@ returns-in_err-outcome-in-Pdu-clause-only g c = Spares-trans c.next_pdu.ensures.
 pub returns-in_err-outcome-in-Pdu-clause-halts : goal.returns-in_err-outcome-in-Pdu-clause-halts
 returns-in_err-outcome-in-Pdu-clause-halts g c =
     on_err c.from_residual-in_err-outcome-in-Pdu.result c.from_residual-in_err-outcome-in-Pdu.ensures.0 (KeepsSent-trans c.next_pdu.ensures.keeps c.in_err-outcome-in-Pdu.ensures.halts)
+
+pub returns-in_err-framer-clause-halts : goal.returns-in_err-framer-clause-halts
+returns-in_err-framer-clause-halts g c = on_err c.from_residual.result c.from_residual.ensures.0 c.next_pdu.ensures.keeps
+
+pub returns-in_err-framer-clause-only : goal.returns-in_err-framer-clause-only
+returns-in_err-framer-clause-only g c = c.next_pdu.ensures.only
+
+pub returns-in_err-report-in-Refused-clause-halts : goal.returns-in_err-report-in-Refused-clause-halts
+returns-in_err-report-in-Refused-clause-halts g c = on_err c.from_residual-in_err-report-in-Refused.result c.from_residual-in_err-report-in-Refused.ensures.0 c.next_pdu.ensures.keeps
+
+pub returns-in_err-report-in-Refused-clause-only : goal.returns-in_err-report-in-Refused-clause-only
+returns-in_err-report-in-Refused-clause-only g c = c.next_pdu.ensures.only
+
+pub returns-in_err-session-in-Pdu-clause-halts : goal.returns-in_err-session-in-Pdu-clause-halts
+returns-in_err-session-in-Pdu-clause-halts g c = on_err c.from_residual-in_err-session-in-Pdu.result c.from_residual-in_err-session-in-Pdu.ensures.0 c.next_pdu.ensures.keeps
+
+pub returns-in_err-session-in-Pdu-clause-only : goal.returns-in_err-session-in-Pdu-clause-only
+returns-in_err-session-in-Pdu-clause-only g c = c.next_pdu.ensures.only
