@@ -1,14 +1,9 @@
 //! The table of what attests: what a change moves, and how many give a customer its providers.
 use path_model::{AsList, Name, Rows};
 use std::alloc::Global;
-use vap_table::{Moves, TableChange, Vaps};
+use vap_table::{Moves, TableChange, Tally, Vaps};
 
 const CUSTOMER: u32 = 64_496;
-
-// The table after a change, and its moves; `None` where there is no memory.
-fn changed(vaps: Vaps, change: TableChange) -> Option<(Vaps, Moves)> {
-    vaps.change(change).ok()
-}
 
 // The source of this name has one row, of the customer, or none.
 fn replace(alloc: Global, name: &[u8], providers: Option<&[u32]>) -> Option<TableChange> {
@@ -23,20 +18,40 @@ fn replace(alloc: Global, name: &[u8], providers: Option<&[u32]>) -> Option<Tabl
     }
 }
 
-// An assertion by hand of the customer.
-fn asserts(alloc: Global, providers: &[u32]) -> Option<TableChange> {
-    let list = AsList::from_slice(alloc, providers).ok()?;
-    Some(TableChange::Assert(CUSTOMER, list))
+// The changes of the tests, in their order from 1: two sources, a filter, and an assertion of 0, which are taken back one after another.
+fn change(alloc: Global, step: u32) -> Option<TableChange> {
+    match step {
+        1 => replace(alloc, b"a", Some(&[64_497])),
+        2 => replace(alloc, b"b", Some(&[64_498])),
+        3 => Some(TableChange::Filter(CUSTOMER)),
+        4 => replace(alloc, b"a", None),
+        5 => match AsList::from_slice(alloc, &[0]) {
+            Ok(list) => Some(TableChange::Assert(CUSTOMER, list)),
+            Err(_) => None,
+        },
+        6 => Some(TableChange::Unfilter(CUSTOMER)),
+        7 => Some(TableChange::Unassert(CUSTOMER)),
+        8 => replace(alloc, b"b", None),
+        _ => None,
+    }
 }
 
-// The source a says that the customer has the provider 64497, and the source b that it has 64498.
-fn of_two_sources(alloc: Global) -> Option<Vaps> {
-    let (vaps, _) = changed(
-        Vaps::new(alloc),
-        replace(alloc, b"a", Some([64_497].as_slice()))?,
-    )?;
-    let (vaps, _) = changed(vaps, replace(alloc, b"b", Some([64_498].as_slice()))?)?;
+// The table after the changes before this one.
+fn before(alloc: Global, step: u32) -> Option<Vaps> {
+    let mut vaps = Vaps::new(alloc);
+    for earlier in 1..step {
+        let (next, _) = vaps.change(change(alloc, earlier)?).ok()?;
+        vaps = next;
+    }
     Some(vaps)
+}
+
+// The table after this change, and what it moved.
+fn after(alloc: Global, step: u32) -> Option<(Vaps, Moves)> {
+    match (before(alloc, step), change(alloc, step)) {
+        (Some(vaps), Some(change)) => vaps.change(change).ok(),
+        _ => None,
+    }
 }
 
 // Whether a row is this one, or there is none.
@@ -60,9 +75,26 @@ fn moved(moves: &Moves, before: Option<&[u32]>, after: Option<&[u32]>) -> bool {
     }
 }
 
-// Whether the customer has so many sources and assertions, and these numbers are counted: each with its sources and assertions.
-fn tallies(vaps: &Vaps, sources: u64, assertions: u64, given: &[(u32, u64, u64)]) -> bool {
-    let Some(tally) = vaps.tally(CUSTOMER) else {
+#[test]
+fn moves_exactly_what_a_change_moved(rt: HostRuntime) {
+    let table: [(u32, Option<&[u32]>, Option<&[u32]>); 3] = [
+        (3, Some(&[64_497, 64_498]), None),
+        (5, None, Some(&[])),
+        (6, Some(&[]), Some(&[64_498])),
+    ];
+    for (step, before, after_it) in table {
+        assert!(rt;
+            after(rt.alloc(), step).is_some_and(|(_, moves)| moved(&moves, before, after_it))
+        );
+    }
+    for step in [4, 7] {
+        assert!(rt; after(rt.alloc(), step).is_some_and(|(_, moves)| moves.is_empty()));
+    }
+}
+
+// Whether so many sources and assertions are counted, and these numbers, each with its sources and assertions.
+fn tallies(tally: Option<&Tally>, of: (u64, u64), given: &[(u32, u64, u64)]) -> bool {
+    let Some(tally) = tally else {
         return false;
     };
     let mut wanted = given.iter();
@@ -71,55 +103,26 @@ fn tallies(vaps: &Vaps, sources: u64, assertions: u64, given: &[(u32, u64, u64)]
             return false;
         }
     }
-    wanted.next().is_none() && tally.sources == sources && tally.assertions == assertions
-}
-
-// One after another, what each change should move, and whether it does.
-fn moves_rightly(alloc: Global) -> Option<[bool; 5]> {
-    let none: [u32; 0] = [];
-    let vaps = of_two_sources(alloc)?;
-    let (vaps, filter) = changed(vaps, TableChange::Filter(CUSTOMER))?;
-    let (vaps, replace) = changed(vaps, replace(alloc, b"a", None)?)?;
-    let (vaps, assert) = changed(vaps, asserts(alloc, &[0])?)?;
-    let (vaps, unfilter) = changed(vaps, TableChange::Unfilter(CUSTOMER))?;
-    let (_, unassert) = changed(vaps, TableChange::Unassert(CUSTOMER))?;
-    Some([
-        moved(&filter, Some([64_497, 64_498].as_slice()), None),
-        replace.is_empty(),
-        moved(&assert, None, Some(none.as_slice())),
-        moved(&unfilter, Some(none.as_slice()), Some([64_498].as_slice())),
-        unassert.is_empty(),
-    ])
-}
-
-#[test]
-fn moves_exactly_what_a_change_moved(rt: HostRuntime) {
-    assert_eq!(rt; moves_rightly(rt.alloc()), Some([true; 5]));
-}
-
-// The tallies of two sources; with the customer filtered out; with 0 and one of the providers asserted; and with nothing that has a row.
-fn tallies_rightly(alloc: Global) -> Option<[bool; 5]> {
-    let both: [(u32, u64, u64); 2] = [(64_497, 1, 0), (64_498, 1, 0)];
-    let vaps = of_two_sources(alloc)?;
-    let sourced = tallies(&vaps, 2, 0, &both);
-    let (vaps, _) = changed(vaps, TableChange::Filter(CUSTOMER))?;
-    let filtered = tallies(&vaps, 2, 0, &both);
-    let (vaps, _) = changed(vaps, asserts(alloc, &[64_498, 0])?)?;
-    let asserted = tallies(&vaps, 2, 1, &[(0, 0, 1), (64_497, 1, 0), (64_498, 1, 1)]);
-    let (vaps, _) = changed(vaps, TableChange::Unassert(CUSTOMER))?;
-    let (vaps, _) = changed(vaps, replace(alloc, b"a", None)?)?;
-    let left = tallies(&vaps, 1, 0, &[(64_498, 1, 0)]);
-    let (vaps, _) = changed(vaps, replace(alloc, b"b", None)?)?;
-    Some([
-        sourced,
-        filtered,
-        asserted,
-        left,
-        vaps.tally(CUSTOMER).is_none(),
-    ])
+    wanted.next().is_none() && (tally.sources, tally.assertions) == of
 }
 
 #[test]
 fn counts_who_gives_each_provider(rt: HostRuntime) {
-    assert_eq!(rt; tallies_rightly(rt.alloc()), Some([true; 5]));
+    let table: [(u32, (u64, u64), &[(u32, u64, u64)]); 5] = [
+        (2, (2, 0), &[(64_497, 1, 0), (64_498, 1, 0)]),
+        (3, (2, 0), &[(64_497, 1, 0), (64_498, 1, 0)]),
+        (4, (1, 0), &[(64_498, 1, 0)]),
+        (5, (1, 1), &[(0, 0, 1), (64_498, 1, 0)]),
+        (7, (1, 0), &[(64_498, 1, 0)]),
+    ];
+    for (step, of, given) in table {
+        assert!(rt;
+            after(rt.alloc(), step).is_some_and(|(vaps, _)| tallies(
+                vaps.tally(CUSTOMER),
+                of,
+                given
+            ))
+        );
+    }
+    assert!(rt; after(rt.alloc(), 8).is_some_and(|(vaps, _)| vaps.tally(CUSTOMER).is_none()));
 }
