@@ -13,9 +13,15 @@ use std::marker::Model;
 use std::sync::ledger::Ledger;
 
 /// What an analysis has come to, by all events so far.
-#[derive(Drop)]
 pub struct Analyser {
     store: RibStore,
+}
+
+/// A function of its own, so that what lets an analysis go needn't say how.
+impl Drop for Analyser {
+    fn drop(self) {
+        let Analyser { store: _store } = self;
+    }
 }
 
 /// A contract sees the state.
