@@ -9,7 +9,7 @@ use Rattle.aspa_top.proofs.tables.load.Goals as goal
 
 pub returns-then-is_taken-clause-loads : goal.returns-then-is_taken-clause-loads
 returns-then-is_taken-clause-loads g c =
-    load_refused _ _ c.args.working _ _ _ _ _ (Leaves-refl (λ other. Unit {0}) _) (λ n d e. tt) _ of_line 35 (rw c.if-is_taken.true at c.is_taken.ensures)
+    load_refused _ _ c.args.working _ _ _ _ _ (Leaves-refl (λ other. Unit {0}) _) (λ n d e. tt) _ _ of_line 35 (rw c.if-is_taken.true at c.is_taken.ensures)
     (λ world state text after tells refuses. refuses) c.in_ok-refuse.ensures.text c.in_ok-refuse.ensures.next
 
 pub returns-then-is_taken-clause-sound : goal.returns-then-is_taken-clause-sound
@@ -18,7 +18,7 @@ returns-then-is_taken-clause-sound g c =
 
 pub returns-in_ok-refuse-in-NoFile-clause-loads : goal.returns-in_ok-refuse-in-NoFile-clause-loads
 returns-in_ok-refuse-in-NoFile-clause-loads g c =
-    load_flawed _ _ c.args.working _ _ _ _ _ c.load_file.ensures.others (λ n d e. (c.requires.sound.given n d e).0) _ NoFile of_line 37 (rw c.if-is_taken.false at c.is_taken.ensures)
+    load_flawed _ _ c.args.working _ _ _ _ _ c.load_file.ensures.others (λ n d e. (c.requires.sound.given n d e).0) _ _ NoFile of_line 37 (rw c.if-is_taken.false at c.is_taken.ensures)
     c.text.ensures.text (rw c.in-NoFile.is at c.in_ok-load_file.ensures.comes) (λ state text after refuses. refuses) c.in_ok-refuse-in-NoFile.ensures.text c.in_ok-refuse-in-NoFile.ensures.next
 
 pub returns-in_ok-refuse-in-NoFile-clause-sound : goal.returns-in_ok-refuse-in-NoFile-clause-sound
@@ -27,7 +27,7 @@ returns-in_ok-refuse-in-NoFile-clause-sound g c =
 
 pub returns-in_ok-refuse-in-Long-clause-loads : goal.returns-in_ok-refuse-in-Long-clause-loads
 returns-in_ok-refuse-in-Long-clause-loads g c =
-    load_flawed _ _ c.args.working _ _ _ _ _ c.load_file.ensures.others (λ n d e. (c.requires.sound.given n d e).0) _ Long of_line 40 (rw c.if-is_taken.false at c.is_taken.ensures)
+    load_flawed _ _ c.args.working _ _ _ _ _ c.load_file.ensures.others (λ n d e. (c.requires.sound.given n d e).0) _ _ Long of_line 40 (rw c.if-is_taken.false at c.is_taken.ensures)
     c.text.ensures.text (rw c.in-Long.is at c.in_ok-load_file.ensures.comes) (λ state text after refuses. refuses) c.in_ok-refuse-in-Long.ensures.text c.in_ok-refuse-in-Long.ensures.next
 
 pub returns-in_ok-refuse-in-Long-clause-sound : goal.returns-in_ok-refuse-in-Long-clause-sound
@@ -36,7 +36,7 @@ returns-in_ok-refuse-in-Long-clause-sound g c =
 
 pub returns-in_ok-refuse-in-Flawed-clause-loads : goal.returns-in_ok-refuse-in-Flawed-clause-loads
 returns-in_ok-refuse-in-Flawed-clause-loads g c =
-    load_flawed _ _ c.args.working _ _ _ _ _ c.load_file.ensures.others (λ n d e. (c.requires.sound.given n d e).0) _ (Flawed c.in-Flawed.flaw) (of_unit (unit_name c.args.kind) c.in-Flawed.flaw.unit) c.in-Flawed.flaw.cause
+    load_flawed _ _ c.args.working _ _ _ _ _ c.load_file.ensures.others (λ n d e. (c.requires.sound.given n d e).0) _ _ (Flawed c.in-Flawed.flaw) (of_unit (unit_name c.args.kind) c.in-Flawed.flaw.unit) c.in-Flawed.flaw.cause
     (rw c.if-is_taken.false at c.is_taken.ensures) c.text.ensures.text (rw c.in-Flawed.is at c.in_ok-load_file.ensures.comes) (λ state text after refuses. refuses)
     (rw c.unit_name.ensures at c.in_ok-refuse-in-Flawed.ensures.text) c.in_ok-refuse-in-Flawed.ensures.next
 
@@ -46,13 +46,13 @@ returns-in_ok-refuse-in-Flawed-clause-sound g c =
 
 pub returns-in_ok-hold-in-Good-clause-loads : goal.returns-in_ok-hold-in-Good-clause-loads
 returns-in_ok-hold-in-Good-clause-loads g c =
-    load_held _ _ c.args.working _ _ _ _ _ c.load_file.ensures.others (λ n d e. (c.requires.sound.given n d e).0) _ c.in-Good.made (rw c.if-is_taken.false at c.is_taken.ensures)
-    c.text.ensures.text (rw c.in-Good.is at c.in_ok-load_file.ensures.comes) c.in_ok-hold-in-Good.ensures.held refl
+    load_held _ _ c.args.working _ _ _ _ _ c.load_file.ensures.others (λ n d e. (c.requires.sound.given n d e).0) _ _ _ c.in-Good.made (rw c.if-is_taken.false at c.is_taken.ensures)
+    c.text.ensures.text (rw c.in-Good.is at c.in_ok-load_file.ensures.comes) c.in_ok-hold-in-Good.ensures.held c.hold.ensures.ticks refl
 
 pub returns-in_ok-hold-in-Good-clause-sound : goal.returns-in_ok-hold-in-Good-clause-sound
 returns-in_ok-hold-in-Good-clause-sound g c =
     let kept = Held-kept c.args.kind c.args.working _ c.in-Good.made c.in_ok-hold-in-Good.ensures.held in
-    IsSound-kept _ _ _ _ c.args.working _ (omega (arith, c.requires.room.0)) c.load_file.ensures.opened c.requires.sound kept.0 (omega (arith, kept.2)) (omega (arith, kept.3))
+    IsSound-kept _ _ _ _ c.args.working _ (omega (arith, c.requires.room.0)) c.load_file.ensures.opened c.requires.sound kept.0 (omega (arith, kept.3)) (omega (arith, kept.4))
 
 pub returns-in_ok-hold-in-Good-clause-lines : goal.returns-in_ok-hold-in-Good-clause-lines
-returns-in_ok-hold-in-Good-clause-lines g c = (Held-kept c.args.kind c.args.working _ c.in-Good.made c.in_ok-hold-in-Good.ensures.held).1
+returns-in_ok-hold-in-Good-clause-lines g c = (Held-kept c.args.kind c.args.working _ c.in-Good.made c.in_ok-hold-in-Good.ensures.held).2
