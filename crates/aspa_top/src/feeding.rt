@@ -25,7 +25,7 @@ pub(crate) fn connect_feed<K: Links>(
     links: &mut K,
     text: &mut Vec<u8>,
 ) -> Result<Working, NoMemory>
-    requires room { working.lines < 2 ^ 32 }
+    requires room { (0 < working.lines) × (working.lines < 2 ^ 32) }
     requires few { working.refused < 2 ^ 62 }
     requires sound { AreSound (K.standings links.old) (working.lines - 1) working }
     ensures goes { IfOk result (λ next. (ticks : ℕ) → DoesOn working (Connect name.now place.now)
@@ -75,7 +75,7 @@ pub(crate) fn work_on<K: Links, L: Ledger>(
     text: &mut Vec<u8>,
     steps: &mut Steps<L>,
 ) -> Result<Working, NoMemory>
-    requires room { working.lines < 2 ^ 32 }
+    requires room { (0 < working.lines) × (working.lines < 2 ^ 32) }
     requires few { working.refused < 2 ^ 62 }
     requires within { units_of asked ≤ most }
     requires sound { AreSound (K.standings links.old) (working.lines - 1) working }
