@@ -4,8 +4,9 @@ use Rattle.std.specs.Prelude.{nat_eq}
 use Rattle.std.specs.Cmp.Lexicographic.{pointwise}
 use Rattle.indexmap.specs.IndexSet.{contains}
 use Rattle.std.specs.Io.KnownBytes.{append_known, prepend_known}
+use Rattle.std.specs.Option.{option_map}
 use Rattle.std.specs.declared.option.Option.{Option}
-use Rattle.av_base.specs.Files.{Files, Opens, Misses, left_of}
+use Rattle.av_base.specs.Files.{Files, Opens, Misses, left_of, opens}
 use Rattle.av_base.proofs.FilesLemmas.{left_of-opens}
 use Rattle.feed_lines.specs.declared.feed.Feeds.{Feeds}
 use Rattle.feed_lines.specs.Holding.{feed_in}
@@ -25,10 +26,15 @@ use Rattle.aspa_top.specs.declared.working.Working.{Working}
 use Rattle.aspa_top.specs.Tasks.{State, OpensNamed, TakesNamed, TakesOpen, is_stream, new_dump, with_dump, same_name, asking_of, taking_of, after_taking}
 use Rattle.aspa_top.specs.Evaluation.{Does}
 use Rattle.aspa_top.specs.Performing.{HoldsOr, IsSound, StandsFor, Goes, GoesSome, Steps, dump_in, has_source, has_stream}
-use Rattle.aspa_top.specs.World.{Links, World, Tells, ending}
+use Rattle.aspa_top.specs.World.{Links, World, Tells, ending, names_of}
 use Rattle.aspa_top.proofs.StandsLemmas.{HoldsOr-leaves, HoldsOr-some, HoldsOr-put, StandsFor-leaves, added_text, differ, is_same, refused_same, same_stream}
 
 -- ---- `open`
+
+-- the names stay where a file is opened
+pub opens_names : (bytes : List ℕ) (old : Option Files) → names_of (option_map (opens bytes) old) ≡ names_of old
+opens_names bytes None = refl
+opens_names bytes (Some files) = refl
 
 module _ (working next : Working) (name file text_old text_new : List ℕ) where
   -- both tell whether the name is in use

@@ -41,6 +41,11 @@ pub feeds_kept : (stands : List Standing) (fewer lines : ℕ) (working next : Wo
 feeds_kept stands fewer lines working next later same sound =
     sound_weaker stands (fewer * most) (lines * most) next.feeds (omega (arith, later)) (subst (λ (held : Feeds). FeedsAreSound stands (fewer * most) held) (sym same) sound)
 
+-- the line is refused
+pub feeds_refused : (stands : List Standing) (fewer lines : ℕ) (working next : Working) → fewer + 1 ≤ lines → next ≡ record working { refused = working.refused + 1 }
+    → AreSound stands fewer working → AreSound stands lines next
+feeds_refused stands fewer lines working next later is sound = feeds_kept stands fewer lines working next later (ap (λ (w : Working). w.feeds) is) sound
+
 pub taken_feeds : {E : Type 0} (working : Working) (result : Result Working E) (stands : List Standing) (fewer lines : ℕ) → fewer + 1 ≤ lines
     → IfOk result (λ next. next.feeds ≡ working.feeds) → AreSound stands fewer working → IfOk result (AreSound stands lines)
 taken_feeds {E} working (Ok next) stands fewer lines later same sound = feeds_kept stands fewer lines working next later same sound
@@ -70,6 +75,10 @@ keeps_refused working next is =
       passed = ap (λ (w : Working). w.passed) is;
       refused = omega (arith, refused);
     }
+
+-- nothing was done
+pub stopped_at_once : (working : Working) (task : Task) (links : Links) (ticks : ℕ) → StopsOn working task links links ticks ticks
+stopped_at_once working task links ticks = inl (refl, refl)
 
 -- ---- what a line does
 

@@ -33,7 +33,7 @@ use Rattle.aspa_top.specs.Tasks.{State, DoesTask, TaskUsesFile}
 use Rattle.aspa_top.specs.Evaluation.{Does, line_cause, task_of}
 use Rattle.aspa_top.specs.Performing.{IsWithinBounds, IsWithinTask, IsSound, HoldsOr, Marked, StandsFor, Goes, GoesPart, GoesSome, MovesPart, Steps, PartBy, TickedLoad, TickedShort, Uses, counted_in, dump_in, has_source}
 use Rattle.aspa_top.specs.World.{Links, World, Tells, ending}
-use Rattle.aspa_top.proofs.StandsLemmas.{IsSound-kept, refused_same}
+use Rattle.aspa_top.proofs.StandsLemmas.{Loads-ending, IsSound-kept, refused_same}
 
 -- a line is too short for a path that is too long, and names no count over the most
 pub IsWithinBounds-IsReading : (line : List ℕ) (command : Command) → IsReading line (Ok command) → IsWithinBounds command
@@ -133,6 +133,15 @@ on_err {A} {E} {P} (Err e) p = p
 pub nothing : (working : Working) (reading : Result Command LineFault) (files : Option Files) (links : Links) (all_old all_new : Option (List ℕ)) (ticks : ℕ)
     → all_new ≡ all_old → GoesPart working reading files links links all_old all_new ticks ticks
 nothing working reading files links all_old all_new ticks same = inl (refl, same, refl)
+
+-- some of its text
+pub part_some : (working : Working) (reading : Result Command LineFault) (files : Option Files) (links : Links) (all_old all_new : Option (List ℕ)) (ticks_old ticks_new : ℕ)
+    → GoesSome working reading files all_old all_new ticks_old ticks_new → GoesPart working reading files links links all_old all_new ticks_old ticks_new
+part_some working reading files links all_old all_new ticks_old ticks_new some = inr (inl (refl, some))
+
+pub nothing_done : (working : Working) (reading : Result Command LineFault) (files : Option Files) (all_old all_new : Option (List ℕ)) (ticks : ℕ)
+    → all_new ≡ all_old → (links : Links) → GoesPart working reading files links links all_old all_new ticks ticks
+nothing_done working reading files all_old all_new ticks same links = nothing working reading files links all_old all_new ticks same
 
 -- to load a file is to use one
 pub uses_load : (working : Working) (command : Command) (kind : FileKind) (file : List ℕ) → task_of command ≡ Load kind file → (files : Option Files) → Uses working (Ok command) files
@@ -259,7 +268,7 @@ module _ (working : Working) where
         part = [];
         rest = did.text;
         after = did.after;
-        does = λ ends. subst (λ (task : Task). DoesTask (ending world ends) state task did.text did.after) (sym is) did.loads;
+        does = λ ends. subst (λ (task : Task). DoesTask (ending world ends) state task did.text did.after) (sym is) (Loads-ending world ends state kind file did.text did.after did.loads);
         added = same ∙ sym (append_known-nil all_old);
         ticked = did.ticked;
       }

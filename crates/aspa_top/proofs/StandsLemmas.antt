@@ -21,7 +21,8 @@ use Rattle.stream_lines.specs.Streams.{Dump}
 use Rattle.stream_lines.specs.Held.{HeldDump}
 use Rattle.stream_lines.proofs.FrameLemmas.{Leaves-refl}
 use Rattle.aspa_top.specs.declared.working.Working.{Working}
-use Rattle.aspa_top.specs.Tasks.{State, same_name, is_stream, Refuses}
+use Rattle.aspa_top.specs.declared.loading.FileKind.{FileKind}
+use Rattle.aspa_top.specs.Tasks.{State, Loads, LoadsUnless, same_name, is_stream, is_taken, Refuses}
 use Rattle.aspa_top.specs.Evaluation.{counted, Does}
 use Rattle.aspa_top.specs.Performing.{HoldsOr, IsSound, StandsFor, Steps, counted_in, dump_in, has_source, has_stream, most}
 use Rattle.aspa_top.specs.World.{Links, World, Tells, ending}
@@ -139,6 +140,16 @@ pub added_text : (written : Option (List ℕ)) (old new text : List ℕ) → new
 added_text written old new text is = ap (append_known written) is ∙ sym (append_known-append written old text)
 
 -- in the world with other ends the same names are told
+loads_ending : (taken : Bool) (world : World) (ends : Ends) (state : State) (kind : FileKind) (file text : List ℕ) (next : State)
+    → LoadsUnless taken world state kind file text next → LoadsUnless taken (ending world ends) state kind file text next
+loads_ending true world ends state kind file text next loads = loads
+loads_ending false world ends state kind file text next loads = record { outcome = loads.outcome; comes = loads.comes; takes = loads.takes }
+
+-- a file is loaded whatever the connections come to
+pub Loads-ending : (world : World) (ends : Ends) (state : State) (kind : FileKind) (file text : List ℕ) (next : State)
+    → Loads world state kind file text next → Loads (ending world ends) state kind file text next
+Loads-ending world ends state kind file text next loads = loads_ending (is_taken state kind) world ends state kind file text next loads
+
 pub Tells-ending : (files : Option Files) (world : World) (ends : Ends) → Tells files world → Tells files (ending world ends)
 Tells-ending files world ends tells = record { told = tells.told; is = tells.is; named = tells.named }
 

@@ -30,7 +30,7 @@ use Rattle.aspa_top.specs.Tasks.{State, Refuses, TakesFile, Loads, LoadsUnless, 
 use Rattle.aspa_top.specs.Evaluation.{Does}
 use Rattle.aspa_top.specs.Performing.{Goes, Happened, Held, HoldsOr, IsSound, IsTakenIn, LoadsAs, NamesBy, StandsFor, TickedLoad, dump_in, has_source}
 use Rattle.aspa_top.specs.World.{Links, World, Tells, ending}
-use Rattle.aspa_top.proofs.StandsLemmas.{StandsFor-leaves, added_text, same_stream}
+use Rattle.aspa_top.proofs.StandsLemmas.{Loads-ending, StandsFor-leaves, added_text, same_stream}
 use Rattle.aspa_top.proofs.TaskLemmas.{some_load}
 
 -- what came of a told file comes in the world
@@ -189,7 +189,7 @@ loaded old new working next kind file reading text_old text_new ticks_old ticks_
     record {
       text = line.text;
       after = line.after;
-      does = λ ends comes. does (ending world ends) state line.text line.after line.loads;
+      does = λ ends comes. does (ending world ends) state line.text line.after (Loads-ending world ends state kind file line.text line.after line.loads);
       added = added_text written text_old text_new line.text line.added;
       stands = line.stands;
       ticked = line.ticked;

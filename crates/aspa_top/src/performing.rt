@@ -1,5 +1,5 @@
 //! One line performed: its text, and what it leaves.
-ghost use Rattle.std.specs.Prelude.{◌≡◌, ◌≢◌, ◌+◌, ◌-◌, ◌^◌, ◌<◌, ◌≤◌, length, Ok, Err, IfOk, IsErrOf};
+ghost use Rattle.std.specs.Prelude.{◌≡◌, ◌≢◌, ◌+◌, ◌-◌, ◌^◌, ◌<◌, ◌≤◌, length, Ok, Err, IfOk, OnErr, IsErrOf};
 ghost use Rattle.std.specs.Io.KnownBytes.{append_known};
 ghost use Rattle.av_base.specs.Told.{Grows, Rose};
 ghost use Rattle.report_text.specs.Refusals.{IsCause};
@@ -45,11 +45,13 @@ pub(crate) fn perform_line<F: Shelf, K: Links, W: Sink, L: Ledger>(
     ensures feeds { IfOk result (λ next. AreSound (K.standings links.new) next.lines next) }
     ensures lines { IfOk result (λ next. next.lines ≡ working.lines + 1) }
 
-    // Whether it was performed or not.
-    ensures part { PartBy working line.now (F.files shelf.old)
+    // Where it ended early, how far it went.
+    ensures part { OnErr result (PartBy working line.now (F.files shelf.old)
         (linked (K.attempts links.old) (K.wire links.old)) (linked (K.attempts links.new) (K.wire links.new))
         (append_known (W.written out.old) text.old.items) (append_known (W.written out.new) text.new.items)
-        steps.old steps.new }
+        steps.old steps.new) }
+
+    // Whether it was performed or not.
     ensures grows { Grows (W.written out.old) (W.written out.new) }
     ensures later { GoesOn (linked (K.attempts links.old) (K.wire links.old))
         (linked (K.attempts links.new) (K.wire links.new)) }
@@ -97,11 +99,13 @@ fn perform_command<F: Shelf, K: Links, W: Sink, L: Ledger>(
     ensures feeds { IfOk result (AreSound (K.standings links.new) working.lines) }
     ensures lines { IfOk result (λ next. next.lines ≡ working.lines) }
 
-    // Whether it was performed or not.
-    ensures part { GoesPart working (Ok command) (F.files shelf.old)
+    // Where it ended early, how far it went.
+    ensures part { OnErr result (GoesPart working (Ok command) (F.files shelf.old)
         (linked (K.attempts links.old) (K.wire links.old)) (linked (K.attempts links.new) (K.wire links.new))
         (append_known (W.written out.old) text.old.items) (append_known (W.written out.new) text.new.items)
-        steps.old steps.new }
+        steps.old steps.new) }
+
+    // Whether it was performed or not.
     ensures grows { Grows (W.written out.old) (W.written out.new) }
     ensures later { GoesOn (linked (K.attempts links.old) (K.wire links.old))
         (linked (K.attempts links.new) (K.wire links.new)) }

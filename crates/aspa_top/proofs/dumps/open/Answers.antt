@@ -1,8 +1,9 @@
 use Rattle.std.proofs.Common.{◌≡◌, ℕ, ◌+◌, ◌-◌, ◌≤◌, ◌<◌, refl, sym, ap, ◌∙◌, arith}
 use Rattle.stream_lines.specs.Held.{HeldDump}
 use Rattle.aspa_top.specs.declared.working.Working.{Working}
+use Rattle.aspa_top.specs.World.{names_of}
 use Rattle.aspa_top.proofs.StandsLemmas.{IsSound-same, IsSound-put}
-use Rattle.aspa_top.proofs.DumpLemmas.{open_used, open_misses, open_new}
+use Rattle.aspa_top.proofs.DumpLemmas.{open_used, open_misses, open_new, opens_names}
 use Rattle.aspa_top.proofs.dumps.open.Goals as goal
 
 pub returns-then-has_name-clause-steps : goal.returns-then-has_name-clause-steps
@@ -39,3 +40,8 @@ returns-clause-sound g c =
     let taken = ap (λ (d : HeldDump). d.taken) fresh in
     IsSound-put _ _ (c.args.working.lines - 1) _ _ c.new-dump.result c.args.working _ (omega (arith, c.requires.room.0)) (omega (arith, opened.count)) c.requires.sound c.in_ok-name_dump.ensures.dumps
     (omega (arith, opened.count, opened.number, file)) (omega (arith, taken)) (λ q d other there same. let below = (c.requires.sound.given q d there).0 in omega (arith, below, same, opened.number, file)) (omega (arith, passed)) (omega (arith, refused))
+
+pub returns-clause-names : goal.returns-clause-names
+returns-clause-names g c =
+    let opened = rw c.in-Some.is at c.in_ok-number.ensures.answer in
+    ap names_of opened.told ∙ opens_names opened.bytes _

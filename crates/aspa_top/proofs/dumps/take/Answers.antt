@@ -3,7 +3,7 @@ use Rattle.std.specs.Io.KnownBytes.{append_known}
 use Rattle.report_text.specs.Refusals.{of_line}
 use Rattle.script_lines.specs.declared.command.Command.TheVariants.{Take}
 use Rattle.stream_lines.proofs.FrameLemmas.{Leaves-refl}
-use Rattle.aspa_top.proofs.PerformingLemmas.{nothing, on_err}
+use Rattle.aspa_top.proofs.PerformingLemmas.{nothing_done, on_err}
 use Rattle.aspa_top.proofs.StandsLemmas.{refused_same, IsSound-same}
 use Rattle.aspa_top.proofs.DumpLemmas.{take_over, take_uses}
 use Rattle.aspa_top.proofs.dumps.take.Goals as goal
@@ -24,7 +24,8 @@ pub returns-clause-uses : goal.returns-clause-uses
 returns-clause-uses g c = λ failed links state stands. take_uses _ _ _ c.args.name.now c.in-Some.dump.now state (sym c.in-Some.ensures.value) stands
 
 pub returns-in_err-refuse-clause-part : goal.returns-in_err-refuse-clause-part
-returns-in_err-refuse-clause-part g c = λ links. nothing _ _ _ links _ _ _ (ap (append_known (g.W.Sink.written c.args.out.now)) c.in_err-refuse.ensures.err)
+returns-in_err-refuse-clause-part g c =
+    on_err _ (nothing_done c.args.working (Ok (Take c.args.name.now c.args.count)) _ _ _ _ (ap (append_known (g.W.Sink.written c.args.out.now)) c.in_err-refuse.ensures.err))
 
 pub returns-clause-part : goal.returns-clause-part
 returns-clause-part g c = on_err c.take_open.result (λ links. inr (inl (refl, c.take_open.ensures.part)))

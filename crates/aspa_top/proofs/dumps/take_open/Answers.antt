@@ -37,3 +37,11 @@ returns-clause-sound g c =
     (omega (arith, here.1, few.taken, c.requires.few, c.requires.room.0))
     (λ q d other there same. c.requires.sound.apart c.args.name.now q c.in-Some.dump.now d other (sym c.in-Some.ensures.value) there (sym c.take_units.ensures.file ∙ same))
     (omega (arith, few.passed, c.requires.few)) (omega (arith, few.refused, c.requires.few))
+
+pub take_units-requires-clause-given : goal.take_units-requires-clause-given
+take_units-requires-clause-given g c = (c.requires.sound.given c.args.name.now c.in-Some.dump.now (sym c.in-Some.ensures.value)).0
+
+pub take_units-requires-clause-few_taken : goal.take_units-requires-clause-few_taken
+take_units-requires-clause-few_taken g c =
+    let here = c.requires.sound.given c.args.name.now c.in-Some.dump.now (sym c.in-Some.ensures.value) in
+    omega (arith, here.1, c.requires.room.1)

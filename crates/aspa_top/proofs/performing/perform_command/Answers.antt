@@ -1,4 +1,4 @@
-use Rattle.std.proofs.Common.{◌≡◌, ◌+◌, ◌-◌, ◌≤◌, Ok, inl, inr, refl, sym, ap, subst, ◌∙◌, arith, rules}
+use Rattle.std.proofs.Common.{◌≡◌, ◌+◌, ◌-◌, ◌≤◌, Ok, refl, sym, ap, subst, ◌∙◌, arith, rules}
 use Rattle.std.specs.Io.KnownBytes.{append_known}
 use Rattle.av_base.proofs.PouringLemmas.{Grows-refl}
 use Rattle.script_lines.specs.declared.command.Command.TheVariants.{Open, Take, Report, Changes}
@@ -6,7 +6,7 @@ use Rattle.aspa_top.specs.declared.task.Task.{Task}
 use Rattle.aspa_top.specs.declared.working.Working.{Working}
 use Rattle.aspa_top.specs.Tasks.{DoesTask}
 use Rattle.aspa_top.proofs.FeedLemmas.{IsSound-feeds, feed_goes, feed_part, feeds_kept, take_stopped, taken_feeds, takes_feed}
-use Rattle.aspa_top.proofs.PerformingLemmas.{err_as, goes_as, listed, listed_part, nothing, ok_goes_as, part_load, part_short, reported, reported_part, some_as, uses_as, uses_load, within_as, IsSound-marked}
+use Rattle.aspa_top.proofs.PerformingLemmas.{err_as, goes_as, listed, listed_part, nothing, ok_goes_as, on_err, part_load, part_short, part_some, reported, reported_part, some_as, uses_as, uses_load, within_as, IsSound-marked}
 use Rattle.aspa_top.proofs.RunLemmas.{GoesOn-refl}
 use Rattle.aspa_top.proofs.ShortLemmas.{IsSound-short, short_goes}
 use Rattle.aspa_top.proofs.StandsLemmas.{IsSound-kept, not_there}
@@ -49,7 +49,7 @@ returns-in_err-perform_short-in-Short g c =
       goes = search rules;
       sound = search rules;
       lines = search rules;
-      part = inr (inl (refl, part_short c.args.working c.args.command _ _ _ _ _ _ (sym c.task_of.ensures ∙ c.in-Short.is) (ap (append_known (g.W.Sink.written c.args.out.now)) c.in_err-perform_short-in-Short.ensures.err) c.in_err-perform_short-in-Short.ensures.ticks));
+      part = on_err _ (part_some c.args.working (Ok c.args.command) _ _ _ _ _ _ (part_short c.args.working c.args.command _ _ _ _ _ _ (sym c.task_of.ensures ∙ c.in-Short.is) (ap (append_known (g.W.Sink.written c.args.out.now)) c.in_err-perform_short-in-Short.ensures.err) c.in_err-perform_short-in-Short.ensures.ticks));
       feeds = search rules;
       later = GoesOn-refl _;
       grows = Grows-refl _;
@@ -90,7 +90,7 @@ returns-in_err-load-in-Load g c =
       goes = search rules;
       sound = search rules;
       lines = search rules;
-      part = inr (inl (refl, part_load c.args.working c.args.command _ _ _ _ _ _ _ (sym c.task_of.ensures ∙ c.in-Load.is) (ap (append_known (g.W.Sink.written c.args.out.now)) c.in_err-load-in-Load.ensures.err) c.in_err-load-in-Load.ensures.ticks));
+      part = on_err _ (part_some c.args.working (Ok c.args.command) _ _ _ _ _ _ (part_load c.args.working c.args.command _ _ _ _ _ _ _ (sym c.task_of.ensures ∙ c.in-Load.is) (ap (append_known (g.W.Sink.written c.args.out.now)) c.in_err-load-in-Load.ensures.err) c.in_err-load-in-Load.ensures.ticks));
       feeds = search rules;
       later = GoesOn-refl _;
       grows = Grows-refl _;
@@ -130,7 +130,7 @@ returns-in_err-open-in-Open g c =
       goes = search rules;
       sound = search rules;
       lines = search rules;
-      part = nothing c.args.working _ _ _ _ _ _ (ap (append_known (g.W.Sink.written c.args.out.now)) c.in_err-open-in-Open.ensures.err);
+      part = on_err _ (nothing c.args.working (Ok c.args.command) _ _ _ _ _ (ap (append_known (g.W.Sink.written c.args.out.now)) c.in_err-open-in-Open.ensures.err));
       feeds = search rules;
       later = GoesOn-refl _;
       grows = Grows-refl _;
@@ -193,8 +193,8 @@ returns-in_err-work_on-in-Take g c =
       sound = search rules;
       feeds = search rules;
       lines = search rules;
-      part = feed_part c.args.working c.args.command _ same _ _ _ _ _ _ _ (ap (append_known (g.W.Sink.written c.args.out.now)) c.in_err-work_on-in-Take.ensures.err)
-          (take_stopped c.args.working _ _ _ _ _ _ none c.in_err-work_on-in-Take.ensures.part);
+      part = on_err _ (feed_part c.args.working c.args.command _ same _ _ _ _ _ _ _ (ap (append_known (g.W.Sink.written c.args.out.now)) c.in_err-work_on-in-Take.ensures.err)
+          (take_stopped c.args.working _ _ _ _ _ _ none c.in_err-work_on-in-Take.ensures.part));
       later = c.work_on.ensures.later;
       grows = Grows-refl _;
       names = refl;
@@ -234,7 +234,7 @@ returns-in_err-connect_feed-in-Connect g c =
       sound = search rules;
       feeds = search rules;
       lines = search rules;
-      part = feed_part c.args.working c.args.command _ same _ _ _ _ _ _ _ (ap (append_known (g.W.Sink.written c.args.out.now)) c.in_err-connect_feed-in-Connect.ensures.err) (c.in_err-connect_feed-in-Connect.ensures.part c.args.steps.now);
+      part = on_err _ (feed_part c.args.working c.args.command _ same _ _ _ _ _ _ _ (ap (append_known (g.W.Sink.written c.args.out.now)) c.in_err-connect_feed-in-Connect.ensures.err) (c.in_err-connect_feed-in-Connect.ensures.part c.args.steps.now));
       later = c.connect_feed.ensures.later;
       grows = Grows-refl _;
       names = refl;
@@ -274,7 +274,7 @@ returns-in_err-work_on-in-OnFeed g c =
       sound = search rules;
       feeds = search rules;
       lines = search rules;
-      part = feed_part c.args.working c.args.command _ same _ _ _ _ _ _ _ (ap (append_known (g.W.Sink.written c.args.out.now)) c.in_err-work_on-in-OnFeed.ensures.err) c.in_err-work_on-in-OnFeed.ensures.part;
+      part = on_err _ (feed_part c.args.working c.args.command _ same _ _ _ _ _ _ _ (ap (append_known (g.W.Sink.written c.args.out.now)) c.in_err-work_on-in-OnFeed.ensures.err) c.in_err-work_on-in-OnFeed.ensures.part);
       later = c.work_on-in-OnFeed.ensures.later;
       grows = Grows-refl _;
       names = refl;
@@ -313,7 +313,7 @@ returns-in_err-put_rows-in-Report g c =
       goes = search rules;
       sound = search rules;
       lines = search rules;
-      part = some_as c.args.working c.args.command Report (sym c.task_of.ensures ∙ c.in-Report.is) _ _ _ _ _ _ (reported_part c.args.working _ _ _ _ _ c.store.ensures c.put_rows.ensures.front);
+      part = on_err _ (some_as c.args.working c.args.command Report (sym c.task_of.ensures ∙ c.in-Report.is) _ _ _ _ _ _ (reported_part c.args.working _ _ _ _ _ c.store.ensures c.put_rows.ensures.front));
       feeds = search rules;
       later = GoesOn-refl _;
       grows = c.put_rows.ensures.grows;
@@ -353,7 +353,7 @@ returns-in_err-put_changes-in-Changes g c =
       goes = search rules;
       sound = search rules;
       lines = search rules;
-      part = some_as c.args.working c.args.command Changes (sym c.task_of.ensures ∙ c.in-Changes.is) _ _ _ _ _ _ (listed_part c.args.working _ _ _ _ _ c.store-in-Changes.ensures c.put_changes.ensures.front);
+      part = on_err _ (some_as c.args.working c.args.command Changes (sym c.task_of.ensures ∙ c.in-Changes.is) _ _ _ _ _ _ (listed_part c.args.working _ _ _ _ _ c.store-in-Changes.ensures c.put_changes.ensures.front));
       feeds = search rules;
       later = GoesOn-refl _;
       grows = c.put_changes.ensures.grows;

@@ -2,7 +2,7 @@ use Rattle.std.proofs.Common.{◌≡◌, ◌+◌, ◌≤◌, Ok, Err, refl, ap, 
 use Rattle.std.specs.Io.KnownBytes.{append_known}
 use Rattle.script_lines.specs.declared.command.LineFault.TheVariants.{NoMemory}
 use Rattle.av_base.proofs.PouringLemmas.{Grows-refl}
-use Rattle.aspa_top.proofs.PerformingLemmas.{IsWithinBounds-IsReading, part_by, part_read, refused}
+use Rattle.aspa_top.proofs.PerformingLemmas.{IsWithinBounds-IsReading, on_err, part_by, part_read, refused}
 use Rattle.aspa_top.proofs.FeedLemmas.{feeds_begun, feeds_counted}
 use Rattle.aspa_top.proofs.RunLemmas.{GoesOn-refl}
 use Rattle.aspa_top.proofs.StandsLemmas.{IsSound-begun, IsSound-counted, IsSound-same}
@@ -16,7 +16,7 @@ pub returns-in-Ok-clause-uses : goal.returns-in-Ok-clause-uses
 returns-in-Ok-clause-uses g c = λ failed. record { reading = Ok c.in-Ok.command; reads = c.in-Ok.ensures (λ none. cc); holds = c.perform_command.ensures.uses failed }
 
 pub returns-in_err-refuse-in-Err-clause-part : goal.returns-in_err-refuse-in-Err-clause-part
-returns-in_err-refuse-in-Err-clause-part g c = part_read _ _ _ _ _ _ _ (ap (append_known (g.W.Sink.written c.args.out.now)) c.in_err-refuse-in-Err.ensures.err)
+returns-in_err-refuse-in-Err-clause-part g c = on_err _ (part_read c.args.working c.args.line.now _ _ _ _ _ (ap (append_known (g.W.Sink.written c.args.out.now)) c.in_err-refuse-in-Err.ensures.err))
 
 pub returns-in-Err-NoMemory-clause-part : goal.returns-in-Err-NoMemory-clause-part
 returns-in-Err-NoMemory-clause-part g c = part_read _ _ _ _ _ _ _ refl

@@ -4,7 +4,8 @@ use Rattle.stream_lines.proofs.FrameLemmas.{Leaves-refl}
 use Rattle.aspa_top.specs.Loading.{unit_name}
 use Rattle.aspa_top.specs.declared.loading.Outcome.TheVariants.{NoFile, Long, Flawed}
 use Rattle.aspa_top.proofs.StandsLemmas.{IsSound-same, IsSound-kept}
-use Rattle.aspa_top.proofs.TableLemmas.{load_refused, load_flawed, load_held, Held-kept}
+use Rattle.aspa_top.proofs.PerformingLemmas.{on_err}
+use Rattle.aspa_top.proofs.TableLemmas.{load_refused, load_flawed, load_held, load_ticked, load_unticked, Held-kept}
 use Rattle.aspa_top.proofs.tables.load.Goals as goal
 
 pub returns-then-is_taken-clause-loads : goal.returns-then-is_taken-clause-loads
@@ -56,3 +57,23 @@ returns-in_ok-hold-in-Good-clause-sound g c =
 
 pub returns-in_ok-hold-in-Good-clause-lines : goal.returns-in_ok-hold-in-Good-clause-lines
 returns-in_ok-hold-in-Good-clause-lines g c = (Held-kept c.args.kind c.args.working _ c.in-Good.made c.in_ok-hold-in-Good.ensures.held).2
+
+pub returns-in_err-refuse-clause-ticks : goal.returns-in_err-refuse-clause-ticks
+returns-in_err-refuse-clause-ticks g c = on_err _ (load_unticked c.args.working c.args.kind c.args.file.now _ _)
+
+pub returns-in_err-load_file-clause-ticks : goal.returns-in_err-load_file-clause-ticks
+returns-in_err-load_file-clause-ticks g c = on_err _ (load_unticked c.args.working c.args.kind c.args.file.now _ _)
+
+pub returns-in_err-refuse-in-NoFile-clause-ticks : goal.returns-in_err-refuse-in-NoFile-clause-ticks
+returns-in_err-refuse-in-NoFile-clause-ticks g c = on_err _ (load_unticked c.args.working c.args.kind c.args.file.now _ _)
+
+pub returns-in_err-refuse-in-Long-clause-ticks : goal.returns-in_err-refuse-in-Long-clause-ticks
+returns-in_err-refuse-in-Long-clause-ticks g c = on_err _ (load_unticked c.args.working c.args.kind c.args.file.now _ _)
+
+pub returns-in_err-refuse-in-Flawed-clause-ticks : goal.returns-in_err-refuse-in-Flawed-clause-ticks
+returns-in_err-refuse-in-Flawed-clause-ticks g c = on_err _ (load_unticked c.args.working c.args.kind c.args.file.now _ _)
+
+pub returns-in_err-hold-in-Good-clause-ticks : goal.returns-in_err-hold-in-Good-clause-ticks
+returns-in_err-hold-in-Good-clause-ticks g c =
+    on_err _ (load_ticked c.args.working c.args.kind c.args.file.now _ _ _ _ c.in-Good.made (rw c.if-is_taken.false at c.is_taken.ensures)
+    c.text.ensures.text (rw c.in-Good.is at c.in_ok-load_file.ensures.comes) c.hold.ensures.ticks)
