@@ -4,7 +4,7 @@ use Rattle.std.specs.declared.option.Option.{Option}
 use Rattle.std.specs.Io.KnownBytes.{append_known}
 use Rattle.std.specs.declared.result.Result.{Result}
 use Rattle.av_base.specs.Files.{Files}
-use Rattle.report_text.specs.Refusals.{AnyPlace, of_line, refusal_text}
+use Rattle.report_text.specs.Refusals.{AnyPlace, of_line, of_unit, refusal_text}
 use Rattle.feed_lines.specs.declared.feed.Feeds.{Feeds}
 use Rattle.feed_lines.specs.Holding.{feed_in}
 use Rattle.feed_lines.specs.Holding.{HoldsOr as HoldsFeed}
@@ -22,13 +22,13 @@ use Rattle.analyser.proofs.EventLemmas.{one_outcome_of}
 use Rattle.aspa_top.specs.declared.loading.FileKind.{FileKind}
 use Rattle.aspa_top.specs.declared.loading.FileKind.TheVariants.{Payloads, PayloadLines, Slurm as SlurmFile}
 use Rattle.aspa_top.specs.declared.loading.Outcome.{Outcome}
-use Rattle.aspa_top.specs.declared.loading.Outcome.TheVariants.{Good}
+use Rattle.aspa_top.specs.declared.loading.Outcome.TheVariants.{NoFile, Long as FileLong, Flawed, Good}
 use Rattle.aspa_top.specs.declared.working.Working.{Working}
-use Rattle.aspa_top.specs.Loading.{ComesOf}
+use Rattle.aspa_top.specs.Loading.{ComesOf, unit_name}
 use Rattle.aspa_top.specs.LoadingSteps.{ComesTold}
 use Rattle.aspa_top.specs.Tasks.{State, Refuses, TakesFile, Loads, LoadsUnless, is_taken, same_name, with_name}
 use Rattle.aspa_top.specs.Evaluation.{Does}
-use Rattle.aspa_top.specs.Performing.{Goes, Happened, Held, HoldsOr, IsSound, IsTakenIn, LoadsAs, NamesBy, StandsFor, TickedLoad, dump_in, has_source}
+use Rattle.aspa_top.specs.Performing.{Acted, ActedWithin, Goes, Happened, Held, HoldsOr, IsSound, IsTakenIn, LoadsAs, NamesBy, StandsFor, TickedLoad, dump_in, has_source}
 use Rattle.aspa_top.specs.World.{Links, World, Tells, ending}
 use Rattle.aspa_top.proofs.StandsLemmas.{Loads-ending, StandsFor-leaves, added_text, same_stream}
 use Rattle.aspa_top.proofs.TaskLemmas.{some_load}
@@ -142,6 +142,21 @@ module _ (old new : Option Files) (working next : Working) (kind : FileKind) (fi
         ticked = omega (arith, within event.analysis cost.0 event.happens cost.1);
       }
 
+  -- whatever comes of the file
+  pub load_acted : (outcome : Outcome) (ticks_old ticks_new : ℕ) (told : List ℕ) → IsTakenIn working kind false → told ≡ file → ComesTold old kind told outcome
+      → Acted working kind outcome text_old text_new next → ActedWithin working outcome ticks_old ticks_new
+      → LoadsAs working kind file old new text_old text_new ticks_old ticks_new next
+  load_acted NoFile ticks_old ticks_new told is same comes acted within =
+      subst (λ (t : ℕ). LoadsAs working kind file old new text_old text_new ticks_old t next) (sym within)
+      (load_flawed ticks_old told NoFile of_line 37 is same comes (λ state text after refuses. refuses) acted.0 acted.1)
+  load_acted FileLong ticks_old ticks_new told is same comes acted within =
+      subst (λ (t : ℕ). LoadsAs working kind file old new text_old text_new ticks_old t next) (sym within)
+      (load_flawed ticks_old told FileLong of_line 40 is same comes (λ state text after refuses. refuses) acted.0 acted.1)
+  load_acted (Flawed flaw) ticks_old ticks_new told is same comes acted within =
+      subst (λ (t : ℕ). LoadsAs working kind file old new text_old text_new ticks_old t next) (sym within)
+      (load_flawed ticks_old told (Flawed flaw) (of_unit (unit_name kind) flaw.unit) flaw.cause is same comes (λ state text after refuses. refuses) acted.0 acted.1)
+  load_acted (Good change) ticks_old ticks_new told is same comes acted within = load_held ticks_old ticks_new told change is same comes acted.1 within acted.0
+
 -- ---- a file that isn't loaded
 
 -- nothing was judged
@@ -176,6 +191,19 @@ load_ticked working kind file files ticks_old ticks_new told change is same come
           });
       ticked = omega (arith, within one.outcome cost.0 one.happens cost.1);
     }
+
+-- its change wasn't made, or the refusal not written
+pub act_ticked : (working : Working) (kind : FileKind) (file : List ℕ) (files : Option Files) (outcome : Outcome) (ticks_old ticks_new : ℕ) (told : List ℕ)
+    → IsTakenIn working kind false → told ≡ file → ComesTold files kind told outcome
+    → ActedWithin working outcome ticks_old ticks_new → TickedLoad working kind file files ticks_old ticks_new
+act_ticked working kind file files NoFile ticks_old ticks_new told is same comes within =
+    subst (λ (t : ℕ). TickedLoad working kind file files ticks_old t) (sym within) (load_unticked working kind file files ticks_old)
+act_ticked working kind file files FileLong ticks_old ticks_new told is same comes within =
+    subst (λ (t : ℕ). TickedLoad working kind file files ticks_old t) (sym within) (load_unticked working kind file files ticks_old)
+act_ticked working kind file files (Flawed flaw) ticks_old ticks_new told is same comes within =
+    subst (λ (t : ℕ). TickedLoad working kind file files ticks_old t) (sym within) (load_unticked working kind file files ticks_old)
+act_ticked working kind file files (Good change) ticks_old ticks_new told is same comes within =
+    load_ticked working kind file files ticks_old ticks_new told change is same comes within
 
 -- ---- the command
 
@@ -222,3 +250,23 @@ Held-kept SlurmFile working next change held =
       ap (λ (w : Working). w.passed) is ∙ ap (λ (w : Working). w.passed) mid,
       ap (λ (w : Working). w.refused) is ∙ ap (λ (w : Working). w.refused) mid,
     )
+
+refused_kept_all : (working next : Working) → next ≡ record working { refused = working.refused + 1 }
+    → ((q : List ℕ) → dump_in next q ≡ dump_in working q) × (next.feeds ≡ working.feeds) × (next.lines ≡ working.lines) × (next.passed ≡ working.passed) × (next.refused ≤ working.refused + 1)
+refused_kept_all working next is =
+    let refused : next.refused ≡ working.refused + 1 = ap (λ (w : Working). w.refused) is in (
+      λ q. ap (λ (w : Working). dump_in w q) is,
+      ap (λ (w : Working). w.feeds) is,
+      ap (λ (w : Working). w.lines) is,
+      ap (λ (w : Working). w.passed) is,
+      omega (arith, refused),
+    )
+
+-- what comes of a file leaves the dumps, and counts at most one refusal
+pub Acted-kept : (kind : FileKind) (working next : Working) (outcome : Outcome) (text_old text_new : List ℕ) → Acted working kind outcome text_old text_new next
+    → ((q : List ℕ) → dump_in next q ≡ dump_in working q) × (next.feeds ≡ working.feeds) × (next.lines ≡ working.lines) × (next.passed ≡ working.passed) × (next.refused ≤ working.refused + 1)
+Acted-kept kind working next NoFile text_old text_new acted = refused_kept_all working next acted.1
+Acted-kept kind working next FileLong text_old text_new acted = refused_kept_all working next acted.1
+Acted-kept kind working next (Flawed flaw) text_old text_new acted = refused_kept_all working next acted.1
+Acted-kept kind working next (Good change) text_old text_new acted =
+    let kept = Held-kept kind working next change acted.1 in (kept.0, kept.1, kept.2, kept.3, omega (arith, kept.4))

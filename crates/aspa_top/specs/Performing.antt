@@ -26,11 +26,16 @@ use Rattle.rib_store.specs.State.{State as Analysis}
 use Rattle.analyser.specs.declared.event.Event.{Event}
 use Rattle.analyser.specs.declared.event.Event.TheVariants.{Table as TableEvent}
 use Rattle.analyser.specs.Events.{Happens}
+use Rattle.analyser.specs.Touched.{TicksWithin}
+use Rattle.report_text.specs.Refusals.{AnyPlace, of_line, of_unit, refusal_text}
 use Rattle.stream_lines.specs.Held.{HeldDump}
 use Rattle.stream_lines.specs.Holding.{HoldsDump}
 use Rattle.stream_lines.specs.Streams.{Dump}
 use Rattle.aspa_top.specs.declared.loading.FileKind.{FileKind}
 use Rattle.aspa_top.specs.declared.loading.FileKind.TheVariants.{Payloads, PayloadLines, Slurm as SlurmFile}
+use Rattle.aspa_top.specs.declared.loading.Outcome.{Outcome}
+use Rattle.aspa_top.specs.declared.loading.Outcome.TheVariants.{NoFile, Long, Flawed, Good}
+use Rattle.aspa_top.specs.Loading.{unit_name}
 use Rattle.aspa_top.specs.declared.task.Short.{Short as ShortTask}
 use Rattle.aspa_top.specs.declared.task.Short.TheVariants.{Idle as Nothing, Happen, Judge, Summary as SumUp, Why}
 use Rattle.aspa_top.specs.declared.task.Task.{Task}
@@ -110,6 +115,25 @@ pub record Held (working : Working) (kind : FileKind) (change : TableChange) (ne
   pub mid : Working
   pub happened : Happened working (TableEvent change) mid
   pub names : NamesBy kind mid next
+
+-- the line is refused at this place for this cause, and nothing else changes
+abbrev pub IsRefused : Working → AnyPlace → ℕ → List ℕ → List ℕ → Working → Type 0
+IsRefused working place cause text_old text_new next =
+    (text_new ≡ text_old ++ refusal_text working.lines place cause) × (next ≡ record working { refused = working.refused + 1 })
+
+-- what comes of a file makes its change, or the line is refused by it
+abbrev pub Acted : Working → FileKind → Outcome → List ℕ → List ℕ → Working → Type 0
+Acted working kind NoFile text_old text_new next = IsRefused working of_line 37 text_old text_new next
+Acted working kind Long text_old text_new next = IsRefused working of_line 40 text_old text_new next
+Acted working kind (Flawed flaw) text_old text_new next = IsRefused working (of_unit (unit_name kind) flaw.unit) flaw.cause text_old text_new next
+Acted working kind (Good change) text_old text_new next = (text_new ≡ text_old) × Held working kind change next
+
+-- the change judges no more than its event may, and without one nothing is judged
+abbrev pub ActedWithin : Working → Outcome → ℕ → ℕ → Type 0
+ActedWithin working NoFile ticks_old ticks_new = ticks_new ≡ ticks_old
+ActedWithin working Long ticks_old ticks_new = ticks_new ≡ ticks_old
+ActedWithin working (Flawed flaw) ticks_old ticks_new = ticks_new ≡ ticks_old
+ActedWithin working (Good change) ticks_old ticks_new = TicksWithin working.analyser (TableEvent change) ticks_old ticks_new
 
 -- whether the name is a dump's or a feed's
 abbrev pub has_stream : Working → List ℕ → Bool

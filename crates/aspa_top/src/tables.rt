@@ -3,7 +3,8 @@ ghost use Rattle.std.specs.Prelude.{◌≡◌, ◌+◌, ◌-◌, ◌^◌, ◌<�
 ghost use Rattle.av_base.specs.Told.{Rose};
 ghost use Rattle.analyser.specs.declared.event.Event.TheVariants.{Table as TableEvent};
 ghost use Rattle.analyser.specs.Touched.{TicksWithin};
-ghost use Rattle.aspa_top.specs.Performing.{Held, IsSound, LoadsAs, Names, TickedLoad};
+ghost use Rattle.aspa_top.specs.LoadingSteps.{HasKnownCause};
+ghost use Rattle.aspa_top.specs.Performing.{Acted, ActedWithin, Held, IsSound, LoadsAs, Names, TickedLoad};
 ghost use Rattle.aspa_top.specs.World.{names_of};
 
 use crate::acting::{happen, refuse};
@@ -35,6 +36,7 @@ pub(crate) fn load<F: Shelf, L: Ledger>(
         text.old.items text.new.items steps.old steps.new) }
     ensures ticks { OnErr result (TickedLoad working kind file.now (F.files shelf.old) steps.old steps.new) }
     ensures sound { IfOk result (IsSound (F.opened shelf.new) working.lines) }
+    ensures feeds { IfOk result (λ next. next.feeds ≡ working.feeds) }
     ensures lines { IfOk result (λ next. next.lines ≡ working.lines) }
     ensures err { OnErr result (text.new.items ≡ text.old.items) }
     ensures names { names_of (F.files shelf.new) ≡ names_of (F.files shelf.old) }
@@ -44,17 +46,35 @@ pub(crate) fn load<F: Shelf, L: Ledger>(
     if working.is_taken(&kind) {
         return Ok(refuse(working, Place::Line, 35, text)?);
     }
-    match load_file(alloc, &kind, file.text(), shelf)? {
-        Outcome::NoFile => Ok(refuse(working, Place::Line, 37, text)?),
-        Outcome::Long => Ok(refuse(working, Place::Line, 40, text)?),
+    let outcome = load_file(alloc, &kind, file.text(), shelf)?;
+    Ok(act_on(working, kind, outcome, text, steps)?)
+}
+
+// Makes the change of a good file, and refuses the line by another one.
+fn act_on<L: Ledger>(
+    working: Working,
+    kind: FileKind,
+    outcome: Outcome,
+    text: &mut Vec<u8>,
+    steps: &mut Steps<L>,
+) -> Result<Working, NoMemory>
+    requires room { working.refused < 2 ^ 62 }
+    requires known { HasKnownCause outcome }
+    ensures acted { IfOk result (Acted working kind outcome text.old.items text.new.items) }
+    ensures ticks { ActedWithin working outcome steps.old steps.new }
+    ensures err { OnErr result (text.new.items ≡ text.old.items) }
+{
+    match outcome {
+        Outcome::NoFile => refuse(working, Place::Line, 37, text),
+        Outcome::Long => refuse(working, Place::Line, 40, text),
         Outcome::Flawed(flaw) => {
             let place = Place::Unit {
                 name: kind.unit_name(),
                 unit: flaw.unit,
             };
-            Ok(refuse(working, place, flaw.cause, text)?)
+            refuse(working, place, flaw.cause, text)
         }
-        Outcome::Good(made) => Ok(hold(working, kind, made, steps)?),
+        Outcome::Good(made) => hold(working, kind, made, steps),
     }
 }
 

@@ -22,8 +22,8 @@ perform_short-requires-clause-room g c = omega (arith, c.requires.sound.refused,
 pub take-requires-clause-few : goal.take-requires-clause-few
 take-requires-clause-few g c = within_as c.args.command _ (sym c.task_of.ensures ∙ c.in-Take.is) c.requires.within
 
-pub returns-in_ok-perform_short-in-Short : goal.returns-in_ok-perform_short-in-Short
-returns-in_ok-perform_short-in-Short g c =
+pub returns-in-Short : goal.returns-in-Short
+returns-in-Short g c =
     let same = sym c.task_of.ensures ∙ c.in-Short.is in
     let goes = short_goes c.args.working _ c.args.command _ _ _ _ _ same c.in_ok-perform_short-in-Short.ensures.done _ _ (g.W.Sink.written c.args.out.now) in
     record {
@@ -62,8 +62,8 @@ returns-in_err-perform_short-in-Short g c =
       sink_cause = search rules;
     }
 
-pub returns-in_ok-load-in-Load : goal.returns-in_ok-load-in-Load
-returns-in_ok-load-in-Load g c =
+pub returns-in-Load : goal.returns-in-Load
+returns-in-Load g c =
     let same = sym c.task_of.ensures ∙ c.in-Load.is in
     let goes = loaded _ _ c.args.working _ _ _ _ _ _ _ _ (λ world state text after loads. subst (λ (task : Task). DoesTask world state task text after) (sym same) loads)
     c.in_ok-load-in-Load.ensures.loads _ (g.W.Sink.written c.args.out.now) in
@@ -103,8 +103,8 @@ returns-in_err-load-in-Load g c =
       sink_cause = search rules;
     }
 
-pub returns-in_ok-open-in-Open : goal.returns-in_ok-open-in-Open
-returns-in_ok-open-in-Open g c =
+pub returns-in-Open : goal.returns-in-Open
+returns-in-Open g c =
     let same = sym c.task_of.ensures ∙ c.in-Open.is in
     let goes = goes_as c.args.working c.args.command (Open c.in-Open.name c.in-Open.file) same _ _ _ _ _ _ _ _ _ (c.in_ok-open-in-Open.ensures.steps _ (g.W.Sink.written c.args.out.now) c.args.steps.now) in
     record {
@@ -143,8 +143,8 @@ returns-in_err-open-in-Open g c =
       sink_cause = search rules;
     }
 
-pub returns-then-contains_key-in-Take : goal.returns-then-contains_key-in-Take
-returns-then-contains_key-in-Take g c =
+pub returns-then-contains_key : goal.returns-then-contains_key
+returns-then-contains_key g c =
     let same = sym c.task_of.ensures ∙ c.in-Take.is in
     record {
       goes = ok_goes_as c.args.working c.args.command (Take c.in-Take.name c.in-Take.count) same c.take.result _ _ _ _ _ _ _ c.take.ensures.goes;
@@ -163,8 +163,8 @@ returns-then-contains_key-in-Take g c =
       sink_cause = c.take.ensures.sink_cause;
     }
 
-pub returns-in_ok-work_on-in-Take : goal.returns-in_ok-work_on-in-Take
-returns-in_ok-work_on-in-Take g c =
+pub returns-in-Take : goal.returns-in-Take
+returns-in-Take g c =
     let same = sym c.task_of.ensures ∙ c.in-Take.is in
     let none = not_there _ (sym c.contains_key.ensures ∙ c.if-contains_key.false) in
     record {
@@ -206,8 +206,8 @@ returns-in_err-work_on-in-Take g c =
       sink_cause = search rules;
     }
 
-pub returns-in_ok-connect_feed-in-Connect : goal.returns-in_ok-connect_feed-in-Connect
-returns-in_ok-connect_feed-in-Connect g c =
+pub returns-in-Connect : goal.returns-in-Connect
+returns-in-Connect g c =
     let same = sym c.task_of.ensures ∙ c.in-Connect.is in
     record {
       goes = feed_goes c.args.working c.args.command _ same _ _ _ _ _ _ _ _ (c.in_ok-connect_feed-in-Connect.ensures.goes c.args.steps.now) (g.W.Sink.written c.args.out.now);
@@ -246,8 +246,8 @@ returns-in_err-connect_feed-in-Connect g c =
       sink_cause = search rules;
     }
 
-pub returns-in_ok-work_on-in-OnFeed : goal.returns-in_ok-work_on-in-OnFeed
-returns-in_ok-work_on-in-OnFeed g c =
+pub returns-in-OnFeed : goal.returns-in-OnFeed
+returns-in-OnFeed g c =
     let same = sym c.task_of.ensures ∙ c.in-OnFeed.is in
     record {
       goes = feed_goes c.args.working c.args.command _ same _ _ _ _ _ _ _ _ c.in_ok-work_on-in-OnFeed.ensures.goes (g.W.Sink.written c.args.out.now);
@@ -286,8 +286,8 @@ returns-in_err-work_on-in-OnFeed g c =
       sink_cause = search rules;
     }
 
-pub returns-in_ok-put_rows-in-Report : goal.returns-in_ok-put_rows-in-Report
-returns-in_ok-put_rows-in-Report g c =
+pub returns-in-Report : goal.returns-in-Report
+returns-in-Report g c =
     let same = sym c.task_of.ensures ∙ c.in-Report.is in
     let goes = goes_as c.args.working c.args.command Report same _ _ _ _ _ _ _ _ _ (reported c.args.working _ _ _ _ _ _ c.store.ensures c.in_ok-put_rows-in-Report.ensures.whole) in
     record {
@@ -326,8 +326,8 @@ returns-in_err-put_rows-in-Report g c =
       sink_cause = search rules;
     }
 
-pub returns-in_ok-put_changes-in-Changes : goal.returns-in_ok-put_changes-in-Changes
-returns-in_ok-put_changes-in-Changes g c =
+pub returns-in-Changes : goal.returns-in-Changes
+returns-in-Changes g c =
     let same = sym c.task_of.ensures ∙ c.in-Changes.is in
     let goes = goes_as c.args.working c.args.command Changes same _ _ _ _ _ _ _ _ _ (listed c.args.working _ _ _ _ _ _ _ c.store-in-Changes.ensures c.in_ok-put_changes-in-Changes.ensures.whole c.mark.ensures) in
     record {
