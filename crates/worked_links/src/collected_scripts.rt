@@ -1,7 +1,7 @@
 //! A whole table, its updates, and the answer of a cache: a report after each step.
 use crate::collected::{PREFIX_RULES, answer, table_dump, updates};
 use crate::rows::test_sent;
-use crate::runs::{World, outcome};
+use crate::runs::{Ended, no_files, no_places, outcome_over};
 use crate::vectors::RESET_QUERY;
 use av_base::NoMemory;
 use std::alloc::Global;
@@ -22,25 +22,23 @@ const SUMMARY: &[u8] =
 #[test]
 fn a_collected_table(rt: HostRuntime) -> Result<(), NoMemory> {
     let alloc = rt.alloc();
-    let table = table_dump(alloc)?;
-    let updates = updates(alloc)?;
-    let answer = answer(alloc)?;
-    let world = World {
-        files: &[("f", &[&table]), ("g", &[&updates]), ("s", &[PREFIX_RULES])],
-        coming: &[("cache:323", &[&answer])],
-        plan: &[],
-    };
-    test_reports(&rt, alloc, world)
+    let mut shelf = no_files(alloc)?;
+    shelf.put("f", &table_dump(alloc)?)?;
+    shelf.put("g", &updates(alloc)?)?;
+    shelf.put("s", PREFIX_RULES)?;
+    let mut links = no_places(alloc)?;
+    links.put("cache:323", &answer(alloc)?)?;
+    let ended = outcome_over(alloc, SCRIPT, &mut shelf, &mut links)?;
+    test_reports(&rt, alloc, &ended)
 }
 
 // A row of `report` has three spaces, and one of `changes` four. The summary comes last, so nothing changed behind it.
-fn test_reports(rt: &impl Abort, alloc: Global, world: World<'_>) -> Result<(), NoMemory> {
-    let ended = outcome(alloc, SCRIPT, world)?;
+fn test_reports(rt: &impl Abort, alloc: Global, ended: &Ended) -> Result<(), NoMemory> {
     assert_eq!(rt; ended.status, 0);
     assert_eq!(rt; count_lines(&ended.text, 3), ROUTES);
     assert_eq!(rt; count_lines(&ended.text, 4), CHANGES);
     assert!(rt; ended.text.ends_with(SUMMARY));
-    test_sent(rt, alloc, SCRIPT, &ended, &[&[RESET_QUERY]])
+    test_sent(rt, alloc, SCRIPT, ended, &[&[RESET_QUERY]])
 }
 
 // How many lines have so many spaces.

@@ -1,6 +1,6 @@
 //! Connections that end at each byte, and PDUs that are refused or end their session.
-use crate::rows::{Wanted, test_run};
-use crate::runs::{World, joined};
+use crate::rows::{test_all_sent, test_sent};
+use crate::runs::{joined, no_files, no_places, outcome_over};
 use crate::vectors::{
     CACHE_RESET, END, ONE, REPORT_0, REPORT_2, REPORT_5, REPORT_6, REPORT_8, RESET_QUERY, RESPONSE,
     SERIAL_QUERY, WITHDRAWAL,
@@ -21,17 +21,12 @@ fn test_cuts(
     let whole = joined(alloc, &[RESPONSE, ONE, END])?;
     for k in from..to {
         let (front, _) = whole.split_at(k.min(whole.len()));
-        let world = World {
-            files: &[],
-            coming: &[("cache:323", &[front])],
-            plan: &[],
-        };
-        let wanted = Wanted {
-            text,
-            sent: &[&[RESET_QUERY]],
-            status: 1,
-        };
-        test_run(rt, alloc, script, world, wanted)?;
+        let mut links = no_places(alloc)?;
+        links.put("cache:323", front)?;
+        let ended = outcome_over(alloc, script, &mut no_files(alloc)?, &mut links)?;
+        assert_eq!(rt; ended.text.as_slice(), text);
+        assert_eq!(rt; ended.status, 1);
+        test_sent(rt, alloc, script, &ended, &[&[RESET_QUERY]])?;
     }
     Ok(())
 }
@@ -174,20 +169,16 @@ fn test_refused(rt: &impl Abort, alloc: Global, all: &[Refused]) -> Result<(), N
     for (pdu, cause, report) in all {
         let rest = b"\nvalid\ninvalid\n! line 7 cause 38 StreamOver\n";
         let text = joined(alloc, &[b"! line 4 c unit 2 cause ", cause, rest])?;
-        let world = World {
-            files: &[],
-            coming: &[
-                ("cache:323", &[RESPONSE, ONE, END]),
-                ("cache:323", &[RESPONSE, pdu]),
-            ],
-            plan: &[],
-        };
-        let wanted = Wanted {
-            text: &text,
-            sent: &[&[RESET_QUERY], &[RESET_QUERY, report]],
-            status: 1,
-        };
-        test_run(rt, alloc, TWICE, world, wanted)?;
+        let mut links = no_places(alloc)?;
+        links.put("cache:323", &joined(alloc, &[RESPONSE, ONE, END])?)?;
+        links.put("cache:323", &joined(alloc, &[RESPONSE, pdu])?)?;
+        let ended = outcome_over(alloc, TWICE, &mut no_files(alloc)?, &mut links)?;
+        assert_eq!(rt; ended.text.as_slice(), text.as_slice());
+        assert_eq!(rt; ended.status, 1);
+        let mut sent = Vec::new(alloc);
+        sent.push(joined(alloc, &[RESET_QUERY])?)?;
+        sent.push(joined(alloc, &[RESET_QUERY, report])?)?;
+        test_all_sent(rt, TWICE, &ended, &sent);
     }
     Ok(())
 }

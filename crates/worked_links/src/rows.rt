@@ -56,10 +56,18 @@ pub fn test_sent(
     ended: &Ended,
     wanted: &[&[&[u8]]],
 ) -> Result<(), NoMemory> {
+    let mut whole = Vec::new(alloc);
+    for pieces in wanted {
+        whole.push(joined(alloc, pieces)?)?;
+    }
+    test_all_sent(rt, script, ended, &whole);
+    Ok(())
+}
+
+/// Compares what was sent on each connection with whole bytes.
+pub fn test_all_sent(rt: &impl Abort, script: &[u8], ended: &Ended, wanted: &Vec<Vec<u8>>) {
     assert_eq!(rt; ended.sent.len(), wanted.len(), "{script:?}");
-    for (sent, pieces) in ended.sent.iter().zip(wanted.iter()) {
-        let bytes = joined(alloc, pieces)?;
+    for (sent, bytes) in ended.sent.iter().zip(wanted.iter()) {
         assert_eq!(rt; sent.as_slice(), bytes.as_slice(), "{script:?}");
     }
-    Ok(())
 }

@@ -29,29 +29,42 @@ pub struct Ended {
 
 /// Runs a script. No call fails but those on connections, and they as planned.
 pub fn outcome(alloc: Global, script: &[u8], world: World<'_>) -> Result<Ended, NoMemory> {
-    let mut source = MemSource::new(alloc, script, Plan::new(alloc, &[])?)?;
     let mut shelf = shelf_of(alloc, world.files)?;
     let mut links = links_of(alloc, world.coming, world.plan)?;
+    outcome_over(alloc, script, &mut shelf, &mut links)
+}
+
+/// Runs a script over these files and connections.
+pub fn outcome_over(
+    alloc: Global,
+    script: &[u8],
+    shelf: &mut MemShelf,
+    links: &mut MemLinks,
+) -> Result<Ended, NoMemory> {
+    let mut source = MemSource::new(alloc, script, Plan::new(alloc, &[])?)?;
     let mut sink = MemSink::new(alloc, Plan::new(alloc, &[])?);
     let mut words = Vec::new(alloc);
     words.push(String::from_str(alloc, "run")?)?;
-    let status = status_of(
-        alloc,
-        &words,
-        &mut source,
-        &mut shelf,
-        &mut links,
-        &mut sink,
-    );
+    let status = status_of(alloc, &words, &mut source, shelf, links, &mut sink);
     Ok(Ended {
         status,
         text: Vec::from_slice(alloc, sink.written())?,
-        sent: sent_on(alloc, &mut links)?,
+        sent: sent_on(alloc, links)?,
     })
 }
 
+/// Files of which none is there yet. No call fails.
+pub fn no_files(alloc: Global) -> Result<MemShelf, NoMemory> {
+    Ok(MemShelf::new(alloc, Plan::new(alloc, &[])?))
+}
+
+/// Connections to places of which none is there yet. No call fails.
+pub fn no_places(alloc: Global) -> Result<MemLinks, NoMemory> {
+    Ok(MemLinks::new(alloc, Plan::new(alloc, &[])?))
+}
+
 fn shelf_of(alloc: Global, files: Named<'_>) -> Result<MemShelf, NoMemory> {
-    let mut shelf = MemShelf::new(alloc, Plan::new(alloc, &[])?);
+    let mut shelf = no_files(alloc)?;
     for (name, pieces) in files {
         shelf.put(name, &joined(alloc, pieces)?)?;
     }
