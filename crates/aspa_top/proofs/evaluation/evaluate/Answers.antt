@@ -52,7 +52,7 @@ returns-in-Err-Shelf-clause-went g c = λ world meets.
 
 pub returns-in-Err-Shelf-clause-stopped : goal.returns-in-Err-Shelf-clause-stopped
 returns-in-Err-Shelf-clause-stopped g c = λ failed world meets.
-    Performing-stopped _ _ _ _ _ _ _ _ _ _ _ _ _ _ _ _ _ meets (c.loop-line.invariant.so_far world meets.tells meets.begins) c.in-Some.ensures.first
+    Performing-stopped _ _ _ _ _ _ _ _ _ _ _ _ _ _ _ _ _ _ meets (c.loop-line.invariant.so_far world meets.tells meets.begins) c.in-Some.ensures.first
     (Tells-names _ _ world c.loop-line.invariant.names meets.tells) c.perform_line.ensures.later (part_same _ _ _ _ _ _ _ _ _ _ c.in-Err-Shelf.ensures.part c.pour.ensures.same)
     (c.in-Err-Shelf.ensures.uses (ap Err c.in-Err-Shelf.field-0-is)) c.in_ok-pour-in-Err-Shelf.ensures.ok
 

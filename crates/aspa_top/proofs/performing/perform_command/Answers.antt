@@ -31,7 +31,7 @@ returns-in-Short g c =
       sound = IsSound-short c.args.working _ _ _ _ (omega (arith, c.requires.room.0)) c.requires.sound c.in_ok-perform_short-in-Short.ensures.keeps;
       lines = c.in_ok-perform_short-in-Short.ensures.keeps.lines;
       part = search rules;
-      feeds = feeds_kept _ _ _ c.args.working _ (omega (arith, c.requires.room.0)) c.in_ok-perform_short-in-Short.ensures.keeps.feeds c.requires.feeds;
+      feeds = feeds_kept _ _ _ c.args.working c.in_ok-perform_short-in-Short.field-0 (omega (arith, c.requires.room.0)) c.in_ok-perform_short-in-Short.ensures.keeps.feeds c.requires.feeds;
       later = GoesOn-refl _;
       grows = Grows-refl _;
       names = refl;
@@ -72,7 +72,7 @@ returns-in-Load g c =
       sound = c.in_ok-load-in-Load.ensures.sound;
       lines = c.in_ok-load-in-Load.ensures.lines;
       part = search rules;
-      feeds = feeds_kept _ _ _ c.args.working _ (omega (arith, c.requires.room.0)) c.in_ok-load-in-Load.ensures.feeds c.requires.feeds;
+      feeds = feeds_kept _ _ _ c.args.working c.in_ok-load-in-Load.field-0 (omega (arith, c.requires.room.0)) c.in_ok-load-in-Load.ensures.feeds c.requires.feeds;
       later = GoesOn-refl _;
       grows = Grows-refl _;
       names = c.load.ensures.names;
@@ -112,7 +112,7 @@ returns-in-Open g c =
       sound = c.in_ok-open-in-Open.ensures.sound;
       lines = c.in_ok-open-in-Open.ensures.lines;
       part = search rules;
-      feeds = feeds_kept _ _ _ c.args.working _ (omega (arith, c.requires.room.0)) c.in_ok-open-in-Open.ensures.feeds c.requires.feeds;
+      feeds = feeds_kept _ _ _ c.args.working c.in_ok-open-in-Open.field-0 (omega (arith, c.requires.room.0)) c.in_ok-open-in-Open.ensures.feeds c.requires.feeds;
       later = GoesOn-refl _;
       grows = Grows-refl _;
       names = c.open.ensures.names;
@@ -326,8 +326,8 @@ returns-in_err-put_rows-in-Report g c =
       sink_cause = search rules;
     }
 
-pub returns-in-Changes : goal.returns-in-Changes
-returns-in-Changes g c =
+pub returns : goal.returns
+returns g c =
     let same = sym c.task_of.ensures ∙ c.in-Changes.is in
     let goes = goes_as c.args.working c.args.command Changes same _ _ _ _ _ _ _ _ _ (listed c.args.working _ _ _ _ _ _ _ c.store-in-Changes.ensures c.in_ok-put_changes-in-Changes.ensures.whole c.mark.ensures) in
     record {
@@ -335,7 +335,7 @@ returns-in-Changes g c =
       sound = IsSound-marked c.args.working _ _ _ _ (omega (arith, c.requires.room.0)) c.requires.sound c.mark.ensures;
       lines = ap (λ (w : Working). w.lines) c.mark.ensures.left;
       part = search rules;
-      feeds = feeds_kept _ _ _ c.args.working _ (omega (arith, c.requires.room.0)) (ap (λ (w : Working). w.feeds) c.mark.ensures.left) c.requires.feeds;
+      feeds = feeds_kept _ _ _ c.args.working c.mark.result (omega (arith, c.requires.room.0)) (ap (λ (w : Working). w.feeds) c.mark.ensures.left) c.requires.feeds;
       later = GoesOn-refl _;
       grows = c.put_changes.ensures.grows;
       names = refl;
