@@ -190,7 +190,7 @@ module _ (working : Working) (name : List ℕ) (count opened lines : ℕ) (old n
         after = after_taking state name more.1;
         does = λ ends. subst (λ (d : Option Dump). TakesNamed d (ending world ends) state name count (done.took.text ++ more.0) (after_taking state name more.1)) (sym held.1)
             (subst (λ (b : Bool). TakesOpen b state name count held.0 (done.took.text ++ more.0) (after_taking state name more.1)) (sym yet)
-                (record { end = more.1; takes = taken_for links state held.0 (done.took.text ++ more.0) more.1 stands units; next_is = refl }));
+            (record { end = more.1; takes = taken_for links state held.0 (done.took.text ++ more.0) more.1 stands units; next_is = refl }));
         added = done.took.added;
         ticked = omega (arith, ticks.within (taking_of state held.0) more.1 (done.took.text ++ more.0) at units);
       }

@@ -96,25 +96,28 @@ begins_by : (world : World) (files : Option Files) (links_old links_new : Links)
     × FeedsMoved links_new.attempts links_new.wire (feeds_of moved) × (all_new ≡ append_known all_old part)
 begins_by world files links_old links_new working state line all_old all_new ticks_old ticks_new ticks few tells stands by = elim by.holds [
   | inl nothing ↦ (
-      [],
-      state,
-      (λ ends comes. inl (refl, omega (arith, few, nothing.2), refl)),
-      subst (λ (links : Links). FeedsMoved links.attempts links.wire (feeds_of state)) (sym nothing.0) (stands_moved files links_old working state stands),
-      nothing.1 ∙ sym (append_known-nil all_old),
-    )
+    [],
+    state,
+    (λ ends comes. inl (refl, omega (arith, few, nothing.2), refl)),
+    subst (λ (links : Links). FeedsMoved links.attempts links.wire (feeds_of state)) (sym nothing.0) (stands_moved files links_old working state stands),
+    nothing.1 ∙ sym (append_known-nil all_old),
+  )
   | inr more ↦ elim more [
     | inl writes ↦
         let went = writes.1 links_old world tells (counted state) (counted_stands files links_old working state stands) in (
           went.part,
           state,
-          (λ ends comes. inr (inl (record {
-            own = went.part ++ went.rest;
-            next = went.after;
-            performs = record { reading = by.reading; reads = by.reads; does = went.does ends };
-            rest = went.rest;
-            whole = refl;
-            judged = omega (arith, few, went.ticked);
-          }, refl))),
+          (λ ends comes. inr (inl (
+            record {
+              own = went.part ++ went.rest;
+              next = went.after;
+              performs = record { reading = by.reading; reads = by.reads; does = went.does ends };
+              rest = went.rest;
+              whole = refl;
+              judged = omega (arith, few, went.ticked);
+            },
+            refl,
+          ))),
           subst (λ (links : Links). FeedsMoved links.attempts links.wire (feeds_of state)) (sym writes.0) (stands_moved files links_old working state stands),
           went.added,
         )
@@ -122,12 +125,15 @@ begins_by world files links_old links_new working state line all_old all_new tic
         let went = moves.1.2 files world (counted state) (counted_stands files links_old working state stands) in (
           [],
           went.after,
-          (λ ends comes. inr (inr (refl, record {
-            command = moves.1.0;
-            reads = subst (λ r. IsReading line r) moves.1.1 by.reads;
-            moves = went.moves ends comes;
-            judged = omega (arith, few, went.ticked);
-          }))),
+          (λ ends comes. inr (inr (
+            refl,
+            record {
+              command = moves.1.0;
+              reads = subst (λ r. IsReading line r) moves.1.1 by.reads;
+              moves = went.moves ends comes;
+              judged = omega (arith, few, went.ticked);
+            },
+          ))),
           went.sent,
           moves.0 ∙ sym (append_known-nil all_old),
         )

@@ -53,7 +53,16 @@ pub(crate) fn connect_feed<K: Links>(
         refused,
     } = working;
     let progress = Progress { analyser, refused };
-    let next = connect(alloc, lines, name, place.text(), &mut feeds, progress, links, text)?;
+    let next = connect(
+        alloc,
+        lines,
+        name,
+        place.text(),
+        &mut feeds,
+        progress,
+        links,
+        text,
+    )?;
     Ok(Working {
         analyser: next.analyser,
         sources,
@@ -101,7 +110,9 @@ pub(crate) fn work_on<K: Links, L: Ledger>(
         refused,
     } = working;
     let progress = Progress { analyser, refused };
-    let next = work(alloc, lines, name, asked, &mut feeds, progress, links, text, steps)?;
+    let next = work(
+        alloc, lines, name, asked, &mut feeds, progress, links, text, steps,
+    )?;
     Ok(Working {
         analyser: next.analyser,
         sources,

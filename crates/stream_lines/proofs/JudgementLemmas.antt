@@ -88,7 +88,7 @@ units_grow : (asking : Asking) (count : ℕ) (old : Taking) (text : List ℕ) (n
 units_grow asking zero old text new takes = no_fewer old new (kept old new old takes.1 refl)
 units_grow asking (suc count) old text new takes =
     then_less old.judgements takes.mid.judgements new.judgements
-        (unless_grows old.dump.over asking old takes.first takes.mid takes.takes) (units_grow asking count takes.mid takes.rest new takes.goes_on)
+    (unless_grows old.dump.over asking old takes.first takes.mid takes.takes) (units_grow asking count takes.mid takes.rest new takes.goes_on)
 
 -- where a record comes, and reads so, a unit costs what its body may cost
 unit_costs : (asking : Asking) (old new : Taking) (text : List ℕ) (it : Recorded) (rest : List ℕ) (body : Body) → old.dump.over ≡ false → IsComing old.dump.left (Whole it rest)
@@ -136,7 +136,7 @@ ticks_next asking count dump mid progress next files files_mid all all_mid befor
       let done = so_far old stands in
       let unit = some_unless done.0.dump.over asking done.0 in
       let units : TakesUnits asking (count + 1) old (done.2.text ++ unit.0) unit.1 = TakesUnits-join asking count 1 old done.0 unit.1 done.2.text unit.0 done.2.takes
-          (TakesUnits-one asking done.0 unit.1 unit.0 unit.2) in
+      (TakesUnits-one asking done.0 unit.1 unit.0 unit.2) in
       let same = units_unique asking (count + 1) old text (done.2.text ++ unit.0) new unit.1 takes units in
       let first = few.within old done.0 done.2.text stands done.2.takes in
       let last = one.within open_yet done.0 unit.1 unit.0 done.1 unit.2 in
@@ -153,7 +153,7 @@ ticks_more asking first count dump progress files before after fits few = record
       let rest = some_units asking (count - first) begun.1 in
       let all : first + (count - first) ≡ count = both first count fits in
       let units : TakesUnits asking count old (begun.0 ++ rest.0) rest.1 = subst (λ (n : ℕ). TakesUnits asking n old (begun.0 ++ rest.0) rest.1) all
-          (TakesUnits-join asking first (count - first) old begun.1 rest.1 begun.0 rest.0 begun.2 rest.2) in
+      (TakesUnits-join asking first (count - first) old begun.1 rest.1 begun.0 rest.0 begun.2 rest.2) in
       let same = units_unique asking count old text (begun.0 ++ rest.0) new rest.1 takes units in
       let taken = few.within old begun.1 begun.0 stands begun.2 in
       let more = units_grow asking (count - first) begun.1 rest.0 rest.1 rest.2 in
