@@ -51,3 +51,9 @@ perform_command-requires-clause-feeds g c = feeds_begun _ c.args.working c.requi
 
 pub returns-in-Ok-clause-part : goal.returns-in-Ok-clause-part
 returns-in-Ok-clause-part g c = part_by c.perform_command.result c.args.working c.args.line.now c.in-Ok.command _ _ _ _ _ _ _ (c.in-Ok.ensures (λ none. cc)) c.perform_command.ensures.part
+
+pub returns-in_err-refuse-in-Err-clause-later : goal.returns-in_err-refuse-in-Err-clause-later
+returns-in_err-refuse-in-Err-clause-later g c = GoesOn-refl _
+
+pub returns-in-Err-NoMemory-clause-later : goal.returns-in-Err-NoMemory-clause-later
+returns-in-Err-NoMemory-clause-later g c = GoesOn-refl _
