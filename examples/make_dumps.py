@@ -89,4 +89,5 @@ def main():
     (HERE / "updates.mrt").write_bytes(b"".join(news))
 
 
-main()
+if __name__ == "__main__":
+    main()

@@ -1,6 +1,7 @@
 //! The analysis, from event to event.
 ghost use Rattle.std.specs.Prelude.{◌≡◌, IfOk};
 ghost use Rattle.analyser.specs.Events.{Happens};
+ghost use Rattle.analyser.specs.Touched.{TicksWithin};
 ghost use Rattle.rib_store.specs.Changes.{IsMarked};
 ghost use Rattle.rib_store.specs.State.{no_state};
 
@@ -12,9 +13,15 @@ use std::marker::Model;
 use std::sync::ledger::Ledger;
 
 /// What an analysis has come to, by all events so far.
-#[derive(Drop)]
 pub struct Analyser {
     store: RibStore,
+}
+
+/// A function of its own, so that what lets an analysis go needn't say how.
+impl Drop for Analyser {
+    fn drop(self) {
+        let Analyser { store: _store } = self;
+    }
 }
 
 /// A contract sees the state.
@@ -39,10 +46,11 @@ impl Analyser {
         }
     }
 
-    /// The analysis after one more event, with the judgements that it took as steps.
+    /// The analysis after one more event. It takes a step for each judgement, whether it ends well or not: at most one for each route that
+    /// it announces, and one for each distinct pair of a peer AS and a path of routes that it touches.
     pub fn step<L: Ledger>(self, event: Event, steps: &mut Steps<L>) -> Result<Analyser, NoMemory>
         ensures state { IfOk result (λ next. Happens self event next) }
-        ensures ticks { steps.new ≡ steps.old }
+        ensures ticks { TicksWithin self event steps.old steps.new }
     {
         let Analyser { store } = self;
         let store = match event {

@@ -2,7 +2,8 @@
 //!
 //! The layer above uses one contract, that of [`Analyser::step`]: after an event the state is what `Happens` of `specs/Events.antt`
 //! says, and by the law [`events_have_one_outcome`] there is exactly one such state. What the state is, and what [`Analyser::mark`] makes
-//! of it, is defined in `rib_store` (`State`, `Changes`). Begin reading in `specs/Events.antt`.
+//! of it, is defined in `rib_store` (`State`, `Changes`). `Costs` of `specs/Touched.antt` says how many judgements an event may cost,
+//! by the law [`events_have_one_cost`] exactly one number. Begin reading in `specs/Events.antt`.
 #![tactic(auto)]
 
 mod analysis;
@@ -11,4 +12,4 @@ mod laws;
 
 pub use analysis::Analyser;
 pub use event::Event;
-pub use laws::events_have_one_outcome;
+pub use laws::{events_have_one_cost, events_have_one_outcome};

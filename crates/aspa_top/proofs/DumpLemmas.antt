@@ -1,16 +1,21 @@
 -- A dump that a line opens, and one that it takes from.
-use Rattle.std.proofs.Common.{◌≡◌, ◌≢◌, ℕ, ◌+◌, ◌-◌, ◌<◌, ◌≤◌, Bool, true, false, cond, is_some, List, [], ◌++◌, length, None, Some, IfSome, Ok, refl, sym, ◌∙◌, ap, subst, append-nil, arith}
+use Rattle.std.proofs.Common.{◌≡◌, ◌≢◌, ℕ, ◌+◌, ◌-◌, ◌<◌, ◌≤◌, Bool, true, false, ◌||◌, cond, List, [], ◌++◌, length, None, Some, IfSome, Ok, refl, sym, ◌∙◌, ap, subst, append-nil, arith}
 use Rattle.std.specs.Prelude.{nat_eq}
 use Rattle.std.specs.Cmp.Lexicographic.{pointwise}
 use Rattle.indexmap.specs.IndexSet.{contains}
 use Rattle.std.specs.Io.KnownBytes.{append_known, prepend_known}
+use Rattle.std.specs.Option.{option_map}
 use Rattle.std.specs.declared.option.Option.{Option}
-use Rattle.av_base.specs.Files.{Files, Opens, Misses, left_of}
+use Rattle.av_base.specs.Files.{Files, Opens, Misses, left_of, opens}
 use Rattle.av_base.proofs.FilesLemmas.{left_of-opens}
+use Rattle.feed_lines.specs.declared.feed.Feeds.{Feeds}
+use Rattle.feed_lines.specs.Holding.{feed_in}
+use Rattle.feed_lines.specs.Holding.{HoldsOr as HoldsFeed}
 use Rattle.report_text.specs.Refusals.{of_line, refusal_text}
 use Rattle.script_lines.specs.declared.command.Command.TheVariants.{Open, Take}
 use Rattle.stream_lines.specs.Frames.{Leaves}
-use Rattle.stream_lines.specs.Taking.{TookUnits, TookSome, taking}
+use Rattle.stream_lines.specs.Holding.{HoldsDump}
+use Rattle.stream_lines.specs.Taking.{StandsAt, TicksWithinUnits, TookUnits, TookSome}
 use Rattle.stream_lines.specs.Streams.{Dump, Taking, Asking, TakesUnits}
 use Rattle.stream_lines.specs.Held.{HeldDump}
 use Rattle.stream_lines.specs.declared.taking.Progress.{Progress}
@@ -18,41 +23,36 @@ use Rattle.stream_lines.proofs.FrameLemmas.{Leaves-refl, Leaves-opens}
 use Rattle.stream_lines.proofs.LawLemmas.{some_units}
 use Rattle.stream_lines.proofs.UnitsLemmas.{TakesUnits-join}
 use Rattle.aspa_top.specs.declared.working.Working.{Working}
-use Rattle.aspa_top.specs.Tasks.{State, OpensNamed, TakesNamed, TakesOpen, new_dump, with_dump, same_name, asking_of, taking_of, after_taking}
+use Rattle.aspa_top.specs.Tasks.{State, OpensNamed, TakesNamed, TakesOpen, is_stream, new_dump, with_dump, same_name, asking_of, taking_of, after_taking}
 use Rattle.aspa_top.specs.Evaluation.{Does}
-use Rattle.aspa_top.specs.Performing.{HoldsOr, IsSound, StandsFor, Goes, GoesPart, Steps, dump_in, has_source}
-use Rattle.aspa_top.specs.World.{World, Tells}
-use Rattle.aspa_top.proofs.StandsLemmas.{HoldsOr-leaves, HoldsOr-none, HoldsOr-some, HoldsOr-is_some, HoldsOr-put, StandsFor-leaves, added_text, differ, is_same, refused_same}
+use Rattle.aspa_top.specs.Performing.{HoldsOr, IsSound, StandsFor, Goes, GoesSome, Steps, dump_in, has_source, has_stream}
+use Rattle.aspa_top.specs.World.{Links, World, Tells, ending, names_of}
+use Rattle.aspa_top.proofs.StandsLemmas.{HoldsOr-leaves, HoldsOr-some, HoldsOr-put, StandsFor-leaves, added_text, differ, is_same, refused_same, same_stream}
 
 -- ---- `open`
 
-open_taken : (has : Bool) (dump : Option Dump) (named : Option (List ℕ)) (state : State) (name : List ℕ) → is_some dump ≡ true
-    → OpensNamed has dump named state name (refusal_text state.lines of_line 35) (record state { refused = state.refused + 1 })
-open_taken true dump named state name some = (refl, refl)
-open_taken false None named state name some = absurd (let no : ⊥ = cc in no)
-open_taken false (Some dump) named state name some = (refl, refl)
+-- the names stay where a file is opened
+pub opens_names : (bytes : List ℕ) (old : Option Files) → names_of (option_map (opens bytes) old) ≡ names_of old
+opens_names bytes None = refl
+opens_names bytes (Some files) = refl
 
 module _ (working next : Working) (name file text_old text_new : List ℕ) where
-  -- a source has the name
-  pub open_source : (files : Option Files) → has_source working name ≡ true
+  -- both tell whether the name is in use
+  same_use : (files : Option Files) (links : Links) (state : State) → StandsFor files links working state
+      → (has_source working name || has_stream working name) ≡ (state.sources name || is_stream state name)
+  same_use files links state stands = λ i. stands.sources name i || same_stream files links working state name stands i
+
+  -- the name is in use
+  pub open_used : (files : Option Files) → (has_source working name || has_stream working name) ≡ true
       → text_new ≡ text_old ++ refusal_text working.lines of_line 35 → next ≡ record working { refused = working.refused + 1 }
       → Steps working (Ok (Open name file)) files files text_old text_new next
-  open_source files has added is =
+  open_used files used added is =
       refused_same working next (Ok (Open name file)) files files text_old text_new of_line 35 (Leaves-refl (λ other. Unit {0}) files) (λ n d e. tt) added is
-      (λ world tells state stands.
-      subst (λ (b : Bool). OpensNamed b (state.dumps name) (world.named file) state name (refusal_text state.lines of_line 35) (record state { refused = state.refused + 1 }))
-      (sym (sym (stands.sources name) ∙ has)) (refl, refl))
+      (λ links world tells state stands.
+      subst (λ (b : Bool). OpensNamed b (world.named file) state name (refusal_text state.lines of_line 35) (record state { refused = state.refused + 1 }))
+      (sym (sym (same_use files links state stands) ∙ used)) (refl, refl))
 
-  -- a dump has it
-  pub open_dump : (files : Option Files) → is_some (dump_in working name) ≡ true
-      → text_new ≡ text_old ++ refusal_text working.lines of_line 35 → next ≡ record working { refused = working.refused + 1 }
-      → Steps working (Ok (Open name file)) files files text_old text_new next
-  open_dump files has added is =
-      refused_same working next (Ok (Open name file)) files files text_old text_new of_line 35 (Leaves-refl (λ other. Unit {0}) files) (λ n d e. tt) added is
-      (λ world tells state stands. open_taken (state.sources name) (state.dumps name) (world.named file) state name
-      (sym (HoldsOr-is_some files (dump_in working name) (state.dumps name) (stands.dumps name)) ∙ has))
-
-  module _ (old new : Option Files) (told : List ℕ) (before after : ℕ) (no_source : has_source working name ≡ false) (no_dump : dump_in working name ≡ None)
+  module _ (old new : Option Files) (told : List ℕ) (before after : ℕ) (free : (has_source working name || has_stream working name) ≡ false)
       (same : told ≡ file) where
     -- the file isn't there
     pub open_misses : Misses old new before after told → text_new ≡ text_old ++ refusal_text working.lines of_line 37
@@ -60,60 +60,56 @@ module _ (working next : Working) (name file text_old text_new : List ℕ) where
     open_misses misses added is =
         refused_same working next (Ok (Open name file)) old new text_old text_new of_line 37
         (subst (λ (files : Option Files). Leaves (λ other. Unit {0}) old files) (sym misses.told) (Leaves-refl (λ other. Unit {0}) old)) (λ n d e. tt) added is
-        (λ world tells state stands.
+        (λ links world tells state stands.
         let named : world.named file ≡ None = ap (λ (f : List ℕ → Option (List ℕ)). f file) (sym tells.named) ∙ ap tells.told.named (sym same) ∙ misses.missing tells.told tells.is in
-        rw (sym (stands.sources name) ∙ no_source, HoldsOr-none old (dump_in working name) (state.dumps name) (stands.dumps name) no_dump, named) (refl, refl))
+        rw (sym (same_use old links state stands) ∙ free, named) (refl, refl))
 
     -- the dump is new
     pub open_new : (lines number : ℕ) (kept : HeldDump) → kept ≡ record { file = number; held = []; taken = 0; peers = None; over = false }
         → IsSound before lines working → Opens old new before after told number
         → IfSome old (λ files. length files.left ≡ before) → text_new ≡ text_old
         → ((q : List ℕ) → dump_in next q ≡ cond (same_name name q) (Some kept) (dump_in working q))
-        → next.analyser ≡ working.analyser → next.sources ≡ working.sources → next.lines ≡ working.lines → next.passed ≡ working.passed → next.refused ≡ working.refused
+        → next ≡ record working { dumps = next.dumps }
         → Steps working (Ok (Open name file)) old new text_old text_new next
-    open_new lines number kept is_new sound opened count added dumps analyser sources lines_are passed refused = λ written ticks world tells state stands.
+    open_new lines number kept is_new sound opened count added dumps is = λ links written ticks world tells state stands.
         let bytes : tells.told.named told ≡ Some opened.bytes = opened.named tells.told tells.is in
         let named : world.named file ≡ Some opened.bytes = ap (λ (f : List ℕ → Option (List ℕ)). f file) (sym tells.named) ∙ ap tells.told.named (sym same) ∙ bytes in
         let left : IfSome (Some tells.told) (λ files. left_of new number ≡ files.named told) = rw tells.is at (left_of-opens old new before after told number opened count) in
-        let stayed = StandsFor-leaves old new working state (Leaves-opens old new before after told number opened count) (λ n d e. (sound.given n d e).0) stands in
+        let stayed = StandsFor-leaves old new links working state (Leaves-opens old new before after told number opened count) (λ n d e. (sound.given n d e).0) stands in
         record {
           text = [];
           after = record state { dumps = with_dump name (new_dump opened.bytes) state.dumps };
-          does = rw (sym (stands.sources name) ∙ no_source, HoldsOr-none old (dump_in working name) (state.dumps name) (stands.dumps name) no_dump, named) (refl, refl);
+          does = λ ends comes. rw (sym (same_use old links state stands) ∙ free, named) (refl, refl);
           added = added_text written text_old text_new [] (added ∙ sym (append-nil text_old));
           stands = record {
-            analysis = analyser ∙ stands.analysis;
-            sources = λ q. ap (λ s. contains (pointwise nat_eq) s q) sources ∙ stands.sources q;
+            analysis = ap (λ (w : Working). w.analyser) is ∙ stands.analysis;
+            sources = λ q. ap (λ (w : Working). has_source w q) is ∙ stands.sources q;
             dumps = λ q. rw (dumps q) (HoldsOr-put (same_name name q) new kept (new_dump opened.bytes) (dump_in working q) (state.dumps q)
                 (rw is_new (record { left = ap (prepend_known []) (left ∙ bytes); taken = refl; peers = refl; over = refl })) (λ other. stayed.dumps q));
-            lines = lines_are ∙ stands.lines;
-            passed = passed ∙ stands.passed;
-            refused = refused ∙ stands.refused;
+            feeds = subst (λ (held : Feeds). (q : List ℕ) → HoldsFeed links.wire (feed_in held q) (state.feeds q)) (sym (ap (λ (w : Working). w.feeds) is)) stayed.feeds;
+            made = stayed.made;
+            lines = ap (λ (w : Working). w.lines) is ∙ stands.lines;
+            passed = ap (λ (w : Working). w.passed) is ∙ stands.passed;
+            refused = ap (λ (w : Working). w.refused) is ∙ stands.refused;
           };
-          ticked = refl;
+          ticked = omega arith;
         }
 
 -- ---- `take`
 
-pub take_unknown : (files : Option Files) (working : Working) (name : List ℕ) (count : ℕ) (world : World) (state : State) → dump_in working name ≡ None
-    → StandsFor files working state → Does world state (Ok (Take name count)) (refusal_text state.lines of_line 36) (record state { refused = state.refused + 1 })
-take_unknown files working name count world state none stands =
-    let no_dump = HoldsOr-none files (dump_in working name) (state.dumps name) (stands.dumps name) none in
-    subst (λ (d : Option Dump). TakesNamed d state name count (refusal_text state.lines of_line 36) (record state { refused = state.refused + 1 })) (sym no_dump) (refl, refl)
-
-pub take_over : (files : Option Files) (working : Working) (name : List ℕ) (count : ℕ) (before : HeldDump) (world : World) (state : State)
-    → dump_in working name ≡ Some before → before.over ≡ true → StandsFor files working state
+pub take_over : (files : Option Files) (links : Links) (working : Working) (name : List ℕ) (count : ℕ) (before : HeldDump) (world : World) (state : State)
+    → dump_in working name ≡ Some before → before.over ≡ true → StandsFor files links working state
     → Does world state (Ok (Take name count)) (refusal_text state.lines of_line 38) (record state { refused = state.refused + 1 })
-take_over files working name count before world state here over stands =
+take_over files links working name count before world state here over stands =
     let held = HoldsOr-some files (dump_in working name) (state.dumps name) before (stands.dumps name) here in
     let after : State = record state { refused = state.refused + 1 } in
-    subst (λ (d : Option Dump). TakesNamed d state name count (refusal_text state.lines of_line 38) after) (sym held.1)
+    subst (λ (d : Option Dump). TakesNamed d world state name count (refusal_text state.lines of_line 38) after) (sym held.1)
     (subst (λ (b : Bool). TakesOpen b state name count held.0 (refusal_text state.lines of_line 38) after) (sym (sym held.2.over ∙ over)) (refl, refl))
 
 -- a take that failed was of a dump that is open
-pub take_uses : (files : Option Files) (working : Working) (name : List ℕ) (before : HeldDump) (state : State) → dump_in working name ≡ Some before
-    → StandsFor files working state → (dump : Dump) × (state.dumps name ≡ Some dump)
-take_uses files working name before state here stands =
+pub take_uses : (files : Option Files) (links : Links) (working : Working) (name : List ℕ) (before : HeldDump) (state : State) → dump_in working name ≡ Some before
+    → StandsFor files links working state → (dump : Dump) × (state.dumps name ≡ Some dump)
+take_uses files links working name before state here stands =
     let held = HoldsOr-some files (dump_in working name) (state.dumps name) before (stands.dumps name) here in (held.0, held.1)
 
 -- a place that got back what it had
@@ -126,72 +122,75 @@ pub got_back : (name : List ℕ) (d : HeldDump) (old new : List ℕ → Option H
 got_back name d old new here puts q = puts q ∙ put_same (same_name name q) d (old q) (λ test. sym (ap old (is_same name q test)) ∙ here)
 
 module _ (working : Working) (name : List ℕ) (count opened lines : ℕ) (old new : Option Files) (before after : HeldDump) (asking : Asking) (first : Progress)
-    (all_old all_new : Option (List ℕ)) (here : dump_in working name ≡ Some before) (sound : IsSound opened lines working)
+    (all_old all_new : Option (List ℕ)) (ticks_old ticks_new : ℕ) (here : dump_in working name ≡ Some before) (sound : IsSound opened lines working)
     (leaves : Leaves (λ other. other ≢ before.file) old new) (open_yet : before.over ≡ false)
     (asks : asking ≡ record { line = working.lines; name = name })
-    (starts : first ≡ record { analyser = working.analyser; passed = working.passed; refused = working.refused }) where
+    (starts : first ≡ record { analyser = working.analyser; passed = working.passed; refused = working.refused })
+    (ticks : TicksWithinUnits asking count before first old ticks_old ticks_new) where
   -- what is taken begins at the state that the working state stands for
-  begins_at : (state : State) (dump : Dump) → StandsFor old working state → taking dump first ≡ taking_of state dump
-  begins_at state dump stands =
-      ap (taking dump) starts
-      ∙ (λ i. record { dump = dump; state = stands.analysis i; passed = stands.passed i; refused = stands.refused i })
+  begins_at : (links : Links) (state : State) (dump : Dump) → StandsFor old links working state → HoldsDump old before dump → StandsAt old before first (taking_of state dump)
+  begins_at links state dump stands holds = record {
+    holds = holds;
+    state = ap (λ (p : Progress). p.analyser) starts ∙ stands.analysis;
+    passed = ap (λ (p : Progress). p.passed) starts ∙ stands.passed;
+    refused = ap (λ (p : Progress). p.refused) starts ∙ stands.refused;
+  }
 
-  asks_for : (state : State) → StandsFor old working state → asking ≡ asking_of state name
-  asks_for state stands = asks ∙ (λ i. record { line = stands.lines i; name = name })
-
-  taken_from : (state : State) (dump : Dump) (n : ℕ) (text : List ℕ) (end : Taking) → StandsFor old working state
-      → TakesUnits asking n (taking dump first) text end → TakesUnits (asking_of state name) n (taking_of state dump) text end
-  taken_from state dump n text end stands takes =
-      subst (λ (t : Taking). TakesUnits (asking_of state name) n t text end) (begins_at state dump stands)
-      (subst (λ (a : Asking). TakesUnits a n (taking dump first) text end) (asks_for state stands) takes)
+  taken_for : (links : Links) (state : State) (dump : Dump) (text : List ℕ) (end : Taking) → StandsFor old links working state
+      → TakesUnits asking count (taking_of state dump) text end → TakesUnits (asking_of state name) count (taking_of state dump) text end
+  taken_for links state dump text end stands takes =
+      subst (λ (a : Asking). TakesUnits a count (taking_of state dump) text end) (asks ∙ (λ i. record { line = stands.lines i; name = name })) takes
 
   -- the units were taken
   pub take_goes : (next : Working) (last : Progress) → TookUnits asking count before after first old new all_old all_new last
       → ((q : List ℕ) → dump_in next q ≡ cond (same_name name q) (Some after) (dump_in working q))
-      → next.sources ≡ working.sources → next.lines ≡ working.lines
-      → next.analyser ≡ last.analyser → next.passed ≡ last.passed → next.refused ≡ last.refused → (ticks : ℕ)
-      → Goes working (Ok (Take name count)) old new all_old all_new ticks ticks next
-  take_goes next last took dumps sources lines_are analyser_is passed_are refused_are ticks = λ world tells state stands.
+      → next ≡ record working { analyser = last.analyser; dumps = next.dumps; passed = last.passed; refused = last.refused } → (links : Links)
+      → Goes working (Ok (Take name count)) old new links links all_old all_new ticks_old ticks_new next
+  take_goes next last took dumps is links = λ world tells state stands.
       let held = HoldsOr-some old (dump_in working name) (state.dumps name) before (stands.dumps name) here in
-      let done = took held.0 held.2 in
-      let units = taken_from state held.0 count done.2.text done.0 stands done.2.takes in
+      let at = begins_at links state held.0 stands held.2 in
+      let done = took (taking_of state held.0) at in
+      let units = taken_for links state held.0 done.2.text done.0 stands done.2.takes in
       let yet : held.0.over ≡ false = sym held.2.over ∙ open_yet in
       record {
         text = done.2.text;
         after = after_taking state name done.0;
-        does = subst (λ (d : Option Dump). TakesNamed d state name count done.2.text (after_taking state name done.0)) (sym held.1)
+        does = λ ends comes. subst (λ (d : Option Dump). TakesNamed d (ending world ends) state name count done.2.text (after_taking state name done.0)) (sym held.1)
             (subst (λ (b : Bool). TakesOpen b state name count held.0 done.2.text (after_taking state name done.0)) (sym yet) (record { end = done.0; takes = units; next_is = refl }));
         added = done.2.added;
         stands = record {
-          analysis = analyser_is ∙ done.1.state;
-          sources = λ q. ap (λ s. contains (pointwise nat_eq) s q) sources ∙ stands.sources q;
+          analysis = ap (λ (w : Working). w.analyser) is ∙ done.1.state;
+          sources = λ q. ap (λ (w : Working). has_source w q) is ∙ stands.sources q;
           dumps = λ q. rw (dumps q) (HoldsOr-put (same_name name q) new after done.0.dump (dump_in working q) (state.dumps q) done.1.holds
               (λ other. HoldsOr-leaves old new (dump_in working q) (state.dumps q) (λ d e. leaves.files d.file (λ same. sound.apart name q before d (differ name q other) here e (sym same))) (stands.dumps q)));
-          lines = lines_are ∙ stands.lines;
-          passed = passed_are ∙ done.1.passed;
-          refused = refused_are ∙ done.1.refused;
+          feeds = subst (λ (held : Feeds). (q : List ℕ) → HoldsFeed links.wire (feed_in held q) (state.feeds q)) (sym (ap (λ (w : Working). w.feeds) is)) stands.feeds;
+          made = stands.made;
+          lines = ap (λ (w : Working). w.lines) is ∙ stands.lines;
+          passed = ap (λ (w : Working). w.passed) is ∙ done.1.passed;
+          refused = ap (λ (w : Working). w.refused) is ∙ done.1.refused;
         };
-        ticked = refl;
+        ticked = ticks.within (taking_of state held.0) done.0 done.2.text at done.2.takes;
       }
 
   -- some of the units were taken: the rest of the text is that of the units that are left
-  pub take_part : TookSome asking count before first old all_old all_new → GoesPart working (Ok (Take name count)) old all_old all_new
-  take_part some = λ world tells state stands.
+  pub take_part : TookSome asking count before first old all_old all_new → GoesSome working (Ok (Take name count)) old all_old all_new ticks_old ticks_new
+  take_part some = λ links world tells state stands.
       let held = HoldsOr-some old (dump_in working name) (state.dumps name) before (stands.dumps name) here in
-      let done = some held.0 held.2 in
-      let begun = taken_from state held.0 done.first done.took.text done.new stands done.took.takes in
-      let asking_now = asking_of state name in
-      let more = some_units asking_now (count - done.first) done.new in
+      let at = begins_at links state held.0 stands held.2 in
+      let done = some (taking_of state held.0) at in
+      let more = some_units asking (count - done.first) done.new in
       let all : done.first + (count - done.first) ≡ count = omega (arith, done.within) in
-      let units : TakesUnits asking_now count (taking_of state held.0) (done.took.text ++ more.0) more.1 =
-      subst (λ (k : ℕ). TakesUnits asking_now k (taking_of state held.0) (done.took.text ++ more.0) more.1) all
-      (TakesUnits-join asking_now done.first (count - done.first) (taking_of state held.0) done.new more.1 done.took.text more.0 begun more.2) in
+      let units : TakesUnits asking count (taking_of state held.0) (done.took.text ++ more.0) more.1 =
+      subst (λ (k : ℕ). TakesUnits asking k (taking_of state held.0) (done.took.text ++ more.0) more.1) all
+      (TakesUnits-join asking done.first (count - done.first) (taking_of state held.0) done.new more.1 done.took.text more.0 done.took.takes more.2) in
       let yet : held.0.over ≡ false = sym held.2.over ∙ open_yet in
       record {
         part = done.took.text;
         rest = more.0;
         after = after_taking state name more.1;
-        does = subst (λ (d : Option Dump). TakesNamed d state name count (done.took.text ++ more.0) (after_taking state name more.1)) (sym held.1)
-            (subst (λ (b : Bool). TakesOpen b state name count held.0 (done.took.text ++ more.0) (after_taking state name more.1)) (sym yet) (record { end = more.1; takes = units; next_is = refl }));
+        does = λ ends. subst (λ (d : Option Dump). TakesNamed d (ending world ends) state name count (done.took.text ++ more.0) (after_taking state name more.1)) (sym held.1)
+            (subst (λ (b : Bool). TakesOpen b state name count held.0 (done.took.text ++ more.0) (after_taking state name more.1)) (sym yet)
+            (record { end = more.1; takes = taken_for links state held.0 (done.took.text ++ more.0) more.1 stands units; next_is = refl }));
         added = done.took.added;
+        ticked = omega (arith, ticks.within (taking_of state held.0) more.1 (done.took.text ++ more.0) at units);
       }

@@ -1,26 +1,142 @@
 -- The lines of a script have one text in a world, from any state on, and that of their first part is a front of it.
-use Rattle.std.proofs.Common.{◌≡◌, ℕ, List, [], ◌∷◌, ◌++◌, Ok, Err, refl, sym, ap, subst, ◌∙◌, append_assoc}
+use Rattle.std.proofs.Common.{◌≡◌, ℕ, Bool, true, false, ◌||◌, List, [], ◌∷◌, ◌++◌, None, Some, Ok, Err, inl, inr, refl, sym, ap, subst, ◌∙◌, append_assoc}
+use Rattle.std.specs.FinMap as fin
+use Rattle.std.specs.declared.option.Option.{Option}
 use Rattle.std.specs.declared.result.Result.{Result}
+use Rattle.av_base.specs.Connections.{Attempt}
+use Rattle.path_model.specs.Trail.{Path}
+use Rattle.feed_lines.specs.declared.working.Work.{Work}
+use Rattle.feed_lines.specs.declared.working.Work.TheVariants.{Take as TakePdus}
+use Rattle.feed_lines.specs.Feeds.{Feed}
+use Rattle.feed_lines.specs.Lines.{WorksBy}
+use Rattle.feed_lines.specs.Lines.{State as FeedState}
 use Rattle.script_lines.specs.declared.command.Command.{Command}
+use Rattle.script_lines.specs.declared.command.Command.TheVariants.{Idle, Aspa, Aspa64, Slurm, Filter, Unfilter, Assert, Unassert, Role as SetRole, RoleDefault, Open as OpenDump, Take as TakeUnits, Feed as FeedLine, Ask, Sync, Judge as JudgePath, Report as ReportRows, Changes as ListChanges, Summary, Why as WhyRoute}
 use Rattle.script_lines.specs.declared.command.LineFault.{LineFault}
+use Rattle.script_lines.specs.Grammar.{IsReading}
 use Rattle.script_lines.proofs.LawLemmas.{IsReading-unique, some_reading}
-use Rattle.aspa_top.specs.Tasks.{State}
-use Rattle.aspa_top.specs.Evaluation.{Does, counted, task_of, Performs, Evaluates}
+use Rattle.stream_lines.specs.Streams.{Dump}
+use Rattle.aspa_top.specs.declared.loading.FileKind.{FileKind}
+use Rattle.aspa_top.specs.declared.loading.Outcome.{Outcome}
+use Rattle.aspa_top.specs.declared.loading.Outcome.TheVariants.{NoFile, Long as FileLong, Flawed, Good}
+use Rattle.aspa_top.specs.declared.task.Short.{Short as ShortTask}
+use Rattle.aspa_top.specs.declared.task.Short.TheVariants.{Idle as Nothing, Happen, Judge, Summary as SumUp, Why}
+use Rattle.aspa_top.specs.declared.task.Task.{Task}
+use Rattle.aspa_top.specs.declared.task.Task.TheVariants.{Short, Load, Open, Take, Connect, OnFeed, Report, Changes}
+use Rattle.aspa_top.specs.Tasks.{State, TakesFile, LoadsUnless, OpensNamed, TakesOpen, TakesNamed, Works, ExplainsRoute, DoesShort, DoesTask, feeds_of, is_stream, is_taken}
+use Rattle.aspa_top.specs.Evaluation.{Begins, Does, counted, task_of, Performs, Evaluates}
+use Rattle.aspa_top.specs.Laws.{ConnectNoFeed, IsNoFeedLine}
+use Rattle.std.proofs.lemmas.List.Elements.{All-head, All-tail}
 use Rattle.aspa_top.specs.Program.{BeginsNext}
 use Rattle.aspa_top.specs.World.{World}
-use Rattle.aspa_top.proofs.TaskLemmas.{both, some_task, DoesTask-unique}
+use Rattle.aspa_top.proofs.TaskLemmas.{ConnectsNone, both, some_task, DoesTask-unique}
 
--- ---- one text
+-- ---- one text, where no feed is connected
+
+-- no name is a feed's
+abbrev pub HasNoFeeds : State → Type 0
+HasNoFeeds state = (name : List ℕ) → state.feeds name ≡ None
+
+-- such a line leaves none either
+short_keeps : (state : State) (short : ShortTask) (text : List ℕ) (next : State) → DoesShort state short text next → next.feeds ≡ state.feeds
+short_keeps state Nothing text next does = ap (λ (s : State). s.feeds) does.1
+short_keeps state (Happen event) text next does = ap (λ (s : State). s.feeds) does.left
+short_keeps state (Judge role neighbour path) text next does = ap (λ (s : State). s.feeds) does.1
+short_keeps state SumUp text next does = ap (λ (s : State). s.feeds) does.left
+short_keeps state (Why key) text next does = why_keeps (fin.get state.analysis.routes key) does
+  where
+    why_keeps : (path : Option Path) → ExplainsRoute path state key text next → next.feeds ≡ state.feeds
+    why_keeps None explains = ap (λ (s : State). s.feeds) explains.1
+    why_keeps (Some path) explains = ap (λ (s : State). s.feeds) explains.left
+
+file_keeps : (state : State) (kind : FileKind) (outcome : Outcome) (text : List ℕ) (next : State) → TakesFile state kind outcome text next → next.feeds ≡ state.feeds
+file_keeps state kind NoFile text next takes = ap (λ (s : State). s.feeds) takes.1
+file_keeps state kind FileLong text next takes = ap (λ (s : State). s.feeds) takes.1
+file_keeps state kind (Flawed flaw) text next takes = ap (λ (s : State). s.feeds) takes.1
+file_keeps state kind (Good change) text next takes = ap (λ (s : State). s.feeds) takes.left
+
+load_keeps : (taken : Bool) (world : World) (state : State) (kind : FileKind) (file text : List ℕ) (next : State)
+    → LoadsUnless taken world state kind file text next → next.feeds ≡ state.feeds
+load_keeps true world state kind file text next loads = ap (λ (s : State). s.feeds) loads.1
+load_keeps false world state kind file text next loads = file_keeps state kind loads.outcome text next loads.takes
+
+open_keeps : (used : Bool) (named : Option (List ℕ)) (state : State) (name text : List ℕ) (next : State) → OpensNamed used named state name text next → next.feeds ≡ state.feeds
+open_keeps true named state name text next opens = ap (λ (s : State). s.feeds) opens.1
+open_keeps false None state name text next opens = ap (λ (s : State). s.feeds) opens.1
+open_keeps false (Some bytes) state name text next opens = ap (λ (s : State). s.feeds) opens.1
+
+dump_keeps : (over : Bool) (state : State) (name : List ℕ) (count : ℕ) (dump : Dump) (text : List ℕ) (next : State) → TakesOpen over state name count dump text next
+    → next.feeds ≡ state.feeds
+dump_keeps true state name count dump text next takes = ap (λ (s : State). s.feeds) takes.1
+dump_keeps false state name count dump text next takes = ap (λ (s : State). s.feeds) takes.next_is
+
+work_keeps : (world : World) (state : State) (name : List ℕ) (work : Work) (text : List ℕ) (next : State) → state.feeds name ≡ None → Works world state name work text next
+    → next.feeds ≡ state.feeds
+work_keeps world state name work text next none works =
+    let done = subst (λ (held : Option (Option Feed)). WorksBy world.ends (feeds_of state) name work held works.does.tells works.does.after) none works.does.done in
+    ap (λ (s : State). s.feeds) works.left ∙ ap (λ (s : FeedState). s.feeds) works.does.left ∙ ap (λ (s : FeedState). s.feeds) done.1
+
+take_keeps : (dump : Option Dump) (world : World) (state : State) (name : List ℕ) (count : ℕ) (text : List ℕ) (next : State) → state.feeds name ≡ None
+    → TakesNamed dump world state name count text next → next.feeds ≡ state.feeds
+take_keeps None world state name count text next none takes = work_keeps world state name (TakePdus count) text next none takes
+take_keeps (Some dump) world state name count text next none takes = dump_keeps dump.over state name count dump text next takes
+
+task_keeps : (world : World) (state : State) (task : Task) (text : List ℕ) (next : State) → ConnectsNone task → HasNoFeeds state → DoesTask world state task text next
+    → next.feeds ≡ state.feeds
+task_keeps world state (Short short) text next other none does = short_keeps state short text next does
+task_keeps world state (Load kind file) text next other none does = load_keeps (is_taken state kind) world state kind file text next does
+task_keeps world state (Open name file) text next other none does = open_keeps (state.sources name || is_stream state name) (world.named file) state name text next does
+task_keeps world state (Take name count) text next other none does = take_keeps (state.dumps name) world state name count text next (none name) does
+task_keeps world state (Connect name place) text next other none does = absurd other
+task_keeps world state (OnFeed name work) text next other none does = work_keeps world state name work text next (none name) does
+task_keeps world state Report text next other none does = ap (λ (s : State). s.feeds) does.left
+task_keeps world state Changes text next other none does = ap (λ (s : State). s.feeds) does.left
+
+-- the line is no `feed` line
+abbrev pub IsNoFeed : Result Command LineFault → Type 0
+IsNoFeed (Ok command) = ConnectsNone (task_of command)
+IsNoFeed (Err fault) = Unit {0}
+
+no_feed : (line : List ℕ) (reading : Result Command LineFault) → IsReading line reading → ((name place : List ℕ) → IsReading line (Ok (FeedLine name place)) → ⊥) → IsNoFeed reading
+no_feed line (Ok (FeedLine name place)) reads other = other name place reads
+no_feed line (Ok Idle) reads other = tt
+no_feed line (Ok (Aspa name file)) reads other = tt
+no_feed line (Ok (Aspa64 name file)) reads other = tt
+no_feed line (Ok (Slurm file)) reads other = tt
+no_feed line (Ok (Filter customer)) reads other = tt
+no_feed line (Ok (Unfilter customer)) reads other = tt
+no_feed line (Ok (Assert customer providers)) reads other = tt
+no_feed line (Ok (Unassert customer)) reads other = tt
+no_feed line (Ok (SetRole asn role)) reads other = tt
+no_feed line (Ok (RoleDefault role)) reads other = tt
+no_feed line (Ok (OpenDump name file)) reads other = tt
+no_feed line (Ok (TakeUnits name count)) reads other = tt
+no_feed line (Ok (Ask name)) reads other = tt
+no_feed line (Ok (Sync name count)) reads other = tt
+no_feed line (Ok (JudgePath role neighbour path)) reads other = tt
+no_feed line (Ok ReportRows) reads other = tt
+no_feed line (Ok ListChanges) reads other = tt
+no_feed line (Ok Summary) reads other = tt
+no_feed line (Ok (WhyRoute addr asn prefix)) reads other = tt
+no_feed line (Err fault) reads other = tt
 
 -- what a line that was read so writes, and leaves
 pub record Done (world : World) (state : State) (reading : Result Command LineFault) : Type 0 where
   pub text : List ℕ
   pub next : State
   pub does : Does world state reading text next
+  pub none : HasNoFeeds next
 
-pub some_done : (world : World) (state : State) (reading : Result Command LineFault) → Done world state reading
-some_done world state (Ok command) = let done = some_task world state (task_of command) in record { text = done.0; next = done.1; does = done.2 }
-some_done world state (Err fault) = record { text = _; next = _; does = (refl, refl) }
+some_done : (world : World) (state : State) (reading : Result Command LineFault) → IsNoFeed reading → HasNoFeeds state → Done world state reading
+some_done world state (Ok command) other none =
+    let done = some_task world state (task_of command) other none in
+    record {
+      text = done.0;
+      next = done.1;
+      does = done.2;
+      none = λ name. ap (λ (feeds : List ℕ → Option (Option Feed)). feeds name) (task_keeps world state (task_of command) done.0 done.1 other none done.2) ∙ none name;
+    }
+some_done world state (Err fault) other none = record { text = _; next = _; does = (refl, refl); none = none }
 
 -- what some lines write, and leave
 pub record Evaluated (world : World) (before : State) (lines : List (List ℕ)) : Type 0 where
@@ -28,13 +144,13 @@ pub record Evaluated (world : World) (before : State) (lines : List (List ℕ)) 
   pub end : State
   pub evaluates : Evaluates world before lines text end
 
--- each list of lines has a text
-pub some_text : (world : World) (before : State) (lines : List (List ℕ)) → Evaluated world before lines
-some_text world before [] = record { text = []; end = before; evaluates = (refl, refl) }
-some_text world before (line ∷ more) =
+-- each list of lines has a text that connects no feed
+pub some_text : (world : World) (before : State) (lines : List (List ℕ)) → ConnectNoFeed lines → HasNoFeeds before → Evaluated world before lines
+some_text world before [] other none = record { text = []; end = before; evaluates = (refl, refl) }
+some_text world before (line ∷ more) other none =
     let read = some_reading line in
-    let done = some_done world (counted before) read.0 in
-    let rest = some_text world done.next more in
+    let done = some_done world (counted before) read.0 (no_feed line read.0 read.1 (All-head IsNoFeedLine line more other)) none in
+    let rest = some_text world done.next more (All-tail IsNoFeedLine line more other) done.none in
     record {
       text = done.text ++ rest.text;
       end = rest.end;
@@ -48,38 +164,31 @@ some_text world before (line ∷ more) =
       };
     }
 
--- any lines begin with nothing
-pub begins_none : (world : World) (state : State) (left : List (List ℕ)) → BeginsNext world state left []
-begins_none world state [] = refl
-begins_none world state (line ∷ more) =
-    let read = some_reading line in
-    let done = some_done world (counted state) read.0 in
-    record { own = done.text; next = done.next; performs = record { reading = read.0; reads = read.1; does = done.does }; rest = done.text; whole = refl }
-
 -- ---- and no other
 
--- a line that was read so has no two texts, and leaves no two states
-Does-unique : (world : World) (state : State) (reading : Result Command LineFault) (one other : List ℕ) (end last : State)
-    → Does world state reading one end → Does world state reading other last → (one ≡ other) × (end ≡ last)
-Does-unique world state (Ok command) one other end last a b = DoesTask-unique world state (task_of command) one other end last a b
-Does-unique world state (Err fault) one other end last a b = both one other _ end last _ a b
+module _ (world : World) (attempts : List Attempt) (told : world.ends.attempts ≡ Some attempts) where
+  -- a line that was read so has no two texts, and leaves no two states
+  Does-unique : (state : State) (reading : Result Command LineFault) (one other : List ℕ) (end last : State)
+      → Does world state reading one end → Does world state reading other last → (one ≡ other) × (end ≡ last)
+  Does-unique state (Ok command) one other end last a b = DoesTask-unique world attempts told state (task_of command) one other end last a b
+  Does-unique state (Err fault) one other end last a b = both one other _ end last _ a b
 
--- one line is performed in one way
-Performs-unique : (world : World) (before : State) (line one other : List ℕ) (end last : State)
-    → Performs world before line one end → Performs world before line other last → (one ≡ other) × (end ≡ last)
-Performs-unique world before line one other end last a b =
-    let same = IsReading-unique line b.reading a.reading b.reads a.reads in
-    Does-unique world (counted before) a.reading one other end last a.does (subst (λ r. Does world (counted before) r other last) same b.does)
+  -- one line is performed in one way
+  pub Performs-unique : (before : State) (line one other : List ℕ) (end last : State)
+      → Performs world before line one end → Performs world before line other last → (one ≡ other) × (end ≡ last)
+  Performs-unique before line one other end last a b =
+      let same = IsReading-unique line b.reading a.reading b.reads a.reads in
+      Does-unique (counted before) a.reading one other end last a.does (subst (λ r. Does world (counted before) r other last) same b.does)
 
--- some lines have no two texts, and leave no two states
-pub Evaluates-unique : (world : World) (before : State) (lines : List (List ℕ)) (one other : List ℕ) (end last : State)
-    → Evaluates world before lines one end → Evaluates world before lines other last → (one ≡ other) × (end ≡ last)
-Evaluates-unique world before [] one other end last a b = (a.0 ∙ sym b.0, a.1 ∙ sym b.1)
-Evaluates-unique world before (line ∷ more) one other end last a b =
-    let first = Performs-unique world before line a.first b.first a.next b.next a.performs b.performs in
-    let goes_on : Evaluates world a.next more b.rest last = rw first.1 b.goes_on in
-    let rest = Evaluates-unique world a.next more a.rest b.rest end last a.goes_on goes_on in
-    (a.text_is ∙ ap (λ (t : List ℕ). t ++ a.rest) first.0 ∙ ap (λ (t : List ℕ). b.first ++ t) rest.0 ∙ sym b.text_is, rest.1)
+  -- some lines have no two texts, and leave no two states
+  pub Evaluates-unique : (before : State) (lines : List (List ℕ)) (one other : List ℕ) (end last : State)
+      → Evaluates world before lines one end → Evaluates world before lines other last → (one ≡ other) × (end ≡ last)
+  Evaluates-unique before [] one other end last a b = (a.0 ∙ sym b.0, a.1 ∙ sym b.1)
+  Evaluates-unique before (line ∷ more) one other end last a b =
+      let first = Performs-unique before line a.first b.first a.next b.next a.performs b.performs in
+      let goes_on : Evaluates world a.next more b.rest last = rw first.1 b.goes_on in
+      let rest = Evaluates-unique a.next more a.rest b.rest end last a.goes_on goes_on in
+      (a.text_is ∙ ap (λ (t : List ℕ). t ++ a.rest) first.0 ∙ ap (λ (t : List ℕ). b.first ++ t) rest.0 ∙ sym b.text_is, rest.1)
 
 -- ---- fronts
 
@@ -115,22 +224,39 @@ Evaluates-split world before (line ∷ more) left text end evaluates =
     }
 
 -- a front of the next line's text is a front of the text of all lines that are left
-front_of_next : (world : World) (state : State) (left : List (List ℕ)) (part rest : List ℕ) (end : State)
-    → BeginsNext world state left part → Evaluates world state left rest end → (more : List ℕ) × (rest ≡ part ++ more)
-front_of_next world state [] part rest end begins evaluates = (rest, ap (λ (t : List ℕ). t ++ rest) (sym begins))
-front_of_next world state (line ∷ more) part rest end begins evaluates =
-    let same = Performs-unique world state line evaluates.first begins.own evaluates.next begins.next evaluates.performs begins.performs in
-    (begins.rest ++ evaluates.rest, evaluates.text_is ∙ ap (λ (t : List ℕ). t ++ evaluates.rest) (same.0 ∙ begins.whole) ∙ append_assoc part begins.rest evaluates.rest)
+front_of_line : (world : World) (attempts : List Attempt) → world.ends.attempts ≡ Some attempts → (state : State) (line part : List ℕ) (ticks : ℕ) (moved : State) (text : List ℕ) (next : State)
+    → Begins world state line part ticks moved → Performs world state line text next → (more : List ℕ) × (text ≡ part ++ more)
+front_of_line world attempts told state line part ticks moved text next begins performs = elim begins [
+  | inl nothing ↦ (text, ap (λ (t : List ℕ). t ++ text) (sym nothing.0))
+  | inr more ↦ elim more [
+    | inl writes ↦
+        let same = Performs-unique world attempts told state line text writes.0.own next writes.0.next performs writes.0.performs in
+        (writes.0.rest, same.0 ∙ writes.0.whole)
+    | inr moves ↦ (text, ap (λ (t : List ℕ). t ++ text) (sym moves.0))
+  ]
+]
+
+front_of_next : (world : World) (attempts : List Attempt) → world.ends.attempts ≡ Some attempts → (state : State) (left : List (List ℕ)) (part rest : List ℕ) (ticks : ℕ) (moved end : State)
+    → BeginsNext world state left part ticks moved → Evaluates world state left rest end → (more : List ℕ) × (rest ≡ part ++ more)
+front_of_next world attempts told state [] part rest ticks moved end begins evaluates = (rest, ap (λ (t : List ℕ). t ++ rest) (sym begins.0))
+front_of_next world attempts told state (line ∷ more) part rest ticks moved end begins evaluates =
+    let front = front_of_line world attempts told state line part ticks moved evaluates.first evaluates.next begins evaluates.performs in
+    (front.0 ++ evaluates.rest, evaluates.text_is ∙ ap (λ (t : List ℕ). t ++ evaluates.rest) front.1 ∙ append_assoc part front.0 evaluates.rest)
 
 -- the text of all lines goes on where some first lines and a front of the next one's text end
-pub goes_on_behind : (world : World) (before : State) (lines done left : List (List ℕ)) (first part : List ℕ)
-    (state : State) (text : List ℕ) (end : State)
-    → lines ≡ done ++ left → Evaluates world before done first state → BeginsNext world state left part
+pub goes_on_behind : (world : World) (attempts : List Attempt) → world.ends.attempts ≡ Some attempts → (before : State) (lines done left : List (List ℕ)) (first part : List ℕ)
+    (ticks : ℕ) (state moved : State) (text : List ℕ) (end : State)
+    → lines ≡ done ++ left → Evaluates world before done first state → BeginsNext world state left part ticks moved
     → Evaluates world before lines text end → (more : List ℕ) × (text ≡ (first ++ part) ++ more)
-goes_on_behind world before lines done left first part state text end lines_are evaluates begins all =
+goes_on_behind world attempts told before lines done left first part ticks state moved text end lines_are evaluates begins all =
     let whole : Evaluates world before (done ++ left) text end = rw (← lines_are) all in
     let split = Evaluates-split world before done left text end whole in
-    let same = Evaluates-unique world before done split.first first split.mid state split.evaluates evaluates in
+    let same = Evaluates-unique world attempts told before done split.first first split.mid state split.evaluates evaluates in
     let goes_on : Evaluates world state left split.rest end = rw same.1 at split.goes_on in
-    let next = front_of_next world state left part split.rest end begins goes_on in
+    let next = front_of_next world attempts told state left part split.rest ticks moved end begins goes_on in
     (next.0, split.text_is ∙ ap (λ (t : List ℕ). t ++ split.rest) same.0 ∙ ap (λ (t : List ℕ). first ++ t) next.1 ∙ sym (append_assoc first part next.0))
+
+-- any lines begin with nothing
+pub begins_none : (world : World) (state : State) (left : List (List ℕ)) → BeginsNext world state left [] 0 state
+begins_none world state [] = (refl, refl, refl)
+begins_none world state (line ∷ more) = inl (refl, refl, refl)

@@ -1,5 +1,6 @@
 pub mod DumpLemmas
 pub mod EvaluationLemmas
+pub mod FeedLemmas
 pub mod JudgedLemmas
 pub mod LawLemmas
 pub mod LoadingLemmas

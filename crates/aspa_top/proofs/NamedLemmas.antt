@@ -5,12 +5,12 @@ use Rattle.av_text.specs.Spellings.{IsInLine}
 use Rattle.av_text.proofs.AnySpellingLemmas.{names_in_line}
 use Rattle.report_text.proofs.RefusalLemmas.{slurm-in_line}
 use Rattle.script_lines.specs.declared.command.Command.{Command}
-use Rattle.script_lines.specs.declared.command.Command.TheVariants.{Idle, Aspa, Aspa64, Slurm, Filter, Unfilter, Assert, Unassert, Role as SetRole, RoleDefault, Open, Take, Judge, Report, Changes, Summary, Why}
+use Rattle.script_lines.specs.declared.command.Command.TheVariants.{Idle, Aspa, Aspa64, Slurm, Filter, Unfilter, Assert, Unassert, Role as SetRole, RoleDefault, Open, Take, Feed, Ask, Sync, Judge, Report, Changes, Summary, Why}
 use Rattle.script_lines.specs.declared.command.LineFault.{LineFault}
 use Rattle.script_lines.specs.Grammar.{IsReading}
 use Rattle.script_lines.proofs.SourceNameLemmas.{reading_named}
 use Rattle.aspa_top.specs.declared.task.Task.{Task}
-use Rattle.aspa_top.specs.declared.task.Task.TheVariants.{Short as ShortTask, Load, Open as OpenDump, Take as TakeUnits, Report as ReportRows, Changes as ListChanges}
+use Rattle.aspa_top.specs.declared.task.Task.TheVariants.{Short as ShortTask, Load, Open as OpenDump, Take as TakeUnits, Connect, OnFeed, Report as ReportRows, Changes as ListChanges}
 use Rattle.aspa_top.specs.Evaluation.{task_of}
 use Rattle.aspa_top.specs.Loading.{unit_name}
 
@@ -20,6 +20,8 @@ IsNamedInLine (ShortTask short) = Unit {0}
 IsNamedInLine (Load kind file) = IsInLine (unit_name kind)
 IsNamedInLine (OpenDump name file) = IsInLine name
 IsNamedInLine (TakeUnits name count) = IsInLine name
+IsNamedInLine (Connect name place) = IsInLine name
+IsNamedInLine (OnFeed name work) = IsInLine name
 IsNamedInLine ReportRows = Unit {0}
 IsNamedInLine ListChanges = Unit {0}
 
@@ -40,6 +42,9 @@ reading_in_line line (Ok (SetRole asn role)) reads = tt
 reading_in_line line (Ok (RoleDefault role)) reads = tt
 reading_in_line line (Ok (Open name file)) reads = names_in_line name (reading_named line (Open name file) reads)
 reading_in_line line (Ok (Take name count)) reads = names_in_line name (reading_named line (Take name count) reads).0
+reading_in_line line (Ok (Feed name place)) reads = names_in_line name (reading_named line (Feed name place) reads)
+reading_in_line line (Ok (Ask name)) reads = names_in_line name (reading_named line (Ask name) reads)
+reading_in_line line (Ok (Sync name count)) reads = names_in_line name (reading_named line (Sync name count) reads).0
 reading_in_line line (Ok (Judge role neighbour path)) reads = tt
 reading_in_line line (Ok Report) reads = tt
 reading_in_line line (Ok Changes) reads = tt

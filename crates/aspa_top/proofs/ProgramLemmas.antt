@@ -6,13 +6,14 @@ use Rattle.std.proofs.lemmas.Slice.Eq.{bytes_eq-Decides}
 use Rattle.std.specs.Str.{bytes_eq}
 use Rattle.std.proofs.lemmas.List.{take_all, take-append-le, length-append, append-nil}
 use Rattle.std.proofs.lemmas.Bool.Decides.{nat_tests}
+use Rattle.av_base.specs.Connections.{Attempt, Link}
 use Rattle.av_base.specs.Files.{Files}
 use Rattle.av_base.proofs.ToldLemmas.{AppendsFront-start}
 use Rattle.av_text.specs.Lines.{lines_in}
 use Rattle.aspa_top.specs.Lines.{performed}
 use Rattle.aspa_top.specs.Tasks.{start}
-use Rattle.aspa_top.specs.Program.{WentThrough, Ended, StopsAtFile, WritesPart, IsWhole, Ran, RanIfTold}
-use Rattle.aspa_top.specs.World.{Tells, World, world_of}
+use Rattle.aspa_top.specs.Program.{AreTold, WentThrough, Ended, StopsAtFile, WritesPart, IsWhole, Ran, RanIfTold}
+use Rattle.aspa_top.specs.World.{BeginsAt, Links, Meets, World, count_of, world_of}
 use Rattle.aspa_top.proofs.EvaluationLemmas.{begins_none}
 use Rattle.aspa_top.proofs.LawLemmas.{runs_write_fronts}
 
@@ -39,10 +40,10 @@ module _ (limit : ℕ) (world : World) (script : List ℕ) (script_failed shelf_
   pub Ran-early : (status : ℕ) → 1 < status → status < 6
       → WentThrough world (performed limit script) old new ticks_old ticks_new
       → (status ≡ 3 → (script_failed × (new ≡ old)) ⊎ (shelf_failed × StopsAtFile world (performed limit script) old new))
-      → (status ≡ 4 → WritesPart world (performed limit script) old new)
+      → (status ≡ 4 → AreTold world → WritesPart world (performed limit script) old new)
       → Ran limit world script script_failed shelf_failed old new ticks_old ticks_new status
   Ran-early status above below went stopped cut = record {
-    front = runs_write_fronts world (performed limit script) old new ticks_old ticks_new went;
+    front = λ told. runs_write_fronts world told (performed limit script) old new ticks_old ticks_new went;
     went = went;
     refusals = 0;
     ended = λ whole. absurd (not_whole status above below whole);
@@ -61,7 +62,7 @@ module _ (limit : ℕ) (world : World) (script : List ℕ) (script_failed shelf_
       → (status ≡ 6 → limit < length script)
       → Ran limit world script script_failed shelf_failed old new ticks_old ticks_new status
   Ran-whole status refusals whole went ended clean refused over = record {
-    front = runs_write_fronts world (performed limit script) old new ticks_old ticks_new went;
+    front = λ told. runs_write_fronts world told (performed limit script) old new ticks_old ticks_new went;
     went = went;
     refusals = refusals;
     ended = λ again. ended;
@@ -72,33 +73,51 @@ module _ (limit : ℕ) (world : World) (script : List ℕ) (script_failed shelf_
     cut = λ same. absurd (not_whole status (omega arith) (omega arith) whole);
   }
 
--- nothing was evaluated
-WentThrough-start : (world : World) (lines : List (List ℕ)) (old : Option (List ℕ)) (ticks : ℕ)
-    → WentThrough world lines old old ticks ticks
-WentThrough-start world lines old ticks = record {
-  done = [];
-  left = lines;
-  lines_are = refl;
-  text = [];
-  state = start;
-  evaluates = (refl, refl);
-  part = [];
-  begins = begins_none world start lines;
-  written = AppendsFront-start old [];
-  ticked = omega arith;
-}
+-- how many attempts were made, where they are told
+pub begins_at : (files : Files) (before attempts : Option (List Attempt)) (connections : List Link) (links : Links) → links.attempts ≡ before
+    → BeginsAt (world_of files before attempts connections) links
+begins_at files before attempts connections links same = λ told is. ap count_of (sym same ∙ is)
 
-pub Ran-start : (limit : ℕ) (left : Option (List ℕ)) (files : Option Files) (script_failed shelf_failed : Type 0)
+-- nothing was evaluated
+WentThrough-start : (files : Files) (links : Links) (connections : List Link) → links.wire ≡ Some connections → (lines : List (List ℕ)) (old : Option (List ℕ)) (ticks : ℕ)
+    → WentThrough (world_of files links.attempts links.attempts connections) lines old old ticks ticks
+WentThrough-start files links connections told lines old ticks =
+    let world = world_of files links.attempts links.attempts connections in
+    record {
+      done = [];
+      left = lines;
+      lines_are = refl;
+      text = [];
+      state = start world;
+      evaluates = (refl, refl);
+      part = [];
+      ticks = 0;
+      moved = start world;
+      begins = begins_none world (start world) lines;
+      sent = record {
+        made = λ now is. ap count_of is;
+        sent = λ name feed is. let none : ⊥ = cc in absurd none;
+      };
+      written = AppendsFront-start old [];
+      ticked = omega arith;
+    }
+
+pub Ran-start : (limit : ℕ) (left : Option (List ℕ)) (files : Option Files) (links : Links) (script_failed shelf_failed : Type 0)
     (old : Option (List ℕ)) (ticks status : ℕ)
     → 1 < status → status < 4 ⊎ (status ≡ 5) → (status ≡ 3 → script_failed)
-    → RanIfTold limit left files script_failed shelf_failed old old ticks ticks status
-Ran-start limit None files script_failed shelf_failed old ticks status above below failed = tt
-Ran-start limit (Some script) None script_failed shelf_failed old ticks status above below failed = tt
-Ran-start limit (Some script) (Some told) script_failed shelf_failed old ticks status above below failed =
-    Ran-early limit (world_of told) script script_failed shelf_failed old old ticks ticks status above (elim below [ inl a ↦ omega arith | inr b ↦ omega arith ])
-    (WentThrough-start (world_of told) (performed limit script) old ticks)
-    (λ same. inl (failed same, refl))
-    (λ same. absurd (elim below [ inl a ↦ omega arith | inr b ↦ omega arith ]))
+    → RanIfTold limit left files links links script_failed shelf_failed old old ticks ticks status
+Ran-start limit None files links script_failed shelf_failed old ticks status above below failed = tt
+Ran-start limit (Some script) None links script_failed shelf_failed old ticks status above below failed = tt
+Ran-start limit (Some script) (Some told) links script_failed shelf_failed old ticks status above below failed = by links.wire refl
+  where
+    by : (wire : Option (List Link)) → links.wire ≡ wire
+        → IfSome wire (λ connections. Ran limit (world_of told links.attempts links.attempts connections) script script_failed shelf_failed old old ticks ticks status)
+    by None is = tt
+    by (Some connections) is =
+        Ran-early limit (world_of told links.attempts links.attempts connections) script script_failed shelf_failed old old ticks ticks status above (elim below [ inl a ↦ omega arith | inr b ↦ omega arith ])
+        (WentThrough-start told links connections is (performed limit script) old ticks)
+        (λ same. inl (failed same, refl))
+        (λ same. absurd (elim below [ inl a ↦ omega arith | inr b ↦ omega arith ]))
 
 -- the script itself didn't fail
 Ran-weaker : (limit : ℕ) (world : World) (script : List ℕ) (script_failed shelf_failed : Type 0) (old new : Option (List ℕ))
@@ -117,31 +136,40 @@ Ran-weaker limit world script script_failed shelf_failed old new ticks_old ticks
   cut = ran.cut;
 }
 
-module _ (limit : ℕ) (files : Option Files) (script_failed shelf_failed : Type 0) (old new : Option (List ℕ))
+module _ (limit : ℕ) (files : Option Files) (before after : Links) (script_failed shelf_failed : Type 0) (old new : Option (List ℕ))
     (ticks_old ticks_new status : ℕ) where
-  -- in the world that the shelf tells
+  -- in the world that the shelf and the links tell
   Ran-told_world : (script : List ℕ)
-      → ((world : World) → Tells files world → Ran limit world script ⊥ shelf_failed old new ticks_old ticks_new status)
-      → IfSome files (λ told. Ran limit (world_of told) script script_failed shelf_failed old new ticks_old ticks_new status)
-  Ran-told_world script ran = by files ran
+      → ((world : World) → Meets files before after world → Ran limit world script ⊥ shelf_failed old new ticks_old ticks_new status)
+      → IfSome files (λ told. IfSome after.wire (λ connections.
+      Ran limit (world_of told before.attempts after.attempts connections) script script_failed shelf_failed old new ticks_old ticks_new status))
+  Ran-told_world script ran = by files after.wire refl refl
     where
-      by : (files : Option Files)
-          → ((world : World) → Tells files world → Ran limit world script ⊥ shelf_failed old new ticks_old ticks_new status)
-          → IfSome files (λ told. Ran limit (world_of told) script script_failed shelf_failed old new ticks_old ticks_new status)
-      by None ran = tt
-      by (Some told) ran = Ran-weaker limit (world_of told) script script_failed shelf_failed old new ticks_old ticks_new status (ran (world_of told) (record { told = told; is = refl; named = refl }))
+      by : (given : Option Files) (wire : Option (List Link)) → files ≡ given → after.wire ≡ wire
+          → IfSome given (λ told. IfSome wire (λ connections.
+          Ran limit (world_of told before.attempts after.attempts connections) script script_failed shelf_failed old new ticks_old ticks_new status))
+      by None wire is same = tt
+      by (Some told) None is same = tt
+      by (Some told) (Some connections) is same =
+          let world = world_of told before.attempts after.attempts connections in
+          Ran-weaker limit world script script_failed shelf_failed old new ticks_old ticks_new status (ran world (record {
+            tells = record { told = told; is = is; named = refl };
+            begins = begins_at told before.attempts after.attempts connections before refl;
+            attempts = refl;
+            wire = same;
+          }))
 
   -- all that the script told was read
   pub Ran-told : (old_left new_left : Option (List ℕ)) (bytes : List ℕ) → old_left ≡ prepend_known bytes new_left
       → IsAtEnd new_left
-      → ((world : World) → Tells files world → Ran limit world bytes ⊥ shelf_failed old new ticks_old ticks_new status)
-      → RanIfTold limit old_left files script_failed shelf_failed old new ticks_old ticks_new status
+      → ((world : World) → Meets files before after world → Ran limit world bytes ⊥ shelf_failed old new ticks_old ticks_new status)
+      → RanIfTold limit old_left files before after script_failed shelf_failed old new ticks_old ticks_new status
   Ran-told old_left None bytes taken at_end ran = rw taken tt
   Ran-told old_left (Some left) bytes taken at_end ran = rw (taken, at_end, append-nil) (Ran-told_world bytes ran)
 
   -- more was told than was read
   pub Ran-told_more : (old_left new_left : Option (List ℕ)) (bytes : List ℕ) → old_left ≡ prepend_known bytes new_left
-      → ((world : World) → Tells files world → (more : List ℕ) → Ran limit world (bytes ++ more) ⊥ shelf_failed old new ticks_old ticks_new status)
-      → RanIfTold limit old_left files script_failed shelf_failed old new ticks_old ticks_new status
+      → ((world : World) → Meets files before after world → (more : List ℕ) → Ran limit world (bytes ++ more) ⊥ shelf_failed old new ticks_old ticks_new status)
+      → RanIfTold limit old_left files before after script_failed shelf_failed old new ticks_old ticks_new status
   Ran-told_more old_left None bytes taken ran = rw taken tt
-  Ran-told_more old_left (Some more) bytes taken ran = rw taken (Ran-told_world (bytes ++ more) (λ world tells. ran world tells more))
+  Ran-told_more old_left (Some more) bytes taken ran = rw taken (Ran-told_world (bytes ++ more) (λ world meets. ran world meets more))

@@ -1,5 +1,5 @@
 -- How the working state goes on standing for the evaluation of the lines so far.
-use Rattle.std.proofs.Common.{true≢false, ◌≡◌, ◌≢◌, ℕ, ◌+◌, ◌*◌, ◌-◌, ◌<◌, ◌≤◌, ◌⊎◌, inl, inr, Bool, true, false, cond, nat_eq, is_some, ◌&&◌, List, [], ◌∷◌, ◌++◌, None, Some, Ok, Err, refl, sym, ◌∙◌, ap, subst, arith}
+use Rattle.std.proofs.Common.{true≢false, ◌≡◌, ◌≢◌, ℕ, ◌+◌, ◌*◌, ◌-◌, ◌<◌, ◌≤◌, ◌⊎◌, inl, inr, Bool, true, false, cond, nat_eq, is_some, ◌&&◌, ◌||◌, List, [], ◌∷◌, ◌++◌, None, Some, Ok, Err, refl, sym, ◌∙◌, ap, subst, arith}
 use Rattle.std.specs.Cmp.Lexicographic.{pointwise, nat_list_eq_equiv}
 use Rattle.std.specs.Io.KnownBytes.{append_known, prepend_known}
 use Rattle.std.specs.declared.option.Option.{Option}
@@ -8,6 +8,11 @@ use Rattle.std.proofs.lemmas.Map.Views.{exact_unsigned_eq}
 use Rattle.av_base.specs.Files.{Files, left_of}
 use Rattle.av_base.proofs.ToldLemmas.{append_known-append}
 use Rattle.report_text.specs.Refusals.{AnyPlace, refusal_text}
+use Rattle.feed_lines.specs.declared.feed.Feeds.{Feeds}
+use Rattle.feed_lines.specs.Holding.{feed_in}
+use Rattle.feed_lines.specs.Holding.{HoldsOr as HoldsFeed}
+use Rattle.feed_lines.specs.Lines.{World as Ends}
+use Rattle.feed_lines.proofs.StandingLemmas.{HoldsOr-is_some as Feed-is_some}
 use Rattle.script_lines.specs.declared.command.Command.{Command}
 use Rattle.script_lines.specs.declared.command.LineFault.{LineFault}
 use Rattle.stream_lines.specs.Frames.{Leaves}
@@ -16,10 +21,11 @@ use Rattle.stream_lines.specs.Streams.{Dump}
 use Rattle.stream_lines.specs.Held.{HeldDump}
 use Rattle.stream_lines.proofs.FrameLemmas.{Leaves-refl}
 use Rattle.aspa_top.specs.declared.working.Working.{Working}
-use Rattle.aspa_top.specs.Tasks.{State, same_name, Refuses}
+use Rattle.aspa_top.specs.declared.loading.FileKind.{FileKind}
+use Rattle.aspa_top.specs.Tasks.{State, Loads, LoadsUnless, same_name, is_stream, is_taken, Refuses}
 use Rattle.aspa_top.specs.Evaluation.{counted, Does}
-use Rattle.aspa_top.specs.Performing.{HoldsOr, IsSound, StandsFor, Steps, counted_in, dump_in, has_source, most}
-use Rattle.aspa_top.specs.World.{World, Tells}
+use Rattle.aspa_top.specs.Performing.{HoldsOr, IsSound, StandsFor, Steps, counted_in, dump_in, has_source, has_stream, most}
+use Rattle.aspa_top.specs.World.{Links, World, Tells, ending}
 
 -- ---- names
 
@@ -95,23 +101,34 @@ HoldsOr-put false files kept dump found held holds others = others refl
 -- ---- the whole state
 
 -- what is left of these files stayed
-pub StandsFor-leaves : {P : ℕ → Type 0} (old new : Option Files) (working : Working) (state : State) → Leaves P old new
-    → ((name : List ℕ) (kept : HeldDump) → dump_in working name ≡ Some kept → P kept.file) → StandsFor old working state → StandsFor new working state
-StandsFor-leaves {P} old new working state leaves given stands = record {
+pub StandsFor-leaves : {P : ℕ → Type 0} (old new : Option Files) (links : Links) (working : Working) (state : State) → Leaves P old new
+    → ((name : List ℕ) (kept : HeldDump) → dump_in working name ≡ Some kept → P kept.file) → StandsFor old links working state → StandsFor new links working state
+StandsFor-leaves {P} old new links working state leaves given stands = record {
   analysis = stands.analysis;
   sources = stands.sources;
   dumps = λ name. HoldsOr-leaves old new (dump_in working name) (state.dumps name) (λ kept is. leaves.files kept.file (given name kept is)) (stands.dumps name);
+  feeds = stands.feeds;
+  made = stands.made;
   lines = stands.lines;
   passed = stands.passed;
   refused = stands.refused;
 }
 
-pub counted_stands : (files : Option Files) (working : Working) (state : State) → StandsFor files working state
-    → StandsFor files (counted_in working) (counted state)
-counted_stands files working state stands = record {
+-- both tell whether the name is a stream's
+pub same_stream : (files : Option Files) (links : Links) (working : Working) (state : State) (name : List ℕ) → StandsFor files links working state
+    → has_stream working name ≡ is_stream state name
+same_stream files links working state name stands = λ i.
+    HoldsOr-is_some files (dump_in working name) (state.dumps name) (stands.dumps name) i
+    || Feed-is_some links.wire (feed_in working.feeds name) (state.feeds name) (stands.feeds name) i
+
+pub counted_stands : (files : Option Files) (links : Links) (working : Working) (state : State) → StandsFor files links working state
+    → StandsFor files links (counted_in working) (counted state)
+counted_stands files links working state stands = record {
   analysis = stands.analysis;
   sources = stands.sources;
   dumps = stands.dumps;
+  feeds = stands.feeds;
+  made = stands.made;
   lines = ap (λ (n : ℕ). n + 1) stands.lines;
   passed = stands.passed;
   refused = stands.refused;
@@ -122,43 +139,59 @@ pub added_text : (written : Option (List ℕ)) (old new text : List ℕ) → new
     → append_known written new ≡ append_known (append_known written old) text
 added_text written old new text is = ap (append_known written) is ∙ sym (append_known-append written old text)
 
+-- in the world with other ends the same names are told
+loads_ending : (taken : Bool) (world : World) (ends : Ends) (state : State) (kind : FileKind) (file text : List ℕ) (next : State)
+    → LoadsUnless taken world state kind file text next → LoadsUnless taken (ending world ends) state kind file text next
+loads_ending true world ends state kind file text next loads = loads
+loads_ending false world ends state kind file text next loads = record { outcome = loads.outcome; comes = loads.comes; takes = loads.takes }
+
+-- a file is loaded whatever the connections come to
+pub Loads-ending : (world : World) (ends : Ends) (state : State) (kind : FileKind) (file text : List ℕ) (next : State)
+    → Loads world state kind file text next → Loads (ending world ends) state kind file text next
+Loads-ending world ends state kind file text next loads = loads_ending (is_taken state kind) world ends state kind file text next loads
+
+pub Tells-ending : (files : Option Files) (world : World) (ends : Ends) → Tells files world → Tells files (ending world ends)
+Tells-ending files world ends tells = record { told = tells.told; is = tells.is; named = tells.named }
+
 -- The line is refused. What is held of dumps and names stays, and so does what is left of their files.
 pub refused_kept : {P : ℕ → Type 0} (working next : Working) (reading : Result Command LineFault) (old new : Option Files) (text_old text_new : List ℕ) (place : AnyPlace) (cause : ℕ)
     → Leaves P old new → ((name : List ℕ) (kept : HeldDump) → dump_in working name ≡ Some kept → P kept.file)
     → text_new ≡ text_old ++ refusal_text working.lines place cause
-    → next.analyser ≡ working.analyser → ((q : List ℕ) → has_source next q ≡ has_source working q) → ((q : List ℕ) → dump_in next q ≡ dump_in working q)
+    → next.analyser ≡ working.analyser → next.feeds ≡ working.feeds → ((q : List ℕ) → has_source next q ≡ has_source working q) → ((q : List ℕ) → dump_in next q ≡ dump_in working q)
     → next.lines ≡ working.lines → next.passed ≡ working.passed → next.refused ≡ working.refused + 1
-    → ((world : World) → Tells old world → (state : State) → StandsFor old working state
+    → ((links : Links) (world : World) → Tells old world → (state : State) → StandsFor old links working state
     → Does world state reading (refusal_text state.lines place cause) (record state { refused = state.refused + 1 }))
     → Steps working reading old new text_old text_new next
-refused_kept {P} working next reading old new text_old text_new place cause leaves given added analyser sources dumps lines passed refused does = λ written ticks world tells state stands.
-    let stayed = StandsFor-leaves old new working state leaves given stands in
+refused_kept {P} working next reading old new text_old text_new place cause leaves given added analyser feeds sources dumps lines passed refused does = λ links written ticks world tells state stands.
+    let stayed = StandsFor-leaves old new links working state leaves given stands in
     record {
       text = refusal_text state.lines place cause;
       after = record state { refused = state.refused + 1 };
-      does = does world tells state stands;
+      does = λ ends comes. does links (ending world ends) (Tells-ending old world ends tells) state stands;
       added = added_text written text_old text_new (refusal_text state.lines place cause) (added ∙ ap (λ (n : ℕ). text_old ++ refusal_text n place cause) stands.lines);
       stands = record {
         analysis = analyser ∙ stands.analysis;
         sources = λ q. sources q ∙ stands.sources q;
         dumps = λ q. subst (λ (d : Option HeldDump). HoldsOr new d (state.dumps q)) (sym (dumps q)) (stayed.dumps q);
+        feeds = subst (λ (held : Feeds). (q : List ℕ) → HoldsFeed links.wire (feed_in held q) (state.feeds q)) (sym feeds) stayed.feeds;
+        made = stayed.made;
         lines = lines ∙ stands.lines;
         passed = passed ∙ stands.passed;
         refused = refused ∙ ap (λ (n : ℕ). n + 1) stands.refused;
       };
-      ticked = refl;
+      ticked = omega arith;
     }
 
 -- the same where the working state is as it was but for the count
 pub refused_same : {P : ℕ → Type 0} (working next : Working) (reading : Result Command LineFault) (old new : Option Files) (text_old text_new : List ℕ) (place : AnyPlace) (cause : ℕ)
     → Leaves P old new → ((name : List ℕ) (kept : HeldDump) → dump_in working name ≡ Some kept → P kept.file)
     → text_new ≡ text_old ++ refusal_text working.lines place cause → next ≡ record working { refused = working.refused + 1 }
-    → ((world : World) → Tells old world → (state : State) → StandsFor old working state
+    → ((links : Links) (world : World) → Tells old world → (state : State) → StandsFor old links working state
     → Does world state reading (refusal_text state.lines place cause) (record state { refused = state.refused + 1 }))
     → Steps working reading old new text_old text_new next
 refused_same {P} working next reading old new text_old text_new place cause leaves given added is does =
     refused_kept working next reading old new text_old text_new place cause leaves given added
-    (ap (λ (w : Working). w.analyser) is) (λ q. ap (λ (w : Working). has_source w q) is) (λ q. ap (λ (w : Working). dump_in w q) is)
+    (ap (λ (w : Working). w.analyser) is) (ap (λ (w : Working). w.feeds) is) (λ q. ap (λ (w : Working). has_source w q) is) (λ q. ap (λ (w : Working). dump_in w q) is)
     (ap (λ (w : Working). w.lines) is) (ap (λ (w : Working). w.passed) is) (ap (λ (w : Working). w.refused) is) does
 
 -- ---- soundness

@@ -1,5 +1,5 @@
 -- The refusals in a text, line by line.
-use Rattle.std.proofs.Common.{◌≡◌, ℕ, ◌+◌, Bool, true, false, cond, List, [], ◌∷◌, ◌++◌, None, Some, Ok, Err, refl, sym, ap, ◌∙◌, arith, zero-add}
+use Rattle.std.proofs.Common.{◌≡◌, ℕ, ◌+◌, Bool, true, false, cond, List, [], ◌∷◌, ◌++◌, None, Some, Ok, Err, refl, sym, ap, ◌∙◌, arith, zero-add, length, ◌||◌, is_some}
 use Rattle.std.specs.declared.option.Option.{Option}
 use Rattle.std.specs.declared.result.Result.{Result}
 use Rattle.std.proofs.lemmas.List.{append_assoc}
@@ -11,7 +11,16 @@ use Rattle.std.specs.FinMap as fin
 use Rattle.av_text.specs.VerdictText.{verdict_text}
 use Rattle.av_text.specs.Spellings.{IsInLine}
 use Rattle.av_text.proofs.LackLemmas.{verdict_text-lacks}
-use Rattle.report_text.specs.Laws.{IsPlaceInLine, IsAnswerLine}
+use Rattle.feed_lines.specs.declared.telling.Telling.{Telling}
+use Rattle.feed_lines.specs.declared.working.Work.{Work}
+use Rattle.feed_lines.specs.declared.working.Work.TheVariants.{Take as TakePdus}
+use Rattle.feed_lines.specs.Feeds.{Feed}
+use Rattle.feed_lines.specs.Lines.{WorksBy}
+use Rattle.feed_lines.specs.Lines.{State as FeedState, World as FeedWorld}
+use Rattle.feed_lines.specs.Tellings.{telling_text, tells_text}
+use Rattle.feed_lines.specs.Tellings.{Asking as FeedAsking}
+use Rattle.feed_lines.proofs.LawLemmas.{telling_is_one_line}
+use Rattle.report_text.specs.Laws.{IsPlaceInLine, IsAnswerLine, IsRefusalLine}
 use Rattle.report_text.specs.Refusals.{AnyPlace, of_line, of_unit}
 use Rattle.report_text.specs.Rows.{row_line, row_text}
 use Rattle.report_text.specs.Change.{change_line, change_text}
@@ -34,9 +43,9 @@ use Rattle.aspa_top.specs.declared.loading.Outcome.TheVariants.{NoFile, Long as 
 use Rattle.aspa_top.specs.declared.task.Short.{Short as ShortTask}
 use Rattle.aspa_top.specs.declared.task.Short.TheVariants.{Idle as Nothing, Happen, Judge as JudgePath, Summary as SumUp, Why}
 use Rattle.aspa_top.specs.declared.task.Task.{Task}
-use Rattle.aspa_top.specs.declared.task.Task.TheVariants.{Short, Load, Open, Take, Report, Changes}
+use Rattle.aspa_top.specs.declared.task.Task.TheVariants.{Short, Load, Open, Take, Connect, OnFeed, Report, Changes}
 use Rattle.aspa_top.specs.Loading.{unit_name}
-use Rattle.aspa_top.specs.Tasks.{State, Causes, Refuses, TakesFile, LoadsUnless, OpensNamed, TakesOpen, TakesNamed, ExplainsRoute, DoesShort, DoesTask, is_taken, asking_of, taking_of}
+use Rattle.aspa_top.specs.Tasks.{State, Causes, Refuses, TakesFile, LoadsUnless, OpensNamed, TakesOpen, TakesNamed, Works, ConnectsUnless, ExplainsRoute, DoesShort, DoesTask, is_stream, is_taken, asking_of, asking_on, feeds_of, with_feeds, taking_of}
 use Rattle.aspa_top.specs.Evaluation.{Does, line_cause, counted, task_of, Evaluates}
 use Rattle.aspa_top.specs.World.{World}
 use Rattle.aspa_top.proofs.NamedLemmas.{IsNamedInLine, NamesInLine, reading_in_line}
@@ -93,12 +102,11 @@ Loads-refused : (taken : Bool) (world : World) (state : State) (kind : FileKind)
 Loads-refused true world state kind file text next rest in_line loads = Refuses-refused state of_line 35 text next rest tt loads
 Loads-refused false world state kind file text next rest in_line loads = TakesFile-refused state kind loads.outcome text next rest in_line loads.takes
 
-Opens-refused : (has : Bool) (dump : Option Dump) (named : Option (List ℕ)) (state : State) (name text : List ℕ) (next : State) (rest : List ℕ)
-    → OpensNamed has dump named state name text next → next.refused + refusals_in rest ≡ state.refused + refusals_in (text ++ rest)
-Opens-refused true dump named state name text next rest opens = Refuses-refused state of_line 35 text next rest tt opens
-Opens-refused false (Some dump) named state name text next rest opens = Refuses-refused state of_line 35 text next rest tt opens
-Opens-refused false None None state name text next rest opens = Refuses-refused state of_line 37 text next rest tt opens
-Opens-refused false None (Some bytes) state name text next rest opens = silent text rest state.refused next.refused opens.0 (ap (λ (s : State). s.refused) opens.1)
+Opens-refused : (used : Bool) (named : Option (List ℕ)) (state : State) (name text : List ℕ) (next : State) (rest : List ℕ)
+    → OpensNamed used named state name text next → next.refused + refusals_in rest ≡ state.refused + refusals_in (text ++ rest)
+Opens-refused true named state name text next rest opens = Refuses-refused state of_line 35 text next rest tt opens
+Opens-refused false None state name text next rest opens = Refuses-refused state of_line 37 text next rest tt opens
+Opens-refused false (Some bytes) state name text next rest opens = silent text rest state.refused next.refused opens.0 (ap (λ (s : State). s.refused) opens.1)
 
 TakesOpen-refused : (over : Bool) (state : State) (name : List ℕ) (count : ℕ) (dump : Dump) (text : List ℕ) (next : State) (rest : List ℕ) → IsInLine name
     → TakesOpen over state name count dump text next → next.refused + refusals_in rest ≡ state.refused + refusals_in (text ++ rest)
@@ -107,10 +115,57 @@ TakesOpen-refused false state name count dump text next rest in_line takes =
     ap (λ (s : State). s.refused + refusals_in rest) takes.next_is
     ∙ units_counted (asking_of state name) count (taking_of state dump) takes.end text rest in_line takes.takes
 
-Takes-refused : (dump : Option Dump) (state : State) (name : List ℕ) (count : ℕ) (text : List ℕ) (next : State) (rest : List ℕ) → IsInLine name
-    → TakesNamed dump state name count text next → next.refused + refusals_in rest ≡ state.refused + refusals_in (text ++ rest)
-Takes-refused None state name count text next rest in_line takes = Refuses-refused state of_line 36 text next rest tt takes
-Takes-refused (Some dump) state name count text next rest in_line takes = TakesOpen-refused dump.over state name count dump text next rest in_line takes
+-- a line that begins with `! ` counts
+refused_line : (line rest : List ℕ) → IsRefusalLine line → refusals_in ((line ++ 10 ∷ []) ++ rest) ≡ 1 + refusals_in rest
+refused_line line rest is = refusals_in-line line rest (lacks line is.in_line) ∙ ap (λ (b : Bool). cond b 1 0 + refusals_in rest) is.marked
+
+-- each thing that a feed tells counts
+tells_counted : (asking : FeedAsking) (tells : List Telling) (rest : List ℕ) → IsInLine asking.name
+    → refusals_in (tells_text asking tells ++ rest) ≡ length tells + refusals_in rest
+tells_counted asking [] rest in_line = sym (zero-add (refusals_in rest))
+tells_counted asking (telling ∷ more) rest in_line =
+    let one = telling_is_one_line asking telling in_line in
+    let tail = tells_counted asking more rest in_line in
+    let first : refusals_in (tells_text asking (telling ∷ more) ++ rest) ≡ 1 + refusals_in (tells_text asking more ++ rest) =
+    ap (λ (t : List ℕ). refusals_in t) (append_assoc (telling_text asking telling) (tells_text asking more) rest)
+    ∙ ap (λ (t : List ℕ). refusals_in (t ++ (tells_text asking more ++ rest))) one.whole
+    ∙ refused_line one.line (tells_text asking more ++ rest) one.marked in
+    omega (arith, first, tail)
+
+-- what a line on feeds does counts nothing itself
+Works-counted : (world : FeedWorld) (old : FeedState) (name : List ℕ) (work : Work) (held : Option (Option Feed)) (tells : List Telling) (new : FeedState)
+    → WorksBy world old name work held tells new → new.refused ≡ old.refused
+Works-counted world old name work None tells new works = ap (λ (s : FeedState). s.refused) works.1
+Works-counted world old name work (Some None) tells new works = ap (λ (s : FeedState). s.refused) works.1
+Works-counted world old name work (Some (Some feed)) tells new works = ap (λ (s : FeedState). s.refused) works.left
+
+-- a line on feeds that tells so much
+told_counted : (state next : State) (asking : FeedAsking) (tells : List Telling) (text rest : List ℕ) (end after : FeedState) → IsInLine asking.name
+    → text ≡ tells_text asking tells → end.refused ≡ state.refused → after ≡ record end { refused = end.refused + length tells }
+    → next ≡ with_feeds state after → next.refused + refusals_in rest ≡ state.refused + refusals_in (text ++ rest)
+told_counted state next asking tells text rest end after in_line text_is same left next_is =
+    let refused : next.refused ≡ after.refused = ap (λ (s : State). s.refused) next_is in
+    let added : after.refused ≡ end.refused + length tells = ap (λ (s : FeedState). s.refused) left in
+    let counted : refusals_in (text ++ rest) ≡ length tells + refusals_in rest = ap (λ (t : List ℕ). refusals_in (t ++ rest)) text_is ∙ tells_counted asking tells rest in_line in
+    omega (arith, refused, added, counted, same)
+
+Works-refused : (world : World) (state : State) (name : List ℕ) (work : Work) (text : List ℕ) (next : State) (rest : List ℕ) → IsInLine name
+    → Works world state name work text next → next.refused + refusals_in rest ≡ state.refused + refusals_in (text ++ rest)
+Works-refused world state name work text next rest in_line works =
+    told_counted state next (asking_on state name) works.does.tells text rest works.does.after works.after in_line works.does.text_is
+    (Works-counted world.ends (feeds_of state) name work (state.feeds name) works.does.tells works.does.after works.does.done) works.does.left works.left
+
+Connects-refused : (used : Bool) (world : World) (state : State) (name place text : List ℕ) (next : State) (rest : List ℕ) → IsInLine name
+    → ConnectsUnless used world state name place text next → next.refused + refusals_in rest ≡ state.refused + refusals_in (text ++ rest)
+Connects-refused true world state name place text next rest in_line connects = Refuses-refused state of_line 35 text next rest tt connects
+Connects-refused false world state name place text next rest in_line connects =
+    told_counted state next (asking_on state name) connects.does.tells text rest connects.does.after connects.after in_line connects.does.text_is
+    (ap (λ (s : FeedState). s.refused) connects.does.done.left) connects.does.left connects.left
+
+Takes-refused : (dump : Option Dump) (world : World) (state : State) (name : List ℕ) (count : ℕ) (text : List ℕ) (next : State) (rest : List ℕ) → IsInLine name
+    → TakesNamed dump world state name count text next → next.refused + refusals_in rest ≡ state.refused + refusals_in (text ++ rest)
+Takes-refused None world state name count text next rest in_line takes = Works-refused world state name (TakePdus count) text next rest in_line takes
+Takes-refused (Some dump) world state name count text next rest in_line takes = TakesOpen-refused dump.over state name count dump text next rest in_line takes
 
 -- an answer is written, and no refusal is counted
 answered : (state next : State) (text answer rest : List ℕ) → text ≡ answer → refusals_in (answer ++ rest) ≡ refusals_in rest → next.refused ≡ state.refused
@@ -139,8 +194,11 @@ DoesTask-refused : (world : World) (state : State) (task : Task) (text : List �
     → DoesTask world state task text next → next.refused + refusals_in rest ≡ state.refused + refusals_in (text ++ rest)
 DoesTask-refused world state (Short short) text next rest in_line does = DoesShort-refused state short text next rest does
 DoesTask-refused world state (Load kind file) text next rest in_line does = Loads-refused (is_taken state kind) world state kind file text next rest in_line does
-DoesTask-refused world state (Open name file) text next rest in_line does = Opens-refused (state.sources name) (state.dumps name) (world.named file) state name text next rest does
-DoesTask-refused world state (Take name count) text next rest in_line does = Takes-refused (state.dumps name) state name count text next rest in_line does
+DoesTask-refused world state (Open name file) text next rest in_line does = Opens-refused (state.sources name || is_stream state name) (world.named file) state name text next rest does
+DoesTask-refused world state (Take name count) text next rest in_line does = Takes-refused (state.dumps name) world state name count text next rest in_line does
+DoesTask-refused world state (Connect name place) text next rest in_line does =
+    Connects-refused (state.sources name || is_some (state.dumps name)) world state name place text next rest in_line does
+DoesTask-refused world state (OnFeed name work) text next rest in_line does = Works-refused world state name work text next rest in_line does
 DoesTask-refused world state Report text next rest in_line does =
     answered state next text (rows_text does.rows) rest does.text_is (rows_counted does.rows rest) (ap (λ (s : State). s.refused) does.left)
 DoesTask-refused world state Changes text next rest in_line does =

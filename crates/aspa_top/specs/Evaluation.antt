@@ -1,21 +1,22 @@
 -- The text of a script, by evaluating each line from scratch: from the world, what the lines before have left, and the line itself.
-use Rattle.std.specs.Prelude.{◌≡◌, ℕ, ◌+◌, List, [], ◌∷◌, ◌++◌}
+use Rattle.std.specs.Prelude.{◌≡◌, ℕ, ◌+◌, ◌-◌, ◌≤◌, ◌⊎◌, List, [], ◌∷◌, ◌++◌}
 use Rattle.std.specs.declared.result.Result.{Result}
 use Rattle.std.specs.declared.result.Result.TheVariants.{Ok, Err}
 use Rattle.vap_table.specs.declared.change.TableChange.{TableChange}
 use Rattle.vap_table.specs.declared.change.TableChange.TheVariants.{Filter as FilterByHand, Unfilter as UnfilterByHand, Assert as AssertByHand, Unassert as UnassertByHand}
 use Rattle.analyser.specs.declared.event.Event.TheVariants.{Table as TableEvent, Role as RoleEvent, DefaultRole}
 use Rattle.script_lines.specs.declared.command.Command.{Command}
-use Rattle.script_lines.specs.declared.command.Command.TheVariants.{Idle, Aspa, Aspa64, Slurm, Filter, Unfilter, Assert, Unassert, Role as SetRole, RoleDefault, Open, Take, Judge, Report, Changes, Summary, Why}
+use Rattle.script_lines.specs.declared.command.Command.TheVariants.{Idle, Aspa, Aspa64, Slurm, Filter, Unfilter, Assert, Unassert, Role as SetRole, RoleDefault, Open, Take, Feed, Ask, Sync, Judge, Report, Changes, Summary, Why}
 use Rattle.script_lines.specs.declared.command.LineFault.{LineFault}
 use Rattle.script_lines.specs.declared.command.LineFault.TheVariants.{Long, Command as NoCommand, Words, Number, NoMemory}
+use Rattle.feed_lines.specs.declared.working.Work.TheVariants.{Ask as AskNow, Sync as SyncTo}
 use Rattle.script_lines.specs.Grammar.{IsReading}
 use Rattle.report_text.specs.Refusals.{of_line}
 use Rattle.aspa_top.specs.declared.loading.FileKind.TheVariants.{Payloads, PayloadLines, Slurm as SlurmFile}
 use Rattle.aspa_top.specs.declared.task.Short.TheVariants.{Idle as Nothing, Happen, Judge as JudgePath, Summary as SumUp, Why as WhyRoute}
 use Rattle.aspa_top.specs.declared.task.Task.{Task}
-use Rattle.aspa_top.specs.declared.task.Task.TheVariants.{Short, Load, Open as OpenDump, Take as TakeUnits, Report as ReportRows, Changes as ListChanges}
-use Rattle.aspa_top.specs.Tasks.{State, Refuses, DoesTask, TaskUsesFile}
+use Rattle.aspa_top.specs.declared.task.Task.TheVariants.{Short, Load, Open as OpenDump, Take as TakeUnits, Connect, OnFeed, Report as ReportRows, Changes as ListChanges}
+use Rattle.aspa_top.specs.Tasks.{State, Refuses, DoesTask, Moves, TaskUsesFile}
 use Rattle.aspa_top.specs.World.{World}
 
 -- the number of the cause for which a line is refused; want of memory is none
@@ -44,6 +45,9 @@ task_of (SetRole asn role) = Short (Happen (RoleEvent asn role))
 task_of (RoleDefault role) = Short (Happen (DefaultRole role))
 task_of (Open name file) = OpenDump name file
 task_of (Take name count) = TakeUnits name count
+task_of (Feed name place) = Connect name place
+task_of (Ask name) = OnFeed name AskNow
+task_of (Sync name count) = OnFeed name (SyncTo count)
 task_of (Judge role neighbour path) = Short (JudgePath role neighbour path)
 task_of Report = ReportRows
 task_of Changes = ListChanges
@@ -79,13 +83,28 @@ abbrev pub Evaluates : World → State → List (List ℕ) → List ℕ → Stat
 Evaluates world before [] text end = (text ≡ []) × (end ≡ before)
 Evaluates world before (line ∷ more) text end = PerformsFirst world before line text (λ next rest. Evaluates world next more rest end)
 
--- a line went some way: this is a front of its own text
-pub record Begins (world : World) (before : State) (line part : List ℕ) : Type 0 where
+-- a line wrote a front of its own text, and cost at most what the whole line does
+pub record WritesSome (world : World) (before : State) (line part : List ℕ) (ticks : ℕ) : Type 0 where
   pub own : List ℕ
   pub next : State
   pub performs : Performs world before line own next
   pub rest : List ℕ
   pub whole : own ≡ part ++ rest
+  pub judged : ticks ≤ next.judgements - before.judgements
+
+-- a line on a feed made some of its moves, perhaps all, and wrote nothing
+pub record MovesSome (world : World) (before : State) (line : List ℕ) (ticks : ℕ) (moved : State) : Type 0 where
+  pub command : Command
+  pub reads : IsReading line (Ok command)
+  pub moves : Moves world (counted before) (task_of command) moved
+  pub judged : ticks ≤ moved.judgements - before.judgements
+
+-- A line went some way, and ended early: it did nothing, it wrote a front of its own text, or it made some moves on a feed. The feeds stand
+-- as `moved` says.
+abbrev pub Begins : World → State → List ℕ → List ℕ → ℕ → State → Type 0
+Begins world before line part ticks moved = ((part ≡ []) × (ticks ≡ 0) × (moved ≡ before))
+    ⊎ (WritesSome world before line part ticks × (moved ≡ before))
+    ⊎ ((part ≡ []) × MovesSome world before line ticks moved)
 
 -- a line that was read so opens or reads a file
 abbrev pub UsesFile : State → Result Command LineFault → Type 0

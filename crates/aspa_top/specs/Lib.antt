@@ -1,4 +1,5 @@
 pub mod Evaluation
+pub mod Feeding
 pub mod Laws
 pub mod Lines
 pub mod Loading

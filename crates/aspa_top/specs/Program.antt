@@ -6,15 +6,17 @@ use Rattle.std.specs.declared.option.Option.TheVariants.{Some}
 use Rattle.std.specs.declared.result.Result.{Result}
 use Rattle.av_text.specs.Number.{IsNumber}
 use Rattle.stated_workload.specs.Text as demo
+use Rattle.av_base.specs.Connections.{Attempt}
 use Rattle.av_base.specs.Files.{Files}
+use Rattle.feed_lines.specs.Holding.{HasMoved as Moved}
 use Rattle.av_base.specs.Told.{AppendsFront, AppendsPart}
 use Rattle.script_lines.specs.declared.command.Command.{Command}
 use Rattle.script_lines.specs.declared.command.LineFault.{LineFault}
 use Rattle.aspa_top.specs.Lines.{performed}
 use Rattle.script_lines.specs.Grammar.{IsReading}
-use Rattle.aspa_top.specs.World.{World, world_of}
+use Rattle.aspa_top.specs.World.{Links, World, world_of}
 use Rattle.stream_lines.specs.Counts.{refusals_in}
-use Rattle.aspa_top.specs.Tasks.{State, start}
+use Rattle.aspa_top.specs.Tasks.{State, feeds_of, start}
 use Rattle.aspa_top.specs.Evaluation.{Evaluates, Begins, UsesFile, counted}
 
 -- The forms of words that the program is called with: `run` performs a script,
@@ -32,23 +34,30 @@ abbrev pub AreOwn : List (List ℕ) → Type 0
 AreOwn words = IsRun words ⊎ ((seed : ℕ) × IsDemo words seed)
 
 -- of the lines that are left the first went some way, perhaps none
-abbrev pub BeginsNext : World → State → List (List ℕ) → List ℕ → Type 0
-BeginsNext world state [] part = part ≡ []
-BeginsNext world state (line ∷ more) part = Begins world state line part
+abbrev pub BeginsNext : World → State → List (List ℕ) → List ℕ → ℕ → State → Type 0
+BeginsNext world state [] part ticks moved = (part ≡ []) × (ticks ≡ 0) × (moved ≡ state)
+BeginsNext world state (line ∷ more) part ticks moved = Begins world state line part ticks moved
 
--- Some first lines were evaluated, and the next went some way. A front of their text was written, perhaps all. Each judgement of
--- the first lines ticked once, and perhaps one of the next.
+-- as many attempts were made as in this state, and on the connections of the feeds that go on these bytes were sent
+abbrev pub HasMoved : World → State → Type 0
+HasMoved world state = Moved world.ends.attempts (Some world.ends.links) (feeds_of state)
+
+-- Some first lines were evaluated, and the next went some way. A front of their text was written, perhaps all; as many attempts were
+-- made, and such bytes were sent. The counter ticked at most as often as the first lines may judge, and the next one on its way.
 pub record WentThrough (world : World) (lines : List (List ℕ)) (old new : Option (List ℕ)) (ticks_old ticks_new : ℕ) : Type 0 where
   pub done : List (List ℕ)
   pub left : List (List ℕ)
   pub lines_are : lines ≡ done ++ left
   pub text : List ℕ
   pub state : State
-  pub evaluates : Evaluates world start done text state
+  pub evaluates : Evaluates world (start world) done text state
   pub part : List ℕ
-  pub begins : BeginsNext world state left part
+  pub ticks : ℕ
+  pub moved : State
+  pub begins : BeginsNext world state left part ticks moved
+  pub sent : HasMoved world moved
   pub written : AppendsFront old new (text ++ part)
-  pub ticked : ticks_new ≤ ticks_old + state.judgements + 1
+  pub ticked : ticks_new ≤ ticks_old + state.judgements + ticks
 
 -- What was written stops in the text of a line that opens or reads a file: it is the text of the lines before it, followed by a
 -- front of its own text.
@@ -59,31 +68,35 @@ pub record StopsAtFile (world : World) (lines : List (List ℕ)) (old new : Opti
   pub lines_are : lines ≡ done ++ line ∷ more
   pub text : List ℕ
   pub state : State
-  pub evaluates : Evaluates world start done text state
+  pub evaluates : Evaluates world (start world) done text state
   pub reading : Result Command LineFault
   pub reads : IsReading line reading
   pub uses : UsesFile (counted state) reading
   pub part : List ℕ
-  pub begins : Begins world state line part
+  pub moved : State
+  pub begins : Begins world state line part 0 moved
   pub written : new ≡ append_known old (text ++ part)
 
--- All lines were evaluated and all their text was written, in which so many lines begin with `! `. Each judgement ticked once.
+-- All lines were evaluated and all their text was written, in which so many lines begin with `! `; as many attempts were made, and such
+-- bytes were sent. The counter ticked at most as often as the lines may judge.
 pub record Ended (world : World) (lines : List (List ℕ)) (old new : Option (List ℕ)) (ticks_old ticks_new refusals : ℕ) : Type 0 where
   pub text : List ℕ
   pub state : State
-  pub evaluates : Evaluates world start lines text state
+  pub evaluates : Evaluates world (start world) lines text state
+  pub sent : HasMoved world state
   pub written : new ≡ append_known old text
-  pub ticked : ticks_new ≡ ticks_old + state.judgements
+  pub ticked : ticks_new ≤ ticks_old + state.judgements
   pub counted : refusals ≡ refusals_in text
 
 -- what was written is a front of these lines' text, perhaps all
 abbrev pub WritesFront : World → List (List ℕ) → Option (List ℕ) → Option (List ℕ) → Type 0
-WritesFront world lines old new = (text : List ℕ) (end : State) → Evaluates world start lines text end → AppendsFront old new text
+WritesFront world lines old new =
+    (text : List ℕ) (end : State) → Evaluates world (start world) lines text end → AppendsFront old new text
 
 -- what was written, where the sink tells it, isn't all of these lines' text
 abbrev pub WritesPart : World → List (List ℕ) → Option (List ℕ) → Option (List ℕ) → Type 0
 WritesPart world lines old new =
-    (text : List ℕ) (end : State) → Evaluates world start lines text end → IfSome old (λ before. AppendsPart old new text)
+    (text : List ℕ) (end : State) → Evaluates world (start world) lines text end → IfSome old (λ before. AppendsPart old new text)
 
 -- the statuses that a performed script ends with
 abbrev pub IsEnding : ℕ → Type 0
@@ -97,12 +110,16 @@ IsStatus status = (status ≡ 2) ⊎ IsEnding status
 abbrev pub IsWhole : ℕ → Type 0
 IsWhole status = (status ≡ 0) ⊎ (status ≡ 1) ⊎ (status ≡ 6)
 
+-- all attempts are told: no memory was wanting to list one
+abbrev pub AreTold : World → Type 0
+AreTold world = (attempts : List Attempt) × (world.ends.attempts ≡ Some attempts)
+
 -- What was written, and how often the counter ticked, at each status. The text depends on the script and the world alone, and not on
--- how anything was read or how the text was written.
+-- how anything was read or sent or how the text was written.
 pub record Ran (limit : ℕ) (world : World) (script : List ℕ) (script_failed shelf_failed : Type 0)
     (old new : Option (List ℕ)) (ticks_old ticks_new status : ℕ) : Type 0 where
   -- at every status: what was written is a front of the script's text, and it is known how far the run went
-  pub front : WritesFront world (performed limit script) old new
+  pub front : AreTold world → WritesFront world (performed limit script) old new
   pub went : WentThrough world (performed limit script) old new ticks_old ticks_new
   -- at 0, 1 and 6
   pub refusals : ℕ
@@ -114,13 +131,14 @@ pub record Ran (limit : ℕ) (world : World) (script : List ℕ) (script_failed 
   -- 3: the script failed before anything was written, or the shelf did at a line that opens or reads a file
   pub stopped : status ≡ 3 → (script_failed × (new ≡ old)) ⊎ (shelf_failed × StopsAtFile world (performed limit script) old new)
   -- 4: not all of the text was written
-  pub cut : status ≡ 4 → WritesPart world (performed limit script) old new
+  pub cut : status ≡ 4 → AreTold world → WritesPart world (performed limit script) old new
 
--- the same of a script that tells its bytes, over a shelf that tells its files
-abbrev pub RanIfTold : ℕ → Option (List ℕ) → Option Files → Type 0 → Type 0 → Option (List ℕ) → Option (List ℕ) → ℕ → ℕ → ℕ → Type 0
-RanIfTold limit script files script_failed shelf_failed old new ticks_old ticks_new status =
-    IfSome script (λ bytes. IfSome files (λ told.
-    Ran limit (world_of told) bytes script_failed shelf_failed old new ticks_old ticks_new status))
+-- the same of a script that tells its bytes, over a shelf that tells its files and links that tell their connections
+abbrev pub RanIfTold : ℕ → Option (List ℕ) → Option Files → Links → Links → Type 0 → Type 0 → Option (List ℕ) → Option (List ℕ) → ℕ → ℕ → ℕ → Type 0
+RanIfTold limit script files links_old links_new script_failed shelf_failed old new ticks_old ticks_new status =
+    IfSome script (λ bytes. IfSome files (λ told. IfSome links_new.wire (λ connections.
+    Ran limit (world_of told links_old.attempts links_new.attempts connections) bytes script_failed shelf_failed
+    old new ticks_old ticks_new status)))
 
 -- Where neither the script nor the shelf nor the sink failed, a script within its limit ends with 0 or 1, and a longer one with 6; or
 -- memory ran out.

@@ -1,5 +1,5 @@
 -- What a line asks for, and what comes of it: from the world, and what the lines before have left.
-use Rattle.std.specs.Prelude.{◌≡◌, ℕ, ◌+◌, nat_eq, Bool, true, false, is_some, cond, List, [], ◌∷◌, ◌++◌}
+use Rattle.std.specs.Prelude.{◌≡◌, ℕ, ◌+◌, nat_eq, Bool, true, false, ◌||◌, is_some, cond, List, [], ◌∷◌, ◌++◌}
 use Rattle.std.specs.Cmp.Lexicographic.{pointwise}
 use Rattle.std.specs.FinMap as fin
 use Rattle.std.specs.declared.option.Option.{Option}
@@ -19,7 +19,14 @@ use Rattle.rib_store.specs.State.{State as Analysis, no_state, AreRows}
 use Rattle.analyser.specs.declared.event.Event.{Event}
 use Rattle.analyser.specs.declared.event.Event.TheVariants.{Table as TableEvent}
 use Rattle.analyser.specs.Events.{Happens}
+use Rattle.analyser.specs.Touched.{Costs}
 use Rattle.av_text.specs.VerdictText.{verdict_text}
+use Rattle.feed_lines.specs.declared.working.Work.{Work}
+use Rattle.feed_lines.specs.declared.working.Work.TheVariants.{Take as TakePdus}
+use Rattle.feed_lines.specs.Feeds.{Feed}
+use Rattle.feed_lines.specs.Lines.{ConnectLine, ConnectPart, WorkLine, WorkPart}
+use Rattle.feed_lines.specs.Lines.{State as FeedState}
+use Rattle.feed_lines.specs.Tellings.{Asking as FeedAsking}
 use Rattle.report_text.specs.declared.summary.Summary.{Summary}
 use Rattle.report_text.specs.Refusals.{AnyPlace, of_line, of_unit, refusal_text}
 use Rattle.report_text.specs.Summary.{summary_text}
@@ -35,24 +42,37 @@ use Rattle.aspa_top.specs.declared.loading.Outcome.TheVariants.{NoFile, Long as 
 use Rattle.aspa_top.specs.declared.task.Short.{Short as ShortTask}
 use Rattle.aspa_top.specs.declared.task.Short.TheVariants.{Idle, Happen, Judge, Summary as SumUp, Why}
 use Rattle.aspa_top.specs.declared.task.Task.{Task}
-use Rattle.aspa_top.specs.declared.task.Task.TheVariants.{Short, Load, Open, Take, Report, Changes}
+use Rattle.aspa_top.specs.declared.task.Task.TheVariants.{Short, Load, Open, Take, Connect, OnFeed, Report, Changes}
 use Rattle.aspa_top.specs.Loading.{ComesOf, unit_name}
 use Rattle.aspa_top.specs.World.{World}
 
--- What some lines have left: the analysis, which names are those of attestation sources and which those of dumps, and how many lines,
--- passed records, refused lines and judgements there were.
+-- What some lines have left: the analysis, which names are those of attestation sources, of dumps and of feeds (none where a session is
+-- over), how many attempts to connect were made, how many lines, passed records and refused lines there were, and how many judgements
+-- they may have cost. A line of text that reports a feed's end counts as refused.
 pub record State : Type 0 where
   pub analysis : Analysis
   pub sources : List ℕ → Bool
   pub dumps : List ℕ → Option Dump
+  pub feeds : List ℕ → Option (Option Feed)
+  pub made : ℕ
   pub lines : ℕ
   pub passed : ℕ
   pub refused : ℕ
   pub judgements : ℕ
 
 -- before the first line
-abbrev pub start : State
-start = record { analysis = no_state; sources = λ name. false; dumps = λ name. None; lines = 0; passed = 0; refused = 0; judgements = 0 }
+abbrev pub start : World → State
+start world = record {
+  analysis = no_state;
+  sources = λ name. false;
+  dumps = λ name. None;
+  feeds = λ name. None;
+  made = world.made;
+  lines = 0;
+  passed = 0;
+  refused = 0;
+  judgements = 0;
+}
 
 -- whether two names are the same
 abbrev pub same_name : List ℕ → List ℕ → Bool
@@ -63,19 +83,25 @@ abbrev pub Refuses : State → AnyPlace → ℕ → List ℕ → State → Type 
 Refuses state place cause text next =
     (text ≡ refusal_text state.lines place cause) × (next ≡ record state { refused = state.refused + 1 })
 
--- nothing is written, an event happens, and nothing else changes
+-- nothing is written, an event happens, its judgements are counted, and nothing else changes
 pub record Causes (state : State) (event : Event) (text : List ℕ) (next : State) : Type 0 where
   pub silent : text ≡ []
   pub analysis : Analysis
   pub happens : Happens state.analysis event analysis
-  pub left : next ≡ record state { analysis = analysis }
+  pub cost : ℕ
+  pub costs : Costs state.analysis event analysis cost
+  pub left : next ≡ record state { analysis = analysis; judgements = state.judgements + cost }
 
 -- ---- `aspa NAME FILE`, `aspa64 NAME FILE`, `slurm FILE`
 
--- whether the name that the file would go under is a dump's
+-- whether the name is a dump's or a feed's
+abbrev pub is_stream : State → List ℕ → Bool
+is_stream state name = is_some (state.dumps name) || is_some (state.feeds name)
+
+-- whether the name that the file would go under is one
 abbrev pub is_taken : State → FileKind → Bool
-is_taken state (Payloads name) = is_some (state.dumps name)
-is_taken state (PayloadLines name) = is_some (state.dumps name)
+is_taken state (Payloads name) = is_stream state name
+is_taken state (PayloadLines name) = is_stream state name
 is_taken state SlurmFile = false
 
 -- the names of sources with the one that a good file goes under
@@ -89,7 +115,13 @@ pub record Holds (state : State) (kind : FileKind) (event : Event) (text : List 
   pub silent : text ≡ []
   pub analysis : Analysis
   pub happens : Happens state.analysis event analysis
-  pub left : next ≡ record state { analysis = analysis; sources = with_name kind state.sources }
+  pub cost : ℕ
+  pub costs : Costs state.analysis event analysis cost
+  pub left : next ≡ record state {
+    analysis = analysis;
+    sources = with_name kind state.sources;
+    judgements = state.judgements + cost;
+  }
 
 -- What comes of a file is taken: a good one changes the table, and by another one the line is refused.
 abbrev pub TakesFile : State → FileKind → Outcome → List ℕ → State → Type 0
@@ -122,16 +154,61 @@ new_dump bytes = record { left = bytes; taken = 0; peers = None; over = false }
 abbrev pub with_dump : List ℕ → Dump → (List ℕ → Option Dump) → List ℕ → Option Dump
 with_dump name dump dumps other = cond (same_name name other) (Some dump) (dumps other)
 
--- whether a source has the name, the dump of that name, and what the world has under the file's name
-abbrev pub OpensNamed : Bool → Option Dump → Option (List ℕ) → State → List ℕ → List ℕ → State → Type 0
-OpensNamed true dump named state name text next = Refuses state of_line 35 text next
-OpensNamed false (Some dump) named state name text next = Refuses state of_line 35 text next
-OpensNamed false None None state name text next = Refuses state of_line 37 text next
-OpensNamed false None (Some bytes) state name text next =
+-- whether the name is in use, and what the world has under the file's name
+abbrev pub OpensNamed : Bool → Option (List ℕ) → State → List ℕ → List ℕ → State → Type 0
+OpensNamed true named state name text next = Refuses state of_line 35 text next
+OpensNamed false None state name text next = Refuses state of_line 37 text next
+OpensNamed false (Some bytes) state name text next =
     (text ≡ []) × (next ≡ record state { dumps = with_dump name (new_dump bytes) state.dumps })
 
 abbrev pub Opens : World → State → List ℕ → List ℕ → List ℕ → State → Type 0
-Opens world state name file text next = OpensNamed (state.sources name) (state.dumps name) (world.named file) state name text next
+Opens world state name file text next =
+    OpensNamed (state.sources name || is_stream state name) (world.named file) state name text next
+
+-- ---- `feed NAME PLACE`, `ask NAME`, `sync NAME N`, and `take NAME N` on a feed
+
+abbrev pub asking_on : State → List ℕ → FeedAsking
+asking_on state name = record { line = state.lines; name = name }
+
+-- what a line on a feed goes by, and what it leaves
+abbrev pub feeds_of : State → FeedState
+feeds_of state = record {
+  feeds = state.feeds;
+  made = state.made;
+  analysis = state.analysis;
+  refused = state.refused;
+  judgements = state.judgements;
+}
+
+abbrev pub with_feeds : State → FeedState → State
+with_feeds state after = record state {
+  feeds = after.feeds;
+  made = after.made;
+  analysis = after.analysis;
+  refused = after.refused;
+  judgements = after.judgements;
+}
+
+-- the line is one on feeds
+pub record OnFeeds (state : State) (line : FeedState → Type 0) (next : State) : Type 0 where
+  pub after : FeedState
+  pub does : line after
+  pub left : next ≡ with_feeds state after
+
+-- the feed of the name asks or takes
+abbrev pub Works : World → State → List ℕ → Work → List ℕ → State → Type 0
+Works world state name work text next =
+    OnFeeds state (WorkLine world.ends (asking_on state name) work (feeds_of state) text) next
+
+-- a feed is connected, unless a source or a dump has the name
+abbrev pub ConnectsUnless : Bool → World → State → List ℕ → List ℕ → List ℕ → State → Type 0
+ConnectsUnless true world state name place text next = Refuses state of_line 35 text next
+ConnectsUnless false world state name place text next =
+    OnFeeds state (ConnectLine world.ends (asking_on state name) place (feeds_of state) text) next
+
+abbrev pub Connects : World → State → List ℕ → List ℕ → List ℕ → State → Type 0
+Connects world state name place text next =
+    ConnectsUnless (state.sources name || is_some (state.dumps name)) world state name place text next
 
 -- ---- `take NAME N`
 
@@ -139,7 +216,13 @@ abbrev pub asking_of : State → List ℕ → Asking
 asking_of state name = record { line = state.lines; name = name }
 
 abbrev pub taking_of : State → Dump → Taking
-taking_of state dump = record { dump = dump; state = state.analysis; passed = state.passed; refused = state.refused }
+taking_of state dump = record {
+  dump = dump;
+  state = state.analysis;
+  passed = state.passed;
+  refused = state.refused;
+  judgements = state.judgements;
+}
 
 abbrev pub after_taking : State → List ℕ → Taking → State
 after_taking state name end = record state {
@@ -147,6 +230,7 @@ after_taking state name end = record state {
   dumps = with_dump name end.dump state.dumps;
   passed = end.passed;
   refused = end.refused;
+  judgements = end.judgements;
 }
 
 -- so many units are taken from the dump, or all that come until it is over
@@ -159,12 +243,13 @@ abbrev pub TakesOpen : Bool → State → List ℕ → ℕ → Dump → List ℕ
 TakesOpen true state name count dump text next = Refuses state of_line 38 text next
 TakesOpen false state name count dump text next = TakesAll state name count dump text next
 
-abbrev pub TakesNamed : Option Dump → State → List ℕ → ℕ → List ℕ → State → Type 0
-TakesNamed None state name count text next = Refuses state of_line 36 text next
-TakesNamed (Some dump) state name count text next = TakesOpen dump.over state name count dump text next
+-- from the dump of that name, or from a feed
+abbrev pub TakesNamed : Option Dump → World → State → List ℕ → ℕ → List ℕ → State → Type 0
+TakesNamed None world state name count text next = Works world state name (TakePdus count) text next
+TakesNamed (Some dump) world state name count text next = TakesOpen dump.over state name count dump text next
 
-abbrev pub Takes : State → List ℕ → ℕ → List ℕ → State → Type 0
-Takes state name count text next = TakesNamed (state.dumps name) state name count text next
+abbrev pub Takes : World → State → List ℕ → ℕ → List ℕ → State → Type 0
+Takes world state name count text next = TakesNamed (state.dumps name) world state name count text next
 
 -- ---- `judge ROLE NEIGHBOUR AS..` and `report`
 
@@ -234,7 +319,9 @@ abbrev pub DoesTask : World → State → Task → List ℕ → State → Type 0
 DoesTask world state (Short short) text next = DoesShort state short text next
 DoesTask world state (Load kind file) text next = Loads world state kind file text next
 DoesTask world state (Open name file) text next = Opens world state name file text next
-DoesTask world state (Take name count) text next = Takes state name count text next
+DoesTask world state (Take name count) text next = Takes world state name count text next
+DoesTask world state (Connect name place) text next = Connects world state name place text next
+DoesTask world state (OnFeed name work) text next = Works world state name work text next
 DoesTask world state Report text next = Reports state text next
 DoesTask world state Changes text next = ShowsChanges state text next
 
@@ -244,5 +331,20 @@ TaskUsesFile state (Short short) = ⊥
 TaskUsesFile state (Load kind file) = Unit {0}
 TaskUsesFile state (Open name file) = Unit {0}
 TaskUsesFile state (Take name count) = (dump : Dump) × (state.dumps name ≡ Some dump)
+TaskUsesFile state (Connect name place) = ⊥
+TaskUsesFile state (OnFeed name work) = ⊥
 TaskUsesFile state Report = ⊥
 TaskUsesFile state Changes = ⊥
+
+-- ---- lines on feeds that ended early
+
+-- some first moves of a work on the feed of the name
+abbrev pub WorksPart : World → State → List ℕ → Work → State → Type 0
+WorksPart world state name work next = OnFeeds state (WorkPart world.ends (asking_on state name) work (feeds_of state)) next
+
+-- What a line on a feed had done when it ended early, and wrote nothing.
+abbrev pub Moves : World → State → Task → State → Type 0
+Moves world state (Take name count) next = (state.dumps name ≡ None) × WorksPart world state name (TakePdus count) next
+Moves world state (Connect name place) next = OnFeeds state (ConnectPart world.ends (asking_on state name) place (feeds_of state)) next
+Moves world state (OnFeed name work) next = WorksPart world state name work next
+Moves world state task next = ⊥

@@ -2,6 +2,7 @@
 ghost use Rattle.std.specs.Prelude.{◌≡◌, ◌+◌, ◌^◌, ◌<◌, ◌++◌, IfOk, OnOk, OnErr};
 ghost use Rattle.report_text.specs.Places.{place_of};
 ghost use Rattle.report_text.specs.Refusals.{IsCause, refusal_text};
+ghost use Rattle.analyser.specs.Touched.{TicksWithin};
 ghost use Rattle.aspa_top.specs.Performing.{Happened, Marked};
 
 use crate::working::Working;
@@ -38,7 +39,7 @@ pub(crate) fn happen<L: Ledger>(
     steps: &mut Steps<L>,
 ) -> Result<Working, NoMemory>
     ensures happened { IfOk result (Happened working event) }
-    ensures ticks { steps.new ≡ steps.old }
+    ensures ticks { TicksWithin working.analyser event steps.old steps.new }
 {
     let analyser = working.analyser.step(event, steps)?;
     Ok(Working {

@@ -3,24 +3,17 @@ ghost use Rattle.std.specs.Prelude.{◌≡◌, ◌≤◌};
 ghost use Rattle.av_base.specs.Told.{Rose};
 ghost use Rattle.aspa_top.specs.Program.{Demonstrates};
 
-use av_base::{Sink, Steps};
+use av_base::Sink;
 use stated_workload::{Stop, perform};
 use std::alloc::Global;
-use std::sync::ledger::Ledger;
 
 /// Performs the workload of this number, and answers the program's status.
-pub(crate) fn run_demo<W: Sink, L: Ledger>(
-    alloc: Global,
-    seed: u32,
-    out: &mut W,
-    steps: &mut Steps<L>,
-) -> u8
+pub(crate) fn run_demo<W: Sink>(alloc: Global, seed: u32, out: &mut W) -> u8
     ensures demonstrates { Demonstrates seed (W.written out.old) (W.written out.new) result }
     ensures sink_cause { result ≡ 4 → Rose (W.faults out.old) (W.faults out.new) }
     ensures sink_faults { W.faults out.old ≤ W.faults out.new }
-    ensures ticks { steps.new ≡ steps.old }
 {
-    match perform(alloc, u64::from(seed), out, steps) {
+    match perform(alloc, u64::from(seed), out) {
         Ok(()) => 0,
         Err(Stop::Sink) => 4,
         Err(Stop::NoMemory) => 5,

@@ -1,10 +1,10 @@
 //! `open` and `take`: dumps.
-ghost use Rattle.std.specs.Prelude.{◌≡◌, ℕ, ◌-◌, ◌^◌, ◌<◌, ◌≤◌, Ok, IfOk, OnErr, IsErrOf, length};
+ghost use Rattle.std.specs.Prelude.{◌≡◌, is_some, true, ◌-◌, ◌^◌, ◌<◌, ◌≤◌, Ok, IfOk, OnErr, IsErrOf, length};
 ghost use Rattle.std.specs.Io.KnownBytes.{append_known};
 ghost use Rattle.av_base.specs.Told.{Grows, Rose};
 ghost use Rattle.script_lines.specs.declared.command.Command.TheVariants.{Open as OpenLine, Take as TakeLine};
-ghost use Rattle.aspa_top.specs.Performing.{Goes, GoesPart, IsOpenIn, IsSound, NamesDump, Steps as StepsBy, Uses, most};
-ghost use Rattle.aspa_top.specs.World.{names_of};
+ghost use Rattle.aspa_top.specs.Performing.{Goes, GoesPart, GoesSome, IsOpenIn, IsSound, NamesDump, Steps as StepsBy, Uses, dump_in, most};
+ghost use Rattle.aspa_top.specs.World.{Links, names_of};
 
 use crate::acting::refuse;
 use crate::working::Working;
@@ -30,16 +30,14 @@ pub(crate) fn open<F: Shelf>(
     ensures steps { IfOk result (StepsBy working (Ok (OpenLine name file.now)) (F.files shelf.old) (F.files shelf.new)
         text.old.items text.new.items) }
     ensures sound { IfOk result (IsSound (F.opened shelf.new) working.lines) }
+    ensures feeds { IfOk result (λ next. next.feeds ≡ working.feeds) }
     ensures lines { IfOk result (λ next. next.lines ≡ working.lines) }
     ensures err { OnErr result (text.new.items ≡ text.old.items) }
     ensures names { names_of (F.files shelf.new) ≡ names_of (F.files shelf.old) }
     ensures cause { IsErrOf result ReadFault.Source → Rose (F.faults shelf.old) (F.faults shelf.new) }
     ensures faults { F.faults shelf.old ≤ F.faults shelf.new }
 {
-    if working.sources.contains(&name) {
-        return Ok(refuse(working, Place::Line, 35, text)?);
-    }
-    if working.dumps.contains_key(&name) {
+    if working.has_name(&name) {
         return Ok(refuse(working, Place::Line, 35, text)?);
     }
     let Some(number) = shelf.open_file(file.text())? else {
@@ -57,7 +55,7 @@ fn name_dump(mut working: Working, name: Name, dump: OpenDump) -> Result<Working
     Ok(working)
 }
 
-/// Takes the next units of a dump.
+/// Takes the next units of the dump of this name.
 pub(crate) fn take<F: Shelf, W: Sink, L: Ledger>(
     alloc: Global,
     working: Working,
@@ -71,15 +69,18 @@ pub(crate) fn take<F: Shelf, W: Sink, L: Ledger>(
     requires room { (0 < working.lines) × (working.lines < 2 ^ 32) }
     requires few { count ≤ most }
     requires sound { IsSound (F.opened shelf.old) (working.lines - 1) working }
-    ensures goes { IfOk result (λ next. (ticks : ℕ) → Goes working (Ok (TakeLine name.now count))
-        (F.files shelf.old) (F.files shelf.new)
+    requires here { is_some (dump_in working name.now) ≡ true }
+    ensures goes { IfOk result (λ next. (links : Links) → Goes working (Ok (TakeLine name.now count))
+        (F.files shelf.old) (F.files shelf.new) links links
         (append_known (W.written out.old) text.old.items) (append_known (W.written out.new) text.new.items)
-        ticks ticks next) }
-    ensures part { GoesPart working (Ok (TakeLine name.now count)) (F.files shelf.old)
-        (append_known (W.written out.old) text.old.items) (append_known (W.written out.new) text.new.items) }
+        steps.old steps.new next) }
+    ensures part { OnErr result ((links : Links) → GoesPart working (Ok (TakeLine name.now count))
+        (F.files shelf.old) links links
+        (append_known (W.written out.old) text.old.items) (append_known (W.written out.new) text.new.items)
+        steps.old steps.new) }
     ensures sound { IfOk result (IsSound (F.opened shelf.new) working.lines) }
+    ensures feeds { IfOk result (λ next. next.feeds ≡ working.feeds) }
     ensures lines { IfOk result (λ next. next.lines ≡ working.lines) }
-    ensures ticks { steps.new ≡ steps.old }
     ensures names { names_of (F.files shelf.new) ≡ names_of (F.files shelf.old) }
     ensures shelf_cause { IsErrOf result Stop.Shelf → Rose (F.faults shelf.old) (F.faults shelf.new) }
     ensures shelf_faults { F.faults shelf.old ≤ F.faults shelf.new }
@@ -90,7 +91,7 @@ pub(crate) fn take<F: Shelf, W: Sink, L: Ledger>(
     ensures uses { IsErrOf result Stop.Shelf → Uses working (Ok (TakeLine name.now count)) (F.files shelf.old) }
 {
     let Some(dump) = working.dumps.get(name) else {
-        return Ok(refuse(working, Place::Line, 36, text)?);
+        unreachable!();
     };
     if dump.is_over() {
         return Ok(refuse(working, Place::Line, 38, text)?);
@@ -113,15 +114,16 @@ fn take_open<F: Shelf, W: Sink, L: Ledger>(
     requires few { count ≤ most }
     requires sound { IsSound (F.opened shelf.old) (working.lines - 1) working }
     requires is { IsOpenIn working name.now }
-    ensures goes { IfOk result (λ next. (ticks : ℕ) → Goes working (Ok (TakeLine name.now count))
-        (F.files shelf.old) (F.files shelf.new)
+    ensures goes { IfOk result (λ next. (links : Links) → Goes working (Ok (TakeLine name.now count))
+        (F.files shelf.old) (F.files shelf.new) links links
         (append_known (W.written out.old) text.old.items) (append_known (W.written out.new) text.new.items)
-        ticks ticks next) }
-    ensures part { GoesPart working (Ok (TakeLine name.now count)) (F.files shelf.old)
-        (append_known (W.written out.old) text.old.items) (append_known (W.written out.new) text.new.items) }
+        steps.old steps.new next) }
+    ensures part { GoesSome working (Ok (TakeLine name.now count)) (F.files shelf.old)
+        (append_known (W.written out.old) text.old.items) (append_known (W.written out.new) text.new.items)
+        steps.old steps.new }
     ensures sound { IfOk result (IsSound (F.opened shelf.new) working.lines) }
+    ensures feeds { IfOk result (λ next. next.feeds ≡ working.feeds) }
     ensures lines { IfOk result (λ next. next.lines ≡ working.lines) }
-    ensures ticks { steps.new ≡ steps.old }
     ensures names { names_of (F.files shelf.new) ≡ names_of (F.files shelf.old) }
     ensures shelf_cause { IsErrOf result Stop.Shelf → Rose (F.faults shelf.old) (F.faults shelf.new) }
     ensures shelf_faults { F.faults shelf.old ≤ F.faults shelf.new }
@@ -134,6 +136,7 @@ fn take_open<F: Shelf, W: Sink, L: Ledger>(
         analyser,
         sources,
         mut dumps,
+        feeds,
         lines,
         passed,
         refused,
@@ -156,6 +159,7 @@ fn take_open<F: Shelf, W: Sink, L: Ledger>(
         analyser: taken.analyser,
         sources,
         dumps,
+        feeds,
         lines,
         passed: taken.passed,
         refused: taken.refused,

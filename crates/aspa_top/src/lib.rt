@@ -13,6 +13,7 @@ mod demo;
 mod dumps;
 mod evaluation;
 mod explaining;
+mod feeding;
 mod judging;
 mod laws;
 mod loading;
@@ -25,5 +26,8 @@ mod task;
 mod words;
 mod working;
 
-pub use laws::{each_script_has_one_text, refusals_are_counted, runs_write_fronts};
+pub use laws::{
+    each_script_without_feeds_has_a_text, no_script_has_two_texts, refusals_are_counted,
+    runs_write_fronts,
+};
 pub use program::{SCRIPT_LIMIT, run};

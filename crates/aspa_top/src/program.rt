@@ -4,7 +4,7 @@ ghost use Rattle.std.specs.String.{string_bytes};
 ghost use Rattle.std.specs.Io.KnownBytes.{IsAtEnd};
 ghost use Rattle.av_base.specs.Told.{Rose};
 ghost use Rattle.aspa_top.specs.Program.{AreOwn, Completes, Demonstrates, IsDemo, IsEnding, IsRun, IsStatus, Ran, RanIfTold};
-ghost use Rattle.aspa_top.specs.World.{Tells, World, names_of};
+ghost use Rattle.aspa_top.specs.World.{Meets, World, linked, names_of};
 
 use crate::demo::run_demo;
 use crate::evaluation::evaluate;
@@ -31,7 +31,7 @@ pub const SCRIPT_LIMIT: usize = 67_108_864;
 /// | 5 | there was no memory |
 /// | 6 | the script has more than [`SCRIPT_LIMIT`] bytes; the lines whose LF is among the first so many were performed |
 ///
-/// At 3, 4 and 5 what was written is a front of that text. The links aren't used yet.
+/// At 3, 4 and 5 what was written is a front of that text. A failed call on a connection ends no run.
 pub fn run<S: Source, F: Shelf, K: Links, W: Sink, L: Ledger>(
     alloc: Global,
     words: &Vec<String>,
@@ -41,25 +41,27 @@ pub fn run<S: Source, F: Shelf, K: Links, W: Sink, L: Ledger>(
     out: &mut W,
     steps: &mut Steps<L>,
 ) -> u8
-    // What is written at each status, for every script that tells its bytes and every shelf that tells its files, and however the
-    // script is read and the text written.
+    // What is written and sent at each status, for every script that tells its bytes, every shelf that tells its files and all links
+    // that tell their connections, and however all is read, received, written and sent.
     ensures ran { IsRun (map string_bytes words.now.items) → RanIfTold SCRIPT_LIMIT
         (S.left script.old) (F.files shelf.old)
+        (linked (K.attempts links.old) (K.wire links.old)) (linked (K.attempts links.new) (K.wire links.new))
         (Rose (S.faults script.old) (S.faults script.new)) (Rose (F.faults shelf.old) (F.faults shelf.new))
         (W.written out.old) (W.written out.new) steps.old steps.new result }
 
-    // What is written of a workload, which uses neither script nor shelf nor the counter.
+    // What is written of a workload, which uses neither script nor shelf nor links nor the counter.
     ensures demonstrated { (seed : ℕ) → IsDemo (map string_bytes words.now.items) seed
         → Demonstrates seed (W.written out.old) (W.written out.new) result }
     ensures unused { (seed : ℕ) → IsDemo (map string_bytes words.now.items) seed
-        → (script.new ≡ script.old) × (shelf.new ≡ shelf.old) × (steps.new ≡ steps.old) }
+        → (script.new ≡ script.old) × (shelf.new ≡ shelf.old) × (links.new ≡ links.old)
+        × (steps.new ≡ steps.old) }
 
     // When each status comes, beside what it says of the text.
     ensures known { IsStatus result }
     ensures other_words { result ≡ 2 → ¬ AreOwn (map string_bytes words.now.items) }
     ensures own_words { result ≢ 2 → AreOwn (map string_bytes words.now.items) }
     ensures untouched { result ≡ 2 → (script.new ≡ script.old) × (shelf.new ≡ shelf.old)
-        × (out.new ≡ out.old) × (steps.new ≡ steps.old) }
+        × (links.new ≡ links.old) × (out.new ≡ out.old) × (steps.new ≡ steps.old) }
     ensures at_end { IsRun (map string_bytes words.now.items) → (result ≡ 0) ⊎ (result ≡ 1)
         → IsAtEnd (S.left script.new) }
     ensures input_cause { result ≡ 3 → (Rose (S.faults script.old) (S.faults script.new) × (out.new ≡ out.old))
@@ -71,29 +73,30 @@ pub fn run<S: Source, F: Shelf, K: Links, W: Sink, L: Ledger>(
         (Rose (S.faults script.old) (S.faults script.new)) (Rose (F.faults shelf.old) (F.faults shelf.new))
         (Rose (W.faults out.old) (W.faults out.new)) result }
 
-    // Counts of faults don't fall, the names of the shelf stay as they are, and nothing is connected.
+    // Counts of faults don't fall, and the names of the shelf stay as they are.
     ensures script_faults { S.faults script.old ≤ S.faults script.new }
     ensures sink_faults { W.faults out.old ≤ W.faults out.new }
     ensures names { names_of (F.files shelf.new) ≡ names_of (F.files shelf.old) }
     ensures shelf_faults { F.faults shelf.old ≤ F.faults shelf.new }
-    ensures links { links.new ≡ links.old }
 {
     match form_of(words) {
-        Form::Run => run_script(alloc, script, shelf, out, steps),
-        Form::Demo(seed) => run_demo(alloc, seed, out, steps),
+        Form::Run => run_script(alloc, script, shelf, links, out, steps),
+        Form::Demo(seed) => run_demo(alloc, seed, out),
         Form::Other => 2,
     }
 }
 
 // Reads the script and performs it.
-fn run_script<S: Source, F: Shelf, W: Sink, L: Ledger>(
+fn run_script<S: Source, F: Shelf, K: Links, W: Sink, L: Ledger>(
     alloc: Global,
     script: &mut S,
     shelf: &mut F,
+    links: &mut K,
     out: &mut W,
     steps: &mut Steps<L>,
 ) -> u8
     ensures ran { RanIfTold SCRIPT_LIMIT (S.left script.old) (F.files shelf.old)
+        (linked (K.attempts links.old) (K.wire links.old)) (linked (K.attempts links.new) (K.wire links.new))
         (Rose (S.faults script.old) (S.faults script.new)) (Rose (F.faults shelf.old) (F.faults shelf.new))
         (W.written out.old) (W.written out.new) steps.old steps.new result }
     ensures known { IsEnding result }
@@ -113,9 +116,9 @@ fn run_script<S: Source, F: Shelf, W: Sink, L: Ledger>(
         Ok(bytes) => {
             let text = bytes.as_slice();
             if text.len() <= SCRIPT_LIMIT {
-                run_whole(alloc, text, shelf, out, steps)
+                run_whole(alloc, text, shelf, links, out, steps)
             } else {
-                run_front(alloc, text, shelf, out, steps)
+                run_front(alloc, text, shelf, links, out, steps)
             }
         }
         Err(ReadFault::Source) => 3,
@@ -124,15 +127,17 @@ fn run_script<S: Source, F: Shelf, W: Sink, L: Ledger>(
 }
 
 // Performs a whole script.
-fn run_whole<F: Shelf, W: Sink, L: Ledger>(
+fn run_whole<F: Shelf, K: Links, W: Sink, L: Ledger>(
     alloc: Global,
     script: &[u8],
     shelf: &mut F,
+    links: &mut K,
     out: &mut W,
     steps: &mut Steps<L>,
 ) -> u8
     requires { length script.now ≤ SCRIPT_LIMIT }
-    ensures ran { (world : World) → Tells (F.files shelf.old) world
+    ensures ran { (world : World) → Meets (F.files shelf.old)
+        (linked (K.attempts links.old) (K.wire links.old)) (linked (K.attempts links.new) (K.wire links.new)) world
         → Ran SCRIPT_LIMIT world script.now ⊥ (Rose (F.faults shelf.old) (F.faults shelf.new))
         (W.written out.old) (W.written out.new) steps.old steps.new result }
     ensures known { (result ≡ 0) ⊎ (result ≡ 1) ⊎ (result ≡ 3) ⊎ (result ≡ 4) ⊎ (result ≡ 5) }
@@ -142,7 +147,7 @@ fn run_whole<F: Shelf, W: Sink, L: Ledger>(
     ensures names { names_of (F.files shelf.new) ≡ names_of (F.files shelf.old) }
     ensures shelf_faults { F.faults shelf.old ≤ F.faults shelf.new }
 {
-    match evaluate(alloc, script, true, shelf, out, steps) {
+    match evaluate(alloc, script, true, shelf, links, out, steps) {
         Ok(0) => 0,
         Ok(_) => 1,
         Err(Stop::Shelf) => 3,
@@ -152,15 +157,17 @@ fn run_whole<F: Shelf, W: Sink, L: Ledger>(
 }
 
 // Performs the front of a script that is over its limit, of which one byte too many was read.
-fn run_front<F: Shelf, W: Sink, L: Ledger>(
+fn run_front<F: Shelf, K: Links, W: Sink, L: Ledger>(
     alloc: Global,
     script: &[u8],
     shelf: &mut F,
+    links: &mut K,
     out: &mut W,
     steps: &mut Steps<L>,
 ) -> u8
     requires { length script.now ≡ SCRIPT_LIMIT + 1 }
-    ensures ran { (world : World) → Tells (F.files shelf.old) world → (more : List ℕ)
+    ensures ran { (world : World) → Meets (F.files shelf.old)
+        (linked (K.attempts links.old) (K.wire links.old)) (linked (K.attempts links.new) (K.wire links.new)) world → (more : List ℕ)
         → Ran SCRIPT_LIMIT world (script.now ++ more) ⊥ (Rose (F.faults shelf.old) (F.faults shelf.new))
         (W.written out.old) (W.written out.new) steps.old steps.new result }
     ensures known { (result ≡ 6) ⊎ (result ≡ 3) ⊎ (result ≡ 4) ⊎ (result ≡ 5) }
@@ -171,7 +178,7 @@ fn run_front<F: Shelf, W: Sink, L: Ledger>(
     ensures shelf_faults { F.faults shelf.old ≤ F.faults shelf.new }
 {
     let (front, _) = script.split_at(SCRIPT_LIMIT);
-    match evaluate(alloc, front, false, shelf, out, steps) {
+    match evaluate(alloc, front, false, shelf, links, out, steps) {
         Ok(_) => 6,
         Err(Stop::Shelf) => 3,
         Err(Stop::Sink) => 4,

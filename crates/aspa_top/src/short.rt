@@ -1,6 +1,6 @@
 //! What a line does within memory.
 ghost use Rattle.std.specs.Prelude.{◌≡◌, ◌+◌, ◌^◌, ◌<◌, ◌≤◌, IfOk, OnErr};
-ghost use Rattle.aspa_top.specs.Performing.{DoneShort, IsWithinShort, KeepsDumps};
+ghost use Rattle.aspa_top.specs.Performing.{DoneShort, IsWithinShort, KeepsDumps, TickedShort};
 
 use crate::acting::happen;
 use crate::explaining::explain;
@@ -27,7 +27,7 @@ pub(crate) fn perform_short<L: Ledger>(
         steps.old steps.new) }
     ensures keeps { IfOk result (KeepsDumps working) }
     ensures err { OnErr result (text.new.items ≡ text.old.items) }
-    ensures ticks { steps.new ≤ steps.old + 1 }
+    ensures ticks { OnErr result (TickedShort working short steps.old steps.new) }
 {
     match short {
         Short::Idle => Ok(working),

@@ -1,7 +1,10 @@
 //! `aspa`, `aspa64` and `slurm`: files that change the table.
 ghost use Rattle.std.specs.Prelude.{◌≡◌, ◌+◌, ◌-◌, ◌^◌, ◌<◌, ◌≤◌, IfOk, OnErr, IsErrOf};
 ghost use Rattle.av_base.specs.Told.{Rose};
-ghost use Rattle.aspa_top.specs.Performing.{Held, IsSound, LoadsAs, Names};
+ghost use Rattle.analyser.specs.declared.event.Event.TheVariants.{Table as TableEvent};
+ghost use Rattle.analyser.specs.Touched.{TicksWithin};
+ghost use Rattle.aspa_top.specs.LoadingSteps.{HasKnownCause};
+ghost use Rattle.aspa_top.specs.Performing.{Acted, ActedWithin, Held, IsSound, LoadsAs, Names, TickedLoad};
 ghost use Rattle.aspa_top.specs.World.{names_of};
 
 use crate::acting::{happen, refuse};
@@ -30,11 +33,12 @@ pub(crate) fn load<F: Shelf, L: Ledger>(
     requires room { (0 < working.lines) × (working.lines < 2 ^ 32) }
     requires sound { IsSound (F.opened shelf.old) (working.lines - 1) working }
     ensures loads { IfOk result (LoadsAs working kind file.now (F.files shelf.old) (F.files shelf.new)
-        text.old.items text.new.items) }
+        text.old.items text.new.items steps.old steps.new) }
+    ensures ticks { OnErr result (TickedLoad working kind file.now (F.files shelf.old) steps.old steps.new) }
     ensures sound { IfOk result (IsSound (F.opened shelf.new) working.lines) }
+    ensures feeds { IfOk result (λ next. next.feeds ≡ working.feeds) }
     ensures lines { IfOk result (λ next. next.lines ≡ working.lines) }
     ensures err { OnErr result (text.new.items ≡ text.old.items) }
-    ensures ticks { steps.new ≡ steps.old }
     ensures names { names_of (F.files shelf.new) ≡ names_of (F.files shelf.old) }
     ensures cause { IsErrOf result ReadFault.Source → Rose (F.faults shelf.old) (F.faults shelf.new) }
     ensures faults { F.faults shelf.old ≤ F.faults shelf.new }
@@ -42,17 +46,35 @@ pub(crate) fn load<F: Shelf, L: Ledger>(
     if working.is_taken(&kind) {
         return Ok(refuse(working, Place::Line, 35, text)?);
     }
-    match load_file(alloc, &kind, file.text(), shelf)? {
-        Outcome::NoFile => Ok(refuse(working, Place::Line, 37, text)?),
-        Outcome::Long => Ok(refuse(working, Place::Line, 40, text)?),
+    let outcome = load_file(alloc, &kind, file.text(), shelf)?;
+    Ok(act_on(working, kind, outcome, text, steps)?)
+}
+
+// Makes the change of a good file, and refuses the line by another one.
+fn act_on<L: Ledger>(
+    working: Working,
+    kind: FileKind,
+    outcome: Outcome,
+    text: &mut Vec<u8>,
+    steps: &mut Steps<L>,
+) -> Result<Working, NoMemory>
+    requires room { working.refused < 2 ^ 62 }
+    requires known { HasKnownCause outcome }
+    ensures acted { IfOk result (Acted working kind outcome text.old.items text.new.items) }
+    ensures ticks { ActedWithin working outcome steps.old steps.new }
+    ensures err { OnErr result (text.new.items ≡ text.old.items) }
+{
+    match outcome {
+        Outcome::NoFile => refuse(working, Place::Line, 37, text),
+        Outcome::Long => refuse(working, Place::Line, 40, text),
         Outcome::Flawed(flaw) => {
             let place = Place::Unit {
                 name: kind.unit_name(),
                 unit: flaw.unit,
             };
-            Ok(refuse(working, place, flaw.cause, text)?)
+            refuse(working, place, flaw.cause, text)
         }
-        Outcome::Good(made) => Ok(hold(working, kind, made, steps)?),
+        Outcome::Good(made) => hold(working, kind, made, steps),
     }
 }
 
@@ -64,7 +86,7 @@ fn hold<L: Ledger>(
     steps: &mut Steps<L>,
 ) -> Result<Working, NoMemory>
     ensures held { IfOk result (Held working kind made) }
-    ensures ticks { steps.new ≡ steps.old }
+    ensures ticks { TicksWithin working.analyser (TableEvent made) steps.old steps.new }
 {
     let changed = happen(working, Event::Table(made), steps)?;
     match kind {

@@ -4,6 +4,7 @@ ghost use Rattle.aspa_top.specs.Evaluation.{table_event, task_of};
 
 use crate::loading::FileKind;
 use analyser::Event;
+use feed_lines::Work;
 use path_model::{AsList, Key, Name, Peer, Role};
 use script_lines::{Command, Word};
 use vap_table::TableChange;
@@ -19,6 +20,10 @@ pub(crate) enum Task {
     Open(Name, Word),
     /// It takes at most so many units of the stream of that name.
     Take(Name, u32),
+    /// It connects a feed under a name to a place.
+    Connect(Name, Word),
+    /// It works on the feed of that name.
+    OnFeed(Name, Work),
     /// It reports each route.
     Report,
     /// It reports each key that changed, and marks all.
@@ -59,6 +64,9 @@ pub(crate) fn task_of(command: Command) -> Task
         Command::RoleDefault(role) => Task::Short(Short::Happen(Event::DefaultRole(role))),
         Command::Open(name, file) => Task::Open(name, file),
         Command::Take(name, count) => Task::Take(name, count),
+        Command::Feed(name, place) => Task::Connect(name, place),
+        Command::Ask(name) => Task::OnFeed(name, Work::Ask),
+        Command::Sync(name, count) => Task::OnFeed(name, Work::Sync(count)),
         Command::Judge(role, neighbour, path) => {
             Task::Short(Short::Judge(role, neighbour, path))
         }

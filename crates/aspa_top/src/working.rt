@@ -3,6 +3,7 @@ ghost use Rattle.std.specs.Prelude.{◌≡◌};
 
 use crate::loading::FileKind;
 use analyser::Analyser;
+use feed_lines::Feeds;
 use indexmap::{IndexMap, IndexSet};
 use path_model::Name;
 use std::alloc::Global;
@@ -17,44 +18,72 @@ pub(crate) struct Working {
     pub(crate) sources: IndexSet<Name>,
     /// The dumps that were opened, by name.
     pub(crate) dumps: IndexMap<Name, OpenDump>,
+    /// The feeds that were connected, by name.
+    pub(crate) feeds: Feeds,
     /// How many lines there were.
     pub(crate) lines: u64,
     /// How many records were passed over.
     pub(crate) passed: u64,
-    /// How many lines of the text so far report a refusal.
+    /// How many lines of the text so far report a refusal, or a feed's end.
     pub(crate) refused: u64,
 }
 
 impl Working {
-    ghost use Rattle.std.specs.Prelude.{ℕ};
+    ghost use Rattle.std.specs.Prelude.{ℕ, ◌||◌, is_some, List, None};
     ghost use Rattle.std.specs.declared.option.Option.{Option};
     ghost use Rattle.av_base.specs.Files.{Files};
+    ghost use Rattle.feed_lines.specs.Holding.{feed_in};
     ghost use Rattle.aspa_top.specs.Tasks.{start};
-    ghost use Rattle.aspa_top.specs.Performing.{IsSound, IsTakenIn, StandsFor};
+    ghost use Rattle.aspa_top.specs.Performing.{IsSound, IsTakenIn, StandsFor, dump_in, has_source, has_stream};
+    ghost use Rattle.aspa_top.specs.World.{BeginsAt, Links, World};
 
     /// Before the first line. It takes no memory.
     pub(crate) fn new(alloc: Global) -> Working
-        ensures stands { (files : Option Files) → StandsFor files result start }
+        ensures stands { (files : Option Files) (links : Links) (world : World) → BeginsAt world links
+            → StandsFor files links result (start world) }
         ensures sound { (opened : ℕ) → IsSound opened 0 result }
+        ensures feeds { (name : List ℕ) → feed_in result.feeds name ≡ None }
         ensures lines { result.lines ≡ 0 }
     {
         Working {
             analyser: Analyser::new(alloc),
             sources: IndexSet::new(alloc),
             dumps: IndexMap::new(alloc),
+            feeds: Feeds::new(alloc),
             lines: 0,
             passed: 0,
             refused: 0,
         }
     }
 
-    /// Whether the name that a file would go under is a dump's.
+    /// Whether the name is a dump's or a feed's.
+    pub(crate) fn has_stream(&self, name: &Name) -> bool
+        ensures { result ≡ has_stream self.now name.now }
+    {
+        self.dumps.contains_key(name) || self.feeds.has(name)
+    }
+
+    /// Whether the name is in use.
+    pub(crate) fn has_name(&self, name: &Name) -> bool
+        ensures { result ≡ (has_source self.now name.now || has_stream self.now name.now) }
+    {
+        self.sources.contains(name) || self.has_stream(name)
+    }
+
+    /// Whether the name is a source's or a dump's.
+    pub(crate) fn is_no_feeds(&self, name: &Name) -> bool
+        ensures { result ≡ (has_source self.now name.now || is_some (dump_in self.now name.now)) }
+    {
+        self.sources.contains(name) || self.dumps.contains_key(name)
+    }
+
+    /// Whether the name that a file would go under is a dump's or a feed's.
     pub(crate) fn is_taken(&self, kind: &FileKind) -> bool
         ensures { IsTakenIn self.now kind.now result }
     {
         match kind {
-            FileKind::Payloads(name) => self.dumps.contains_key(name),
-            FileKind::PayloadLines(name) => self.dumps.contains_key(name),
+            FileKind::Payloads(name) => self.has_stream(name),
+            FileKind::PayloadLines(name) => self.has_stream(name),
             FileKind::Slurm => false,
         }
     }

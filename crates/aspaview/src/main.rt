@@ -1,8 +1,10 @@
-//! The program `aspaview`: it gives [`aspa_top::run`] the real standard input and output and the system's files, and ends with its answer.
+//! The program `aspaview`: it gives [`aspa_top::run`] the real standard input and output and the system's files and connections, and ends
+//! with its answer.
 //!
-//! `main` makes the objects, and `perform` runs over them with `run`'s own clauses. The adapters in `input.rt`, `output.rt` and
-//! `file_shelf.rt` keep the contracts of a source, of a sink and of a shelf, and tell no bytes; those that the reader, writer or file
-//! behind them knows go through unchanged. What the system really gives and takes is trusted. Nothing is written to standard error.
+//! `main` makes the objects, and `perform` runs over them with `run`'s own clauses. The adapters in `input.rt`, `output.rt`,
+//! `file_shelf.rt` and `tcp_links.rt` keep the contracts of a source, of a sink, of a shelf and of links, and tell no bytes; those that
+//! the reader, writer, file or stream behind them knows go through unchanged. What the system really gives and takes is trusted. Nothing
+//! is written to standard error.
 #![tactic(auto)]
 
 ghost use Rattle.std.specs.Prelude.{◌≡◌, ◌≢◌, ◌≤◌, ◌⊎◌, ℕ, map};
@@ -10,15 +12,19 @@ ghost use Rattle.std.specs.String.{string_bytes};
 ghost use Rattle.std.specs.Io.KnownBytes.{IsAtEnd};
 ghost use Rattle.av_base.specs.Told.{Rose};
 ghost use Rattle.aspa_top.specs.Program.{AreOwn, Completes, Demonstrates, IsDemo, IsRun, IsStatus, RanIfTold};
-ghost use Rattle.aspa_top.specs.World.{names_of};
+ghost use Rattle.aspa_top.specs.World.{linked, names_of};
 
+mod connection;
 mod file_shelf;
 mod input;
+#[cfg(test)]
+mod loopback;
 mod opened_file;
 mod output;
+mod tcp_links;
 
 use aspa_top::{SCRIPT_LIMIT, run};
-use av_base::{Links, NoLinks, Shelf, Sink, Source, Steps};
+use av_base::{Links, Shelf, Sink, Source, Steps};
 use file_shelf::FileShelf;
 use input::InputSource;
 use output::OutputSink;
@@ -28,6 +34,7 @@ use std::io::{self, ErrorKind};
 use std::marker::Brand;
 use std::process::ExitCode;
 use std::sync::ledger::{Blank, Ledger};
+use tcp_links::TcpLinks;
 
 // The status of other words than the program's own.
 const OTHER_WORDS: u8 = 2;
@@ -43,7 +50,7 @@ fn main(rt: HostRuntime) -> ExitCode {
                 &words,
                 &mut InputSource::new(rt.reader()),
                 &mut FileShelf::new(rt.alloc(), &rt),
-                &mut NoLinks::new(),
+                &mut TcpLinks::new(rt.alloc(), &rt),
                 &mut OutputSink::new(io::writer(&rt)),
                 Blank::new(1),
             ),
@@ -71,16 +78,18 @@ fn perform<S: Source, F: Shelf, K: Links, W: Sink, L: Ledger>(
     requires one { L.parts ≡ 1 }
     ensures ran { IsRun (map string_bytes words.now.items) → (ticks : ℕ) × RanIfTold SCRIPT_LIMIT
         (S.left script.old) (F.files shelf.old)
+        (linked (K.attempts links.old) (K.wire links.old)) (linked (K.attempts links.new) (K.wire links.new))
         (Rose (S.faults script.old) (S.faults script.new)) (Rose (F.faults shelf.old) (F.faults shelf.new))
         (W.written out.old) (W.written out.new) 0 ticks result }
     ensures demonstrated { (seed : ℕ) → IsDemo (map string_bytes words.now.items) seed
         → Demonstrates seed (W.written out.old) (W.written out.new) result }
     ensures unused { (seed : ℕ) → IsDemo (map string_bytes words.now.items) seed
-        → (script.new ≡ script.old) × (shelf.new ≡ shelf.old) }
+        → (script.new ≡ script.old) × (shelf.new ≡ shelf.old) × (links.new ≡ links.old) }
     ensures known { IsStatus result }
     ensures other_words { result ≡ 2 → ¬ AreOwn (map string_bytes words.now.items) }
     ensures own_words { result ≢ 2 → AreOwn (map string_bytes words.now.items) }
-    ensures untouched { result ≡ 2 → (script.new ≡ script.old) × (shelf.new ≡ shelf.old) × (out.new ≡ out.old) }
+    ensures untouched { result ≡ 2 → (script.new ≡ script.old) × (shelf.new ≡ shelf.old)
+        × (links.new ≡ links.old) × (out.new ≡ out.old) }
     ensures at_end { IsRun (map string_bytes words.now.items) → (result ≡ 0) ⊎ (result ≡ 1)
         → IsAtEnd (S.left script.new) }
     ensures input_cause { result ≡ 3 → (Rose (S.faults script.old) (S.faults script.new) × (out.new ≡ out.old))
@@ -90,7 +99,6 @@ fn perform<S: Source, F: Shelf, K: Links, W: Sink, L: Ledger>(
         (Rose (S.faults script.old) (S.faults script.new)) (Rose (F.faults shelf.old) (F.faults shelf.new))
         (Rose (W.faults out.old) (W.faults out.new)) result }
     ensures names { names_of (F.files shelf.new) ≡ names_of (F.files shelf.old) }
-    ensures links { links.new ≡ links.old }
 {
     let mut steps = Steps::<L>::new(blank);
     run(alloc, words, script, shelf, links, out, &mut steps)

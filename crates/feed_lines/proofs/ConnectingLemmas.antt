@@ -10,7 +10,7 @@ use Rattle.av_base.proofs.LinksLemmas.{IsUsable-new, get-connects, length-told}
 use Rattle.rtr_session.specs.declared.act.Query.TheVariants.{Reset}
 use Rattle.rtr_session.specs.State.{State as Session, fresh}
 use Rattle.rtr_session.specs.Client.{Asks as AsksSession}
-use Rattle.rtr_session.specs.declared.act.Phase.TheVariants.{Fresh, AskedWhole, Over}
+use Rattle.rtr_session.specs.declared.act.Phase.TheVariants.{Fresh, AskedWhole}
 use Rattle.rtr_session.specs.declared.act.Query.{Query}
 use Rattle.report_text.specs.declared.feed.FeedEnd.TheVariants.{Unreachable, Lost as LostFeed}
 use Rattle.feed_lines.specs.declared.feed.OpenFeed.{OpenFeed}
@@ -207,6 +207,7 @@ module _ (attempts_old attempts_mid attempts_new : Option (List Attempt)) (wire_
                   omega (arith, before, had.2);
               each = put_holds wire_old wire_new name feeds_old feeds_new slot puts_new spares_both (λ q other apart is. (apart_old q other apart is, apart_new q other apart is)) started.feed old.feeds started.stands holds.each;
             },
+            refl,
             refl,
             refl,
             λ world comes.

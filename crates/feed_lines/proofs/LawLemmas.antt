@@ -4,7 +4,6 @@ use Rattle.std.specs.Prelude.{slice_get, IfSome}
 use Rattle.std.proofs.lemmas.List.{append_cancel_left, append_cancel_right}
 use Rattle.std.specs.declared.option.Option.{Option}
 use Rattle.std.specs.declared.result.Result.{Result}
-use Rattle.std.specs.FinMap as map
 use Rattle.av_base.specs.Connections.{Link, Attempt, Made, Failed}
 use Rattle.rtr_pdu.specs.declared.pdu.Pdu.{Pdu}
 use Rattle.rtr_pdu.specs.declared.pdu.PduFault.{PduFault}
@@ -13,16 +12,17 @@ use Rattle.rtr_pdu.specs.Units.{Answers}
 use Rattle.rtr_pdu.proofs.NextLemmas.{one_next}
 use Rattle.rtr_session.specs.declared.act.Act.{Act}
 use Rattle.rtr_session.specs.declared.act.Act.TheVariants.{Nothing, Send, Apply, End}
-use Rattle.rtr_session.specs.declared.act.Ending.{Ending}
-use Rattle.rtr_session.specs.declared.act.Ending.TheVariants.{Unexpected, UnknownWithdrawal, SessionChanged, PeerReported}
 use Rattle.rtr_session.specs.declared.act.Query.{Query}
 use Rattle.rtr_session.specs.declared.act.Query.TheVariants.{Reset}
 use Rattle.rtr_session.specs.State.{State as Session}
 use Rattle.rtr_session.proofs.CaseLemmas.{one_case, one_query}
-use Rattle.vap_table.specs.declared.change.TableChange.TheVariants.{Replace}
+use Rattle.vap_table.specs.declared.change.TableChange.{TableChange}
 use Rattle.rib_store.specs.State.{State as Analysis}
 use Rattle.analyser.specs.declared.event.Event.TheVariants.{Table}
-use Rattle.analyser.proofs.EventLemmas.{one_outcome_of}
+use Rattle.analyser.specs.declared.event.Event.{Event}
+use Rattle.analyser.specs.Touched.{Costs}
+use Rattle.analyser.proofs.CostLemmas.{Costs-unique}
+use Rattle.analyser.proofs.EventLemmas.{one_outcome as one_event_outcome}
 use Rattle.report_text.specs.Refusals.{of_line, of_unit, refusal_line}
 use Rattle.report_text.specs.Feeds.{feed_line}
 use Rattle.report_text.proofs.RefusalLemmas.{refusal_is_one_line, feed_end_is_one_line}
@@ -32,8 +32,8 @@ use Rattle.feed_lines.specs.declared.telling.Telling.TheVariants.{NoName, Stream
 use Rattle.feed_lines.specs.declared.working.Work.{Work}
 use Rattle.feed_lines.specs.declared.working.Work.TheVariants.{Ask, Take, Sync}
 use Rattle.feed_lines.specs.Tellings.{Asking, IsCauseOf, number_of, tells_text}
-use Rattle.feed_lines.specs.Feeds.{Feed, Taking, Coming, OnePdu, BadPdu, NoMore, HasSent, LostAtSend, Queries, IsComing, Clears, TakesAct, TakesPdu, TakesComing, TakesFrom, TakesPdus, Syncs, AsksFeed, AsksBy, after_pdu, asked_of, change_by, query_bytes, short_of}
-use Rattle.feed_lines.specs.Lines.{World, State, Connects, StartsBy, Does, Works, WorksBy, Writes, with_feed}
+use Rattle.feed_lines.specs.Feeds.{Feed, Taking, Coming, OnePdu, BadPdu, NoMore, HasSent, LostAtSend, Queries, IsComing, Moves, Follows, Counts, Stays, TakesPdu, TakesComing, TakesFrom, TakesPdus, Syncs, AsksFeed, AsksBy, after_pdu, asked_of, change_due, query_bytes, short_of}
+use Rattle.feed_lines.specs.Lines.{World, State, Connects, StartsBy, Does, Works, WorksBy, Writes, taking_of, with_feed, with_taking}
 use Rattle.feed_lines.specs.Laws.{FeedLinesHaveOneOutcome, EachTellingIsOneLine}
 
 -- ---- what comes next
@@ -157,38 +157,38 @@ queries_unique t feed query one other slot last a b = elim a [
   ]
 ]
 
-same_taking : (end last : Taking) → end.feed ≡ last.feed → end.state ≡ last.state → end ≡ last
-same_taking end last feeds states = λ i. record { feed = feeds i; state = states i }
+counts_unique : (old : Taking) (event : Event) (end last : Taking) → Counts old event end → Counts old event last → end.feed ≡ last.feed → end ≡ last
+counts_unique old event end last a b feeds =
+    let states = one_event_outcome old.state event last.state end.state b.happens a.happens in
+    let costs = Costs-unique old.state event last.state a.cost b.cost (subst (λ (s : Analysis). Costs old.state event s a.cost) states a.costs) b.costs in
+    let judgements = a.counted ∙ ap (λ n. old.judgements + n) costs ∙ sym b.counted in
+    λ i. record { feed = feeds i; state = states i; judgements = judgements i }
 
-clears_unique : (name : List ℕ) (ending : Ending) (old one other : Analysis) → Clears name ending old one → Clears name ending old other → one ≡ other
-clears_unique name SessionChanged old one other a b = let outcome = one_outcome_of old (Table (Replace name map.empty)) in outcome.only one a ∙ sym (outcome.only other b)
-clears_unique name Unexpected old one other a b = a ∙ sym b
-clears_unique name UnknownWithdrawal old one other a b = a ∙ sym b
-clears_unique name PeerReported old one other a b = a ∙ sym b
+stays_unique : (old end last : Taking) → Stays old end → Stays old last → end.feed ≡ last.feed → end ≡ last
+stays_unique old end last a b feeds = a ∙ ap (λ (f : Option Feed). record old { feed = f }) feeds ∙ sym b
 
-act_unique : (t : Link) (name : List ℕ) (feed : Feed) (state : Analysis) (act : Act) (one other : List Telling) (end last : Taking) → TakesAct t name feed state act one end → TakesAct t name feed state act other last
-    → (one ≡ other) × (end ≡ last)
-act_unique t name feed state Nothing one other end last a b = both one other _ end last _ a b
-act_unique t name feed state (Send query) one other end last a b =
-    let same = queries_unique t feed query one other end.feed last.feed a.0 b.0 in
-    (same.0, same_taking end last same.1 (a.1 ∙ sym b.1))
-act_unique t name feed state (Apply delta) one other end last a b =
-    let outcome = one_outcome_of state (Table (change_by name delta)) in
-    (a.0 ∙ sym b.0, same_taking end last (a.1 ∙ sym b.1) (outcome.only end.state a.2 ∙ sym (outcome.only last.state b.2)))
-act_unique t name feed state (End ending) one other end last a b =
-    (a.2 ∙ sym b.2, same_taking end last (a.3 ∙ sym b.3) (clears_unique name ending state end.state last.state a.1 b.1))
+follows_unique : (change : Option TableChange) (old end last : Taking) → Follows change old end → Follows change old last → end.feed ≡ last.feed → end ≡ last
+follows_unique None old end last a b feeds = stays_unique old end last a b feeds
+follows_unique (Some change) old end last a b feeds = counts_unique old (Table change) end last a b feeds
 
-pdu_unique : (t : Link) (name : List ℕ) (feed : Feed) (state : Analysis) (bytes : List ℕ) (pdu : Pdu) (one other : List Telling) (end last : Taking) → TakesPdu t name feed state bytes pdu one end
-    → TakesPdu t name feed state bytes pdu other last → (one ≡ other) × (end ≡ last)
-pdu_unique t name feed state bytes pdu one other end last a b =
+moves_unique : (t : Link) (feed : Feed) (act : Act) (one other : List Telling) (slot last : Option Feed) → Moves t feed act one slot → Moves t feed act other last → (one ≡ other) × (slot ≡ last)
+moves_unique t feed Nothing one other slot last a b = both one other _ slot last _ a b
+moves_unique t feed (Send query) one other slot last a b = queries_unique t feed query one other slot last a b
+moves_unique t feed (Apply delta) one other slot last a b = both one other _ slot last _ a b
+moves_unique t feed (End ending) one other slot last a b = (a.1 ∙ sym b.1, a.2 ∙ sym b.2)
+
+pdu_unique : (t : Link) (name : List ℕ) (feed : Feed) (old : Taking) (bytes : List ℕ) (pdu : Pdu) (one other : List Telling) (end last : Taking) → TakesPdu t name feed old bytes pdu one end
+    → TakesPdu t name feed old bytes pdu other last → (one ≡ other) × (end ≡ last)
+pdu_unique t name feed old bytes pdu one other end last a b =
     let case = one_case feed.session pdu in
     let first = case.only a.act a.session a.client in
     let second = case.only b.act b.session b.client in
     let acts = second.0 ∙ sym first.0 in
     let sessions = second.1 ∙ sym first.1 in
-    act_unique t name (after_pdu feed bytes a.session) state a.act one other end last a.acts
-    (subst (λ (act : Act). TakesAct t name (after_pdu feed bytes a.session) state act other last) acts
-    (subst (λ (session : Session). TakesAct t name (after_pdu feed bytes session) state b.act other last) sessions b.acts))
+    let moved = moves_unique t (after_pdu feed bytes a.session) a.act one other end.feed last.feed a.moves
+    (subst (λ (act : Act). Moves t (after_pdu feed bytes a.session) act other last.feed) acts
+    (subst (λ (session : Session). Moves t (after_pdu feed bytes session) b.act other last.feed) sessions b.moves)) in
+    (moved.0, follows_unique (change_due name a.act) old end last a.follows (subst (λ (act : Act). Follows (change_due name act) old last) acts b.follows) moved.1)
 
 cause_unique : (fault : PduFault) (one other : Cause) → IsCauseOf fault one → IsCauseOf fault other → one ≡ other
 cause_unique BadVersion one other a b = a ∙ sym b
@@ -197,18 +197,18 @@ cause_unique BadType one other a b = a ∙ sym b
 cause_unique HasNoProviders one other a b = a ∙ sym b
 cause_unique NoMemory one other a b = absurd a
 
-coming_unique : (t : Link) (name : List ℕ) (feed : Feed) (state : Analysis) (coming : Coming) (one other : List Telling) (end last : Taking) → TakesComing t name feed state coming one end
-    → TakesComing t name feed state coming other last → (one ≡ other) × (end ≡ last)
-coming_unique t name feed state (OnePdu bytes pdu) one other end last a b = pdu_unique t name feed state bytes pdu one other end last a b
-coming_unique t name feed state (BadPdu left fault) one other end last a b =
-    (a.tells_are ∙ ap (λ (cause : Cause). PduRefused (feed.taken + 1) cause ∷ []) (cause_unique fault a.cause b.cause a.cause_is b.cause_is) ∙ sym b.tells_are, a.new_is ∙ sym b.new_is)
-coming_unique t name feed state NoMore one other end last a b = (a.2 ∙ sym b.2, a.3 ∙ sym b.3)
+coming_unique : (t : Link) (name : List ℕ) (feed : Feed) (old : Taking) (coming : Coming) (one other : List Telling) (end last : Taking) → TakesComing t name feed old coming one end
+    → TakesComing t name feed old coming other last → (one ≡ other) × (end ≡ last)
+coming_unique t name feed old (OnePdu bytes pdu) one other end last a b = pdu_unique t name feed old bytes pdu one other end last a b
+coming_unique t name feed old (BadPdu left fault) one other end last a b =
+    (a.tells_are ∙ ap (λ (cause : Cause). PduRefused (feed.taken + 1) cause ∷ []) (cause_unique fault a.cause b.cause a.cause_is b.cause_is) ∙ sym b.tells_are, stays_unique old end last a.stays b.stays (a.over ∙ sym b.over))
+coming_unique t name feed old NoMore one other end last a b = (a.2 ∙ sym b.2, stays_unique old end last a.4 b.4 (a.3 ∙ sym b.3))
 
 from_unique : (feed : Option Feed) (t : Link) (name : List ℕ) (old : Taking) (one other : List Telling) (end last : Taking) → TakesFrom feed t name old one end → TakesFrom feed t name old other last → (one ≡ other) × (end ≡ last)
 from_unique None t name old one other end last a b = both one other _ end last _ a b
 from_unique (Some feed) t name old one other end last a b =
     let same = same_coming t feed.used b.coming a.coming b.comes a.comes in
-    coming_unique t name feed old.state a.coming one other end last a.takes (subst (λ (c : Coming). TakesComing t name feed old.state c other last) same b.takes)
+    coming_unique t name feed old a.coming one other end last a.takes (subst (λ (c : Coming). TakesComing t name feed old c other last) same b.takes)
 
 -- ---- several
 
@@ -241,13 +241,13 @@ asks_unique t feed one other slot last a b =
     (subst (λ (q : Option Query). AsksBy t (record feed { session = a.session }) q other last) queries
     (subst (λ (s : Session). AsksBy t (record feed { session = s }) b.query other last) sessions b.sends))
 
-does_unique : (t : Link) (name : List ℕ) (work : Work) (feed : Feed) (state : Analysis) (one other : List Telling) (end last : Taking) → Does t name work feed state one end → Does t name work feed state other last
+does_unique : (t : Link) (name : List ℕ) (work : Work) (feed : Feed) (old : Taking) (one other : List Telling) (end last : Taking) → Does t name work feed old one end → Does t name work feed old other last
     → (one ≡ other) × (end ≡ last)
-does_unique t name Ask feed state one other end last a b =
+does_unique t name Ask feed old one other end last a b =
     let same = asks_unique t feed one other end.feed last.feed a.0 b.0 in
-    (same.0, same_taking end last same.1 (a.1 ∙ sym b.1))
-does_unique t name (Take count) feed state one other end last a b = pdus_unique t false name count _ one other end last a b
-does_unique t name (Sync count) feed state one other end last a b = syncs_unique t name count _ one other end last a b
+    (same.0, stays_unique old end last a.1 b.1 same.1)
+does_unique t name (Take count) feed old one other end last a b = pdus_unique t false name count old one other end last a b
+does_unique t name (Sync count) feed old one other end last a b = syncs_unique t name count old one other end last a b
 
 -- ---- by names
 
@@ -257,8 +257,8 @@ works_unique world old name work None one other end last a b = both one other _ 
 works_unique world old name work (Some None) one other end last a b = both one other _ end last _ a b
 works_unique world old name work (Some (Some feed)) one other end last a b =
     let link : b.does.t ≡ a.does.t = (let e = a.does.there in let f = b.does.there in cc) in
-    let same = does_unique a.does.t name work feed old.analysis one other a.end b.end a.does.so (subst (λ (t : Link). Does t name work feed old.analysis other b.end) link b.does.so) in
-    (same.0, a.left ∙ ap (λ (k : Taking). record old { feeds = with_feed name k.feed old.feeds; analysis = k.state }) same.1 ∙ sym b.left)
+    let same = does_unique a.does.t name work feed (taking_of feed old) one other a.end b.end a.does.so (subst (λ (t : Link). Does t name work feed (taking_of feed old) other b.end) link b.does.so) in
+    (same.0, a.left ∙ ap (λ (k : Taking). with_taking name k old) same.1 ∙ sym b.left)
 
 starts_unique : (world : World) (place : List ℕ) (attempt : Attempt) (one other : List Telling) (slot last : Option Feed) → StartsBy world place attempt one slot → StartsBy world place attempt other last → (one ≡ other) × (slot ≡ last)
 starts_unique world place (Made link) one other slot last a b =

@@ -1,9 +1,11 @@
 pub mod ConnectingLemmas
 pub mod ConnectionLemmas
+pub mod CountingLemmas
 pub mod GoingLemmas
 pub mod LawLemmas
 pub mod LineLemmas
 pub mod NamedLemmas
 pub mod PduLemmas
+pub mod StandingLemmas
 pub mod TakingLemmas
 pub mod WorkingLemmas

@@ -9,7 +9,7 @@ use Rattle.feed_lines.specs.declared.feed.Feeds.{Feeds}
 use Rattle.feed_lines.specs.declared.lines.Progress.{Progress}
 use Rattle.feed_lines.specs.declared.telling.Telling.{Telling}
 use Rattle.feed_lines.specs.declared.working.Work.{Work}
-use Rattle.feed_lines.specs.Holding.{AddsAttempts, Goes, HasMoved, Holds, HoldsFeeds}
+use Rattle.feed_lines.specs.Holding.{AddsAttempts, AreWithin, Goes, HasMoved, Holds, HoldsFeeds}
 use Rattle.feed_lines.specs.Lines.{ConnectLine, ConnectPart, State, WorkLine, WorkPart}
 use Rattle.feed_lines.specs.Named.{BeganNamed, ConnectedNamed, WorkedNamed}
 use Rattle.feed_lines.specs.Tellings.{Asking, tells_text}
@@ -29,8 +29,8 @@ module _ (attempts_old attempts_new : Option (List Attempt)) (wire_old wire_new 
   module _ (place : List ℕ) (feeds_new : Feeds) (told : Option Telling) (connected : ConnectedNamed attempts_old attempts_new wire_old wire_new asking.name place feeds_old feeds_new told) where
     pub connect_goes : (next : Progress) → text_new ≡ text_old ++ tells_text asking (option_to_list told)
         → next ≡ record { analyser = progress.analyser; refused = progress.refused + length (option_to_list told) }
-        → Goes attempts_old attempts_new wire_old wire_new (Holds attempts_old wire_old feeds_old progress) (Holds attempts_new wire_new feeds_new next) text_old text_new
-        (λ world old added new. ConnectLine world asking place old added new)
+        → Goes attempts_old attempts_new wire_old wire_new (Holds attempts_old wire_old feeds_old progress)
+        (λ old new. Holds attempts_new wire_new feeds_new next new × (new.judgements ≡ old.judgements)) text_old text_new (λ world old added new. ConnectLine world asking place old added new)
     connect_goes next added is = record {
       attempts = connected.attempts;
       links = connected.links;
@@ -39,19 +39,22 @@ module _ (attempts_old attempts_new : Option (List Attempt)) (wire_old wire_new 
       goes = λ old holds.
           let had = connected.goes old holds.held in (
             counted had.0 told,
-            record {
-              held = counted_holds attempts_new wire_new feeds_new had.0 told had.1;
-              analysis = ap (λ (p : Progress). p.analyser) is ∙ holds.analysis ∙ sym had.2;
-              refused = ap (λ (p : Progress). p.refused) is ∙ ap (λ n. n + length (option_to_list told)) (holds.refused ∙ sym had.3);
-            },
-            λ world comes. record { tells = option_to_list told; after = had.0; done = had.4 world comes; text_is = refl; left = refl },
+            (
+              record {
+                held = counted_holds attempts_new wire_new feeds_new had.0 told had.1;
+                analysis = ap (λ (p : Progress). p.analyser) is ∙ holds.analysis ∙ sym had.2;
+                refused = ap (λ (p : Progress). p.refused) is ∙ ap (λ n. n + length (option_to_list told)) (holds.refused ∙ sym had.3);
+              },
+              had.4,
+            ),
+            λ world comes. record { tells = option_to_list told; after = had.0; done = had.5 world comes; text_is = refl; left = refl },
           );
     }
 
     -- all but the text
     pub connect_unwritten : text_new ≡ text_old
-        → Goes attempts_old attempts_new wire_old wire_new (Holds attempts_old wire_old feeds_old progress) (HasMoved attempts_new wire_new) text_old text_new
-        (λ world old added new. ConnectPart world asking place old new)
+        → Goes attempts_old attempts_new wire_old wire_new (Holds attempts_old wire_old feeds_old progress)
+        (λ old new. HasMoved attempts_new wire_new new × (new.judgements ≡ old.judgements)) text_old text_new (λ world old added new. ConnectPart world asking place old new)
     connect_unwritten same = record {
       attempts = connected.attempts;
       links = connected.links;
@@ -60,15 +63,15 @@ module _ (attempts_old attempts_new : Option (List Attempt)) (wire_old wire_new 
       goes = λ old holds.
           let had = connected.goes old holds.held in (
             counted had.0 told,
-            holds_moved attempts_new wire_new feeds_new (counted had.0 told) (counted_holds attempts_new wire_new feeds_new had.0 told had.1),
-            λ world comes. inl (tells_text asking (option_to_list told), record { tells = option_to_list told; after = had.0; done = had.4 world comes; text_is = refl; left = refl }),
+            (holds_moved attempts_new wire_new feeds_new (counted had.0 told) (counted_holds attempts_new wire_new feeds_new had.0 told had.1), had.4),
+            λ world comes. inl (tells_text asking (option_to_list told), record { tells = option_to_list told; after = had.0; done = had.5 world comes; text_is = refl; left = refl }),
           );
     }
 
   -- nothing was done
   pub connect_nothing : (place : List ℕ) → attempts_new ≡ attempts_old → wire_new ≡ wire_old → text_new ≡ text_old
-      → Goes attempts_old attempts_new wire_old wire_new (Holds attempts_old wire_old feeds_old progress) (HasMoved attempts_new wire_new) text_old text_new
-      (λ world old added new. ConnectPart world asking place old new)
+      → Goes attempts_old attempts_new wire_old wire_new (Holds attempts_old wire_old feeds_old progress)
+      (λ old new. HasMoved attempts_new wire_new new × (new.judgements ≡ old.judgements)) text_old text_new (λ world old added new. ConnectPart world asking place old new)
   connect_nothing place same_attempts same_wire same = record {
     attempts = subst (λ (a : Option (List Attempt)). AddsAttempts attempts_old a) (sym same_attempts) (AddsAttempts-refl attempts_old);
     links = subst (λ (w : Option (List Link)). ToldLater wire_old w) (sym same_wire) (ToldLater-refl wire_old);
@@ -76,22 +79,25 @@ module _ (attempts_old attempts_new : Option (List Attempt)) (wire_old wire_new 
     added = same ∙ sym (append-nil text_old);
     goes = λ old holds. (
       old,
-      subst (λ (a : Option (List Attempt)). HasMoved a wire_new old) (sym same_attempts) (subst (λ (w : Option (List Link)). HasMoved attempts_old w old) (sym same_wire) (holds_moved attempts_old wire_old feeds_old old holds.held)),
+      (
+        subst (λ (a : Option (List Attempt)). HasMoved a wire_new old) (sym same_attempts) (subst (λ (w : Option (List Link)). HasMoved attempts_old w old) (sym same_wire) (holds_moved attempts_old wire_old feeds_old old holds.held)),
+        refl,
+      ),
       λ world comes. inr refl,
     );
   }
 
   -- ---- works
 
-  module _ (work : Work) (same_attempts : attempts_new ≡ attempts_old) (later : ToldLater wire_old wire_new) where
+  module _ (work : Work) (steps_old steps_new : ℕ) (same_attempts : attempts_new ≡ attempts_old) (later : ToldLater wire_old wire_new) where
     adds_none : AddsAttempts attempts_old attempts_new
     adds_none = subst (λ (a : Option (List Attempt)). AddsAttempts attempts_old a) (sym same_attempts) (AddsAttempts-refl attempts_old)
 
-    module _ (feeds_new : Feeds) (told : Option Telling) (after : Analysis) (worked : WorkedNamed attempts_old attempts_new wire_old wire_new asking.name work feeds_old feeds_new progress.analyser told after) where
+    module _ (feeds_new : Feeds) (told : Option Telling) (after : Analysis) (worked : WorkedNamed attempts_old attempts_new wire_old wire_new asking.name work feeds_old feeds_new progress.analyser told after steps_old steps_new) where
       pub work_goes : (next : Progress) → text_new ≡ text_old ++ tells_text asking (option_to_list told)
           → next ≡ record { analyser = after; refused = progress.refused + length (option_to_list told) }
-          → Goes attempts_old attempts_new wire_old wire_new (Holds attempts_old wire_old feeds_old progress) (Holds attempts_new wire_new feeds_new next) text_old text_new
-          (λ world old added new. WorkLine world asking work old added new)
+          → Goes attempts_old attempts_new wire_old wire_new (Holds attempts_old wire_old feeds_old progress)
+          (λ old new. Holds attempts_new wire_new feeds_new next new × AreWithin steps_old steps_new old.judgements new.judgements) text_old text_new (λ world old added new. WorkLine world asking work old added new)
       work_goes next added is = record {
         attempts = adds_none;
         links = later;
@@ -100,19 +106,22 @@ module _ (attempts_old attempts_new : Option (List Attempt)) (wire_old wire_new 
         goes = λ old holds.
             let had = worked.goes old holds.held holds.analysis in (
               counted had.0 told,
-              record {
-                held = counted_holds attempts_new wire_new feeds_new had.0 told had.1;
-                analysis = ap (λ (p : Progress). p.analyser) is ∙ had.2;
-                refused = ap (λ (p : Progress). p.refused) is ∙ ap (λ n. n + length (option_to_list told)) (holds.refused ∙ sym had.3);
-              },
-              λ world comes. record { tells = option_to_list told; after = had.0; done = had.4 world comes; text_is = refl; left = refl },
+              (
+                record {
+                  held = counted_holds attempts_new wire_new feeds_new had.0 told had.1;
+                  analysis = ap (λ (p : Progress). p.analyser) is ∙ had.2;
+                  refused = ap (λ (p : Progress). p.refused) is ∙ ap (λ n. n + length (option_to_list told)) (holds.refused ∙ sym had.3);
+                },
+                had.4,
+              ),
+              λ world comes. record { tells = option_to_list told; after = had.0; done = had.5 world comes; text_is = refl; left = refl },
             );
       }
 
       -- all but the text
       pub work_unwritten : text_new ≡ text_old
-          → Goes attempts_old attempts_new wire_old wire_new (Holds attempts_old wire_old feeds_old progress) (HasMoved attempts_new wire_new) text_old text_new
-          (λ world old added new. WorkPart world asking work old new)
+          → Goes attempts_old attempts_new wire_old wire_new (Holds attempts_old wire_old feeds_old progress)
+          (λ old new. HasMoved attempts_new wire_new new × AreWithin steps_old steps_new old.judgements new.judgements) text_old text_new (λ world old added new. WorkPart world asking work old new)
       work_unwritten same = record {
         attempts = adds_none;
         links = later;
@@ -121,19 +130,19 @@ module _ (attempts_old attempts_new : Option (List Attempt)) (wire_old wire_new 
         goes = λ old holds.
             let had = worked.goes old holds.held holds.analysis in (
               counted had.0 told,
-              holds_moved attempts_new wire_new feeds_new (counted had.0 told) (counted_holds attempts_new wire_new feeds_new had.0 told had.1),
-              λ world comes. inl (tells_text asking (option_to_list told), record { tells = option_to_list told; after = had.0; done = had.4 world comes; text_is = refl; left = refl }),
+              (holds_moved attempts_new wire_new feeds_new (counted had.0 told) (counted_holds attempts_new wire_new feeds_new had.0 told had.1), had.4),
+              λ world comes. inl (tells_text asking (option_to_list told), record { tells = option_to_list told; after = had.0; done = had.5 world comes; text_is = refl; left = refl }),
             );
       }
 
     -- some first moves
-    pub work_began : BeganNamed attempts_old attempts_new wire_old wire_new asking.name work feeds_old progress.analyser → text_new ≡ text_old
-        → Goes attempts_old attempts_new wire_old wire_new (Holds attempts_old wire_old feeds_old progress) (HasMoved attempts_new wire_new) text_old text_new
-        (λ world old added new. WorkPart world asking work old new)
+    pub work_began : BeganNamed attempts_old attempts_new wire_old wire_new asking.name work feeds_old progress.analyser steps_old steps_new → text_new ≡ text_old
+        → Goes attempts_old attempts_new wire_old wire_new (Holds attempts_old wire_old feeds_old progress)
+        (λ old new. HasMoved attempts_new wire_new new × AreWithin steps_old steps_new old.judgements new.judgements) text_old text_new (λ world old added new. WorkPart world asking work old new)
     work_began began same = record {
       attempts = adds_none;
       links = later;
       text = [];
       added = same ∙ sym (append-nil text_old);
-      goes = λ old holds. let had = began.goes old holds.held holds.analysis in (had.0, had.1, λ world comes. inr (had.2 world comes));
+      goes = λ old holds. let had = began.goes old holds.held holds.analysis in (had.0, (had.1, had.2), λ world comes. inr (had.3 world comes));
     }

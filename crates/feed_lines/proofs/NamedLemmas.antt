@@ -15,11 +15,11 @@ use Rattle.feed_lines.specs.declared.telling.Telling.TheVariants.{NoName, Stream
 use Rattle.feed_lines.specs.declared.working.Work.{Work}
 use Rattle.feed_lines.specs.Connection.{Now, Spares, told_at}
 use Rattle.feed_lines.specs.Moves.{Only}
-use Rattle.feed_lines.specs.Feeds.{Feed}
-use Rattle.feed_lines.specs.Holding.{HasMoved, HoldsFeeds, HoldsOr, IsSound, StandsFor, feed_in}
-use Rattle.feed_lines.specs.Lines.{Begins, Does, InEnd, State, WorksBy, World, same_name, with_feed}
+use Rattle.feed_lines.specs.Feeds.{Feed, Taking}
+use Rattle.feed_lines.specs.Holding.{AreWithin, HasMoved, HoldsFeeds, HoldsOr, IsSound, StandsFor, feed_in}
+use Rattle.feed_lines.specs.Lines.{Begins, Does, InEnd, State, WorksBy, World, same_name, taking_of, with_feed, with_taking}
 use Rattle.feed_lines.specs.Named.{BeganNamed, Puts, Same, WorkedNamed}
-use Rattle.feed_lines.specs.Steps.{Halted, IsFit, SlotFits, StandsSlot, WorkedAs}
+use Rattle.feed_lines.specs.Steps.{Halted, HasSentAll, IsFit, SlotFits, StandsSlot, WorkedAs, going}
 use Rattle.feed_lines.proofs.ConnectionLemmas.{Now-map}
 use Rattle.feed_lines.proofs.GoingLemmas.{Now-later, in_end}
 
@@ -146,16 +146,19 @@ module _ {P : ℕ → Type 0} (wire_old wire_new : Option (List Link)) {stood st
       (HoldsOr-put (same_name name q) wire_new slot feed (feed_in feeds_old q) (held q) stands_slot
       (λ test. HoldsOr-spared spares (feed_in feeds_old q) (held q) (λ kept is. apart q kept (differ name q test) is) (holds q)))
 
+has_sent : (wire : Option (List Link)) (link : ℕ) (end : Option Feed) (feed : Feed) → Some end ≡ Some (Some feed) → HasSentAll wire link end → Now wire feed.link (λ t. t.sent ≡ feed.sent)
+has_sent wire link None feed is sent = let none : ⊥ = cc in absurd none
+has_sent wire link (Some end) feed is sent =
+    let same : end ≡ feed = cc in
+    subst (λ (f : Feed). Now wire f.link (λ t. t.sent ≡ f.sent)) same (subst (λ k. Now wire k (λ t. t.sent ≡ end.sent)) (sym sent.0) sent.1)
+
 -- for want of memory: what was sent on the others
 module _ {P : ℕ → Type 0} (wire_old wire_new : Option (List Link)) {stood stands : List Standing} (name : List ℕ) (feeds_old : Feeds) (spares : Spares P wire_old wire_new stood stands)
     (apart : (q : List ℕ) (kept : OpenFeed) → name ≢ q → feed_in feeds_old q ≡ Some (Some kept) → P kept.link) where
-  put_sent : (end : Feed) (held : List ℕ → Option (Option Feed)) → Now wire_new end.link (λ t. t.sent ≡ end.sent) → ((q : List ℕ) → HoldsOr wire_old (feed_in feeds_old q) (held q))
-      → (q : List ℕ) (feed : Feed) → with_feed name (Some end) held q ≡ Some (Some feed) → Now wire_new feed.link (λ t. t.sent ≡ feed.sent)
-  put_sent end held sent holds q feed is = elim (split (same_name name q)) [
-    | inl hit ↦
-        let here : Some (Some end) ≡ Some (Some feed) = (rw hit at is) in
-        let same : end ≡ feed = cc in
-        subst (λ (f : Feed). Now wire_new f.link (λ t. t.sent ≡ f.sent)) same sent
+  put_sent : (link : ℕ) (end : Option Feed) (held : List ℕ → Option (Option Feed)) → HasSentAll wire_new link end → ((q : List ℕ) → HoldsOr wire_old (feed_in feeds_old q) (held q))
+      → (q : List ℕ) (feed : Feed) → with_feed name end held q ≡ Some (Some feed) → Now wire_new feed.link (λ t. t.sent ≡ feed.sent)
+  put_sent link end held sent holds q feed is = elim (split (same_name name q)) [
+    | inl hit ↦ has_sent wire_new link end feed (rw hit at is) sent
     | inr miss ↦
         sent_at wire_new (feed_in feeds_old q) (held q) feed (rw miss at is) (HoldsOr-spared spares (feed_in feeds_old q) (held q) (λ kept there. apart q kept (differ name q miss) there) (holds q))
   ]
@@ -163,18 +166,20 @@ module _ {P : ℕ → Type 0} (wire_old wire_new : Option (List Link)) {stood st
 -- ---- works
 
 module _ (attempts_old attempts_new : Option (List Attempt)) (wire_old wire_new : Option (List Link)) (stood stands : List Standing) (name : List ℕ) (work : Work) (feeds_old : Feeds) (kept : OpenFeed) (before : Analysis)
-    (same : attempts_new ≡ attempts_old) (limit : ℕ) (sound : IsSound stood limit feeds_old) (there : feed_in feeds_old name ≡ Some (Some kept)) (only : Only kept.link wire_old wire_new stood stands) where
+    (steps_old steps_new : ℕ) (same : attempts_new ≡ attempts_old) (limit : ℕ) (sound : IsSound stood limit feeds_old) (there : feed_in feeds_old name ≡ Some (Some kept)) (only : Only kept.link wire_old wire_new stood stands) where
   away : (q : List ℕ) (other : OpenFeed) → name ≢ q → feed_in feeds_old q ≡ Some (Some other) → other.link ≢ kept.link
   away q other apart is = λ e. sound.apart name q kept other apart there is (sym e)
 
   pub works_named : (mid feeds_new : Feeds) (slot : Option OpenFeed) (told : Option Telling) (after : Analysis) → Puts feeds_old mid name None → Puts mid feeds_new name slot
-      → ((state : Feed) → StandsFor wire_old kept state → WorkedAs wire_new kept.link (λ t. Does t name work state before) slot told after)
-      → WorkedNamed attempts_old attempts_new wire_old wire_new name work feeds_old feeds_new before told after
+      → ((state : Feed) (judgements : ℕ) → StandsFor wire_old kept state
+      → WorkedAs wire_new kept.link (AreWithin steps_old steps_new judgements) (λ t. Does t name work state (going state before judgements)) slot told after)
+      → WorkedNamed attempts_old attempts_new wire_old wire_new name work feeds_old feeds_new before told after steps_old steps_new
   works_named mid feeds_new slot told after one two works = record {
     goes = λ old holds analysis.
         let owner = opened wire_old (feed_in feeds_old name) kept (old.feeds name) there (holds.each name) in
-        let had = works owner.0 owner.2 in
-        let new : State = record old { feeds = with_feed name had.feed old.feeds; analysis = after } in (
+        let had = works owner.0 old.judgements owner.2 in
+        let end : Taking = record { feed = had.feed; state = after; judgements = had.judgements } in
+        let new = with_taking name end old in (
           new,
           record {
             made = λ now is. holds.made now (sym same ∙ is);
@@ -182,37 +187,37 @@ module _ (attempts_old attempts_new : Option (List Attempt)) (wire_old wire_new 
           },
           refl,
           refl,
+          had.few,
           λ world comes.
               subst (λ (f : Option (Option Feed)). WorksBy world old name work f (option_to_list told) new) (sym owner.1) (record {
-                end = record { feed = had.feed; state = after };
-                does = subst (λ k. InEnd world k (λ t. Does t name work owner.0 old.analysis (option_to_list told) (record { feed = had.feed; state = after }))) owner.2.link
-                    (subst (λ (a : Analysis). InEnd world kept.link (λ t. Does t name work owner.0 a (option_to_list told) (record { feed = had.feed; state = after }))) analysis
+                end = end;
+                does = subst (λ k. InEnd world k (λ t. Does t name work owner.0 (taking_of owner.0 old) (option_to_list told) end)) owner.2.link
+                    (subst (λ (a : Analysis). InEnd world kept.link (λ t. Does t name work owner.0 (going owner.0 a old.judgements) (option_to_list told) end)) analysis
                     (in_end kept.link (Now-later kept.link only.later owner.2.now) had.done world comes));
                 left = refl;
               }),
         );
   }
 
-  pub began_named : ((state : Feed) → StandsFor wire_old kept state → Halted wire_new kept.link (λ t. Begins t name work state before))
-      → BeganNamed attempts_old attempts_new wire_old wire_new name work feeds_old before
+  pub began_named : ((state : Feed) (judgements : ℕ) → StandsFor wire_old kept state
+      → Halted wire_new kept.link (AreWithin steps_old steps_new judgements) (λ t. Begins t name work (going state before judgements)))
+      → BeganNamed attempts_old attempts_new wire_old wire_new name work feeds_old before steps_old steps_new
   began_named halts = record {
     goes = λ old holds analysis.
         let owner = opened wire_old (feed_in feeds_old name) kept (old.feeds name) there (holds.each name) in
-        let had = halts owner.0 owner.2 in
-        let new : State = record old { feeds = with_feed name (Some had.end) old.feeds; analysis = had.state } in (
-          new,
+        let had = halts owner.0 old.judgements owner.2 in (
+          with_taking name had.end old,
           record {
             made = λ now is. holds.made now (sym same ∙ is);
-            sent = put_sent wire_old wire_new name feeds_old only away had.end old.feeds
-                (subst (λ k. Now wire_new k (λ t. t.sent ≡ had.end.sent)) (sym had.same) had.sent) holds.each;
+            sent = put_sent wire_old wire_new name feeds_old only away kept.link had.end.feed old.feeds had.sent holds.each;
           },
+          had.few,
           λ world comes. record {
             feed = owner.0;
             open_feed = owner.1;
             end = had.end;
-            after = had.state;
-            begins = subst (λ k. InEnd world k (λ t. Begins t name work owner.0 old.analysis had.end had.state)) owner.2.link
-                (subst (λ (a : Analysis). InEnd world kept.link (λ t. Begins t name work owner.0 a had.end had.state)) analysis
+            begins = subst (λ k. InEnd world k (λ t. Begins t name work (taking_of owner.0 old) had.end)) owner.2.link
+                (subst (λ (a : Analysis). InEnd world kept.link (λ t. Begins t name work (going owner.0 a old.judgements) had.end)) analysis
                 (in_end kept.link (Now-later kept.link only.later owner.2.now) had.done world comes));
             left = refl;
           },
@@ -220,15 +225,16 @@ module _ (attempts_old attempts_new : Option (List Attempt)) (wire_old wire_new 
   }
 
 -- nothing was done
-pub refused_named : (attempts : Option (List Attempt)) (wire : Option (List Link)) (name : List ℕ) (work : Work) (feeds_old feeds_new : Feeds) (told : Telling) (state : Analysis) → Same feeds_old feeds_new
+pub refused_named : (attempts : Option (List Attempt)) (wire : Option (List Link)) (name : List ℕ) (work : Work) (feeds_old feeds_new : Feeds) (told : Telling) (state : Analysis) (steps : ℕ) → Same feeds_old feeds_new
     → ((world : World) (old : State) → HoldsOr wire (feed_in feeds_old name) (old.feeds name) → WorksBy world old name work (old.feeds name) (told ∷ []) old)
-    → WorkedNamed attempts attempts wire wire name work feeds_old feeds_new state (Some told) state
-refused_named attempts wire name work feeds_old feeds_new told state same does = record {
+    → WorkedNamed attempts attempts wire wire name work feeds_old feeds_new state (Some told) state steps steps
+refused_named attempts wire name work feeds_old feeds_new told state steps same does = record {
   goes = λ old holds analysis. (
     old,
     record { made = holds.made; each = λ q. subst (λ (f : Option (Option OpenFeed)). HoldsOr wire f (old.feeds q)) (sym (same.same q)) (holds.each q) },
     analysis,
     refl,
+    omega arith,
     λ world comes. does world old (holds.each name),
   );
 }

@@ -1,6 +1,5 @@
 -- A session is over only where a PDU ends it, and what comes next on a connection is one thing.
-use Rattle.std.proofs.Common.{◌≡◌, ◌≢◌, ℕ, inl, inr, Bool, true, false, List, sym, ◌∙◌, ap, subst}
-use Rattle.std.specs.declared.option.Option.{Option}
+use Rattle.std.proofs.Common.{◌≢◌, ℕ, inl, inr, Bool, true, false, List, sym, ◌∙◌, ap, subst}
 use Rattle.rtr_pdu.specs.declared.pdu.Pdu.{Pdu}
 use Rattle.rtr_pdu.specs.declared.pdu.Pdu.TheVariants.{Notify, SerialQuery, ResetQuery, CacheResponse, Passed, EndOfData, CacheReset, ErrorReport, Aspa}
 use Rattle.rtr_session.specs.declared.act.Act.{Act}
@@ -8,9 +7,8 @@ use Rattle.rtr_session.specs.declared.act.Act.TheVariants.{End}
 use Rattle.rtr_session.specs.declared.act.Ending.{Ending}
 use Rattle.rtr_session.specs.declared.act.Phase.{Phase}
 use Rattle.rtr_session.specs.declared.act.Phase.TheVariants.{Fresh, AskedWhole, AskedChanges, ReceivingWhole, ReceivingChanges, Ready, Over}
-use Rattle.rtr_session.specs.declared.act.Query.{Query}
 use Rattle.rtr_session.specs.State.{State as Session}
-use Rattle.rtr_session.specs.Client.{Asks, Client, Goes, OnNotify, OnResponse, OnAspa, OnPassed, OnEnd, OnReset}
+use Rattle.rtr_session.specs.Client.{Client, Goes, OnNotify, OnResponse, OnAspa, OnPassed, OnEnd, OnReset}
 use Rattle.feed_lines.specs.Steps.{IsNoEnd}
 
 -- ---- phases

@@ -18,9 +18,8 @@ use Rattle.rtr_session.specs.declared.act.Ending.{Ending}
 use Rattle.rtr_session.specs.declared.act.Query.{Query}
 use Rattle.rtr_session.specs.State.{State as Session}
 use Rattle.rtr_session.specs.Client.{Client, code_sent as code_on_end}
+use Rattle.vap_table.specs.declared.change.TableChange.{TableChange}
 use Rattle.rib_store.specs.State.{State as Analysis}
-use Rattle.analyser.specs.declared.event.Event.TheVariants.{Table}
-use Rattle.analyser.specs.Events.{Happens}
 use Rattle.report_text.specs.declared.feed.FeedEnd.TheVariants.{Lost as LostFeed}
 use Rattle.feed_lines.specs.declared.asking.Asked.{Asked}
 use Rattle.feed_lines.specs.declared.asking.Asked.TheVariants.{Pdu as Took, Refused, Lost}
@@ -32,12 +31,12 @@ use Rattle.feed_lines.specs.declared.telling.Telling.{Telling}
 use Rattle.feed_lines.specs.declared.telling.Telling.TheVariants.{Pdu as PduRefused, End as FeedEnds}
 use Rattle.feed_lines.specs.Tellings.{IsCauseOf, cause_of_end}
 use Rattle.feed_lines.specs.Connection.{Now, Has}
-use Rattle.feed_lines.specs.Moves.{Ever, KeepsSent, Answers, RefusesNow, Asks, Finishes}
-use Rattle.feed_lines.specs.Feeds.{Feed, Taking, HasEnded, IsClosed, LostAtSend, Queries, OnePdu, BadPdu, NoMore, TakesAct, TakesNext, TakesFrom, TakesUnit, TakesPdus, Clears, after_pdu, asked_of, change_by, is_enough_at, lost, query_bytes, report_bytes}
-use Rattle.feed_lines.specs.Holding.{StandsFor}
+use Rattle.feed_lines.specs.Moves.{Ever, Answers, RefusesNow, Asks, Finishes}
+use Rattle.feed_lines.specs.Feeds.{Feed, Taking, HasEnded, IsClosed, LostAtSend, Queries, OnePdu, BadPdu, NoMore, Moves, Follows, TakesNext, TakesFrom, TakesUnit, TakesPdus, after_pdu, asked_of, change_due, is_enough_at, lost, query_bytes, report_bytes}
+use Rattle.feed_lines.specs.Holding.{AreWithin, StandsFor}
 use Rattle.feed_lines.specs.Lines.{TakesSome}
-use Rattle.feed_lines.specs.Steps.{Halted, TookAs}
-use Rattle.feed_lines.proofs.ConnectionLemmas.{Now-change, Now-map, Ever-later, Ever-now, Ever-closed}
+use Rattle.feed_lines.specs.Steps.{Before, Halted, MayDo, MovedAs, TookAs, going}
+use Rattle.feed_lines.proofs.ConnectionLemmas.{Now-change, Ever-later, Ever-now, Ever-closed}
 
 -- what is said of an error
 pub on_err : {A E : Type 0} {P : Type 0} (result : Result A E) → IsErr result → P → OnErr result P
@@ -50,11 +49,28 @@ Ever-map keeps ever = λ links final is goes t there. keeps t (ever links final 
 -- ---- what was done
 
 -- beside what else is known of the connection
-pub TookAs-with : (wire : Option (List Link)) (link : ℕ) (known : Link → Type 0) (p r : Link → List Telling → Taking → Type 0) (outcome : Outcome) (state : Analysis) → Ever wire link known
-    → ((t : Link) (tells : List Telling) (new : Taking) → known t → p t tells new → r t tells new) → TookAs wire link p outcome state → TookAs wire link r outcome state
-TookAs-with wire link known p r (GoesOn kept) state ever joins took =
-    (took.0, took.1, took.2, λ links final is goes t there. joins t _ _ (ever links final is goes t there) (took.3 links final is goes t there))
-TookAs-with wire link known p r (Ended telling) state ever joins took = λ links final is goes t there. joins t _ _ (ever links final is goes t there) (took links final is goes t there)
+MovedAs-with : (wire : Option (List Link)) (link : ℕ) (known : Link → Type 0) (p r : Link → List Telling → Option Feed → Type 0) (outcome : Outcome) → Ever wire link known
+    → ((t : Link) (tells : List Telling) (slot : Option Feed) → known t → p t tells slot → r t tells slot) → MovedAs wire link p outcome → MovedAs wire link r outcome
+MovedAs-with wire link known p r (GoesOn kept) ever joins moved =
+    (moved.0, moved.1, moved.2, λ links final is goes t there. joins t _ _ (ever links final is goes t there) (moved.3 links final is goes t there))
+MovedAs-with wire link known p r (Ended telling) ever joins moved = λ links final is goes t there. joins t _ _ (ever links final is goes t there) (moved links final is goes t there)
+
+-- and of the steps
+pub TookAs-with : (wire : Option (List Link)) (link : ℕ) (known : Link → Type 0) (few more : ℕ → Type 0) (p r : Link → List Telling → Taking → Type 0) (outcome : Outcome) (state : Analysis) → Ever wire link known
+    → ((n : ℕ) → few n → more n) → ((t : Link) (tells : List Telling) (new : Taking) → known t → p t tells new → r t tells new) → TookAs wire link few p outcome state → TookAs wire link more r outcome state
+TookAs-with wire link known few more p r (GoesOn kept) state ever counts joins took =
+    (took.0, took.1, took.2, took.3, counts took.1 took.4, λ links final is goes t there. joins t _ _ (ever links final is goes t there) (took.5 links final is goes t there))
+TookAs-with wire link known few more p r (Ended telling) state ever counts joins took =
+    (took.0, counts took.0 took.1, λ links final is goes t there. joins t _ _ (ever links final is goes t there) (took.2 links final is goes t there))
+
+pub Halted-with : (wire : Option (List Link)) (link : ℕ) (known : Link → Type 0) (few more : ℕ → Type 0) (p r : Link → Taking → Type 0) → Ever wire link known
+    → ((n : ℕ) → few n → more n) → ((t : Link) (new : Taking) → known t → p t new → r t new) → Halted wire link few p → Halted wire link more r
+Halted-with wire link known few more p r ever counts joins halted = record {
+  end = halted.end;
+  few = counts halted.end.judgements halted.few;
+  done = λ links final is goes t there. joins t halted.end (ever links final is goes t there) (halted.done links final is goes t there);
+  sent = halted.sent;
+}
 
 -- ---- a query
 
@@ -79,32 +95,32 @@ module _ (wire new : Option (List Link)) (kept : OpenFeed) (feed : Feed) (query 
 
 -- ---- what a PDU asks for
 
-module _ (wire : Option (List Link)) (name : List ℕ) (kept : OpenFeed) (state : Analysis) (act : Act) (feed : Feed) (stands : StandsFor wire kept feed) where
-  pub acts_nothing : act ≡ Nothing → TookAs wire kept.link (λ t. TakesAct t name feed state act) (GoesOn kept) state
-  acts_nothing is = rw is (feed, stands, sym stands.link, λ links final told goes t there. (refl, refl))
+module _ (wire : Option (List Link)) (kept : OpenFeed) (act : Act) (feed : Feed) (stands : StandsFor wire kept feed) where
+  pub moves_nothing : act ≡ Nothing → MovedAs wire kept.link (λ t. Moves t feed act) (GoesOn kept)
+  moves_nothing is = rw is (feed, stands, sym stands.link, λ links final told goes t there. (refl, refl))
 
-  pub acts_apply : (delta : Delta) (after : Analysis) → act ≡ Apply delta → Happens state (Table (change_by name delta)) after
-      → TookAs wire kept.link (λ t. TakesAct t name feed state act) (GoesOn kept) after
-  acts_apply delta after is happens = rw is (feed, stands, sym stands.link, λ links final told goes t there. (refl, refl, happens))
+  pub moves_apply : (delta : Delta) → act ≡ Apply delta → MovedAs wire kept.link (λ t. Moves t feed act) (GoesOn kept)
+  moves_apply delta is = rw is (feed, stands, sym stands.link, λ links final told goes t there. (refl, refl))
 
   module _ (new : Option (List Link)) where
-    pub acts_sent : (query : Query) (bytes : List ℕ) (whole : Bool) → act ≡ Send query → bytes ≡ query_bytes query → whole ≡ true
-        → ((got gave : List ℕ) → Now wire kept.link (Has got gave) → Asks new kept.link got gave bytes whole)
-        → TookAs new kept.link (λ t. TakesAct t name feed state act) (GoesOn kept) state
-    acts_sent query bytes whole is spelled went asks =
-        let had = query_whole wire new kept feed query bytes stands spelled whole went asks in
-        rw is (record feed { sent = feed.sent ++ query_bytes query }, had.0, sym stands.link, Ever-map (λ t q. (q, refl)) had.1)
+    module _ (query : Query) (bytes : List ℕ) (whole : Bool) (is : act ≡ Send query) (spelled : bytes ≡ query_bytes query) (asks : (got gave : List ℕ) → Now wire kept.link (Has got gave) → Asks new kept.link got gave bytes whole) where
+      pub moves_sent : whole ≡ true → MovedAs new kept.link (λ t. Moves t feed act) (GoesOn kept)
+      moves_sent went =
+          let had = query_whole wire new kept feed query bytes stands spelled whole went asks in
+          rw is (record feed { sent = feed.sent ++ query_bytes query }, had.0, sym stands.link, had.1)
 
-    pub acts_end : (ending : Ending) (after : Analysis) (code : Option ℕ) (bytes : List ℕ) (cause : Cause) → act ≡ End ending → Clears name ending state after
-        → code ≡ code_on_end ending → bytes ≡ report_bytes code → cause ≡ cause_of_end ending
+      pub moves_lost : whole ≡ false → MovedAs new kept.link (λ t. Moves t feed act) (Ended (FeedEnds LostFeed))
+      moves_lost went = rw is (query_lost wire new kept feed query bytes stands spelled whole went asks)
+
+    pub moves_end : (ending : Ending) (code : Option ℕ) (bytes : List ℕ) (cause : Cause) → act ≡ End ending → code ≡ code_on_end ending → bytes ≡ report_bytes code → cause ≡ cause_of_end ending
         → ((got gave : List ℕ) → Now wire kept.link (Has got gave) → Finishes new kept.link got gave bytes)
-        → TookAs new kept.link (λ t. TakesAct t name feed state act) (Ended (PduRefused kept.taken cause)) after
-    acts_end ending after code bytes cause is clears coded spelled caused finishes =
+        → MovedAs new kept.link (λ t. Moves t feed act) (Ended (PduRefused kept.taken cause))
+    moves_end ending code bytes cause is coded spelled caused finishes =
         let whole : bytes ≡ report_bytes (code_on_end ending) = spelled ∙ ap report_bytes coded in
         let done : Now new kept.link (λ t. (t.received ≡ feed.used ++ kept.framer) × ((t.sent ≡ feed.sent ++ report_bytes (code_on_end ending)) ⊎ LostAtSend t feed.sent (report_bytes (code_on_end ending))) × IsClosed t) =
         subst (λ (b : List ℕ). Now new kept.link (λ t. (t.received ≡ feed.used ++ kept.framer) × ((t.sent ≡ feed.sent ++ b) ⊎ LostAtSend t feed.sent b) × IsClosed t)) whole
         (finishes (feed.used ++ kept.framer) feed.sent stands.now) in
-        rw (is, caused, stands.taken) (Ever-map (λ t had. ((had.1, had.2), clears, refl, refl)) (Ever-closed (λ t had. had.2) done))
+        rw (is, caused, stands.taken) (Ever-map (λ t had. ((had.1, had.2), refl, refl)) (Ever-closed (λ t had. had.2) done))
 
 -- ---- what comes next
 
@@ -121,18 +137,18 @@ refused_now held asked cause is refuses =
     let one : RefusesNow held (Refused cause) = subst (RefusesNow held) is refuses in
     record { fault = one.0; known = known_of one.0 cause one.2; refused = one.1 }
 
-module _ (old wire new : Option (List Link)) (name : List ℕ) (kept : OpenFeed) (held : List ℕ) (asked : Asked) (state : Analysis) (feed : Feed) (stands : StandsFor old kept feed)
+module _ (old wire new : Option (List Link)) (name : List ℕ) (kept : OpenFeed) (held : List ℕ) (asked : Asked) (feed : Feed) (stands : StandsFor old kept feed)
     (answers : (used sent : List ℕ) → Now old kept.link (Has (used ++ kept.framer) sent) → Answers wire kept.link used sent held asked) where
-  pub next_lost : asked ≡ Lost → new ≡ option_map (closes kept.link) wire → TookAs new kept.link (λ t. TakesNext t name feed state) (Ended (FeedEnds LostFeed)) state
+  pub next_lost : asked ≡ Lost → new ≡ option_map (closes kept.link) wire → MovedAs new kept.link (λ t. Before None (TakesNext t name feed)) (Ended (FeedEnds LostFeed))
   next_lost is closed =
       let answer : Answers wire kept.link feed.used feed.sent held Lost = subst (Answers wire kept.link feed.used feed.sent held) is (answers feed.used feed.sent stands.now) in
       let done : Now new kept.link (λ t. (t.received ≡ feed.used ++ held) × (t.sent ≡ feed.sent) × HasEnded t × IsClosed t) =
       Now-change (λ t. record t { closed = true }) closed (λ t had. (had.0.got, had.0.gave, had.1, refl)) answer.1 in
-      Ever-map (λ t had. record { coming = NoMore; comes = ((held, had.0, answer.0), had.2); takes = (had.1, had.3, refl, refl) }) (Ever-closed (λ t had. had.3) done)
+      Ever-map (λ t had before after over stays. record { coming = NoMore; comes = ((held, had.0, answer.0), had.2); takes = (had.1, had.3, refl, over, stays) }) (Ever-closed (λ t had. had.3) done)
 
   pub next_refused : (cause : Cause) (code : Option ℕ) (bytes : List ℕ) → asked ≡ Refused cause → RefusesNow held asked → IsReportFor held code → bytes ≡ report_bytes code
       → ((got gave : List ℕ) → Now wire kept.link (Has got gave) → Finishes new kept.link got gave bytes)
-      → TookAs new kept.link (λ t. TakesNext t name feed state) (Ended (PduRefused (kept.taken + 1) cause)) state
+      → MovedAs new kept.link (λ t. Before None (TakesNext t name feed)) (Ended (PduRefused (kept.taken + 1) cause))
   next_refused cause code bytes is refuses reports spelled finishes =
       let answer : Answers wire kept.link feed.used feed.sent held (Refused cause) = subst (Answers wire kept.link feed.used feed.sent held) is (answers feed.used feed.sent stands.now) in
       let one : RefusesNow held (Refused cause) = subst (RefusesNow held) is refuses in
@@ -142,30 +158,35 @@ module _ (old wire new : Option (List Link)) (name : List ℕ) (kept : OpenFeed)
       (finishes (feed.used ++ held) feed.sent answer) in
       rw stands.taken
       (Ever-map
-      (λ t had. record {
+      (λ t had before after over stays. record {
         coming = BadPdu held one.0;
         comes = (one.1, known, had.0);
-        takes = record { cause = cause; cause_is = one.2; reports = (had.1, had.2); tells_are = refl; new_is = refl };
+        takes = record { cause = cause; cause_is = one.2; reports = (had.1, had.2); tells_are = refl; over = over; stays = stays };
       })
       (Ever-closed (λ t had. had.2) done))
 
-  pub next_pdu : (pdu : Pdu) (act : Act) (session : Session) (outcome : Outcome) (after : Analysis) (later : ToldLater wire new) → asked ≡ Took pdu → Client kept.session pdu act session
-      → ((state' : Feed) → StandsFor wire (record { framer = held; session = session; taken = kept.taken + 1; link = kept.link }) state'
-      → TookAs new kept.link (λ t. TakesAct t name state' state act) outcome after)
-      → TookAs new kept.link (λ t. TakesNext t name feed state) outcome after
-  next_pdu pdu act session outcome after later is client acts =
+  pub next_pdu : (pdu : Pdu) (act : Act) (session : Session) (outcome : Outcome) (change : Option TableChange) → ToldLater wire new → asked ≡ Took pdu → Client kept.session pdu act session → change ≡ change_due name act
+      → ((now : Feed) → StandsFor wire (record { framer = held; session = session; taken = kept.taken + 1; link = kept.link }) now → MovedAs new kept.link (λ t. Moves t now act) outcome)
+      → MovedAs new kept.link (λ t. Before change (TakesNext t name feed)) outcome
+  next_pdu pdu act session outcome change later is client due moves =
       let answer : Answers wire kept.link feed.used feed.sent held (Took pdu) = subst (Answers wire kept.link feed.used feed.sent held) is (answers feed.used feed.sent stands.now) in
-      let mid = after_pdu feed answer.0 session in
-      let took = acts mid (record { link = stands.link; taken = ap (λ n. n + 1) stands.taken; session = refl; now = answer.2 }) in
+      let now = after_pdu feed answer.0 session in
+      let moved = moves now (record { link = stands.link; taken = ap (λ n. n + 1) stands.taken; session = refl; now = answer.2 }) in
       let came : Ever wire kept.link (λ t. (rest : List ℕ) × (t.received ≡ feed.used ++ answer.0 ++ rest)) =
       Ever-now (λ t u had later. (held ++ later.arrived, later.received ∙ ap (λ (l : List ℕ). l ++ later.arrived) had.got ∙ append_assoc (feed.used ++ answer.0) held later.arrived)) answer.2 in
-      TookAs-with new kept.link (λ t. (rest : List ℕ) × (t.received ≡ feed.used ++ answer.0 ++ rest)) (λ t. TakesAct t name mid state act) (λ t. TakesNext t name feed state) outcome after
+      MovedAs-with new kept.link (λ t. (rest : List ℕ) × (t.received ≡ feed.used ++ answer.0 ++ rest)) (λ t. Moves t now act) (λ t. Before change (TakesNext t name feed)) outcome
       (Ever-later kept.link _ later came)
-      (λ t tells next rest acts. record {
+      (λ t tells slot rest moves before after is_slot follows. record {
         coming = OnePdu answer.0 pdu;
         comes = (answer.1, rest);
-        takes = record { act = act; session = session; client = subst (λ (s : Session). Client s pdu act session) stands.session client; acts = acts };
-      }) took
+        takes = record {
+          act = act;
+          session = session;
+          client = subst (λ (s : Session). Client s pdu act session) stands.session client;
+          moves = subst (λ (f : Option Feed). Moves t now act tells f) (sym is_slot) moves;
+          follows = subst (λ (c : Option TableChange). Follows c before after) due follows;
+        };
+      }) moved
 
 -- ---- one after another
 
@@ -205,13 +226,13 @@ pub asked_none : (until : Bool) (feed : Feed) → is_enough_at until feed.sessio
 asked_none until feed enough = ap (λ (b : Bool). cond b None (Some feed)) enough
 
 -- one more after those so far
-takes_more : (t : Link) (until : Bool) (name : List ℕ) (count : ℕ) (start : Taking) (feed : Feed) (state : Analysis) (tells : List Telling) (new : Taking)
-    → is_enough_at until feed.session.phase ≡ false → TakesPdus t until name count start [] (record { feed = Some feed; state = state }) → TakesNext t name feed state tells new
+takes_more : (t : Link) (until : Bool) (name : List ℕ) (count : ℕ) (start : Taking) (feed : Feed) (state : Analysis) (judgements : ℕ) (tells : List Telling) (new : Taking)
+    → is_enough_at until feed.session.phase ≡ false → TakesPdus t until name count start [] (going feed state judgements) → TakesNext t name feed (going feed state judgements) tells new
     → TakesPdus t until name (count + 1) start tells new
-takes_more t until name count start feed state tells new more so_far next =
-    TakesPdus-join t until name count 1 start (record { feed = Some feed; state = state }) new [] tells so_far
-    (TakesPdus-one t until name (record { feed = Some feed; state = state }) new tells
-    (subst (λ (f : Option Feed). TakesFrom f t name (record { feed = Some feed; state = state }) tells new) (sym (asked_feed until feed more)) next))
+takes_more t until name count start feed state judgements tells new more so_far next =
+    TakesPdus-join t until name count 1 start (going feed state judgements) new [] tells so_far
+    (TakesPdus-one t until name (going feed state judgements) new tells
+    (subst (λ (f : Option Feed). TakesFrom f t name (going feed state judgements) tells new) (sym (asked_feed until feed more)) next))
 
 takes_stays : (t : Link) (until : Bool) (name : List ℕ) (first count : ℕ) (start end : Taking) (tells : List Telling) → first ≤ count → asked_of until end.feed ≡ None
     → TakesPdus t until name first start tells end → TakesPdus t until name count start tells end
@@ -221,46 +242,59 @@ takes_stays t until name first count start end tells within none takes =
     (subst (λ (l : List Telling). TakesPdus t until name (first + (count - first)) start l end) (append-nil tells)
     (TakesPdus-join t until name first (count - first) start end end tells [] takes (TakesPdus-stays t until name (count - first) end none)))
 
-module _ (until : Bool) (name : List ℕ) (start : Taking) (link : ℕ) where
+module _ (until : Bool) (name : List ℕ) (start : Taking) (link : ℕ) (steps : ℕ) where
   -- none yet
-  pub pdus_start : (wire : Option (List Link)) (kept : OpenFeed) (feed : Feed) (state : Analysis) → start ≡ record { feed = Some feed; state = state } → kept.link ≡ link → StandsFor wire kept feed
-      → TookAs wire link (λ t. TakesPdus t until name 0 start) (GoesOn kept) state
-  pdus_start wire kept feed state is same stands = (feed, stands, sym stands.link ∙ same, λ links final told goes t there. (refl, sym is))
+  pub pdus_start : (wire : Option (List Link)) (kept : OpenFeed) (feed : Feed) (state : Analysis) → start ≡ going feed state start.judgements → kept.link ≡ link → StandsFor wire kept feed
+      → TookAs wire link (AreWithin steps steps start.judgements) (λ t. TakesPdus t until name 0 start) (GoesOn kept) state
+  pdus_start wire kept feed state is same stands = (feed, start.judgements, stands, sym stands.link ∙ same, omega arith, λ links final told goes t there. (refl, sym is))
 
   -- one more
-  pub pdus_next : (wire new : Option (List Link)) (count : ℕ) (kept : OpenFeed) (state after : Analysis) (outcome is_one : Outcome) → outcome ≡ is_one → kept.link ≡ link → is_enough_at until kept.session.phase ≡ false
-      → ToldLater wire new → TookAs wire link (λ t. TakesPdus t until name count start) (GoesOn kept) state
-      → ((feed : Feed) → StandsFor wire kept feed → TookAs new kept.link (λ t. TakesNext t name feed state) outcome after)
-      → TookAs new link (λ t. TakesPdus t until name (count + 1) start) is_one after
-  pdus_next wire new count kept state after outcome is_one is same more later so_far next =
-      let phase : is_enough_at until so_far.0.session.phase ≡ false = ap (λ (s : Session). is_enough_at until s.phase) (sym so_far.1.session) ∙ more in
-      subst (λ (o : Outcome). TookAs new link (λ t. TakesPdus t until name (count + 1) start) o after) is
-      (TookAs-with new link (λ t. TakesPdus t until name count start [] (record { feed = Some so_far.0; state = state })) (λ t. TakesNext t name so_far.0 state)
-      (λ t. TakesPdus t until name (count + 1) start) outcome after
-      (Ever-later link _ later so_far.3)
-      (λ t tells last before one. takes_more t until name count start so_far.0 state tells last phase before one)
-      (subst (λ k. TookAs new k (λ t. TakesNext t name so_far.0 state) outcome after) same (next so_far.0 so_far.1)))
+  module _ (steps_mid steps_new : ℕ) (wire new : Option (List Link)) (count : ℕ) (kept : OpenFeed) (state : Analysis) (same : kept.link ≡ link) (more : is_enough_at until kept.session.phase ≡ false) (later : ToldLater wire new)
+      (so_far : TookAs wire link (AreWithin steps steps_mid start.judgements) (λ t. TakesPdus t until name count start) (GoesOn kept) state) where
+    abbrev before : Taking
+    before = going so_far.0 state so_far.1
 
+    phase : is_enough_at until so_far.0.session.phase ≡ false
+    phase = ap (λ (s : Session). is_enough_at until s.phase) (sym so_far.2.session) ∙ more
+
+    counts : (n : ℕ) → AreWithin steps_mid steps_new so_far.1 n → AreWithin steps steps_new start.judgements n
+    counts n few = omega (arith, few, so_far.4)
+
+    pub pdus_next : (after : Analysis) (outcome is_one : Outcome) → outcome ≡ is_one
+        → ((feed : Feed) (judgements : ℕ) → StandsFor wire kept feed
+        → TookAs new kept.link (AreWithin steps_mid steps_new judgements) (λ t. TakesNext t name feed (going feed state judgements)) outcome after)
+        → TookAs new link (AreWithin steps steps_new start.judgements) (λ t. TakesPdus t until name (count + 1) start) is_one after
+    pdus_next after outcome is_one is next =
+        subst (λ (o : Outcome). TookAs new link (AreWithin steps steps_new start.judgements) (λ t. TakesPdus t until name (count + 1) start) o after) is
+        (TookAs-with new link (λ t. TakesPdus t until name count start [] before) (AreWithin steps_mid steps_new so_far.1) (AreWithin steps steps_new start.judgements) (λ t. TakesNext t name so_far.0 before)
+        (λ t. TakesPdus t until name (count + 1) start) outcome after
+        (Ever-later link _ later so_far.5) counts
+        (λ t tells last done one. takes_more t until name count start so_far.0 state so_far.1 tells last phase done one)
+        (subst (λ k. TookAs new k (AreWithin steps_mid steps_new so_far.1) (λ t. TakesNext t name so_far.0 before) outcome after) same (next so_far.0 so_far.1 so_far.2)))
+
+    -- for want of memory
+    pub pdus_halted : (most : ℕ) → count + 1 ≤ most
+        → ((feed : Feed) (judgements : ℕ) → StandsFor wire kept feed
+        → Halted new kept.link (AreWithin steps_mid steps_new judgements) (λ t. MayDo (TakesNext t name feed (going feed state judgements)) (going feed state judgements)))
+        → Halted new link (AreWithin steps steps_new start.judgements) (λ t. TakesSome t until name most start)
+    pdus_halted most within next =
+        Halted-with new link (λ t. TakesPdus t until name count start [] before) (AreWithin steps_mid steps_new so_far.1) (AreWithin steps steps_new start.judgements) (λ t. MayDo (TakesNext t name so_far.0 before) before)
+        (λ t. TakesSome t until name most start)
+        (Ever-later link _ later so_far.5) counts
+        (λ t last done may. elim may [
+          | inl none ↦ record { first = count; within = omega (arith, within); tells = []; takes = subst (λ (end : Taking). TakesPdus t until name count start [] end) (sym none) done }
+          | inr some ↦ record { first = count + 1; within = within; tells = some.0; takes = takes_more t until name count start so_far.0 state so_far.1 some.0 last phase done some.1 }
+        ])
+        (subst (λ k. Halted new k (AreWithin steps_mid steps_new so_far.1) (λ t. MayDo (TakesNext t name so_far.0 before) before)) same (next so_far.0 so_far.1 so_far.2))
+
+module _ (until : Bool) (name : List ℕ) (start : Taking) (link : ℕ) (few : ℕ → Type 0) (wire : Option (List Link)) (first count : ℕ) (state : Analysis) (within : first ≤ count) where
   -- all that came
-  pub pdus_ended : (wire : Option (List Link)) (first count : ℕ) (telling : Telling) (state : Analysis) → first ≤ count
-      → TookAs wire link (λ t. TakesPdus t until name first start) (Ended telling) state → TookAs wire link (λ t. TakesPdus t until name count start) (Ended telling) state
-  pdus_ended wire first count telling state within took = Ever-map (λ t takes. takes_stays t until name first count start _ _ within refl takes) took
+  pub pdus_ended : (telling : Telling) → TookAs wire link few (λ t. TakesPdus t until name first start) (Ended telling) state → TookAs wire link few (λ t. TakesPdus t until name count start) (Ended telling) state
+  pdus_ended telling took = (took.0, took.1, Ever-map (λ t takes. takes_stays t until name first count start _ _ within refl takes) took.2)
 
   -- enough
-  pub pdus_enough : (wire : Option (List Link)) (first count : ℕ) (kept : OpenFeed) (state : Analysis) → first ≤ count → is_enough_at until kept.session.phase ≡ true
-      → TookAs wire link (λ t. TakesPdus t until name first start) (GoesOn kept) state → TookAs wire link (λ t. TakesPdus t until name count start) (GoesOn kept) state
-  pdus_enough wire first count kept state within enough took =
-      let phase : is_enough_at until took.0.session.phase ≡ true = ap (λ (s : Session). is_enough_at until s.phase) (sym took.1.session) ∙ enough in
-      (took.0, took.1, took.2, Ever-map (λ t takes. takes_stays t until name first count start _ _ within (asked_none until took.0 phase) takes) took.3)
-
--- for want of memory
-pub pdus_halted : (until : Bool) (name : List ℕ) (link : ℕ) (wire new : Option (List Link)) (first count : ℕ) (kept : OpenFeed) (feed : Feed) (before state : Analysis) → kept.link ≡ link → first ≤ count → ToldLater wire new
-    → KeepsSent kept.link wire new → TookAs wire link (λ t. TakesPdus t until name first (record { feed = Some feed; state = before })) (GoesOn kept) state
-    → Halted new link (λ t. TakesSome t until name count feed before)
-pdus_halted until name link wire new first count kept feed before state same within later keeps took = record {
-  end = took.0;
-  state = state;
-  same = took.2;
-  done = Ever-map (λ t takes. (first, within, takes)) (Ever-later link _ later took.3);
-  sent = subst (λ k. Now new k (λ t. t.sent ≡ took.0.sent)) same (keeps.keeps took.0.sent (Now-map (λ t had. had.gave) took.1.now));
-}
+  pub pdus_enough : (kept : OpenFeed) → is_enough_at until kept.session.phase ≡ true
+      → TookAs wire link few (λ t. TakesPdus t until name first start) (GoesOn kept) state → TookAs wire link few (λ t. TakesPdus t until name count start) (GoesOn kept) state
+  pdus_enough kept enough took =
+      let phase : is_enough_at until took.0.session.phase ≡ true = ap (λ (s : Session). is_enough_at until s.phase) (sym took.2.session) ∙ enough in
+      (took.0, took.1, took.2, took.3, took.4, Ever-map (λ t takes. takes_stays t until name first count start _ _ within (asked_none until took.0 phase) takes) took.5)

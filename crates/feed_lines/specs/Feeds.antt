@@ -18,7 +18,6 @@ use Rattle.rtr_session.specs.declared.act.Query.{Query}
 use Rattle.rtr_session.specs.declared.act.Query.TheVariants.{Reset, Serial}
 use Rattle.rtr_session.specs.declared.act.Delta.{Delta}
 use Rattle.rtr_session.specs.declared.act.Delta.TheVariants.{Whole, Part}
-use Rattle.rtr_session.specs.declared.act.Ending.{Ending}
 use Rattle.rtr_session.specs.declared.act.Ending.TheVariants.{SessionChanged}
 use Rattle.rtr_session.specs.declared.act.Act.{Act}
 use Rattle.rtr_session.specs.declared.act.Act.TheVariants.{Nothing, Send, Apply, End}
@@ -27,8 +26,10 @@ use Rattle.rtr_session.specs.Client.{Asks, Client, code_sent as code_on_end}
 use Rattle.vap_table.specs.declared.change.TableChange.{TableChange}
 use Rattle.vap_table.specs.declared.change.TableChange.TheVariants.{Replace, Patch}
 use Rattle.rib_store.specs.State.{State as Analysis}
+use Rattle.analyser.specs.declared.event.Event.{Event}
 use Rattle.analyser.specs.declared.event.Event.TheVariants.{Table}
 use Rattle.analyser.specs.Events.{Happens}
+use Rattle.analyser.specs.Touched.{Costs}
 use Rattle.report_text.specs.declared.feed.FeedEnd.TheVariants.{Lost, Short}
 use Rattle.feed_lines.specs.declared.telling.Cause.{Cause}
 use Rattle.feed_lines.specs.declared.telling.Telling.{Telling}
@@ -44,10 +45,12 @@ pub record Feed : Type 0 where
   pub taken : ℕ
   pub session : Session
 
--- what a taken PDU changes: the feed, which is none once its session is over, and the analysis
+-- what a taken PDU changes: the feed, which is none once its session is over, the analysis, and how many judgements the events so far may
+-- have cost
 pub record Taking : Type 0 where
   pub feed : Option Feed
   pub state : Analysis
+  pub judgements : ℕ
 
 -- ---- what is sent
 
@@ -123,47 +126,66 @@ abbrev pub change_by : List ℕ → Delta → TableChange
 change_by name (Whole rows) = Replace name rows
 change_by name (Part patch) = Patch name patch
 
--- at a changed session the source of the feed's name has no rows any more
-abbrev pub Clears : List ℕ → Ending → Analysis → Analysis → Type 0
-Clears name SessionChanged old new = Happens old (Table (Replace name map.empty)) new
-Clears name ending old new = new ≡ old
+-- what becomes of that source: at a changed session it has no rows any more
+abbrev pub change_due : List ℕ → Act → Option TableChange
+change_due name Nothing = None
+change_due name (Send query) = None
+change_due name (Apply delta) = Some (change_by name delta)
+change_due name (End SessionChanged) = Some (Replace name map.empty)
+change_due name (End ending) = None
 
--- what a PDU asks for is done; `feed` has taken it already
-abbrev pub TakesAct : Link → List ℕ → Feed → Analysis → Act → List Telling → Taking → Type 0
-TakesAct t name feed state Nothing tells new = (tells ≡ []) × (new ≡ record { feed = Some feed; state = state })
-TakesAct t name feed state (Send query) tells new = Queries t feed query tells new.feed × (new.state ≡ state)
-TakesAct t name feed state (Apply delta) tells new =
-    (tells ≡ []) × (new.feed ≡ Some feed) × Happens state (Table (change_by name delta)) new.state
-TakesAct t name feed state (End ending) tells new =
-    Reports t feed.sent (code_on_end ending) × Clears name ending state new.state
-    × (tells ≡ PduRefused feed.taken (cause_of_end ending) ∷ []) × (new.feed ≡ None)
+-- what a PDU asks for is done with the feed, which has taken it already
+abbrev pub Moves : Link → Feed → Act → List Telling → Option Feed → Type 0
+Moves t feed Nothing tells slot = (tells ≡ []) × (slot ≡ Some feed)
+Moves t feed (Send query) tells slot = Queries t feed query tells slot
+Moves t feed (Apply delta) tells slot = (tells ≡ []) × (slot ≡ Some feed)
+Moves t feed (End ending) tells slot =
+    Reports t feed.sent (code_on_end ending) × (tells ≡ PduRefused feed.taken (cause_of_end ending) ∷ []) × (slot ≡ None)
+
+-- an event happens, and what it may cost is counted
+pub record Counts (old : Taking) (event : Event) (new : Taking) : Type 0 where
+  pub happens : Happens old.state event new.state
+  pub cost : ℕ
+  pub costs : Costs old.state event new.state cost
+  pub counted : new.judgements ≡ old.judgements + cost
+
+-- no event happens
+abbrev pub Stays : Taking → Taking → Type 0
+Stays old new = new ≡ record old { feed = new.feed }
+
+-- a change that is due is one event
+abbrev pub Follows : Option TableChange → Taking → Taking → Type 0
+Follows None old new = Stays old new
+Follows (Some change) old new = Counts old (Table change) new
 
 -- the session takes a PDU
-pub record TakesPdu (t : Link) (name : List ℕ) (feed : Feed) (state : Analysis) (bytes : List ℕ) (pdu : Pdu) (tells : List Telling) (new : Taking) : Type 0 where
+pub record TakesPdu (t : Link) (name : List ℕ) (feed : Feed) (old : Taking) (bytes : List ℕ) (pdu : Pdu) (tells : List Telling) (new : Taking) : Type 0 where
   pub act : Act
   pub session : Session
   pub client : Client feed.session pdu act session
-  pub acts : TakesAct t name (after_pdu feed bytes session) state act tells new
+  pub moves : Moves t (after_pdu feed bytes session) act tells new.feed
+  pub follows : Follows (change_due name act) old new
 
 -- a refused PDU is reported to the cache and by the line
-pub record RefusesPdu (t : Link) (feed : Feed) (state : Analysis) (left : List ℕ) (fault : PduFault) (tells : List Telling) (new : Taking) : Type 0 where
+pub record RefusesPdu (t : Link) (feed : Feed) (old : Taking) (left : List ℕ) (fault : PduFault) (tells : List Telling) (new : Taking) : Type 0 where
   pub cause : Cause
   pub cause_is : IsCauseOf fault cause
   pub reports : Reports t feed.sent (code_on_refusal left fault)
   pub tells_are : tells ≡ PduRefused (feed.taken + 1) cause ∷ []
-  pub new_is : new ≡ record { feed = None; state = state }
+  pub over : new.feed ≡ None
+  pub stays : Stays old new
 
-abbrev pub TakesComing : Link → List ℕ → Feed → Analysis → Coming → List Telling → Taking → Type 0
-TakesComing t name feed state (OnePdu bytes pdu) tells new = TakesPdu t name feed state bytes pdu tells new
-TakesComing t name feed state (BadPdu left fault) tells new = RefusesPdu t feed state left fault tells new
-TakesComing t name feed state NoMore tells new =
-    (t.sent ≡ feed.sent) × IsClosed t × (tells ≡ lost) × (new ≡ record { feed = None; state = state })
+abbrev pub TakesComing : Link → List ℕ → Feed → Taking → Coming → List Telling → Taking → Type 0
+TakesComing t name feed old (OnePdu bytes pdu) tells new = TakesPdu t name feed old bytes pdu tells new
+TakesComing t name feed old (BadPdu left fault) tells new = RefusesPdu t feed old left fault tells new
+TakesComing t name feed old NoMore tells new =
+    (t.sent ≡ feed.sent) × IsClosed t × (tells ≡ lost) × (new.feed ≡ None) × Stays old new
 
--- a line asks for the next PDU of a feed
-pub record TakesNext (t : Link) (name : List ℕ) (feed : Feed) (state : Analysis) (tells : List Telling) (new : Taking) : Type 0 where
+-- a line asks for the next PDU of this feed
+pub record TakesNext (t : Link) (name : List ℕ) (feed : Feed) (old : Taking) (tells : List Telling) (new : Taking) : Type 0 where
   pub coming : Coming
   pub comes : IsComing t feed.used coming
-  pub takes : TakesComing t name feed state coming tells new
+  pub takes : TakesComing t name feed old coming tells new
 
 -- ---- several PDUs
 
@@ -189,7 +211,7 @@ asked_of until (Some feed) = cond (is_enough_at until feed.session.phase) None (
 
 abbrev pub TakesFrom : Option Feed → Link → List ℕ → Taking → List Telling → Taking → Type 0
 TakesFrom None t name old tells new = (tells ≡ []) × (new ≡ old)
-TakesFrom (Some feed) t name old tells new = TakesNext t name feed old.state tells new
+TakesFrom (Some feed) t name old tells new = TakesNext t name feed old tells new
 
 abbrev pub TakesUnit : Link → Bool → List ℕ → Taking → List Telling → Taking → Type 0
 TakesUnit t until name old tells new = TakesFrom (asked_of until old.feed) t name old tells new

@@ -1,5 +1,5 @@
 -- How the feeds that are held stand for those of the definitions.
-use Rattle.std.specs.Prelude.{◌≡◌, ◌≢◌, ℕ, ◌<◌, ◌≤◌, nat_eq, List, ◌++◌, length, Some}
+use Rattle.std.specs.Prelude.{◌≡◌, ◌≢◌, ℕ, ◌+◌, ◌<◌, ◌≤◌, nat_eq, List, ◌++◌, length, Some}
 use Rattle.std.specs.Cmp.Lexicographic.{pointwise}
 use Rattle.std.specs.declared.option.Option.{Option}
 use Rattle.std.specs.declared.option.Option.TheVariants.{None}
@@ -79,15 +79,19 @@ pub record ComesTo (attempts : Option (List Attempt)) (wire : Option (List Link)
   pub adds : AddsAttempts attempts world.attempts
   pub goes_on : ToldLater wire (Some world.links)
 
+-- no more steps were taken than judgements were counted
+abbrev pub AreWithin : ℕ → ℕ → ℕ → ℕ → Type 0
+AreWithin steps_old steps_new counted_old counted_new = steps_new + counted_old ≤ steps_old + counted_new
+
 -- A line took any state that was held to another one, and added a text. What it did is read off the attempts and the connections, whatever
 -- becomes of them later.
-pub record Goes (attempts_old attempts_new : Option (List Attempt)) (wire_old wire_new : Option (List Link)) (from to : State → Type 0)
-    (text_old text_new : List ℕ) (does : World → State → List ℕ → State → Type 0) : Type 0 where
+pub record Goes (attempts_old attempts_new : Option (List Attempt)) (wire_old wire_new : Option (List Link)) (from : State → Type 0)
+    (to : State → State → Type 0) (text_old text_new : List ℕ) (does : World → State → List ℕ → State → Type 0) : Type 0 where
   pub attempts : AddsAttempts attempts_old attempts_new
   pub links : ToldLater wire_old wire_new
   pub text : List ℕ
   pub added : text_new ≡ text_old ++ text
-  pub goes : (old : State) → from old → (new : State) × to new × ((world : World) → ComesTo attempts_new wire_new world → does world old text new)
+  pub goes : (old : State) → from old → (new : State) × to old new × ((world : World) → ComesTo attempts_new wire_new world → does world old text new)
 
 -- ---- lines that couldn't connect
 

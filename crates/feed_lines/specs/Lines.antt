@@ -14,19 +14,20 @@ use Rattle.feed_lines.specs.declared.telling.Telling.TheVariants.{NoName, Stream
 use Rattle.feed_lines.specs.declared.working.Work.{Work}
 use Rattle.feed_lines.specs.declared.working.Work.TheVariants.{Ask, Take, Sync}
 use Rattle.feed_lines.specs.Tellings.{Asking, tells_text}
-use Rattle.feed_lines.specs.Feeds.{Feed, Taking, Queries, IsClosed, AsksFeed, TakesPdus, Syncs}
+use Rattle.feed_lines.specs.Feeds.{Feed, Taking, Queries, IsClosed, Stays, AsksFeed, TakesPdus, Syncs}
 
 -- The outside as it stands when the run ends: its attempts to connect, unless they were cut, and its connections.
 pub record World : Type 0 where
   pub attempts : Option (List Attempt)
   pub links : List Link
 
--- What some lines have left: the feeds by name, none where a session is over, the number of attempts made, the analysis, and how many
--- lines of text report a refusal or a feed's end.
+-- What some lines have left: the feeds by name, none where a session is over, the number of attempts made, the analysis, how many
+-- judgements the events so far may have cost, and how many lines of text report a refusal or a feed's end.
 pub record State : Type 0 where
   pub feeds : List ℕ → Option (Option Feed)
   pub made : ℕ
   pub analysis : Analysis
+  pub judgements : ℕ
   pub refused : ℕ
 
 -- what a connection is in the end
@@ -74,11 +75,20 @@ pub record Connects (world : World) (old : State) (name place : List ℕ) (tells
 
 -- ---- `ask NAME`, `take NAME N`, `sync NAME N`
 
+-- a feed that goes on, with what the lines so far have made of the analysis
+abbrev pub taking_of : Feed → State → Taking
+taking_of feed old = record { feed = Some feed; state = old.analysis; judgements = old.judgements }
+
 -- what the line does with the feed, whose connection in the end is this
-abbrev pub Does : Link → List ℕ → Work → Feed → Analysis → List Telling → Taking → Type 0
-Does t name Ask feed state tells new = AsksFeed t feed tells new.feed × (new.state ≡ state)
-Does t name (Take count) feed state tells new = TakesPdus t false name count (record { feed = Some feed; state = state }) tells new
-Does t name (Sync count) feed state tells new = Syncs t name count (record { feed = Some feed; state = state }) tells new
+abbrev pub Does : Link → List ℕ → Work → Feed → Taking → List Telling → Taking → Type 0
+Does t name Ask feed old tells new = AsksFeed t feed tells new.feed × Stays old new
+Does t name (Take count) feed old tells new = TakesPdus t false name count old tells new
+Does t name (Sync count) feed old tells new = Syncs t name count old tells new
+
+-- what was made of a feed, put under its name, and of the analysis
+abbrev pub with_taking : List ℕ → Taking → State → State
+with_taking name end old =
+    record old { feeds = with_feed name end.feed old.feeds; analysis = end.state; judgements = end.judgements }
 
 -- the most PDUs that a work takes
 abbrev pub units_of : Work → ℕ
@@ -88,8 +98,8 @@ units_of (Sync count) = count
 
 pub record WorksOn (world : World) (old : State) (name : List ℕ) (work : Work) (feed : Feed) (tells : List Telling) (new : State) : Type 0 where
   pub end : Taking
-  pub does : InEnd world feed.link (λ t. Does t name work feed old.analysis tells end)
-  pub left : new ≡ record old { feeds = with_feed name end.feed old.feeds; analysis = end.state }
+  pub does : InEnd world feed.link (λ t. Does t name work feed (taking_of feed old) tells end)
+  pub left : new ≡ with_taking name end old
 
 -- the name is no feed's, or its session is over
 abbrev pub WorksBy : World → State → List ℕ → Work → Option (Option Feed) → List Telling → State → Type 0
@@ -118,24 +128,25 @@ WorkLine world asking work old text new = Writes asking (Works world old asking.
 
 -- ---- a line that ended early
 
--- some PDUs were taken, at most so many, and nothing was reported
-abbrev pub TakesSome : Link → Bool → List ℕ → ℕ → Feed → Analysis → Feed → Analysis → Type 0
-TakesSome t until name count feed state end after =
-    (first : ℕ) × (first ≤ count) × TakesPdus t until name first (record { feed = Some feed; state = state }) [] (record { feed = Some end; state = after })
+-- some PDUs were taken, at most so many
+pub record TakesSome (t : Link) (until : Bool) (name : List ℕ) (count : ℕ) (old new : Taking) : Type 0 where
+  pub first : ℕ
+  pub within : first ≤ count
+  pub tells : List Telling
+  pub takes : TakesPdus t until name first old tells new
 
--- the first moves of a work
-abbrev pub Begins : Link → List ℕ → Work → Feed → Analysis → Feed → Analysis → Type 0
-Begins t name Ask feed state end after = (end ≡ feed) × (after ≡ state)
-Begins t name (Take count) feed state end after = TakesSome t false name count feed state end after
-Begins t name (Sync count) feed state end after = TakesSome t true name count feed state end after
+-- the first moves of a work; an event in which memory ran out is among them
+abbrev pub Begins : Link → List ℕ → Work → Taking → Taking → Type 0
+Begins t name Ask old new = new ≡ old
+Begins t name (Take count) old new = TakesSome t false name count old new
+Begins t name (Sync count) old new = TakesSome t true name count old new
 
 pub record BeginsOn (world : World) (old : State) (name : List ℕ) (work : Work) (new : State) : Type 0 where
   pub feed : Feed
   pub open_feed : old.feeds name ≡ Some (Some feed)
-  pub end : Feed
-  pub after : Analysis
-  pub begins : InEnd world feed.link (λ t. Begins t name work feed old.analysis end after)
-  pub left : new ≡ record old { feeds = with_feed name (Some end) old.feeds; analysis = after }
+  pub end : Taking
+  pub begins : InEnd world feed.link (λ t. Begins t name work (taking_of feed old) end)
+  pub left : new ≡ with_taking name end old
 
 -- all of the line's moves were made, though its text wasn't written, or some first of them
 abbrev pub ConnectPart : World → Asking → List ℕ → State → State → Type 0

@@ -13,7 +13,7 @@ use Rattle.feed_lines.specs.declared.telling.Telling.{Telling}
 use Rattle.feed_lines.specs.declared.working.Work.{Work}
 use Rattle.feed_lines.specs.Moves.{Ever}
 use Rattle.feed_lines.specs.Feeds.{Feed, IsClosed, Queries}
-use Rattle.feed_lines.specs.Holding.{AddsAttempts, ComesTo, HasMoved, HoldsFeeds, StandsFor, feed_in}
+use Rattle.feed_lines.specs.Holding.{AddsAttempts, AreWithin, ComesTo, HasMoved, HoldsFeeds, StandsFor, feed_in}
 use Rattle.feed_lines.specs.Lines.{BeginsOn, Connects, IsAttempt, StartsBy, State, Works, World, same_name, starting}
 use Rattle.feed_lines.specs.Steps.{IsFit, StandsSlot}
 
@@ -43,16 +43,18 @@ IsSlotFit stands (Some feed) = IsFit stands feed
 
 -- the work was done on the feed of a name, from any state that was held
 pub record WorkedNamed (attempts_old attempts_new : Option (List Attempt)) (wire_old wire_new : Option (List Link)) (name : List ℕ) (work : Work)
-    (feeds_old feeds_new : Feeds) (before : Analysis) (told : Option Telling) (after : Analysis) : Type 0 where
+    (feeds_old feeds_new : Feeds) (before : Analysis) (told : Option Telling) (after : Analysis) (steps_old steps_new : ℕ) : Type 0 where
   pub goes : (old : State) → HoldsFeeds attempts_old wire_old feeds_old old → before ≡ old.analysis
       → (new : State) × HoldsFeeds attempts_new wire_new feeds_new new × (after ≡ new.analysis) × (new.refused ≡ old.refused)
+      × AreWithin steps_old steps_new old.judgements new.judgements
       × ((world : World) → ComesTo attempts_new wire_new world → Works world old name work (option_to_list told) new)
 
 -- some first moves were made
 pub record BeganNamed (attempts_old attempts_new : Option (List Attempt)) (wire_old wire_new : Option (List Link)) (name : List ℕ) (work : Work)
-    (feeds_old : Feeds) (before : Analysis) : Type 0 where
+    (feeds_old : Feeds) (before : Analysis) (steps_old steps_new : ℕ) : Type 0 where
   pub goes : (old : State) → HoldsFeeds attempts_old wire_old feeds_old old → before ≡ old.analysis
-      → (new : State) × HasMoved attempts_new wire_new new × ((world : World) → ComesTo attempts_new wire_new world → BeginsOn world old name work new)
+      → (new : State) × HasMoved attempts_new wire_new new × AreWithin steps_old steps_new old.judgements new.judgements
+      × ((world : World) → ComesTo attempts_new wire_new world → BeginsOn world old name work new)
 
 -- ---- connecting
 
@@ -84,4 +86,5 @@ pub record ConnectedNamed (attempts_old attempts_new : Option (List Attempt)) (w
   pub links : ToldLater wire_old wire_new
   pub goes : (old : State) → HoldsFeeds attempts_old wire_old feeds_old old
       → (new : State) × HoldsFeeds attempts_new wire_new feeds_new new × (new.analysis ≡ old.analysis) × (new.refused ≡ old.refused)
+      × (new.judgements ≡ old.judgements)
       × ((world : World) → ComesTo attempts_new wire_new world → Connects world old name place (option_to_list told) new)

@@ -1,13 +1,15 @@
 -- How the steps of a line stand for the definitions; only private contracts cite this.
-use Rattle.std.specs.Prelude.{◌≡◌, ◌≢◌, ℕ, ◌≤◌, List, [], ◌∷◌, Some}
+use Rattle.std.specs.Prelude.{◌≡◌, ◌≢◌, ℕ, ◌≤◌, ◌⊎◌, List, [], ◌∷◌, Some, IfOk}
 use Rattle.std.specs.Option.{option_to_list}
 use Rattle.std.specs.declared.option.Option.{Option}
 use Rattle.std.specs.declared.option.Option.TheVariants.{None}
+use Rattle.std.specs.declared.result.Result.{Result}
 use Rattle.av_base.specs.Connections.{Link, IsUsable}
 use Rattle.av_base.specs.declared.standing.Standing.{Standing}
 use Rattle.rtr_session.specs.declared.act.Act.{Act}
 use Rattle.rtr_session.specs.declared.act.Act.TheVariants.{Nothing, Send, Apply, End}
 use Rattle.rtr_session.specs.declared.act.Phase.TheVariants.{Over}
+use Rattle.vap_table.specs.declared.change.TableChange.{TableChange}
 use Rattle.rib_store.specs.State.{State as Analysis}
 use Rattle.feed_lines.specs.declared.feed.OpenFeed.{OpenFeed}
 use Rattle.feed_lines.specs.declared.taking.Outcome.{Outcome}
@@ -17,8 +19,8 @@ use Rattle.feed_lines.specs.declared.telling.Telling.TheVariants.{End as FeedEnd
 use Rattle.report_text.specs.declared.feed.FeedEnd.TheVariants.{Unreachable}
 use Rattle.feed_lines.specs.Connection.{Now}
 use Rattle.feed_lines.specs.Moves.{Ever}
-use Rattle.feed_lines.specs.Feeds.{Feed, Taking}
-use Rattle.feed_lines.specs.Holding.{StandsFor}
+use Rattle.feed_lines.specs.Feeds.{Feed, Taking, Follows}
+use Rattle.feed_lines.specs.Holding.{AreWithin, StandsFor}
 
 -- the feed's connection may be used, and its session isn't over
 pub record IsFit (stands : List Standing) (feed : OpenFeed) : Type 0 where
@@ -34,6 +36,16 @@ abbrev pub SlotFits : List Standing → ℕ → ℕ → Option OpenFeed → Type
 SlotFits stands link most None = Unit {0}
 SlotFits stands link most (Some feed) = IsFit stands feed × (feed.link ≡ link) × (feed.taken ≤ most)
 
+-- what was done to the feed, whatever becomes of its connection: it goes on and nothing is reported, or it is over
+abbrev pub MovedAs : Option (List Link) → ℕ → (Link → List Telling → Option Feed → Type 0) → Outcome → Type 0
+MovedAs wire link does (GoesOn kept) =
+    (feed : Feed) × StandsFor wire kept feed × (feed.link ≡ link) × Ever wire link (λ t. does t [] (Some feed))
+MovedAs wire link does (Ended telling) = Ever wire link (λ t. does t (telling ∷ []) None)
+
+-- this is done wherever the change that is due follows
+abbrev pub Before : Option TableChange → (Taking → List Telling → Taking → Type 0) → List Telling → Option Feed → Type 0
+Before change takes tells slot = (old new : Taking) → new.feed ≡ slot → Follows change old new → takes old tells new
+
 -- the session goes on after this act
 abbrev pub IsNoEnd : Act → Type 0
 IsNoEnd Nothing = Unit {0}
@@ -41,11 +53,30 @@ IsNoEnd (Send query) = Unit {0}
 IsNoEnd (Apply delta) = Unit {0}
 IsNoEnd (End ending) = ⊥
 
--- the feed goes on and nothing is reported, or it is over; this was done, whatever becomes of the connection
-abbrev pub TookAs : Option (List Link) → ℕ → (Link → List Telling → Taking → Type 0) → Outcome → Analysis → Type 0
-TookAs wire link does (GoesOn kept) state =
-    (feed : Feed) × StandsFor wire kept feed × (feed.link ≡ link) × Ever wire link (λ t. does t [] (record { feed = Some feed; state = state }))
-TookAs wire link does (Ended telling) state = Ever wire link (λ t. does t (telling ∷ []) (record { feed = None; state = state }))
+-- a feed that goes on, with its analysis and what is counted so far
+abbrev pub going : Feed → Analysis → ℕ → Taking
+going feed state judgements = record { feed = Some feed; state = state; judgements = judgements }
+
+-- one that is over
+abbrev pub over : Analysis → ℕ → Taking
+over state judgements = record { feed = None; state = state; judgements = judgements }
+
+-- The analysis went on so from one that was held, whether or not there was memory for the next one, and no more steps were taken than
+-- judgements were counted.
+pub record Passes {E : Type 0} (result : Result Analysis E) (steps_old steps_new : ℕ) (old : Taking) (does : Taking → Type 0) (slot : Option Feed) : Type 0 where
+  pub state : Analysis
+  pub judgements : ℕ
+  pub is : IfOk result (λ next. next ≡ state)
+  pub within : AreWithin steps_old steps_new old.judgements judgements
+  pub done : does (record { feed = slot; state = state; judgements = judgements })
+
+-- The feed goes on and nothing is reported, or it is over. This was done, whatever becomes of the connection, and so many judgements are
+-- counted then.
+abbrev pub TookAs : Option (List Link) → ℕ → (ℕ → Type 0) → (Link → List Telling → Taking → Type 0) → Outcome → Analysis → Type 0
+TookAs wire link within does (GoesOn kept) state =
+    (feed : Feed) × (judgements : ℕ) × StandsFor wire kept feed × (feed.link ≡ link) × within judgements × Ever wire link (λ t. does t [] (going feed state judgements))
+TookAs wire link within does (Ended telling) state =
+    (judgements : ℕ) × within judgements × Ever wire link (λ t. does t (telling ∷ []) (over state judgements))
 
 abbrev pub StandsSlot : Option (List Link) → Option OpenFeed → Option Feed → Type 0
 StandsSlot wire None None = Unit {0}
@@ -53,16 +84,32 @@ StandsSlot wire (Some kept) (Some feed) = StandsFor wire kept feed
 StandsSlot wire slot feed = ⊥
 
 -- the same of a feed that may be over, where something may be reported in either case
-pub record WorkedAs (wire : Option (List Link)) (link : ℕ) (does : Link → List Telling → Taking → Type 0)
-    (slot : Option OpenFeed) (told : Option Telling) (state : Analysis) : Type 0 where
+pub record LeftAs (wire : Option (List Link)) (link : ℕ) (does : Link → List Telling → Option Feed → Type 0) (slot : Option OpenFeed) (told : Option Telling) : Type 0 where
   pub feed : Option Feed
   pub stands : StandsSlot wire slot feed
-  pub done : Ever wire link (λ t. does t (option_to_list told) (record { feed = feed; state = state }))
+  pub done : Ever wire link (λ t. does t (option_to_list told) feed)
+
+-- with the analysis
+pub record WorkedAs (wire : Option (List Link)) (link : ℕ) (within : ℕ → Type 0) (does : Link → List Telling → Taking → Type 0)
+    (slot : Option OpenFeed) (told : Option Telling) (state : Analysis) : Type 0 where
+  pub feed : Option Feed
+  pub judgements : ℕ
+  pub few : within judgements
+  pub stands : StandsSlot wire slot feed
+  pub done : Ever wire link (λ t. does t (option_to_list told) (record { feed = feed; state = state; judgements = judgements }))
+
+-- a feed that goes on has sent what its connection has
+abbrev pub HasSentAll : Option (List Link) → ℕ → Option Feed → Type 0
+HasSentAll wire link None = Unit {0}
+HasSentAll wire link (Some feed) = (feed.link ≡ link) × Now wire link (λ t. t.sent ≡ feed.sent)
 
 -- there was no memory: some first moves were made, and the feed sent what they ask for
-pub record Halted (wire : Option (List Link)) (link : ℕ) (begins : Link → Feed → Analysis → Type 0) : Type 0 where
-  pub end : Feed
-  pub state : Analysis
-  pub same : end.link ≡ link
-  pub done : Ever wire link (λ t. begins t end state)
-  pub sent : Now wire link (λ t. t.sent ≡ end.sent)
+pub record Halted (wire : Option (List Link)) (link : ℕ) (within : ℕ → Type 0) (begins : Link → Taking → Type 0) : Type 0 where
+  pub end : Taking
+  pub few : within end.judgements
+  pub done : Ever wire link (λ t. begins t end)
+  pub sent : HasSentAll wire link end.feed
+
+-- this was done, or nothing
+abbrev pub MayDo : (List Telling → Taking → Type 0) → Taking → Taking → Type 0
+MayDo does old new = (new ≡ old) ⊎ ((tells : List Telling) × does tells new)

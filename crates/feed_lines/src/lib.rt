@@ -4,8 +4,9 @@
 //! everything. [`work`] performs an `ask`, `take` or `sync` line on the feed of a name. What they do and report is defined in
 //! `specs/Lines.antt`, over what one PDU and several make of a feed (`specs/Feeds.antt`): begin reading there. Each relation reads the
 //! connection as it stands when the run ends, so what is proved of a line stays true whatever the later lines do; how the [`Feeds`] that
-//! are held stand for those of the definitions is said in `specs/Holding.antt`. Two outcomes of a line on the same connections are
-//! the same one, and each thing that is reported is one line of text (`laws`).
+//! are held stand for those of the definitions is said in `specs/Holding.antt`. What the events may cost in judgements is counted, and
+//! a line takes no more steps, whether it ends well or not. Two outcomes of a line on the same connections are the same one, and each
+//! thing that is reported is one line of text (`laws`).
 //!
 //! `asking` receives PDUs, `sending` sends queries and error reports, `taking` takes PDUs one after another, `working` performs what a
 //! line asks of a feed that goes on, `named` finds it by its name, `connecting` starts one, and `lines` writes what is reported.

@@ -5,7 +5,7 @@ ghost use Rattle.report_text.specs.declared.feed.FeedEnd.TheVariants.{Unreachabl
 ghost use Rattle.feed_lines.specs.declared.telling.Telling.{Telling as TellingOf};
 ghost use Rattle.feed_lines.specs.declared.telling.Telling.TheVariants.{End as FeedEnds};
 ghost use Rattle.feed_lines.specs.Connection.{Spares};
-ghost use Rattle.feed_lines.specs.Holding.{Goes, HasMoved, Holds, IsCounted, IsNoFeeds, IsSound};
+ghost use Rattle.feed_lines.specs.Holding.{AreWithin, Goes, HasMoved, Holds, IsCounted, IsNoFeeds, IsSound};
 ghost use Rattle.feed_lines.specs.Lines.{ConnectLine, ConnectPart, WorkLine, WorkPart, units_of};
 ghost use Rattle.feed_lines.specs.Tellings.{tells_text};
 
@@ -48,7 +48,8 @@ pub fn connect<K: Links>(
     ensures goes { IfOk result (λ next. Goes (K.attempts links.old) (K.attempts links.new)
         (K.wire links.old) (K.wire links.new)
         (Holds (K.attempts links.old) (K.wire links.old) feeds.old progress)
-        (Holds (K.attempts links.new) (K.wire links.new) feeds.new next)
+        (λ old new. Holds (K.attempts links.new) (K.wire links.new) feeds.new next new
+        × (new.judgements ≡ old.judgements))
         text.old.items text.new.items
         (λ world old added new. ConnectLine world (record { line = line; name = name.now })
         place.now old added new)) }
@@ -57,7 +58,8 @@ pub fn connect<K: Links>(
     ensures part { OnErr result (Goes (K.attempts links.old) (K.attempts links.new)
         (K.wire links.old) (K.wire links.new)
         (Holds (K.attempts links.old) (K.wire links.old) feeds.old progress)
-        (HasMoved (K.attempts links.new) (K.wire links.new))
+        (λ old new. HasMoved (K.attempts links.new) (K.wire links.new) new
+        × (new.judgements ≡ old.judgements))
         text.old.items text.new.items
         (λ world old added new. ConnectPart world (record { line = line; name = name.now })
         place.now old new)) }
@@ -75,13 +77,15 @@ pub fn connect<K: Links>(
         → IsSound (K.standings links.old) most feeds.old
         → IsSound (K.standings links.new) most feeds.new) }
     ensures few { IfOk result (λ next. next.refused ≤ progress.refused + 1) }
+    ensures faults { K.faults links.old ≤ K.faults links.new }
 {
     let told = connect_named(alloc, name, place, feeds, links)?;
     let next = report(line, name, told, progress, text)?;
     Ok(next)
 }
 
-/// Performs `ask NAME`, `take NAME N` or `sync NAME N`, the second on a feed. An End of Data is one event. The text is held.
+/// Performs `ask NAME`, `take NAME N` or `sync NAME N`, the second on a feed. An End of Data is one event. It takes a step for each
+/// judgement. The text is held.
 pub fn work<K: Links, L: Ledger>(
     alloc: Global,
     line: u64,
@@ -96,20 +100,22 @@ pub fn work<K: Links, L: Ledger>(
     requires sound { IsSound (K.standings links.old) (2 ^ 61) feeds.old }
     requires few_refused { progress.refused < 2 ^ 62 }
 
-    // What it did, where the connections are told.
+    // What it did, where the connections are told, in no more steps than the judgements that it counts.
     ensures goes { IfOk result (λ next. Goes (K.attempts links.old) (K.attempts links.new)
         (K.wire links.old) (K.wire links.new)
         (Holds (K.attempts links.old) (K.wire links.old) feeds.old progress)
-        (Holds (K.attempts links.new) (K.wire links.new) feeds.new next)
+        (λ old new. Holds (K.attempts links.new) (K.wire links.new) feeds.new next new
+        × AreWithin steps.old steps.new old.judgements new.judgements)
         text.old.items text.new.items
         (λ world old added new. WorkLine world (record { line = line; name = name.now })
         work old added new)) }
 
-    // Where memory ran out: all of its moves, but for the text, or some first of them.
+    // Where memory ran out: all of its moves, but for the text, or some first of them. An event in which it ran out is among them.
     ensures part { OnErr result (Goes (K.attempts links.old) (K.attempts links.new)
         (K.wire links.old) (K.wire links.new)
         (Holds (K.attempts links.old) (K.wire links.old) feeds.old progress)
-        (HasMoved (K.attempts links.new) (K.wire links.new))
+        (λ old new. HasMoved (K.attempts links.new) (K.wire links.new) new
+        × AreWithin steps.old steps.new old.judgements new.judgements)
         text.old.items text.new.items
         (λ world old added new. WorkPart world (record { line = line; name = name.now })
         work old new)) }
@@ -129,7 +135,6 @@ pub fn work<K: Links, L: Ledger>(
     ensures few { IfOk result (λ next. next.refused ≤ progress.refused + 1) }
     ensures attempts { K.attempts links.new ≡ K.attempts links.old }
     ensures faults { K.faults links.old ≤ K.faults links.new }
-    ensures ticks { steps.new ≡ steps.old }
 {
     let Progress { analyser, refused } = progress;
     let (told, analyser) = work_named(alloc, name, work, feeds, analyser, links, steps)?;

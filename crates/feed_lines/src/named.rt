@@ -29,14 +29,15 @@ pub(crate) fn work_named<K: Links, L: Ledger>(
 ) -> Result<(Option<Telling>, Analyser), NoMemory>
     requires sound { IsSound (K.standings links.old) (2 ^ 61) feeds.old }
     ensures works { IfOk result (λ r. WorkedNamed (K.attempts links.old) (K.attempts links.new)
-        (K.wire links.old) (K.wire links.new) name.now work feeds.old feeds.new analyser r.0 r.1) }
+        (K.wire links.old) (K.wire links.new) name.now work feeds.old feeds.new analyser r.0 r.1
+        steps.old steps.new) }
     ensures halts { OnErr result (BeganNamed (K.attempts links.old) (K.attempts links.new)
-        (K.wire links.old) (K.wire links.new) name.now work feeds.old analyser) }
+        (K.wire links.old) (K.wire links.new) name.now work feeds.old analyser
+        steps.old steps.new) }
     ensures sound { IfOk result (λ r. (most : ℕ)
         → IsSound (K.standings links.old) most feeds.old
         → IsSound (K.standings links.new) (most + units_of work) feeds.new) }
     ensures reached { IfOk result (λ r. r.0 ≢ Some (FeedEnds Unreachable)) }
-    ensures ticks { steps.new ≡ steps.old }
     ensures others { Spares (IsNoFeeds (K.standings links.old) feeds.old)
         (K.wire links.old) (K.wire links.new) (K.standings links.old) (K.standings links.new) }
     ensures attempts { K.attempts links.new ≡ K.attempts links.old }

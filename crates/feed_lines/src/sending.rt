@@ -1,6 +1,7 @@
 //! Sending queries and error reports.
 ghost use Rattle.std.specs.Prelude.{◌≡◌, ℕ, ◌≤◌, List, true, IfOk};
 ghost use Rattle.av_base.specs.Connections.{IsOpen, IsUsable};
+ghost use Rattle.rtr_pdu.specs.Spelled.{IsWritable, spelled};
 ghost use Rattle.feed_lines.specs.Connection.{Has, Now};
 ghost use Rattle.feed_lines.specs.Moves.{Asks, Finishes, Only, Sends};
 ghost use Rattle.feed_lines.specs.Feeds.{query_bytes, report_bytes};
@@ -14,24 +15,29 @@ use std::alloc::Global;
 pub(crate) fn spell_query(alloc: Global, query: Query) -> Result<Vec<u8>, NoMemory>
     ensures { IfOk result (λ bytes. bytes.items ≡ query_bytes query) }
 {
-    let mut bytes = Vec::new(alloc);
     match query {
-        Query::Reset => write(&Pdu::ResetQuery, &mut bytes)?,
-        Query::Serial { session, serial } => {
-            write(&Pdu::SerialQuery { session, serial }, &mut bytes)?
-        }
+        Query::Reset => spell(alloc, Pdu::ResetQuery),
+        Query::Serial { session, serial } => spell(alloc, Pdu::SerialQuery { session, serial }),
     }
-    Ok(bytes)
 }
 
 /// The bytes of the error report with this code, or none.
 pub(crate) fn spell_report(alloc: Global, code: Option<u16>) -> Result<Vec<u8>, NoMemory>
     ensures { IfOk result (λ bytes. bytes.items ≡ report_bytes code) }
 {
-    let mut bytes = Vec::new(alloc);
-    if let Some(code) = code {
-        write(&Pdu::ErrorReport { code }, &mut bytes)?;
+    match code {
+        Some(code) => spell(alloc, Pdu::ErrorReport { code }),
+        None => Ok(Vec::new(alloc)),
     }
+}
+
+// The bytes of a PDU.
+fn spell(alloc: Global, pdu: Pdu) -> Result<Vec<u8>, NoMemory>
+    requires { IsWritable pdu }
+    ensures { IfOk result (λ bytes. bytes.items ≡ spelled pdu) }
+{
+    let mut bytes = Vec::new(alloc);
+    write(&pdu, &mut bytes)?;
     Ok(bytes)
 }
 

@@ -1,14 +1,13 @@
 //! Taking PDUs from a feed.
-ghost use Rattle.std.specs.Prelude.{◌≡◌, ◌≢◌, ℕ, ◌+◌, ◌^◌, ◌<◌, ◌≤◌, Some, IfOk, OnErr};
+ghost use Rattle.std.specs.Prelude.{◌≡◌, ◌≢◌, ℕ, ◌+◌, ◌^◌, ◌<◌, ◌≤◌, Option, IfOk, OnErr};
 ghost use Rattle.av_base.specs.Connections.{IsUsable};
-ghost use Rattle.analyser.specs.declared.event.Event.TheVariants.{Table};
-ghost use Rattle.analyser.specs.Events.{Happens};
+ghost use Rattle.rtr_session.specs.declared.act.Act.TheVariants.{End as EndAct};
 ghost use Rattle.rtr_session.specs.declared.act.Phase.TheVariants.{Over};
 ghost use Rattle.feed_lines.specs.Moves.{KeepsSent, Only};
-ghost use Rattle.feed_lines.specs.Feeds.{Clears, Feed, TakesAct, TakesNext, TakesPdus, change_by, is_enough_at};
-ghost use Rattle.feed_lines.specs.Holding.{StandsFor};
+ghost use Rattle.feed_lines.specs.Feeds.{Feed, Follows, Moves, Taking, TakesNext, TakesPdus, change_by, change_due, is_enough_at};
+ghost use Rattle.feed_lines.specs.Holding.{AreWithin, StandsFor};
 ghost use Rattle.feed_lines.specs.Lines.{TakesSome};
-ghost use Rattle.feed_lines.specs.Steps.{Halted, IsFit, IsNoEnd, OutcomeFits, TookAs};
+ghost use Rattle.feed_lines.specs.Steps.{Before, Halted, IsFit, IsNoEnd, MayDo, MovedAs, OutcomeFits, Passes, TookAs, going};
 
 use crate::asking::{Asked, next_pdu};
 use crate::feed::OpenFeed;
@@ -45,18 +44,19 @@ pub(crate) fn take_pdus<K: Links, L: Ledger>(
 ) -> Result<(Outcome, Analyser), NoMemory>
     requires fit { IsFit (K.standings links.old) feed }
     requires room { feed.taken < 2 ^ 62 }
-    ensures took { IfOk result (λ r. (state : Feed) → StandsFor (K.wire links.old) feed state
-        → TookAs (K.wire links.new) feed.link
-        (λ t. TakesPdus t until_ready name.now count
-        (record { feed = Some state; state = analyser })) r.0 r.1) }
-    ensures halts { OnErr result ((state : Feed) → StandsFor (K.wire links.old) feed state
-        → Halted (K.wire links.new) feed.link
-        (λ t. TakesSome t until_ready name.now count state analyser)) }
+    ensures took { IfOk result (λ r. (state : Feed) (judgements : ℕ)
+        → StandsFor (K.wire links.old) feed state
+        → TookAs (K.wire links.new) feed.link (AreWithin steps.old steps.new judgements)
+        (λ t. TakesPdus t until_ready name.now count (going state analyser judgements))
+        r.0 r.1) }
+    ensures halts { OnErr result ((state : Feed) (judgements : ℕ)
+        → StandsFor (K.wire links.old) feed state
+        → Halted (K.wire links.new) feed.link (AreWithin steps.old steps.new judgements)
+        (λ t. TakesSome t until_ready name.now count (going state analyser judgements))) }
     ensures only { Only feed.link (K.wire links.old) (K.wire links.new)
         (K.standings links.old) (K.standings links.new) }
     ensures fits { IfOk result (λ r.
         OutcomeFits (K.standings links.new) feed.link (feed.taken + count) r.0) }
-    ensures ticks { steps.new ≡ steps.old }
     ensures attempts { K.attempts links.new ≡ K.attempts links.old }
     ensures faults { K.faults links.old ≤ K.faults links.new }
 {
@@ -100,15 +100,59 @@ fn take_pdu<K: Links, L: Ledger>(
 ) -> Result<(Outcome, Analyser), NoMemory>
     requires fit { IsFit (K.standings links.old) feed }
     requires room { feed.taken < 2 ^ 63 }
-    ensures took { IfOk result (λ r. (state : Feed) → StandsFor (K.wire links.old) feed state
-        → TookAs (K.wire links.new) feed.link
-        (λ t. TakesNext t name.now state analyser) r.0 r.1) }
+    ensures took { IfOk result (λ r. (state : Feed) (judgements : ℕ)
+        → StandsFor (K.wire links.old) feed state
+        → TookAs (K.wire links.new) feed.link (AreWithin steps.old steps.new judgements)
+        (λ t. TakesNext t name.now state (going state analyser judgements)) r.0 r.1) }
+    ensures halts { OnErr result ((state : Feed) (judgements : ℕ)
+        → StandsFor (K.wire links.old) feed state
+        → Halted (K.wire links.new) feed.link (AreWithin steps.old steps.new judgements)
+        (λ t. MayDo (TakesNext t name.now state (going state analyser judgements))
+        (going state analyser judgements))) }
+    ensures only { Only feed.link (K.wire links.old) (K.wire links.new)
+        (K.standings links.old) (K.standings links.new) }
+    ensures fits { IfOk result (λ r.
+        OutcomeFits (K.standings links.new) feed.link (feed.taken + 1) r.0) }
+    ensures attempts { K.attempts links.new ≡ K.attempts links.old }
+    ensures faults { K.faults links.old ≤ K.faults links.new }
+{
+    let (outcome, change) = move_feed(alloc, name, feed, links)?;
+    let analyser = follow(change, analyser, steps)?;
+    Ok((outcome, analyser))
+}
+
+// A change that is due is one event.
+fn follow<L: Ledger>(
+    change: Option<TableChange>,
+    analyser: Analyser,
+    steps: &mut Steps<L>,
+) -> Result<Analyser, NoMemory>
+    ensures { (old : Taking) (slot : Option Feed) → old.state ≡ analyser
+        → Passes result steps.old steps.new old (Follows change old) slot }
+{
+    match change {
+        Some(change) => analyser.step(Event::Table(change), steps),
+        None => Ok(analyser),
+    }
+}
+
+// Asks for the next PDU and does what it asks for, but for the change that is due then.
+fn move_feed<K: Links>(
+    alloc: Global,
+    name: &Name,
+    feed: OpenFeed,
+    links: &mut K,
+) -> Result<(Outcome, Option<TableChange>), NoMemory>
+    requires fit { IsFit (K.standings links.old) feed }
+    requires room { feed.taken < 2 ^ 63 }
+    ensures moved { IfOk result (λ r. (state : Feed) → StandsFor (K.wire links.old) feed state
+        → MovedAs (K.wire links.new) feed.link
+        (λ t. Before r.1 (TakesNext t name.now state)) r.0) }
     ensures halts { OnErr result (KeepsSent feed.link (K.wire links.old) (K.wire links.new)) }
     ensures only { Only feed.link (K.wire links.old) (K.wire links.new)
         (K.standings links.old) (K.standings links.new) }
     ensures fits { IfOk result (λ r.
         OutcomeFits (K.standings links.new) feed.link (feed.taken + 1) r.0) }
-    ensures ticks { steps.new ≡ steps.old }
     ensures attempts { K.attempts links.new ≡ K.attempts links.old }
     ensures faults { K.faults links.old ≤ K.faults links.new }
 {
@@ -122,13 +166,13 @@ fn take_pdu<K: Links, L: Ledger>(
     match asked {
         Asked::Lost => {
             links.close(link);
-            Ok((Outcome::Ended(Telling::End(FeedEnd::Lost)), analyser))
+            Ok((Outcome::Ended(Telling::End(FeedEnd::Lost)), None))
         }
         Asked::Refused(cause) => {
             let report = spell_report(alloc, framer.report())?;
             finish(report.as_slice(), link, links);
             let number = taken + 1;
-            Ok((Outcome::Ended(Telling::Pdu { number, cause }), analyser))
+            Ok((Outcome::Ended(Telling::Pdu { number, cause }), None))
         }
         Asked::Pdu(pdu) => {
             let (session, act) = session.on(pdu)?;
@@ -138,107 +182,80 @@ fn take_pdu<K: Links, L: Ledger>(
                 taken: taken + 1,
                 link,
             };
-            let (outcome, analyser) = perform(alloc, name, after, act, analyser, links, steps)?;
-            Ok((outcome, analyser))
+            let (outcome, change) = perform(alloc, name, after, act, links)?;
+            Ok((outcome, change))
         }
     }
 }
 
-// Does what a PDU asks for, which the feed has taken already.
-fn perform<K: Links, L: Ledger>(
+// Does what a PDU asks for with the feed, which has taken it already, and gives the change that is due.
+fn perform<K: Links>(
     alloc: Global,
     name: &Name,
     feed: OpenFeed,
     act: Act,
-    analyser: Analyser,
     links: &mut K,
-    steps: &mut Steps<L>,
-) -> Result<(Outcome, Analyser), NoMemory>
+) -> Result<(Outcome, Option<TableChange>), NoMemory>
     requires usable { IsUsable (K.standings links.old) feed.link }
     requires phase { IsNoEnd act → feed.session.phase ≢ Over }
-    ensures took { IfOk result (λ r. (state : Feed) → StandsFor (K.wire links.old) feed state
-        → TookAs (K.wire links.new) feed.link
-        (λ t. TakesAct t name.now state analyser act) r.0 r.1) }
+    ensures moved { IfOk result (λ r. (state : Feed) → StandsFor (K.wire links.old) feed state
+        → MovedAs (K.wire links.new) feed.link (λ t. Moves t state act) r.0) }
+    ensures due { IfOk result (λ r. r.1 ≡ change_due name.now act) }
     ensures halts { OnErr result (KeepsSent feed.link (K.wire links.old) (K.wire links.new)) }
     ensures only { Only feed.link (K.wire links.old) (K.wire links.new)
         (K.standings links.old) (K.standings links.new) }
     ensures fits { IfOk result (λ r.
         OutcomeFits (K.standings links.new) feed.link feed.taken r.0) }
-    ensures ticks { steps.new ≡ steps.old }
     ensures attempts { K.attempts links.new ≡ K.attempts links.old }
     ensures faults { K.faults links.old ≤ K.faults links.new }
 {
     match act {
-        Act::Nothing => Ok((Outcome::Open(feed), analyser)),
+        Act::Nothing => Ok((Outcome::Open(feed), None)),
         Act::Apply(delta) => {
-            let analyser = apply(name, delta, analyser, steps)?;
-            Ok((Outcome::Open(feed), analyser))
+            let change = change_of(name, delta)?;
+            Ok((Outcome::Open(feed), Some(change)))
         }
         Act::Send(query) => {
             let bytes = spell_query(alloc, query)?;
             if send_query(bytes.as_slice(), feed.link, links) {
-                return Ok((Outcome::Open(feed), analyser));
+                return Ok((Outcome::Open(feed), None));
             }
-            Ok((Outcome::Ended(Telling::End(FeedEnd::Lost)), analyser))
+            Ok((Outcome::Ended(Telling::End(FeedEnd::Lost)), None))
         }
         Act::End(ending) => {
-            let analyser = clear(alloc, name, ending, analyser, steps)?;
+            let change = clearing(alloc, name, ending)?;
             let report = spell_report(alloc, ending.report())?;
             finish(report.as_slice(), feed.link, links);
             let telling = Telling::Pdu {
                 number: feed.taken,
                 cause: cause_of_end(ending),
             };
-            Ok((Outcome::Ended(telling), analyser))
+            Ok((Outcome::Ended(telling), change))
         }
     }
 }
 
-// An End of Data is one event: it replaces or patches the source of the feed's name.
-fn apply<L: Ledger>(
-    name: &Name,
-    delta: Delta,
-    analyser: Analyser,
-    steps: &mut Steps<L>,
-) -> Result<Analyser, NoMemory>
-    ensures applied { IfOk result (λ next.
-        Happens analyser (Table (change_by name.now delta)) next) }
-    ensures ticks { steps.new ≡ steps.old }
-{
-    let change = change_of(name.copy()?, delta);
-    let next = analyser.step(Event::Table(change), steps)?;
-    Ok(next)
-}
-
-// The change that an End of Data makes of the source of this name.
-fn change_of(name: Name, delta: Delta) -> TableChange
-    ensures { result ≡ change_by name delta }
+// An End of Data replaces or patches the source of the feed's name.
+fn change_of(name: &Name, delta: Delta) -> Result<TableChange, NoMemory>
+    ensures { IfOk result (λ change. change ≡ change_by name.now delta) }
 {
     match delta {
-        Delta::Whole(rows) => TableChange::Replace(name, rows),
-        Delta::Part(patch) => TableChange::Patch(name, patch),
+        Delta::Whole(rows) => Ok(TableChange::Replace(name.copy()?, rows)),
+        Delta::Part(patch) => Ok(TableChange::Patch(name.copy()?, patch)),
     }
 }
 
 // At a changed session the rows of the source of the feed's name are replaced by none.
-fn clear<L: Ledger>(
-    alloc: Global,
-    name: &Name,
-    ending: Ending,
-    analyser: Analyser,
-    steps: &mut Steps<L>,
-) -> Result<Analyser, NoMemory>
-    ensures cleared { IfOk result (λ next. Clears name.now ending analyser next) }
-    ensures ticks { steps.new ≡ steps.old }
+fn clearing(alloc: Global, name: &Name, ending: Ending) -> Result<Option<TableChange>, NoMemory>
+    ensures { IfOk result (λ change. change ≡ change_due name.now (EndAct ending)) }
 {
     match ending {
         Ending::SessionChanged => {
-            let change = TableChange::Replace(name.copy()?, Rows::new(alloc));
-            let next = analyser.step(Event::Table(change), steps)?;
-            Ok(next)
+            let name = name.copy()?;
+            Ok(Some(TableChange::Replace(name, Rows::new(alloc))))
         }
-        Ending::Unexpected => Ok(analyser),
-        Ending::UnknownWithdrawal => Ok(analyser),
-        Ending::PeerReported => Ok(analyser),
+        Ending::Unexpected => Ok(None),
+        Ending::UnknownWithdrawal => Ok(None),
+        Ending::PeerReported => Ok(None),
     }
 }

@@ -1,13 +1,13 @@
 //! What a line does with a feed that goes on.
-ghost use Rattle.std.specs.Prelude.{◌≡◌, ◌≢◌, ◌+◌, ◌^◌, ◌<◌, ◌≤◌, Some, None, IfOk, OnErr};
+ghost use Rattle.std.specs.Prelude.{◌≡◌, ◌≢◌, ℕ, ◌+◌, ◌^◌, ◌<◌, ◌≤◌, Some, None, IfOk, OnErr};
 ghost use Rattle.report_text.specs.declared.feed.FeedEnd.TheVariants.{Unreachable};
 ghost use Rattle.feed_lines.specs.declared.telling.Telling.TheVariants.{End as FeedEnds};
-ghost use Rattle.feed_lines.specs.declared.working.Work.TheVariants.{Ask as AskWork, Sync as SyncWork, Take as TakeWork};
-ghost use Rattle.feed_lines.specs.Moves.{Only};
-ghost use Rattle.feed_lines.specs.Feeds.{Feed};
-ghost use Rattle.feed_lines.specs.Holding.{StandsFor};
+ghost use Rattle.feed_lines.specs.declared.working.Work.TheVariants.{Sync as SyncWork, Take as TakeWork};
+ghost use Rattle.feed_lines.specs.Moves.{KeepsSent, Only};
+ghost use Rattle.feed_lines.specs.Feeds.{AsksFeed, Feed};
+ghost use Rattle.feed_lines.specs.Holding.{AreWithin, StandsFor};
 ghost use Rattle.feed_lines.specs.Lines.{Begins, Does, units_of};
-ghost use Rattle.feed_lines.specs.Steps.{Halted, IsFit, SlotFits, WorkedAs};
+ghost use Rattle.feed_lines.specs.Steps.{Halted, IsFit, LeftAs, SlotFits, WorkedAs, going};
 
 use crate::feed::OpenFeed;
 use crate::sending::{send_query, spell_query};
@@ -51,24 +51,32 @@ pub(crate) fn work_on<K: Links, L: Ledger>(
 ) -> Result<Worked, NoMemory>
     requires fit { IsFit (K.standings links.old) feed }
     requires room { feed.taken < 2 ^ 62 }
-    ensures works { IfOk result (λ r. (state : Feed) → StandsFor (K.wire links.old) feed state
-        → WorkedAs (K.wire links.new) feed.link
-        (λ t. Does t name.now work state analyser)
+    ensures works { IfOk result (λ r. (state : Feed) (judgements : ℕ)
+        → StandsFor (K.wire links.old) feed state
+        → WorkedAs (K.wire links.new) feed.link (AreWithin steps.old steps.new judgements)
+        (λ t. Does t name.now work state (going state analyser judgements))
         r.slot r.told r.analyser) }
-    ensures halts { OnErr result ((state : Feed) → StandsFor (K.wire links.old) feed state
-        → Halted (K.wire links.new) feed.link
-        (λ t. Begins t name.now work state analyser)) }
+    ensures halts { OnErr result ((state : Feed) (judgements : ℕ)
+        → StandsFor (K.wire links.old) feed state
+        → Halted (K.wire links.new) feed.link (AreWithin steps.old steps.new judgements)
+        (λ t. Begins t name.now work (going state analyser judgements))) }
     ensures only { Only feed.link (K.wire links.old) (K.wire links.new)
         (K.standings links.old) (K.standings links.new) }
     ensures fits { IfOk result (λ r.
         SlotFits (K.standings links.new) feed.link (feed.taken + units_of work) r.slot) }
     ensures reached { IfOk result (λ r. r.told ≢ Some (FeedEnds Unreachable)) }
-    ensures ticks { steps.new ≡ steps.old }
     ensures attempts { K.attempts links.new ≡ K.attempts links.old }
     ensures faults { K.faults links.old ≤ K.faults links.new }
 {
     match work {
-        Work::Ask => ask_feed(alloc, name, feed, analyser, links),
+        Work::Ask => {
+            let (slot, told) = ask_feed(alloc, feed, links)?;
+            Ok(Worked {
+                slot,
+                told,
+                analyser,
+            })
+        }
         Work::Take(count) => take_some(alloc, name, feed, count, analyser, links, steps),
         Work::Sync(count) => sync_some(alloc, name, feed, count, analyser, links, steps),
     }
@@ -77,24 +85,18 @@ pub(crate) fn work_on<K: Links, L: Ledger>(
 // Sends the query that is due, if there is one.
 fn ask_feed<K: Links>(
     alloc: Global,
-    name: &Name,
     feed: OpenFeed,
-    analyser: Analyser,
     links: &mut K,
-) -> Result<Worked, NoMemory>
+) -> Result<(Option<OpenFeed>, Option<Telling>), NoMemory>
     requires fit { IsFit (K.standings links.old) feed }
-    ensures works { IfOk result (λ r. (state : Feed) → StandsFor (K.wire links.old) feed state
-        → WorkedAs (K.wire links.new) feed.link
-        (λ t. Does t name.now AskWork state analyser)
-        r.slot r.told r.analyser) }
-    ensures halts { OnErr result ((state : Feed) → StandsFor (K.wire links.old) feed state
-        → Halted (K.wire links.new) feed.link
-        (λ t. Begins t name.now AskWork state analyser)) }
+    ensures asks { IfOk result (λ r. (state : Feed) → StandsFor (K.wire links.old) feed state
+        → LeftAs (K.wire links.new) feed.link (λ t. AsksFeed t state) r.0 r.1) }
+    ensures halts { OnErr result (KeepsSent feed.link (K.wire links.old) (K.wire links.new)) }
     ensures only { Only feed.link (K.wire links.old) (K.wire links.new)
         (K.standings links.old) (K.standings links.new) }
     ensures fits { IfOk result (λ r.
-        SlotFits (K.standings links.new) feed.link feed.taken r.slot) }
-    ensures reached { IfOk result (λ r. r.told ≢ Some (FeedEnds Unreachable)) }
+        SlotFits (K.standings links.new) feed.link feed.taken r.0) }
+    ensures reached { IfOk result (λ r. r.1 ≢ Some (FeedEnds Unreachable)) }
     ensures attempts { K.attempts links.new ≡ K.attempts links.old }
     ensures faults { K.faults links.old ≤ K.faults links.new }
 {
@@ -112,13 +114,13 @@ fn ask_feed<K: Links>(
         link,
     };
     match query {
-        None => Ok(goes_on(feed, analyser)),
+        None => Ok((Some(feed), None)),
         Some(query) => {
             let bytes = spell_query(alloc, query)?;
             if send_query(bytes.as_slice(), link, links) {
-                return Ok(goes_on(feed, analyser));
+                return Ok((Some(feed), None));
             }
-            Ok(ends(Telling::End(FeedEnd::Lost), analyser))
+            Ok((None, Some(Telling::End(FeedEnd::Lost))))
         }
     }
 }
@@ -135,19 +137,20 @@ fn take_some<K: Links, L: Ledger>(
 ) -> Result<Worked, NoMemory>
     requires fit { IsFit (K.standings links.old) feed }
     requires room { feed.taken < 2 ^ 62 }
-    ensures works { IfOk result (λ r. (state : Feed) → StandsFor (K.wire links.old) feed state
-        → WorkedAs (K.wire links.new) feed.link
-        (λ t. Does t name.now (TakeWork count) state analyser)
+    ensures works { IfOk result (λ r. (state : Feed) (judgements : ℕ)
+        → StandsFor (K.wire links.old) feed state
+        → WorkedAs (K.wire links.new) feed.link (AreWithin steps.old steps.new judgements)
+        (λ t. Does t name.now (TakeWork count) state (going state analyser judgements))
         r.slot r.told r.analyser) }
-    ensures halts { OnErr result ((state : Feed) → StandsFor (K.wire links.old) feed state
-        → Halted (K.wire links.new) feed.link
-        (λ t. Begins t name.now (TakeWork count) state analyser)) }
+    ensures halts { OnErr result ((state : Feed) (judgements : ℕ)
+        → StandsFor (K.wire links.old) feed state
+        → Halted (K.wire links.new) feed.link (AreWithin steps.old steps.new judgements)
+        (λ t. Begins t name.now (TakeWork count) (going state analyser judgements))) }
     ensures only { Only feed.link (K.wire links.old) (K.wire links.new)
         (K.standings links.old) (K.standings links.new) }
     ensures fits { IfOk result (λ r.
         SlotFits (K.standings links.new) feed.link (feed.taken + count) r.slot) }
     ensures reached { IfOk result (λ r. r.told ≢ Some (FeedEnds Unreachable)) }
-    ensures ticks { steps.new ≡ steps.old }
     ensures attempts { K.attempts links.new ≡ K.attempts links.old }
     ensures faults { K.faults links.old ≤ K.faults links.new }
 {
@@ -170,19 +173,20 @@ fn sync_some<K: Links, L: Ledger>(
 ) -> Result<Worked, NoMemory>
     requires fit { IsFit (K.standings links.old) feed }
     requires room { feed.taken < 2 ^ 62 }
-    ensures works { IfOk result (λ r. (state : Feed) → StandsFor (K.wire links.old) feed state
-        → WorkedAs (K.wire links.new) feed.link
-        (λ t. Does t name.now (SyncWork count) state analyser)
+    ensures works { IfOk result (λ r. (state : Feed) (judgements : ℕ)
+        → StandsFor (K.wire links.old) feed state
+        → WorkedAs (K.wire links.new) feed.link (AreWithin steps.old steps.new judgements)
+        (λ t. Does t name.now (SyncWork count) state (going state analyser judgements))
         r.slot r.told r.analyser) }
-    ensures halts { OnErr result ((state : Feed) → StandsFor (K.wire links.old) feed state
-        → Halted (K.wire links.new) feed.link
-        (λ t. Begins t name.now (SyncWork count) state analyser)) }
+    ensures halts { OnErr result ((state : Feed) (judgements : ℕ)
+        → StandsFor (K.wire links.old) feed state
+        → Halted (K.wire links.new) feed.link (AreWithin steps.old steps.new judgements)
+        (λ t. Begins t name.now (SyncWork count) (going state analyser judgements))) }
     ensures only { Only feed.link (K.wire links.old) (K.wire links.new)
         (K.standings links.old) (K.standings links.new) }
     ensures fits { IfOk result (λ r.
         SlotFits (K.standings links.new) feed.link (feed.taken + count) r.slot) }
     ensures reached { IfOk result (λ r. r.told ≢ Some (FeedEnds Unreachable)) }
-    ensures ticks { steps.new ≡ steps.old }
     ensures attempts { K.attempts links.new ≡ K.attempts links.old }
     ensures faults { K.faults links.old ≤ K.faults links.new }
 {

@@ -1,6 +1,6 @@
 //! A judgement: the verdict of a path and its printed witness, read from the ramps.
 ghost use Rattle.std.specs.Prelude.{◌≡◌, ◌+◌, ◌≤◌, IfNone, IfSome};
-ghost use Rattle.path_model.specs.RightVerdict.{IsInvalidAtOnce, IsRight};
+ghost use Rattle.path_model.specs.RightVerdict.{IsInvalidAtOnce};
 ghost use Rattle.path_model.specs.Witness.{shown_by};
 ghost use Rattle.path_model.specs.PrintedWitness.{IsPrinted};
 ghost use Rattle.path_model.specs.WitnessByRamps.{climb_of, valid_by, unsettled_by};
@@ -62,15 +62,8 @@ pub fn judge<T: Table, L: Ledger>(
     }
 }
 
-/// The right verdict of a path that came from a neighbour of this role.
-pub fn decide<T: Table>(table: &T, role: Role, neighbour: u32, trail: &Trail) -> Verdict
-    ensures { IsRight (T.rows table.now) role neighbour trail.now result }
-{
-    explain(table, role, neighbour, trail).verdict()
-}
-
-/// The printed witness of a path that came from a neighbour of this role.
-pub fn explain<T: Table>(table: &T, role: Role, neighbour: u32, trail: &Trail) -> Witness
+// The printed witness of a path that came from a neighbour of this role.
+fn explain<T: Table>(table: &T, role: Role, neighbour: u32, trail: &Trail) -> Witness
     ensures { IsPrinted (T.rows table.now) role neighbour trail.now (shown_by result) result }
 {
     if let Some(witness) = at_once(role, neighbour, trail) {

@@ -1,8 +1,7 @@
 //! The judgement of a path by ramps: its right verdict, and the witness of it that is printed.
 //!
 //! The layers above use one contract, that of [`judge`]: for any [`path_model::Table`] of attestations a [`Judged`] holds the right verdict
-//! and the printed witness, and costs one step. [`decide`] and [`explain`] give the one or the other without a step, for stores that judge
-//! when they are asked. No call takes memory or refuses anything, and the work grows with the path's length.
+//! and the printed witness, and costs one step. It takes no memory and refuses nothing, and the work grows with the path's length.
 //!
 //! Begin reading in `walk`, where a chain is walked from one end, and then in `judging`, where the ramps are compared as in
 //! draft-ietf-sidrops-aspa-verification.
@@ -11,4 +10,4 @@
 mod judging;
 mod walk;
 
-pub use judging::{Judged, decide, explain, judge};
+pub use judging::{Judged, judge};

@@ -15,12 +15,10 @@ use Rattle.path_model.specs.Key.{key_cmp}
 use Rattle.path_model.specs.Order.{key_total}
 use Rattle.path_model.specs.Trail.{Path}
 use Rattle.path_model.proofs.OrderLemmas.{key_exact}
-use Rattle.rib_store.specs.declared.held.Held.{Held}
 use Rattle.rib_store.specs.declared.journal.ChangedKey.{ChangedKey}
 use Rattle.rib_store.specs.Changes.{StandsAs, IsChange, AreChanges}
 use Rattle.rib_store.specs.ChangesLeft.{changes_in}
-use Rattle.rib_store.specs.Held.{paths_in, marks_in}
-use Rattle.rib_store.specs.Holding.{at}
+use Rattle.rib_store.specs.Held.{Held, paths_in, marks_in, at}
 use Rattle.rib_store.specs.Laws.{HasOneListOfChanges}
 use Rattle.rib_store.specs.State.{State, Marked}
 use Rattle.rib_store.proofs.ChangeLemmas.{state_of, are_changes}

@@ -15,12 +15,10 @@ use Rattle.path_model.specs.declared.verdict.Verdict.TheVariants.{Valid, Unknown
 use Rattle.path_model.specs.CurrentTable.{Parts}
 use Rattle.path_model.specs.Key.{key_cmp}
 use Rattle.path_model.specs.Roles.{Relations}
-use Rattle.rib_store.specs.declared.held.Held.{Held}
 use Rattle.rib_store.specs.declared.journal.ChangedKey.{ChangedKey}
 use Rattle.rib_store.specs.Changes.{StandsAs, IsChange, AreChanges}
 use Rattle.rib_store.specs.ChangesLeft.{present_verdict, are_same, change_at, changes_in}
-use Rattle.rib_store.specs.Held.{RoutesAndMarks, held_in, paths_in, marks_in}
-use Rattle.rib_store.specs.Holding.{at}
+use Rattle.rib_store.specs.Held.{Held, RoutesAndMarks, held_in, paths_in, marks_in, at}
 use Rattle.rib_store.specs.State.{State}
 use Rattle.rib_store.proofs.KeyLemmas.{same_key, sorted_entries, AllFound, all_found, find_lookup}
 use Rattle.rib_store.proofs.MarkLemmas.{stands_now}

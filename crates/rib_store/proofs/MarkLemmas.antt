@@ -1,12 +1,7 @@
--- What marking makes of what is held, and of a state.
-use Rattle.std.proofs.Common.{◌≡◌, Bool, true, false, cond, List, [], ◌∷◌, None, Some, refl, ap, sym, subst, ◌∙◌}
+-- What marking makes of a state.
+use Rattle.std.proofs.Common.{◌≡◌, Bool, true, false, cond, List, [], ◌∷◌, None, Some, refl, ap, sym, ◌∙◌}
 use Rattle.std.specs.declared.option.Option.{Option}
 use Rattle.std.specs.FinMap as fin
-use Rattle.std.specs.List.{cons_option}
-use Rattle.std.specs.List.Sorted.{IsStrictlySortedBy}
-use Rattle.std.specs.Map.{keys_of}
-use Rattle.std.specs.Map.Calls.{RetainsPairs}
-use Rattle.std.specs.Option.{option_map}
 use Rattle.std.specs.Ordering.{eq_by_cmp}
 use Rattle.path_model.specs.declared.key.Key.{Key}
 use Rattle.path_model.specs.declared.verdict.Verdict.{Verdict}
@@ -17,57 +12,14 @@ use Rattle.path_model.specs.Roles.{Relations}
 use Rattle.path_model.specs.Routes.{Routes}
 use Rattle.path_model.specs.Trail.{Path}
 use Rattle.path_model.proofs.OrderLemmas.{key_exact}
-use Rattle.rib_store.specs.declared.held.Held.{Held}
 use Rattle.rib_store.specs.Changes.{StandsAs, IsMarked}
 use Rattle.rib_store.specs.ChangesLeft.{present_verdict}
-use Rattle.rib_store.specs.Held.{RoutesAndMarks, paths_in, marks_in}
-use Rattle.rib_store.specs.Holding.{IsRemarked, remarked, all_remarked}
 use Rattle.rib_store.specs.Laws.{HasOneMarking}
 use Rattle.rib_store.specs.Rows.{current_verdict, current_verdicts, rows_of}
 use Rattle.rib_store.specs.State.{State, Marked}
-use Rattle.rib_store.proofs.KeyLemmas.{same_key, entries_whole}
-use Rattle.rib_store.proofs.PartLemmas.{parts_sorted}
+use Rattle.rib_store.proofs.KeyLemmas.{same_key}
 use Rattle.rib_store.proofs.ReportLemmas.{one_current}
 use Rattle.rib_store.proofs.RowLemmas.{current_by}
-
--- ---- entry by entry
-
-consed : {X : Type 0} (b : Bool) (e : X) (es : List X) → cond b (e ∷ es) es ≡ cons_option (cond b (Some e) None) es
-consed true e es = refl
-consed false e es = refl
-
--- each call of the closure marks its entry
-pub remarked_by : {F : Type 0} (T : F → Key → Held → Bool → Held → F → Type 0) (I : F → Type 0) (parts : Parts) (relations : Relations)
-    → ((f : F) (k : Key) (v : Held) (b : Bool) (w : Held) (g : F) → I f → T f k v b w g → IsRemarked parts relations k v w b × I g)
-    → (f : F) (es kept : List (Key × Held)) → I f → RetainsPairs T f es kept → kept ≡ all_remarked parts relations es
-remarked_by T I parts relations each f [] kept i r = r
-remarked_by T I parts relations each f (e ∷ es) kept i (b, w, g, rest, call, later, is) =
-    let one = each f e.0 e.1 b w g i call in
-    is ∙ consed b (e.0, w) rest ∙ ap (λ (o : Option (Key × Held)). cons_option o rest) one.0
-    ∙ ap (cons_option (remarked parts relations e)) (remarked_by T I parts relations each g es rest one.1 later)
-
-pub paths_remarked : (parts : Parts) (relations : Relations) (es : List (Key × Held)) → paths_in (all_remarked parts relations es) ≡ paths_in es
-paths_remarked parts relations [] = refl
-paths_remarked parts relations (e ∷ es) = by (paths_remarked parts relations es) e.1.trail where
-  by : paths_in (all_remarked parts relations es) ≡ paths_in es → (o : Option Path)
-      → paths_in (cons_option (option_map (λ path. (e.0, record { trail = Some path; marked = Some (current_verdict parts relations e.0 path) })) o) (all_remarked parts relations es))
-      ≡ cons_option (option_map (λ v. (e.0, v)) o) (paths_in es)
-  by ih None = ih
-  by ih (Some path) = ap (λ (ps : List (Key × Path)). (e.0, path) ∷ ps) ih
-
-marks_remarked : (parts : Parts) (relations : Relations) (es : List (Key × Held)) → marks_in (all_remarked parts relations es) ≡ rows_of parts relations (paths_in es)
-marks_remarked parts relations [] = refl
-marks_remarked parts relations (e ∷ es) = by (marks_remarked parts relations es) e.1.trail where
-  by : marks_in (all_remarked parts relations es) ≡ rows_of parts relations (paths_in es) → (o : Option Path)
-      → marks_in (cons_option (option_map (λ path. (e.0, record { trail = Some path; marked = Some (current_verdict parts relations e.0 path) })) o) (all_remarked parts relations es))
-      ≡ rows_of parts relations (cons_option (option_map (λ v. (e.0, v)) o) (paths_in es))
-  by ih None = ih
-  by ih (Some path) = ap (λ (ms : List (Key × Verdict)). (e.0, current_verdict parts relations e.0 path) ∷ ms) ih
-
-pub marks_current : (parts : Parts) (relations : Relations) (es : List (Key × Held)) → IsStrictlySortedBy key_cmp (keys_of es)
-    → fin.from_entries {R = key_cmp} (marks_in (all_remarked parts relations es)) ≡ current_verdicts parts relations (fin.from_entries (paths_in es))
-marks_current parts relations es ordered = ap (λ (ms : List (Key × Verdict)). fin.from_entries {R = key_cmp} ms) (marks_remarked parts relations es
-    ∙ ap (rows_of parts relations) (sym (entries_whole (paths_in es) (parts_sorted (λ h. h.trail) es ordered))))
 
 -- ---- the state
 
@@ -113,10 +65,3 @@ has_one_marking state = record {
   is = marked_by state (current_verdicts state.parts state.roles state.routes) refl;
   only = λ other is. one_marking state (record state { marked = current_verdicts state.parts state.roles state.routes }) other (marked_by state (current_verdicts state.parts state.roles state.routes) refl) is;
 }
-
--- the same of the store's own parts
-pub marked_as : (parts : Parts) (relations : Relations) (old new : RoutesAndMarks) → new.routes ≡ old.routes → new.marked ≡ current_verdicts parts relations old.routes
-    → IsMarked (record { parts = parts; roles = relations; routes = old.routes; marked = old.marked }) (record { parts = parts; roles = relations; routes = new.routes; marked = new.marked })
-marked_as parts relations old new routes marked =
-    subst (λ (r : Routes). IsMarked (record { parts = parts; roles = relations; routes = old.routes; marked = old.marked }) (record { parts = parts; roles = relations; routes = r; marked = new.marked })) (sym routes)
-    (marked_by (record { parts = parts; roles = relations; routes = old.routes; marked = old.marked }) new.marked marked)

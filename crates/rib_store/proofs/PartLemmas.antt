@@ -4,23 +4,18 @@ use Rattle.std.specs.Prelude.{map}
 use Rattle.std.specs.declared.option.Option.{Option}
 use Rattle.std.specs.declared.cmp.Ordering.{Ordering}
 use Rattle.std.specs.BTreeMap.{is_at}
-use Rattle.std.specs.Cmp.{eq_by_cmp_equiv}
-use Rattle.std.specs.FinMap.{get, insert, remove, from_entries, get-insert, get-remove, same_map}
+use Rattle.std.specs.FinMap.{get, from_entries}
 use Rattle.std.specs.List.{filter_map, cons_option}
 use Rattle.std.specs.List.Sorted.{IsStrictlySortedBy}
 use Rattle.std.specs.Map.{lookup, keys_of}
 use Rattle.std.specs.Option.{option_map, unwrap_or}
-use Rattle.std.specs.Ordering.{is_eq, eq_by_cmp}
+use Rattle.std.specs.Ordering.{is_eq}
 use Rattle.std.proofs.lemmas.Map.Keys.{sorted_head, sorted_tail}
 use Rattle.path_model.specs.declared.key.Key.{Key}
-use Rattle.path_model.specs.declared.verdict.Verdict.{Verdict}
 use Rattle.path_model.specs.Key.{key_cmp}
 use Rattle.path_model.specs.Order.{key_total}
 use Rattle.path_model.proofs.MapLemmas.{get_entries}
-use Rattle.path_model.proofs.OrderLemmas.{key_exact}
-use Rattle.rib_store.specs.declared.held.Held.{Held}
-use Rattle.rib_store.specs.Held.{parts, marks_in}
-use Rattle.rib_store.specs.Holding.{Holds, at, mark_of, only_mark}
+use Rattle.rib_store.specs.Held.{Held, at, parts}
 use Rattle.rib_store.proofs.KeyLemmas.{same_key, Below}
 
 -- ---- a list that keeps some entries, with their keys
@@ -89,49 +84,3 @@ module _ {A : Type 0} (part : Held → Option A) where
 
   pub get_part : (q : Key) (es : List (Key × Held)) → IsStrictlySortedBy key_cmp (keys_of es) → get (from_entries {R = key_cmp} (parts part es)) q ≡ part_of part (at q es)
   get_part q es sorted = get_entries key_total (parts part es) q ∙ lookup_parts q es sorted
-
-  -- what the change of one entry makes of the part
-  module _ (old new : List (Key × Held)) (k : Key) (held : Option Held) (holds : Holds old k held new) where
-    turned : {B : Type 0} (q : Key) (x y : B) → cond (is_at (key_cmp k) q) x y ≡ cond (eq_by_cmp key_cmp q k) x y
-    turned q x y = ap (λ (b : Bool). cond b x y) ((eq_by_cmp_equiv key_total).symm k q)
-
-    split : (b : Bool) (o : Option Held) → part_of part (cond b held o) ≡ cond b (part_of part held) (part_of part o)
-    split true o = refl
-    split false o = refl
-
-    after : (q : Key) → get (from_entries {R = key_cmp} (parts part new)) q ≡ cond (is_at (key_cmp k) q) (part_of part held) (get (from_entries {R = key_cmp} (parts part old)) q)
-    after q = get_part q new holds.still_ordered ∙ ap (part_of part) (holds.updates q) ∙ split (is_at (key_cmp k) q) (at q old)
-        ∙ ap (cond (is_at (key_cmp k) q) (part_of part held)) (sym (get_part q old holds.ordered))
-
-    pub part_put : (v : A) → part_of part held ≡ Some v → from_entries {R = key_cmp} (parts part new) ≡ insert (from_entries (parts part old)) k v
-    part_put v is = same_map key_total key_exact _ _ (λ q. after q ∙ ap (λ (o : Option A). cond (is_at (key_cmp k) q) o (get (from_entries {R = key_cmp} (parts part old)) q)) is
-        ∙ turned q (Some v) _ ∙ sym (get-insert key_total (from_entries (parts part old)) k v q))
-
-    pub part_gone : part_of part held ≡ None → from_entries {R = key_cmp} (parts part new) ≡ remove (from_entries (parts part old)) k
-    part_gone is = same_map key_total key_exact _ _ (λ q. after q ∙ ap (λ (o : Option A). cond (is_at (key_cmp k) q) o (get (from_entries {R = key_cmp} (parts part old)) q)) is
-        ∙ turned q None _ ∙ sym (get-remove key_total (from_entries (parts part old)) k q))
-
-    pub part_kept : part_of part held ≡ part_of part (at k old) → from_entries {R = key_cmp} (parts part new) ≡ from_entries (parts part old)
-    part_kept is = same_map key_total key_exact _ _ (λ q. after q ∙ by q (is_at (key_cmp k) q) refl) where
-      by : (q : Key) → (b : Bool) → is_at (key_cmp k) q ≡ b → cond b (part_of part held) (get (from_entries {R = key_cmp} (parts part old)) q) ≡ get (from_entries {R = key_cmp} (parts part old)) q
-      by q true t = is ∙ ap (λ (r : Key). part_of part (at r old)) (same_key k q t) ∙ sym (get_part q old holds.ordered)
-      by q false t = refl
-
--- ---- the marks
-
-mark_is : (held : Option Held) → part_of (λ h. h.marked) held ≡ mark_of held
-mark_is None = refl
-mark_is (Some h) = refl
-
--- an entry that changes otherwise leaves the marks
-pub marks_kept : (old new : List (Key × Held)) (k : Key) (held : Option Held) → Holds old k held new → mark_of held ≡ mark_of (at k old)
-    → from_entries {R = key_cmp} (marks_in new) ≡ from_entries (marks_in old)
-marks_kept old new k held holds is = part_kept (λ h. h.marked) old new k held holds (mark_is held ∙ is ∙ sym (mark_is (at k old)))
-
-pub still_marked : (marked : Option Verdict) → mark_of (only_mark marked) ≡ marked
-still_marked None = refl
-still_marked (Some verdict) = refl
-
-pub no_trail : (marked : Option Verdict) → part_of (λ h. h.trail) (only_mark marked) ≡ None
-no_trail None = refl
-no_trail (Some verdict) = refl

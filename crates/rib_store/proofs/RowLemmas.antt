@@ -1,9 +1,7 @@
 -- The rows that are made of a state's routes.
-use Rattle.std.proofs.Common.{◌≡◌, ◌≤◌, ℕ, List, [], ◌∷◌, length, Some, arith, refl, ap, sym, subst, ◌∙◌}
+use Rattle.std.proofs.Common.{◌≡◌, ℕ, List, [], ◌∷◌, Some, refl, ap, ◌∙◌}
 use Rattle.std.specs.Prelude.{map, All}
 use Rattle.std.specs.FinMap as fin
-use Rattle.std.specs.List.Sorted.{IsStrictlySortedBy}
-use Rattle.std.specs.Map.{keys_of}
 use Rattle.std.proofs.lemmas.List.Elements.{All-nil, All-cons}
 use Rattle.path_model.specs.declared.key.Key.{Key}
 use Rattle.path_model.specs.declared.role.Role.{Role}
@@ -11,19 +9,14 @@ use Rattle.path_model.specs.declared.verdict.Verdict.{Verdict}
 use Rattle.path_model.specs.Authority.{Table}
 use Rattle.path_model.specs.ComputedTable.{table_of}
 use Rattle.path_model.specs.CurrentTable.{Parts}
-use Rattle.path_model.specs.Key.{key_cmp}
 use Rattle.path_model.specs.RightVerdict.{IsRight}
 use Rattle.path_model.specs.Roles.{Relations, role_of}
-use Rattle.path_model.specs.Routes.{Routes}
 use Rattle.path_model.specs.Trail.{Path}
 use Rattle.path_model.proofs.LawLemmas.{one_right}
 use Rattle.path_model.proofs.PartsLemmas.{table_is_current}
-use Rattle.rib_store.specs.declared.held.Held.{Held}
-use Rattle.rib_store.specs.Held.{paths_in}
 use Rattle.rib_store.specs.Rows.{verdict_of, current_verdict, rows_of}
 use Rattle.rib_store.specs.State.{State, IsCurrent, AreRows}
-use Rattle.rib_store.proofs.KeyLemmas.{AllFound, all_found, entries_whole}
-use Rattle.rib_store.proofs.PartLemmas.{parts_sorted, fewer_parts}
+use Rattle.rib_store.proofs.KeyLemmas.{AllFound, all_found}
 
 -- ---- the verdict that the law gives
 
@@ -64,16 +57,3 @@ are_rows state = record {
   keys = firsts state.parts state.roles (fin.entries state.routes);
   current = each_current state (fin.entries state.routes) (all_found (fin.entries state.routes) (fin.entries_sorted state.routes));
 }
-
--- the same of the entries that hold its routes
-pub rows_held : (state : State) (es : List (Key × Held)) → IsStrictlySortedBy key_cmp (keys_of es) → fin.from_entries (paths_in es) ≡ state.routes → AreRows state (rows_of state.parts state.roles (paths_in es))
-rows_held state es ordered are =
-    let whole : fin.entries state.routes ≡ paths_in es = ap (λ (m : Routes). fin.entries m) (sym are) ∙ entries_whole (paths_in es) (parts_sorted (λ h. h.trail) es ordered) in
-    subst (λ (ps : List (Key × Path)). AreRows state (rows_of state.parts state.roles ps)) whole (are_rows state)
-
-as_many : (parts : Parts) (relations : Relations) (ps : List (Key × Path)) → length (rows_of parts relations ps) ≡ length ps
-as_many parts relations [] = refl
-as_many parts relations (p ∷ ps) = omega (arith, as_many parts relations ps)
-
-pub rows_fewer : (parts : Parts) (relations : Relations) (es : List (Key × Held)) → length (rows_of parts relations (paths_in es)) ≤ length es
-rows_fewer parts relations es = omega (arith, as_many parts relations (paths_in es), fewer_parts (λ h. h.trail) es)

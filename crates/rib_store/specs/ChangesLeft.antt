@@ -1,4 +1,4 @@
--- The changes, made of what is held, and what an iterator over them has left.
+-- The changes, made of what is known of the keys, and what an iterator over them has left.
 use Rattle.std.specs.Prelude.{ℕ, nat_eq, Bool, List, cond}
 use Rattle.std.specs.declared.option.Option.{Option}
 use Rattle.std.specs.declared.option.Option.TheVariants.{Some, None}
@@ -10,9 +10,12 @@ use Rattle.path_model.specs.declared.verdict.Verdict.TheVariants.{Valid, Unknown
 use Rattle.path_model.specs.CurrentTable.{Parts}
 use Rattle.path_model.specs.Roles.{Relations}
 use Rattle.path_model.specs.Trail.{Path}
-use Rattle.rib_store.specs.declared.held.Held.{Held}
+use Rattle.shared_cases.specs.Cases.{Slots, at, verdict_or}
 use Rattle.rib_store.specs.declared.journal.ChangedKey.{ChangedKey}
 use Rattle.rib_store.specs.declared.journal.Journal.{Journal}
+use Rattle.rib_store.specs.declared.merged.Row.{Row}
+use Rattle.rib_store.specs.Held.{Held}
+use Rattle.rib_store.specs.Merge.{marked_of, merged_left}
 use Rattle.rib_store.specs.Rows.{current_verdict}
 
 -- the current verdict of a key with or without a path
@@ -38,5 +41,9 @@ change_at parts relations e = change_between e.0 e.1.marked (present_verdict par
 abbrev pub changes_in : Parts → Relations → List (Key × Held) → List ChangedKey
 changes_in parts relations es = filter_map (change_at parts relations) es
 
+-- the change of a row, by its case's verdict
+abbrev pub change_of : Bool → Slots → Key × Row → Option ChangedKey
+change_of is_marked cases e = change_between e.0 (marked_of is_marked cases e.1) (option_map (λ n. verdict_or (at cases n)) e.1.case)
+
 abbrev pub changes_left : Journal → List ChangedKey
-changes_left journal = changes_in journal.table.now journal.roles.now journal.rest
+changes_left journal = filter_map (change_of journal.is_marked journal.cases.now) (merged_left journal.merged)

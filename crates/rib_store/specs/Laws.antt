@@ -1,10 +1,11 @@
 -- Laws of the store, each the contract of a public function of the module `laws`.
-use Rattle.std.specs.Prelude.{◌≡◌, List}
+use Rattle.std.specs.Prelude.{◌≡◌, ℕ, List}
 use Rattle.path_model.specs.declared.key.Key.{Key}
 use Rattle.path_model.specs.declared.verdict.Verdict.{Verdict}
 use Rattle.rib_store.specs.declared.journal.ChangedKey.{ChangedKey}
 use Rattle.rib_store.specs.Changes.{AreChanges, IsMarked}
 use Rattle.rib_store.specs.State.{State, AreRows}
+use Rattle.rib_store.specs.Touched.{IsTouchedNumber}
 
 -- the one list of rows of a state
 pub record HasOneReport (state : State) : Type 0 where
@@ -35,3 +36,13 @@ pub record HasOneMarking (state : State) : Type 0 where
 -- from each state exactly one state comes by marking
 abbrev pub EachStateHasOneMarking : Type 0
 EachStateHasOneMarking = (state : State) → HasOneMarking state
+
+-- the one number of distinct pairs that a change of the state touches
+pub record HasOneTouchedNumber (old new : State) : Type 0 where
+  pub number : ℕ
+  pub is : IsTouchedNumber old new number
+  pub only : (other : ℕ) → IsTouchedNumber old new other → other ≡ number
+
+-- each change of a state touches exactly one number of distinct pairs
+abbrev pub EachChangeTouchesOneNumber : Type 0
+EachChangeTouchesOneNumber = (old new : State) → HasOneTouchedNumber old new

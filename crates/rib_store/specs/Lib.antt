@@ -1,12 +1,16 @@
 pub mod Altered
+pub mod Cased
 pub mod Changes
 pub mod ChangesLeft
 pub mod Codes
 pub mod Counts
 pub mod Held
-pub mod Holding
 pub mod Laws
+pub mod Merge
+pub mod OfPeer
 pub mod Rows
 pub mod Shown
 pub mod State
+pub mod Steps
 pub mod Stored
+pub mod Touched

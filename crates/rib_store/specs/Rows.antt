@@ -12,7 +12,8 @@ use Rattle.path_model.specs.Routes.{Routes}
 use Rattle.path_model.specs.Trail.{Path}
 use Rattle.path_model.proofs.LawLemmas.{one_right}
 use Rattle.rib_store.specs.declared.rib.Rib.{Rib}
-use Rattle.rib_store.specs.Held.{paths_in}
+use Rattle.shared_cases.specs.Cases.{verdict_or}
+use Rattle.rib_store.specs.Cased.{through}
 use Rattle.rib_store.specs.State.{Marked}
 
 -- the right verdict of a case: the one that the law of verdicts gives
@@ -27,8 +28,9 @@ current_verdict parts relations key path = verdict_of (table_of parts) (role_of 
 abbrev pub rows_of : Parts → Relations → List (Key × Path) → List (Key × Verdict)
 rows_of parts relations routes = map (λ e. (e.0, current_verdict parts relations e.0 e.1)) routes
 
+-- each key with the verdict of its case
 abbrev pub rows_left : Rib → List (Key × Verdict)
-rows_left rib = rows_of rib.table.now rib.roles.now (paths_in rib.rest)
+rows_left rib = through verdict_or rib.cases.now rib.rest
 
 -- the current verdict of each route
 abbrev pub current_verdicts : Parts → Relations → Routes → Marked

@@ -1,13 +1,14 @@
 //! What changed since verdicts were marked.
 ghost use Rattle.std.specs.Prelude.{◌≡◌};
 ghost use Rattle.std.specs.Iterator.{YieldsFirstBy, item_count};
-ghost use Rattle.rib_store.specs.ChangesLeft.{change_at, changes_left, present_verdict};
+ghost use Rattle.std.specs.Option.{option_map};
+ghost use Rattle.shared_cases.specs.Cases.{at, marked_or, verdict_or};
+ghost use Rattle.rib_store.specs.ChangesLeft.{change_of, changes_left};
+ghost use Rattle.rib_store.specs.Merge.{marked_of};
 
-use crate::held::Held;
-use crate::rib::current;
-use path_model::{Key, Roles, Verdict};
-use std::collections::btree_map;
-use vap_table::Vaps;
+use crate::merged::{Merged, Row};
+use path_model::{Key, Verdict};
+use shared_cases::SharedCases;
 
 /// A key whose verdict or presence differs from the marked one.
 #[derive(Clone, Copy, Debug, PartialEq, Eq)]
@@ -20,13 +21,14 @@ pub struct ChangedKey {
     pub after: Option<Verdict>,
 }
 
-/// The changed keys in key order. It judges a route when its turn comes, and takes no memory.
+/// The changed keys in key order. It judges nothing, and takes no memory.
 #[derive(Drop)]
 pub struct Journal<'a> {
-    // what is held of the keys that are left
-    pub(crate) rest: btree_map::Iter<'a, Key, Held>,
-    pub(crate) table: &'a Vaps,
-    pub(crate) roles: &'a Roles,
+    // the keys that are left
+    pub(crate) merged: Merged<'a>,
+    pub(crate) cases: &'a SharedCases,
+    // whether verdicts were ever marked
+    pub(crate) is_marked: bool,
 }
 
 impl<'a> Iterator for Journal<'a> {
@@ -37,8 +39,8 @@ impl<'a> Iterator for Journal<'a> {
     ghost remaining = { item_count changes_left };
 
     fn next(&mut self) -> Option<ChangedKey> {
-        while let Some((key, held)) = self.rest.next() {
-            if let Some(change) = change_at(self.table, self.roles, key, held) {
+        while let Some((key, row)) = self.merged.next() {
+            if let Some(change) = change_of(self.is_marked, self.cases, key, row) {
                 return Some(change);
             }
         }
@@ -47,26 +49,46 @@ impl<'a> Iterator for Journal<'a> {
 }
 
 // The change of a key, if it has changed.
-fn change_at(table: &Vaps, roles: &Roles, key: &Key, held: &Held) -> Option<ChangedKey>
-    ensures { result ≡ change_at table.now roles.now (key.now, held.now) }
+fn change_of(is_marked: bool, cases: &SharedCases, key: Key, row: Row) -> Option<ChangedKey>
+    ensures { result ≡ change_of is_marked cases.now (key, row) }
 {
-    let after = present(table, roles, key, held);
-    if held.marked == after {
+    let before = marked_of(is_marked, cases, row);
+    let after = verdict_of(cases, row.case);
+    if before == after {
         return None;
     }
-    Some(ChangedKey {
-        key: *key,
-        before: held.marked,
-        after,
-    })
+    Some(ChangedKey { key, before, after })
 }
 
-// The current verdict of a key, if it has a route.
-fn present(table: &Vaps, roles: &Roles, key: &Key, held: &Held) -> Option<Verdict>
-    ensures { result ≡ present_verdict table.now roles.now key.now held.now.trail }
+// What was marked of a key.
+fn marked_of(is_marked: bool, cases: &SharedCases, row: Row) -> Option<Verdict>
+    ensures { result ≡ marked_of is_marked cases.now row }
 {
-    match &held.trail {
+    if !is_marked {
+        return None;
+    }
+    match row.noted {
+        Some(noted) => noted,
+        None => mark_of(cases, row.case),
+    }
+}
+
+// The verdict of a case, if there is one.
+fn verdict_of(cases: &SharedCases, case: Option<u32>) -> Option<Verdict>
+    ensures { result ≡ option_map (λ n. verdict_or (at cases.now n)) case }
+{
+    match case {
         None => None,
-        Some(trail) => Some(current(table, roles, key, trail)),
+        Some(number) => Some(cases.verdict(number as usize)),
+    }
+}
+
+// The marked verdict of a case, if there is one.
+pub(crate) fn mark_of(cases: &SharedCases, case: Option<u32>) -> Option<Verdict>
+    ensures { result ≡ option_map (λ n. marked_or (at cases.now n)) case }
+{
+    match case {
+        None => None,
+        Some(number) => Some(cases.marked(number as usize)),
     }
 }

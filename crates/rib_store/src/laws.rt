@@ -1,5 +1,5 @@
 //! Laws of the store: the contract of each function is the law, and its body does nothing.
-ghost use Rattle.rib_store.specs.Laws.{EachStateHasOneListOfChanges, EachStateHasOneMarking, EachStateHasOneReport};
+ghost use Rattle.rib_store.specs.Laws.{EachChangeTouchesOneNumber, EachStateHasOneListOfChanges, EachStateHasOneMarking, EachStateHasOneReport};
 
 /// Each state has exactly one list of rows.
 pub fn each_state_has_one_report()
@@ -14,4 +14,9 @@ pub fn each_state_has_one_list_of_changes()
 /// From each state exactly one state comes by marking.
 pub fn each_state_has_one_marking()
     ensures { EachStateHasOneMarking }
+{}
+
+/// Each change of a state touches exactly one number of distinct pairs of a peer AS and a path.
+pub fn each_change_touches_one_number()
+    ensures { EachChangeTouchesOneNumber }
 {}

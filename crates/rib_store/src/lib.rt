@@ -1,26 +1,29 @@
-//! The store of an analysis: all that attests, the roles, and the routes. It judges a route when it is asked.
+//! The store of an analysis: all that attests, the roles, and the routes, each with its verdict kept right from event to event.
 //!
 //! The layer above uses the contracts of [`RibStore`]: each change of it gives the state that `specs/State.antt` and
-//! `path_model` (`Routes`, `Roles`) name, and [`RibStore::rows`] lists each route with its current verdict in key order.
-//! [`RibStore::changes`] lists what stands otherwise than it was marked, [`RibStore::mark`] marks all (`specs/Changes.antt`), and
-//! [`RibStore::look`] shows a route with its witness. They speak of the `state` of the store's value alone, so that they stay word for
-//! word where a store keeps more. Begin reading in `specs/State.antt`, and then in `store`.
+//! `path_model` (`Routes`, `Roles`) name, [`RibStore::rows`] lists each route with its current verdict in key order, and no event costs
+//! more judgements than `specs/Touched.antt` says. Begin reading in `specs/State.antt`, and then in `store`.
 //!
-//! `held` keeps the routes and the marked verdicts, `rib` lists and judges the routes, `counts` counts the verdicts, and `journal`
-//! lists what changed since verdicts were marked.
+//! Each route has the number of a case that it shares with all routes of the same peer AS and path (the crate `shared_cases`);
+//! `specs/Cased.antt` says how the routes and the marked verdicts are read through the cases, and what holds of them. `routing` changes
+//! one route, `notes` keeps what was marked of the keys whose route changed since, `rib` lists the routes, `counts` counts the verdicts,
+//! and `journal` lists what changed since verdicts were marked, from `merged` notes and routes.
 #![tactic(auto)]
 
 mod counts;
-mod held;
 mod journal;
 mod laws;
+mod merged;
+mod notes;
 mod rib;
+mod routing;
 mod store;
 
 pub use counts::Counts;
 pub use journal::{ChangedKey, Journal};
 pub use laws::{
-    each_state_has_one_list_of_changes, each_state_has_one_marking, each_state_has_one_report,
+    each_change_touches_one_number, each_state_has_one_list_of_changes, each_state_has_one_marking,
+    each_state_has_one_report,
 };
 pub use rib::{Rib, Shown};
 pub use store::RibStore;

@@ -1,22 +1,17 @@
 //! The routes with their current verdicts.
-ghost use Rattle.std.specs.Prelude.{◌≡◌};
 ghost use Rattle.std.specs.Iterator.{YieldsFirstBy, item_count};
-ghost use Rattle.rib_store.specs.Rows.{current_verdict, rows_left};
+ghost use Rattle.rib_store.specs.Rows.{rows_left};
 
-use crate::held::Held;
-use path_model::{Key, Role, Roles, Trail, Verdict, Witness};
-use ramps::decide;
-use std::collections::btree_map;
-use vap_table::Vaps;
+use path_model::{Key, Role, Trail, Verdict, Witness};
+use route_map::Iter;
+use shared_cases::SharedCases;
 
-/// One row for each route, its key and its current verdict, in key order. It judges a route when its row is asked for, and takes no
-/// memory.
+/// One row for each route, its key and its current verdict, in key order. It judges nothing, and takes no memory.
 #[derive(Drop)]
 pub struct Rib<'a> {
-    // what is held of the keys that are left
-    pub(crate) rest: btree_map::Iter<'a, Key, Held>,
-    pub(crate) table: &'a Vaps,
-    pub(crate) roles: &'a Roles,
+    // the routes that are left
+    pub(crate) rest: Iter<'a, u32>,
+    pub(crate) cases: &'a SharedCases,
 }
 
 impl<'a> Iterator for Rib<'a> {
@@ -27,12 +22,10 @@ impl<'a> Iterator for Rib<'a> {
     ghost remaining = { item_count rows_left };
 
     fn next(&mut self) -> Option<(Key, Verdict)> {
-        while let Some((key, held)) = self.rest.next() {
-            if let Some(trail) = &held.trail {
-                return Some((*key, current(self.table, self.roles, key, trail)));
-            }
+        match self.rest.next() {
+            None => None,
+            Some((key, number)) => Some((key, self.cases.verdict(*number as usize))),
         }
-        None
     }
 }
 
@@ -47,12 +40,4 @@ pub struct Shown<'a> {
     pub role: Role,
     /// Its path.
     pub trail: &'a Trail,
-}
-
-/// The right verdict of a key's path by this table and these roles.
-pub(crate) fn current(table: &Vaps, roles: &Roles, key: &Key, trail: &Trail) -> Verdict
-    ensures { result ≡ current_verdict table.now roles.now key.now trail.now }
-{
-    let asn = key.peer.asn;
-    decide(table, roles.of(asn), asn, trail)
 }

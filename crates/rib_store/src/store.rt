@@ -1,8 +1,11 @@
 //! The store.
-ghost use Rattle.std.specs.Prelude.{◌≡◌, ◌<◌, ◌^◌, length, IfNone, IfSome, IfOk, None};
+ghost use Rattle.std.specs.Prelude.{◌≡◌, ◌<◌, ◌≤◌, ◌^◌, ◌+◌, ◌-◌, [], length, IfNone, IfSome, IfOk, None};
 ghost use Rattle.std.specs.FinMap as fin;
+ghost use Rattle.path_model.specs.CurrentTable.{Parts};
 ghost use Rattle.path_model.specs.Roles.{set_role};
 ghost use Rattle.path_model.specs.Routes.{performed};
+ghost use Rattle.shared_cases.specs.Cases.{at, IsIndexOf, IsShown as IsCase};
+ghost use Rattle.vap_table.specs.Change.{Alters};
 ghost use Rattle.rib_store.specs.State.{no_state, AreRows};
 ghost use Rattle.rib_store.specs.Altered.{IsAltered};
 ghost use Rattle.rib_store.specs.Changes.{AreChanges, IsMarked};
@@ -10,29 +13,45 @@ ghost use Rattle.rib_store.specs.ChangesLeft.{changes_left};
 ghost use Rattle.rib_store.specs.Rows.{rows_left};
 ghost use Rattle.rib_store.specs.Shown.{IsShown};
 ghost use Rattle.rib_store.specs.Counts.{AreCounts};
+ghost use Rattle.rib_store.specs.Touched.{announced, IsWithinTouched};
 
 use crate::counts::{Counts, count};
-use crate::held::HeldRoutes;
 use crate::journal::Journal;
+use crate::merged::Merged;
 use crate::rib::{Rib, Shown};
 use av_base::{NoMemory, Steps};
-use path_model::{Changes, Key, Role, Roles};
-use ramps::explain;
+use hop_index::HopIndex;
+use path_model::{Changes, Key, Role, Roles, Verdict};
+use route_map::RouteMap;
+use shared_cases::{Case, SharedCases};
 use std::alloc::Global;
+use std::collections::BTreeMap;
 use std::marker::Model;
 use std::sync::ledger::Ledger;
 use vap_table::{TableChange, Vaps};
 
-/// All that attests, the roles, and the routes of all peers (RFC 4271, section 3.2). It judges a route when it is asked.
+/// All that attests, the roles, and the routes of all peers (RFC 4271, section 3.2), with their verdicts. Routes from one peer AS with one
+/// path share a case, and an event judges anew only the cases that it touches, each once.
 #[derive(Drop)]
 pub struct RibStore {
-    held: HeldRoutes,
-    table: Vaps,
-    roles: Roles,
+    pub(crate) alloc: Global,
+    pub(crate) table: Vaps,
+    pub(crate) roles: Roles,
+    // the number of each route's case
+    pub(crate) routes: RouteMap<u32>,
+    pub(crate) cases: SharedCases,
+    // what was marked of the keys whose route changed since the mark
+    pub(crate) notes: RouteMap<Option<Verdict>>,
+    // whether verdicts were ever marked; before, there are no notes
+    pub(crate) is_marked: bool,
+    // the case of each peer AS's route that was announced last: the next path is often the same
+    pub(crate) hints: BTreeMap<u32, u32>,
 }
 
-/// A contract sees the state of the analysis.
+/// A contract sees the state of the analysis, and the cases.
 impl Model for RibStore {
+    ghost use Rattle.shared_cases.specs.Grounds.{grounds};
+    ghost use Rattle.rib_store.specs.Cased.{routes_by, marked_by, AreStored};
     ghost use Rattle.rib_store.specs.Codes.{coded_stored};
     ghost use Rattle.rib_store.specs.Stored.{Stored};
 
@@ -44,26 +63,35 @@ impl Model for RibStore {
       state = record {
         parts = s.table;
         roles = s.roles;
-        routes = s.held.routes;
-        marked = s.held.marked;
+        routes = routes_by s.cases s.routes;
+        marked = marked_by s.is_marked s.cases s.routes s.notes;
       };
+      cases = s.cases;
     } };
+
+    ghost invariant = { λ s. AreStored (grounds s.table s.roles) s.routes s.cases };
 }
 
 impl RibStore {
     /// Nothing attests, no role is set, and there is no route. It takes no memory.
     pub fn new(alloc: Global) -> RibStore
-        ensures { result.state ≡ no_state }
+        ensures state { result.state ≡ no_state }
+        ensures cases { result.cases ≡ [] }
     {
         RibStore {
-            held: HeldRoutes::new(alloc),
+            alloc,
             table: Vaps::new(alloc),
             roles: Roles::new(alloc),
+            routes: RouteMap::new(alloc),
+            cases: SharedCases::new(alloc),
+            notes: RouteMap::new(alloc),
+            is_marked: false,
+            hints: BTreeMap::new(alloc),
         }
     }
 
-    /// Performs changes of the routes, from the first to the last. The end of a peer's session costs what
-    /// the peer's routes cost, and the keys that were marked and have no route any more.
+    /// Performs changes of the routes, from the first to the last. The end of a peer's session costs what the peer's routes cost. It judges
+    /// at most once for each announcement, and not where another route has the case already.
     pub fn apply_routes<L: Ledger>(
         self,
         changes: Changes,
@@ -71,54 +99,132 @@ impl RibStore {
     ) -> Result<RibStore, NoMemory>
         ensures state { IfOk result (λ s.
             s.state ≡ record self.state { routes = performed changes self.state.routes }) }
-        ensures ticks { steps.new ≡ steps.old }
+        ensures ticks { steps.new ≤ steps.old + announced changes }
     {
-        let RibStore { held, table, roles } = self;
-        let held = held.perform(changes)?;
-        Ok(RibStore { held, table, roles })
+        let mut store = self;
+        for change in changes.into_vec() {
+            store = store.perform(change, steps)?;
+        }
+        Ok(store)
     }
 
-    /// Changes what attests. It visits only the customers that the change names.
+    /// Changes what attests. It visits only the customers that the change names and the hops of those whose row moved, and judges anew,
+    /// once each, the cases with a hop of which something else is attested.
     pub fn apply_table<L: Ledger>(
         self,
         change: TableChange,
         steps: &mut Steps<L>,
     ) -> Result<RibStore, NoMemory>
         ensures state { IfOk result (λ s. IsAltered self.state change s.state) }
-        ensures ticks { steps.new ≡ steps.old }
+        ensures ticks { (parts : Parts) → Alters self.state.parts change parts
+            → IsWithinTouched self.state (record self.state { parts = parts })
+            (steps.new - steps.old) }
     {
-        let RibStore { held, table, roles } = self;
-        let (table, _moves) = table.change(change)?;
-        Ok(RibStore { held, table, roles })
+        let RibStore {
+            alloc,
+            table,
+            roles,
+            routes,
+            cases,
+            notes,
+            is_marked,
+            hints,
+        } = self;
+        // it comes with the order of the keys
+        let _length = routes.len();
+        cases.are_distinct();
+        let (table, moves) = table.change(change)?;
+        let cases = cases.follow_table(&moves, &table, &roles, steps)?;
+        Ok(RibStore {
+            alloc,
+            table,
+            roles,
+            routes,
+            cases,
+            notes,
+            is_marked,
+            hints,
+        })
     }
 
-    /// Sets the role of an AS.
+    /// Sets the role of an AS. Where it had another one, the cases of that AS are judged anew, once each.
     pub fn set_role<L: Ledger>(
-        mut self,
+        self,
         asn: u32,
         role: Role,
         steps: &mut Steps<L>,
     ) -> Result<RibStore, NoMemory>
         ensures state { IfOk result (λ s.
             s.state ≡ record self.state { roles = set_role self.state.roles asn role }) }
-        ensures ticks { steps.new ≡ steps.old }
+        ensures ticks { IsWithinTouched self.state
+            (record self.state { roles = set_role self.state.roles asn role })
+            (steps.new - steps.old) }
     {
-        self.roles.set(asn, role)?;
-        Ok(self)
+        let RibStore {
+            alloc,
+            table,
+            mut roles,
+            routes,
+            cases,
+            notes,
+            is_marked,
+            hints,
+        } = self;
+        // it comes with the order of the keys
+        let _length = routes.len();
+        let before = roles.of(asn);
+        roles.set(asn, role)?;
+        let cases = cases.follow_role(asn, before, &table, &roles, steps)?;
+        Ok(RibStore {
+            alloc,
+            table,
+            roles,
+            routes,
+            cases,
+            notes,
+            is_marked,
+            hints,
+        })
     }
 
-    /// Sets the role of each AS that has none of its own.
+    /// Sets the role of each AS that has none of its own. Where they had another one, the cases of these ASes are judged anew, once each.
+    /// It takes the memory of another copy of the roles, and the time of two look-ups for each peer AS.
     pub fn set_default<L: Ledger>(
-        mut self,
+        self,
         role: Role,
         steps: &mut Steps<L>,
     ) -> Result<RibStore, NoMemory>
         ensures state { IfOk result (λ s.
             s.state ≡ record self.state { roles = record self.state.roles { default = role } }) }
-        ensures ticks { steps.new ≡ steps.old }
+        ensures ticks { IsWithinTouched self.state
+            (record self.state { roles = record self.state.roles { default = role } })
+            (steps.new - steps.old) }
     {
-        self.roles.set_default(role);
-        Ok(self)
+        let RibStore {
+            alloc,
+            table,
+            mut roles,
+            routes,
+            cases,
+            notes,
+            is_marked,
+            hints,
+        } = self;
+        // it comes with the order of the keys
+        let _length = routes.len();
+        let before = roles.copy()?;
+        roles.set_default(role);
+        let cases = cases.follow_roles(&before, &table, &roles, steps)?;
+        Ok(RibStore {
+            alloc,
+            table,
+            roles,
+            routes,
+            cases,
+            notes,
+            is_marked,
+            hints,
+        })
     }
 
     /// One row for each route, in key order, with its current verdict. It takes no memory.
@@ -127,9 +233,8 @@ impl RibStore {
         ensures few { length (rows_left result) < 2 ^ 63 }
     {
         Rib {
-            rest: self.held.iter(),
-            table: &self.table,
-            roles: &self.roles,
+            rest: self.routes.iter(),
+            cases: &self.cases,
         }
     }
 
@@ -138,14 +243,13 @@ impl RibStore {
         ensures none { IfNone result (fin.get self.now.state.routes key.now ≡ None) }
         ensures some { IfSome result (IsShown self.now.state key.now) }
     {
-        let trail = self.held.get(key)?;
-        let role = self.roles.of(key.peer.asn);
-        let witness = explain(&self.table, role, key.peer.asn, trail);
+        let number = self.routes.get(key)?;
+        let case = self.cases.get(*number as usize)?;
         Some(Shown {
-            verdict: witness.verdict(),
-            witness,
-            role,
-            trail,
+            verdict: case.judged.verdict(),
+            witness: case.judged.witness(),
+            role: self.roles.of(key.peer.asn),
+            trail: case.trail,
         })
     }
 
@@ -160,12 +264,12 @@ impl RibStore {
     /// memory.
     pub fn changes(&self) -> Journal<'_>
         ensures changes { AreChanges self.now.state (changes_left result) }
-        ensures few { length (changes_left result) < 2 ^ 63 }
+        ensures few { length (changes_left result) < 2 ^ 64 }
     {
         Journal {
-            rest: self.held.iter(),
-            table: &self.table,
-            roles: &self.roles,
+            merged: Merged::new(self.notes.iter(), self.routes.iter()),
+            cases: &self.cases,
+            is_marked: self.is_marked,
         }
     }
 
@@ -173,9 +277,29 @@ impl RibStore {
     pub fn mark(self) -> RibStore
         ensures { IsMarked self.state result.state }
     {
-        let RibStore { held, table, roles } = self;
-        let held = held.mark(&table, &roles);
-        RibStore { held, table, roles }
+        let RibStore {
+            alloc,
+            table,
+            roles,
+            routes,
+            cases,
+            notes: _before,
+            is_marked: _ever,
+            hints,
+        } = self;
+        // it comes with the order of the keys
+        let _length = routes.len();
+        let cases = cases.mark();
+        RibStore {
+            alloc,
+            table,
+            roles,
+            routes,
+            cases,
+            notes: RouteMap::new(alloc),
+            is_marked: true,
+            hints,
+        }
     }
 
     /// All that attests.
@@ -190,5 +314,19 @@ impl RibStore {
         ensures { result.now ≡ self.now.state.roles }
     {
         &self.roles
+    }
+
+    /// The hops of the cases, each under its case's number.
+    pub fn index(&self) -> &HopIndex
+        ensures { IsIndexOf self.now.cases result.now }
+    {
+        self.cases.index()
+    }
+
+    /// The case under a number; `None` exactly where no route has a case of this number.
+    pub fn case(&self, number: usize) -> Option<Case<'_>>
+        ensures { IsCase result (at self.now.cases number) }
+    {
+        self.cases.get(number)
     }
 }

@@ -4,9 +4,9 @@ use Rattle.std.specs.declared.option.Option.{Option}
 use Rattle.std.specs.declared.option.Option.TheVariants.{Some, None}
 use Rattle.path_model.specs.declared.role.Role.{Role as RoleOf}
 use Rattle.script_lines.specs.declared.command.Command.{Command}
-use Rattle.script_lines.specs.declared.command.Command.TheVariants.{Aspa, Aspa64, Slurm, Filter, Unfilter, Assert, Unassert, Role, RoleDefault, Open, Take, Judge, Report, Changes, Summary, Why}
+use Rattle.script_lines.specs.declared.command.Command.TheVariants.{Aspa, Aspa64, Slurm, Filter, Unfilter, Assert, Unassert, Role, RoleDefault, Open, Take, Feed, Ask, Sync, Judge, Report, Changes, Summary, Why}
 use Rattle.script_lines.specs.declared.command.CommandName.{CommandName}
-use Rattle.script_lines.specs.declared.command.CommandName.TheVariants.{Aspa as AspaName, Aspa64 as Aspa64Name, Slurm as SlurmName, Filter as FilterName, Unfilter as UnfilterName, Assert as AssertName, Unassert as UnassertName, Role as RoleName, Open as OpenName, Take as TakeName, Judge as JudgeName, Report as ReportName, Changes as ChangesName, Summary as SummaryName, Why as WhyName}
+use Rattle.script_lines.specs.declared.command.CommandName.TheVariants.{Aspa as AspaName, Aspa64 as Aspa64Name, Slurm as SlurmName, Filter as FilterName, Unfilter as UnfilterName, Assert as AssertName, Unassert as UnassertName, Role as RoleName, Open as OpenName, Take as TakeName, Feed as FeedName, Ask as AskName, Sync as SyncName, Judge as JudgeName, Report as ReportName, Changes as ChangesName, Summary as SummaryName, Why as WhyName}
 use Rattle.script_lines.specs.Kinds.{WordKind, NAME, TEXT, ROLE, ADDRESS, PREFIX, NUMBER, WHOM}
 use Rattle.script_lines.specs.Forms.{Form, end, ases, ◌then◌, Builds, IsSpelled}
 
@@ -29,6 +29,9 @@ name_text UnassertName = codes "unassert"
 name_text RoleName = codes "role"
 name_text OpenName = codes "open"
 name_text TakeName = codes "take"
+name_text FeedName = codes "feed"
+name_text AskName = codes "ask"
+name_text SyncName = codes "sync"
 name_text JudgeName = codes "judge"
 name_text ReportName = codes "report"
 name_text ChangesName = codes "changes"
@@ -47,6 +50,9 @@ form_of UnassertName = AS then end
 form_of RoleName = WHOM then ROLE then end
 form_of OpenName = NAME then TEXT then end
 form_of TakeName = NAME then COUNT then end
+form_of FeedName = NAME then TEXT then end
+form_of AskName = NAME then end
+form_of SyncName = NAME then COUNT then end
 form_of JudgeName = ROLE then AS then ases 0
 form_of ReportName = end
 form_of ChangesName = end
@@ -70,6 +76,9 @@ made_by UnassertName = λ customer. Unassert customer
 made_by RoleName = λ whom role. sets_role whom role
 made_by OpenName = λ name file. Open name file
 made_by TakeName = λ name count. Take name count
+made_by FeedName = λ name place. Feed name place
+made_by AskName = λ name. Ask name
+made_by SyncName = λ name count. Sync name count
 made_by JudgeName = λ role neighbour path. Judge role neighbour path
 made_by ReportName = Report
 made_by ChangesName = Changes

@@ -12,7 +12,7 @@ use Rattle.av_text.specs.RoleText.{role_text}
 use Rattle.av_text.specs.Number.{IsNumber}
 use Rattle.script_lines.specs.Word.{IsVisible}
 
--- NAME, a text such as FILE, ROLE, ADDRESS, PREFIX, a number from a least one to a most, and whom a role is given: an AS or all others
+-- NAME, a text such as FILE or PLACE, ROLE, ADDRESS, PREFIX, a number from a least one to a most, and whom a role is given: an AS or all others
 pub data WordKind : Type 0 where
   NAME : WordKind
   TEXT : WordKind

@@ -32,8 +32,14 @@ pub enum Command {
     RoleDefault(Role),
     /// `open NAME FILE`: the file's records are a stream of that name.
     Open(Name, Word),
-    /// `take NAME N`: at most so many more records of the stream, 1 to 100,000,000.
+    /// `take NAME N`: at most so many more records of the dump, or PDUs of the feed, 1 to 100,000,000.
     Take(Name, u32),
+    /// `feed NAME PLACE`: a new connection to the place is the feed of that name, and its cache is asked for all that it has.
+    Feed(Name, Word),
+    /// `ask NAME`: the feed's cache is asked for what is new.
+    Ask(Name),
+    /// `sync NAME N`: PDUs of the feed until it is up to date or over, and at most so many, 1 to 100,000,000.
+    Sync(Name, u32),
     /// `judge ROLE NEIGHBOUR AS..`: the verdict of the path, written neighbour first.
     Judge(Role, u32, AsList),
     /// `report`: each route of the table, with the verdict of its path.
@@ -59,6 +65,9 @@ pub(crate) enum CommandName {
     Role,
     Open,
     Take,
+    Feed,
+    Ask,
+    Sync,
     Judge,
     Report,
     Changes,

@@ -73,6 +73,9 @@ fn command_name(word: &[u8]) -> Option<CommandName>
         b"role" => Some(CommandName::Role),
         b"open" => Some(CommandName::Open),
         b"take" => Some(CommandName::Take),
+        b"feed" => Some(CommandName::Feed),
+        b"ask" => Some(CommandName::Ask),
+        b"sync" => Some(CommandName::Sync),
         b"judge" => Some(CommandName::Judge),
         b"report" => Some(CommandName::Report),
         b"changes" => Some(CommandName::Changes),
@@ -127,6 +130,18 @@ fn read_fields(alloc: Global, name: CommandName, words: Words<'_>) -> Result<Com
         CommandName::Take => {
             let (name, (count, ())) = <Then<NameWord, Then<CountWord, End>>>::read(alloc, words)?;
             Ok(Command::Take(name, count))
+        }
+        CommandName::Feed => {
+            let (name, (place, ())) = <Then<NameWord, Then<TextWord, End>>>::read(alloc, words)?;
+            Ok(Command::Feed(name, place))
+        }
+        CommandName::Ask => {
+            let (name, ()) = <Then<NameWord, End>>::read(alloc, words)?;
+            Ok(Command::Ask(name))
+        }
+        CommandName::Sync => {
+            let (name, (count, ())) = <Then<NameWord, Then<CountWord, End>>>::read(alloc, words)?;
+            Ok(Command::Sync(name, count))
         }
         CommandName::Judge => {
             let (role, (neighbour, path)) = <Then<RoleWord, Then<AsWord, Ases<0>>>>::read(

@@ -44,7 +44,7 @@ impl Kind for NameWord {
     }
 }
 
-/// A FILE.
+/// A FILE, or a PLACE.
 pub(crate) struct TextWord;
 
 impl Kind for TextWord {

@@ -1,6 +1,6 @@
 //! The cases.
-ghost use Rattle.std.specs.Prelude.{◌≡◌, ◌≤◌, ◌+◌, ℕ, true, false, [], None, Some, IfOk, IfNone, IfSome, IsTrue};
-ghost use Rattle.shared_cases.specs.Cases.{at, verdict_or, marked_or, marked_now, Rewrites, IsAbsent, IsStoredAs, AreDistinct, IsIndexOf, IsSettled, IsShown};
+ghost use Rattle.std.specs.Prelude.{◌≡◌, ◌≤◌, ◌+◌, ℕ, true, false, [], None, Some, IfOk, IfNone, IfSome};
+ghost use Rattle.shared_cases.specs.Cases.{at, verdict_or, marked_or, marked_now, Rewrites, IsAbsent, IsStoredAs, AreDistinct, IsIndexOf, IsShown};
 ghost use Rattle.shared_cases.specs.Grounds.{grounds};
 ghost use Rattle.shared_cases.specs.Names.{name_of};
 ghost use Rattle.shared_cases.specs.Numbers.{has};
@@ -106,13 +106,6 @@ impl SharedCases {
         ensures { AreDistinct self.now }
     {
         let _names = &self.names;
-    }
-
-    /// Each case has its marked verdict, if this is true.
-    pub fn is_settled(&self) -> bool
-        ensures { IsTrue result → (n : ℕ) → IsSettled (at self.now n) }
-    {
-        self.noted.is_empty()
     }
 
     /// One route more has the case of this AS and path, and the number of the case, which stays until its last route leaves it. A new

@@ -13,8 +13,7 @@ pub(crate) fn happen_all<L: Ledger>(
     events: Vec<Event>,
     steps: &mut Steps<L>,
 ) -> Result<Analyser, NoMemory>
-    ensures state { IfOk result (λ next. HappenAll analyser events.items next) }
-    ensures ticks { steps.new ≡ steps.old }
+    ensures { IfOk result (λ next. HappenAll analyser events.items next) }
 {
     let mut analyser = analyser;
     for event in events {

@@ -1,5 +1,5 @@
 -- From each dump any number of units has one text and one outcome.
-use Rattle.std.proofs.Common.{◌≡◌, ℕ, zero, suc, Bool, true, false, List, [], ◌++◌, Ok, Err, refl, sym, ◌∙◌, ap, subst}
+use Rattle.std.proofs.Common.{◌≡◌, ℕ, zero, suc, ◌+◌, Bool, true, false, List, [], ◌++◌, Ok, Err, refl, sym, ◌∙◌, ap, subst}
 use Rattle.std.specs.declared.result.Result.{Result}
 use Rattle.path_model.specs.Routes.{performed}
 use Rattle.mrt_reader.specs.declared.body.Body.{Body}
@@ -14,6 +14,7 @@ use Rattle.mrt_reader.proofs.MemoryLemmas.{no_want_of_memory}
 use Rattle.mrt_reader.proofs.SameLemmas.{reading_same}
 use Rattle.mrt_reader.proofs.SomeLemmas.{one_reading}
 use Rattle.rib_store.specs.State.{State}
+use Rattle.rib_store.specs.Touched.{announced}
 use Rattle.stream_lines.specs.Laws.{HasOneOutcome}
 use Rattle.stream_lines.specs.Streams.{Asking, Taking, after_unit, TakesBody, TakesComing, TakesUnless, TakesUnits}
 
@@ -27,7 +28,7 @@ body_unique : (asking : Asking) (old : Taking) (rest : List ℕ) (reading : Resu
     → TakesBody asking old rest reading one end → TakesBody asking old rest reading other last → (one ≡ other) × (end ≡ last)
 body_unique asking old rest (Ok (Peers table)) one other end last a b = both one other _ end last _ a b
 body_unique asking old rest (Ok (RoutesBody changes)) one other end last a b =
-    (a.0 ∙ sym b.0, a.1.2 ∙ ap (λ (s : State). record old { dump = after_unit old.dump rest; state = s }) (a.1.1 ∙ sym b.1.1) ∙ sym b.1.2)
+    (a.0 ∙ sym b.0, a.1.2 ∙ ap (λ (s : State). record old { dump = after_unit old.dump rest; state = s; judgements = old.judgements + announced changes }) (a.1.1 ∙ sym b.1.1) ∙ sym b.1.2)
 body_unique asking old rest (Ok Passed) one other end last a b = both one other _ end last _ a b
 body_unique asking old rest (Err Attributes) one other end last a b = both one other _ end last _ a b
 body_unique asking old rest (Err Message) one other end last a b = both one other _ end last _ a b
@@ -87,7 +88,7 @@ some_coming asking old TooLong = (_, _, (refl, refl))
 some_coming asking old CutShort = (_, _, (refl, refl))
 some_coming asking old End = ([], _, (refl, refl))
 
-some_unless : (over : Bool) (asking : Asking) (old : Taking) → (text : List ℕ) × (new : Taking) × TakesUnless over asking old text new
+pub some_unless : (over : Bool) (asking : Asking) (old : Taking) → (text : List ℕ) × (new : Taking) × TakesUnless over asking old text new
 some_unless true asking old = ([], old, (refl, refl))
 some_unless false asking old =
     let coming = one_thing_comes old.dump.left in

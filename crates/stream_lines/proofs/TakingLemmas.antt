@@ -12,13 +12,16 @@ use Rattle.mrt_reader.specs.Bodies.{IsReading, IsOutcome}
 use Rattle.mrt_reader.specs.Coming.{Whole, TooLong as ATooLong, CutShort as ACutShort, End as AnEnd}
 use Rattle.mrt_reader.specs.Records.{Recorded}
 use Rattle.report_text.specs.Refusals.{IsCause, of_unit, refusal_text}
+use Rattle.rib_store.specs.State.{State}
+use Rattle.rib_store.specs.Touched.{announced}
+use Rattle.analyser.specs.declared.event.Event.TheVariants.{Routes}
+use Rattle.analyser.specs.Events.{Happens}
 use Rattle.stream_lines.specs.declared.dump.Next.{Next}
 use Rattle.stream_lines.specs.declared.dump.Next.TheVariants.{Record, TooLong, CutShort, End}
 use Rattle.stream_lines.specs.declared.taking.Progress.{Progress}
 use Rattle.stream_lines.specs.Held.{HeldDump}
 use Rattle.stream_lines.specs.Next.{IsNext}
 use Rattle.stream_lines.specs.Streams.{Asking, Taking, body_cause, after_unit, unit_refused, TakesBody, TakesUnless, TakesUnit, TakesNext}
-use Rattle.stream_lines.specs.Taking.{taking}
 use Rattle.stream_lines.specs.TakingSteps.{TookUnit, TookBody}
 
 -- a dump that isn't over
@@ -53,51 +56,51 @@ module _ (asking : Asking) (dump : HeldDump) (progress : Progress) (files_old fi
   pub took_body : (body : Body) (mid new : HeldDump) (after : Progress) (text_old text_new : List ℕ) → next ≡ Record (Ok body)
       → mid ≡ record dump { held = held } → TookBody body mid new progress after → text_new ≡ text_old
       → TookUnit asking dump new progress files_old files_new text_old text_new after
-  took_body (Peers table) mid new after text_old text_new is before took same = λ open_yet state holds.
-      let came = (rw is at comes) state.left holds.left in
+  took_body (Peers table) mid new after text_old text_new is before took same = λ open_yet old stands.
+      let came = (rw is at comes) old.dump.left stands.holds.left in
       let now : new ≡ record dump { held = held; taken = dump.taken + 1; peers = Some table } = took.0 ∙ ap (λ (d : HeldDump). record d { taken = d.taken + 1; peers = Some table }) before in (
-        record (taking state progress) { dump = record (after_unit state came.rest) { peers = Some table } },
-        rw (now, took.1) (record { holds = record { left = came.told; taken = ap (λ (n : ℕ). n + 1) holds.taken; peers = refl; over = holds.over }; state = refl; passed = refl; refused = refl }),
+        record old { dump = record (after_unit old.dump came.rest) { peers = Some table } },
+        rw (now, took.1) (record { holds = record { left = came.told; taken = ap (λ (n : ℕ). n + 1) stands.holds.taken; peers = refl; over = stands.holds.over }; state = stands.state; passed = stands.passed; refused = stands.refused }),
         record {
           text = [];
-          takes = takes_next _ _ _ _ (sym holds.over ∙ open_yet) (record {
+          takes = takes_next _ _ _ _ (sym stands.holds.over ∙ open_yet) (record {
             coming = Whole came.it came.rest;
             comes = came.begins;
-            takes = record { reading = Ok (Peers table); reads = subst (λ (p : Option (List Peer)). IsReading came.it p (Ok (Peers table))) holds.peers came.reads; takes = (refl, refl) };
+            takes = record { reading = Ok (Peers table); reads = subst (λ (p : Option (List Peer)). IsReading came.it p (Ok (Peers table))) stands.holds.peers came.reads; takes = (refl, refl) };
           });
           added = same ∙ sym (append-nil text_old);
         },
       )
-  took_body (RoutesBody changes) mid new after text_old text_new is before took same = λ open_yet state holds.
-      let came = (rw is at comes) state.left holds.left in
+  took_body (RoutesBody changes) mid new after text_old text_new is before took same = λ open_yet old stands.
+      let came = (rw is at comes) old.dump.left stands.holds.left in
       let now : new ≡ record dump { held = held; taken = dump.taken + 1 } = took.0 ∙ ap (λ (d : HeldDump). record d { taken = d.taken + 1 }) before in (
-        record (taking state progress) { dump = after_unit state came.rest; state = took.1 },
-        rw (now, took.3) (record { holds = record { left = came.told; taken = ap (λ (n : ℕ). n + 1) holds.taken; peers = holds.peers; over = holds.over }; state = refl; passed = refl; refused = refl }),
+        record old { dump = after_unit old.dump came.rest; state = took.1; judgements = old.judgements + announced changes },
+        rw (now, took.3) (record { holds = record { left = came.told; taken = ap (λ (n : ℕ). n + 1) stands.holds.taken; peers = stands.holds.peers; over = stands.holds.over }; state = refl; passed = stands.passed; refused = stands.refused }),
         record {
           text = [];
-          takes = takes_next _ _ _ _ (sym holds.over ∙ open_yet) (record {
+          takes = takes_next _ _ _ _ (sym stands.holds.over ∙ open_yet) (record {
             coming = Whole came.it came.rest;
             comes = came.begins;
             takes = record {
               reading = Ok (RoutesBody changes);
-              reads = subst (λ (p : Option (List Peer)). IsReading came.it p (Ok (RoutesBody changes))) holds.peers came.reads;
-              takes = (refl, (took.1, took.2, refl));
+              reads = subst (λ (p : Option (List Peer)). IsReading came.it p (Ok (RoutesBody changes))) stands.holds.peers came.reads;
+              takes = (refl, (took.1, subst (λ (s : State). Happens s (Routes changes) took.1) stands.state took.2, refl));
             };
           });
           added = same ∙ sym (append-nil text_old);
         },
       )
-  took_body Passed mid new after text_old text_new is before took same = λ open_yet state holds.
-      let came = (rw is at comes) state.left holds.left in
+  took_body Passed mid new after text_old text_new is before took same = λ open_yet old stands.
+      let came = (rw is at comes) old.dump.left stands.holds.left in
       let now : new ≡ record dump { held = held; taken = dump.taken + 1 } = took.0 ∙ ap (λ (d : HeldDump). record d { taken = d.taken + 1 }) before in (
-        record (taking state progress) { dump = after_unit state came.rest; passed = progress.passed + 1 },
-        rw (now, took.1) (record { holds = record { left = came.told; taken = ap (λ (n : ℕ). n + 1) holds.taken; peers = holds.peers; over = holds.over }; state = refl; passed = refl; refused = refl }),
+        record old { dump = after_unit old.dump came.rest; passed = old.passed + 1 },
+        rw (now, took.1) (record { holds = record { left = came.told; taken = ap (λ (n : ℕ). n + 1) stands.holds.taken; peers = stands.holds.peers; over = stands.holds.over }; state = stands.state; passed = ap (λ (n : ℕ). n + 1) stands.passed; refused = stands.refused }),
         record {
           text = [];
-          takes = takes_next _ _ _ _ (sym holds.over ∙ open_yet) (record {
+          takes = takes_next _ _ _ _ (sym stands.holds.over ∙ open_yet) (record {
             coming = Whole came.it came.rest;
             comes = came.begins;
-            takes = record { reading = Ok Passed; reads = subst (λ (p : Option (List Peer)). IsReading came.it p (Ok Passed)) holds.peers came.reads; takes = (refl, refl) };
+            takes = record { reading = Ok Passed; reads = subst (λ (p : Option (List Peer)). IsReading came.it p (Ok Passed)) stands.holds.peers came.reads; takes = (refl, refl) };
           });
           added = same ∙ sym (append-nil text_old);
         },
@@ -108,26 +111,26 @@ module _ (asking : Asking) (dump : HeldDump) (progress : Progress) (files_old fi
       → mid ≡ record dump { held = held } → new ≡ record mid { taken = mid.taken + 1 } → after ≡ record progress { refused = progress.refused + 1 }
       → taken ≡ mid.taken → cause ≡ body_cause fault → IsCause cause → text_new ≡ text_old ++ refusal_text asking.line (of_unit asking.name (taken + 1)) cause
       → TookUnit asking dump new progress files_old files_new text_old text_new after
-  took_refused fault mid new after taken cause text_old text_new is before passed counted at number known added = λ open_yet state holds.
-      let came = (rw is at comes) state.left holds.left in
+  took_refused fault mid new after taken cause text_old text_new is before passed counted at number known added = λ open_yet old stands.
+      let came = (rw is at comes) old.dump.left stands.holds.left in
       let now : new ≡ record dump { held = held; taken = dump.taken + 1 } = passed ∙ ap (λ (d : HeldDump). record d { taken = d.taken + 1 }) before in
       let known : IsCause (body_cause fault) = subst (λ (n : ℕ). IsCause n) number known in
-      let unit : taken + 1 ≡ state.taken + 1 = ap (λ (n : ℕ). n + 1) (at ∙ ap (λ (d : HeldDump). d.taken) before ∙ holds.taken) in (
-        record (taking state progress) { dump = after_unit state came.rest; refused = progress.refused + 1 },
-        rw (now, counted) (record { holds = record { left = came.told; taken = ap (λ (n : ℕ). n + 1) holds.taken; peers = holds.peers; over = holds.over }; state = refl; passed = refl; refused = refl }),
+      let unit : taken + 1 ≡ old.dump.taken + 1 = ap (λ (n : ℕ). n + 1) (at ∙ ap (λ (d : HeldDump). d.taken) before ∙ stands.holds.taken) in (
+        record old { dump = after_unit old.dump came.rest; refused = old.refused + 1 },
+        rw (now, counted) (record { holds = record { left = came.told; taken = ap (λ (n : ℕ). n + 1) stands.holds.taken; peers = stands.holds.peers; over = stands.holds.over }; state = stands.state; passed = stands.passed; refused = ap (λ (n : ℕ). n + 1) stands.refused }),
         record {
-          text = unit_refused asking state (body_cause fault);
-          takes = takes_next _ _ _ _ (sym holds.over ∙ open_yet) (record {
+          text = unit_refused asking old.dump (body_cause fault);
+          takes = takes_next _ _ _ _ (sym stands.holds.over ∙ open_yet) (record {
             coming = Whole came.it came.rest;
             comes = came.begins;
             takes = record {
               reading = Err fault;
-              reads = reads_fault came.it state.peers fault known (subst (λ (p : Option (List Peer)). IsOutcome came.it p (Err fault)) holds.peers came.reads);
-              takes = takes_fault asking (taking state progress) came.rest fault known;
+              reads = reads_fault came.it old.dump.peers fault known (subst (λ (p : Option (List Peer)). IsOutcome came.it p (Err fault)) stands.holds.peers came.reads);
+              takes = takes_fault asking old came.rest fault known;
             };
           });
           added = added ∙ ap (λ (n : ℕ). text_old ++ refusal_text asking.line (of_unit asking.name n) cause) unit
-              ∙ ap (λ (n : ℕ). text_old ++ refusal_text asking.line (of_unit asking.name (state.taken + 1)) n) number;
+              ∙ ap (λ (n : ℕ). text_old ++ refusal_text asking.line (of_unit asking.name (old.dump.taken + 1)) n) number;
         },
       )
 
@@ -136,15 +139,15 @@ module _ (asking : Asking) (dump : HeldDump) (progress : Progress) (files_old fi
       → new ≡ record mid { over = true } → after ≡ record progress { refused = progress.refused + 1 }
       → taken ≡ mid.taken → text_new ≡ text_old ++ refusal_text asking.line (of_unit asking.name (taken + 1)) 26
       → TookUnit asking dump new progress files_old files_new text_old text_new after
-  took_too_long mid new after taken text_old text_new is before ended counted at added = λ open_yet state holds.
-      let came = (rw is at comes) state.left holds.left in
+  took_too_long mid new after taken text_old text_new is before ended counted at added = λ open_yet old stands.
+      let came = (rw is at comes) old.dump.left stands.holds.left in
       let now : new ≡ record dump { held = held; over = true } = ended ∙ ap (λ (d : HeldDump). record d { over = true }) before in
-      let unit : taken + 1 ≡ state.taken + 1 = ap (λ (n : ℕ). n + 1) (at ∙ ap (λ (d : HeldDump). d.taken) before ∙ holds.taken) in (
-        record (taking state progress) { dump = record state { over = true }; refused = progress.refused + 1 },
-        rw (now, counted) (record { holds = record { left = came.1; taken = holds.taken; peers = holds.peers; over = refl }; state = refl; passed = refl; refused = refl }),
+      let unit : taken + 1 ≡ old.dump.taken + 1 = ap (λ (n : ℕ). n + 1) (at ∙ ap (λ (d : HeldDump). d.taken) before ∙ stands.holds.taken) in (
+        record old { dump = record old.dump { over = true }; refused = old.refused + 1 },
+        rw (now, counted) (record { holds = record { left = came.1; taken = stands.holds.taken; peers = stands.holds.peers; over = refl }; state = stands.state; passed = stands.passed; refused = ap (λ (n : ℕ). n + 1) stands.refused }),
         record {
-          text = unit_refused asking state 26;
-          takes = takes_next _ _ _ _ (sym holds.over ∙ open_yet) (record { coming = ATooLong; comes = came.0; takes = (refl, refl) });
+          text = unit_refused asking old.dump 26;
+          takes = takes_next _ _ _ _ (sym stands.holds.over ∙ open_yet) (record { coming = ATooLong; comes = came.0; takes = (refl, refl) });
           added = added ∙ ap (λ (n : ℕ). text_old ++ refusal_text asking.line (of_unit asking.name n) 26) unit;
         },
       )
@@ -154,15 +157,15 @@ module _ (asking : Asking) (dump : HeldDump) (progress : Progress) (files_old fi
       → new ≡ record mid { over = true } → after ≡ record progress { refused = progress.refused + 1 }
       → taken ≡ mid.taken → text_new ≡ text_old ++ refusal_text asking.line (of_unit asking.name (taken + 1)) 27
       → TookUnit asking dump new progress files_old files_new text_old text_new after
-  took_cut_short mid new after taken text_old text_new is before ended counted at added = λ open_yet state holds.
-      let came = (rw is at comes) state.left holds.left in
+  took_cut_short mid new after taken text_old text_new is before ended counted at added = λ open_yet old stands.
+      let came = (rw is at comes) old.dump.left stands.holds.left in
       let now : new ≡ record dump { held = held; over = true } = ended ∙ ap (λ (d : HeldDump). record d { over = true }) before in
-      let unit : taken + 1 ≡ state.taken + 1 = ap (λ (n : ℕ). n + 1) (at ∙ ap (λ (d : HeldDump). d.taken) before ∙ holds.taken) in (
-        record (taking state progress) { dump = record state { over = true }; refused = progress.refused + 1 },
-        rw (now, counted) (record { holds = record { left = came.2; taken = holds.taken; peers = holds.peers; over = refl }; state = refl; passed = refl; refused = refl }),
+      let unit : taken + 1 ≡ old.dump.taken + 1 = ap (λ (n : ℕ). n + 1) (at ∙ ap (λ (d : HeldDump). d.taken) before ∙ stands.holds.taken) in (
+        record old { dump = record old.dump { over = true }; refused = old.refused + 1 },
+        rw (now, counted) (record { holds = record { left = came.2; taken = stands.holds.taken; peers = stands.holds.peers; over = refl }; state = stands.state; passed = stands.passed; refused = ap (λ (n : ℕ). n + 1) stands.refused }),
         record {
-          text = unit_refused asking state 27;
-          takes = takes_next _ _ _ _ (sym holds.over ∙ open_yet) (record { coming = ACutShort; comes = (came.0, came.1); takes = (refl, refl) });
+          text = unit_refused asking old.dump 27;
+          takes = takes_next _ _ _ _ (sym stands.holds.over ∙ open_yet) (record { coming = ACutShort; comes = (came.0, came.1); takes = (refl, refl) });
           added = added ∙ ap (λ (n : ℕ). text_old ++ refusal_text asking.line (of_unit asking.name n) 27) unit;
         },
       )
@@ -170,14 +173,14 @@ module _ (asking : Asking) (dump : HeldDump) (progress : Progress) (files_old fi
   -- the end at a record's border
   pub took_end : (mid new : HeldDump) (text : List ℕ) → next ≡ End → mid ≡ record dump { held = held } → new ≡ record mid { over = true }
       → TookUnit asking dump new progress files_old files_new text text progress
-  took_end mid new text is before ended = λ open_yet state holds.
-      let came = (rw is at comes) state.left holds.left in
+  took_end mid new text is before ended = λ open_yet old stands.
+      let came = (rw is at comes) old.dump.left stands.holds.left in
       let now : new ≡ record dump { held = held; over = true } = ended ∙ ap (λ (d : HeldDump). record d { over = true }) before in (
-        record (taking state progress) { dump = record state { over = true } },
-        rw now (record { holds = record { left = came.1; taken = holds.taken; peers = holds.peers; over = refl }; state = refl; passed = refl; refused = refl }),
+        record old { dump = record old.dump { over = true } },
+        rw now (record { holds = record { left = came.1; taken = stands.holds.taken; peers = stands.holds.peers; over = refl }; state = stands.state; passed = stands.passed; refused = stands.refused }),
         record {
           text = [];
-          takes = takes_next _ _ _ _ (sym holds.over ∙ open_yet) (record { coming = AnEnd; comes = came.0; takes = (refl, refl) });
+          takes = takes_next _ _ _ _ (sym stands.holds.over ∙ open_yet) (record { coming = AnEnd; comes = came.0; takes = (refl, refl) });
           added = sym (append-nil text);
         },
       )

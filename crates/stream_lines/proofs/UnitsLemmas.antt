@@ -7,7 +7,7 @@ use Rattle.av_base.proofs.ToldLemmas.{append_known-nil, append_known-append}
 use Rattle.stream_lines.specs.declared.taking.Progress.{Progress}
 use Rattle.stream_lines.specs.Held.{HeldDump}
 use Rattle.stream_lines.specs.Streams.{Asking, Taking, TakesUnless, TakesUnit, TakesUnits}
-use Rattle.stream_lines.specs.Taking.{taking, StandsAt, TookUnits, TookSome}
+use Rattle.stream_lines.specs.Taking.{TookUnits, TookSome}
 use Rattle.stream_lines.specs.TakingSteps.{TookUnit}
 
 -- units are taken, and then more
@@ -37,18 +37,15 @@ TakesUnits-over asking (suc count) old over = record {
   text_is = refl;
 }
 
-TakesUnits-one : (asking : Asking) (old new : Taking) (text : List ℕ) → TakesUnit asking old text new → TakesUnits asking 1 old text new
+-- one unit alone
+pub TakesUnits-one : (asking : Asking) (old new : Taking) (text : List ℕ) → TakesUnit asking old text new → TakesUnits asking 1 old text new
 TakesUnits-one asking old new text takes = record { first = text; rest = []; mid = new; takes = takes; goes_on = (refl, refl); text_is = sym (append-nil text) }
-
--- what is taken next is what stands so far
-taking_again : (files : Option Files) (dump : HeldDump) (progress : Progress) (new : Taking) → StandsAt files dump progress new → taking new.dump progress ≡ new
-taking_again files dump progress new stands = λ i. record { dump = new.dump; state = stands.state i; passed = stands.passed i; refused = stands.refused i }
 
 module _ (asking : Asking) (old : HeldDump) (progress : Progress) (files : Option Files) (all : Option (List ℕ)) where
   pub TookUnits-start : TookUnits asking 0 old old progress files files all all progress
-  TookUnits-start = λ state holds. (
-    taking state progress,
-    record { holds = holds; state = refl; passed = refl; refused = refl },
+  TookUnits-start = λ start stands. (
+    start,
+    stands,
     record { text = []; takes = (refl, refl); added = sym (append_known-nil all) },
   )
 
@@ -57,16 +54,15 @@ module _ (asking : Asking) (old : HeldDump) (progress : Progress) (files : Optio
       → TookUnits asking count old mid progress files files_mid all all_mid before → mid.over ≡ false
       → TookUnit asking mid new before files_mid files_new text_old text_new after → all_mid ≡ append_known written text_old → all_new ≡ append_known written text_new
       → TookUnits asking (count + 1) old new progress files files_new all all_new after
-  TookUnits-next count mid new before after files_mid files_new all_mid all_new written text_old text_new so_far open_yet took held_old held_new = λ state holds.
-      let done = so_far state holds in
-      let one = took open_yet done.0.dump done.1.holds in
-      let same : taking done.0.dump before ≡ done.0 = taking_again files_mid mid before done.0 done.1 in (
+  TookUnits-next count mid new before after files_mid files_new all_mid all_new written text_old text_new so_far open_yet took held_old held_new = λ start stands.
+      let done = so_far start stands in
+      let one = took open_yet done.0 done.1 in (
         one.0,
         one.1,
         record {
           text = done.2.text ++ one.2.text;
           takes = TakesUnits-join asking count 1 _ done.0 one.0 done.2.text one.2.text done.2.takes
-              (TakesUnits-one asking done.0 one.0 one.2.text (subst (λ (t : Taking). TakesUnit asking t one.2.text one.0) same one.2.takes));
+              (TakesUnits-one asking done.0 one.0 one.2.text one.2.takes);
           added = held_new ∙ ap (append_known written) one.2.added ∙ sym (append_known-append written text_old one.2.text)
               ∙ ap (λ (m : Option (List ℕ)). append_known m one.2.text) (sym held_old ∙ done.2.added) ∙ append_known-append all done.2.text one.2.text;
         },
@@ -76,15 +72,15 @@ module _ (asking : Asking) (old : HeldDump) (progress : Progress) (files : Optio
   pub TookUnits-over : (count more : ℕ) (new : HeldDump) (after : Progress) (files_new : Option Files) (all_new : Option (List ℕ)) → count ≤ more
       → TookUnits asking count old new progress files files_new all all_new after → new.over ≡ true
       → TookUnits asking more old new progress files files_new all all_new after
-  TookUnits-over count more new after files_new all_new within so_far over = λ state holds.
-      let done = so_far state holds in
+  TookUnits-over count more new after files_new all_new within so_far over = λ start stands.
+      let done = so_far start stands in
       let n : count + (more - count) ≡ more = omega arith in (
         done.0,
         done.1,
         record {
           text = done.2.text;
-          takes = subst (λ (k : ℕ). TakesUnits asking k (taking state progress) done.2.text done.0) n
-              (subst (λ (t : List ℕ). TakesUnits asking (count + (more - count)) (taking state progress) t done.0) (append-nil done.2.text)
+          takes = subst (λ (k : ℕ). TakesUnits asking k start done.2.text done.0) n
+              (subst (λ (t : List ℕ). TakesUnits asking (count + (more - count)) start t done.0) (append-nil done.2.text)
               (TakesUnits-join asking count (more - count) _ done.0 done.0 done.2.text [] done.2.takes (TakesUnits-over asking (more - count) done.0 (sym done.1.holds.over ∙ over))));
           added = done.2.added;
         },
@@ -93,6 +89,6 @@ module _ (asking : Asking) (old : HeldDump) (progress : Progress) (files : Optio
   -- what was taken is some first of more
   pub TookUnits-some : (count more : ℕ) (new : HeldDump) (after : Progress) (files_new : Option Files) (all_new all_end : Option (List ℕ)) → count ≤ more
       → TookUnits asking count old new progress files files_new all all_new after → all_end ≡ all_new → TookSome asking more old progress files all all_end
-  TookUnits-some count more new after files_new all_new all_end within so_far same = λ state holds.
-      let done = so_far state holds in
+  TookUnits-some count more new after files_new all_new all_end within so_far same = λ start stands.
+      let done = so_far start stands in
       record { first = count; within = within; new = done.0; took = record { text = done.2.text; takes = done.2.takes; added = same ∙ done.2.added } }

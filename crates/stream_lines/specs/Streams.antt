@@ -14,6 +14,7 @@ use Rattle.mrt_reader.specs.Coming.{Coming, IsComing}
 use Rattle.mrt_reader.specs.Records.{Recorded}
 use Rattle.report_text.specs.Refusals.{of_unit, refusal_text}
 use Rattle.rib_store.specs.State.{State}
+use Rattle.rib_store.specs.Touched.{announced}
 use Rattle.analyser.specs.declared.event.Event.TheVariants.{Routes}
 use Rattle.analyser.specs.Events.{Happens}
 
@@ -24,12 +25,14 @@ pub record Dump : Type 0 where
   pub peers : Option (List Peer)
   pub over : Bool
 
--- what a taken unit changes: the dump, the analysis, and the counts of passed records and refused lines
+-- What a taken unit changes: the dump, the analysis, the counts of passed records and refused lines, and how many judgements the units
+-- so far may have cost: one for each route that was announced.
 pub record Taking : Type 0 where
   pub dump : Dump
   pub state : State
   pub passed : ℕ
   pub refused : ℕ
+  pub judgements : ℕ
 
 -- the line that takes: its number, and the dump's name
 pub record Asking : Type 0 where
@@ -60,7 +63,7 @@ TakesBody asking old rest (Ok (Peers table)) text new =
     (text ≡ []) × (new ≡ record old { dump = record (after_unit old.dump rest) { peers = Some table } })
 TakesBody asking old rest (Ok (RoutesBody changes)) text new =
     (text ≡ []) × ((state : State) × Happens old.state (Routes changes) state
-    × (new ≡ record old { dump = after_unit old.dump rest; state = state }))
+    × (new ≡ record old { dump = after_unit old.dump rest; state = state; judgements = old.judgements + announced changes }))
 TakesBody asking old rest (Ok Passed) text new =
     (text ≡ []) × (new ≡ record old { dump = after_unit old.dump rest; passed = old.passed + 1 })
 TakesBody asking old rest (Err NoMemory) text new = ⊥

@@ -7,15 +7,11 @@ use Rattle.stream_lines.specs.declared.taking.Asked.{Asked}
 use Rattle.stream_lines.specs.declared.taking.Progress.{Progress}
 use Rattle.stream_lines.specs.Held.{HeldDump}
 use Rattle.stream_lines.specs.Holding.{HoldsDump}
-use Rattle.stream_lines.specs.Streams.{Asking, Dump, Taking, TakesUnits}
+use Rattle.stream_lines.specs.Streams.{Asking, Taking, TakesUnits}
 
 -- the line that takes, and the dump's name
 abbrev pub asking_of : Asked → Asking
 asking_of asked = record { line = asked.line; name = asked.name.now }
-
--- what the next unit is taken from
-abbrev pub taking : Dump → Progress → Taking
-taking dump progress = record { dump = dump; state = progress.analyser; passed = progress.passed; refused = progress.refused }
 
 -- what is held of the dump, the analyser and the counts stand for this
 pub record StandsAt (files : Option Files) (dump : HeldDump) (progress : Progress) (new : Taking) : Type 0 where
@@ -30,13 +26,13 @@ pub record TookMany (asking : Asking) (count : ℕ) (old new : Taking) (all_old 
   pub takes : TakesUnits asking count old text new
   pub added : all_new ≡ append_known all_old text
 
--- So many units were taken, or all that came until the dump was over, from whatever dump the open one stood for; what is open, the
--- analyser and the counts stand for what they left.
+-- So many units were taken, or all that came until the dump was over, from whatever the open dump, the analyser and the counts stood
+-- for; they stand for what the units left.
 abbrev pub TookUnits : Asking → ℕ → HeldDump → HeldDump → Progress → Option Files → Option Files
     → Option (List ℕ) → Option (List ℕ) → Progress → Type 0
 TookUnits asking count dump_old dump_new progress files_old files_new all_old all_new next =
-    (state : Dump) → HoldsDump files_old dump_old state
-    → (new : Taking) × StandsAt files_new dump_new next new × TookMany asking count (taking state progress) new all_old all_new
+    (old : Taking) → StandsAt files_old dump_old progress old
+    → (new : Taking) × StandsAt files_new dump_new next new × TookMany asking count old new all_old all_new
 
 -- Some first of these units were taken, perhaps none and perhaps all, and their text was added.
 pub record TookFirst (asking : Asking) (count : ℕ) (old : Taking) (all_old all_new : Option (List ℕ)) : Type 0 where
@@ -47,7 +43,12 @@ pub record TookFirst (asking : Asking) (count : ℕ) (old : Taking) (all_old all
 
 abbrev pub TookSome : Asking → ℕ → HeldDump → Progress → Option Files → Option (List ℕ) → Option (List ℕ) → Type 0
 TookSome asking count dump progress files all_old all_new =
-    (state : Dump) → HoldsDump files dump state → TookFirst asking count (taking state progress) all_old all_new
+    (old : Taking) → StandsAt files dump progress old → TookFirst asking count old all_old all_new
+
+-- no more steps were taken than so many units may cost, or all that come until the dump is over
+pub record TicksWithinUnits (asking : Asking) (count : ℕ) (dump : HeldDump) (progress : Progress) (files : Option Files) (before after : ℕ) : Type 0 where
+  pub within : (old new : Taking) (text : List ℕ) → StandsAt files dump progress old → TakesUnits asking count old text new
+      → after + old.judgements ≤ before + new.judgements
 
 -- the counts grew by at most so many
 pub record GrewBy (count : ℕ) (dump_old dump_new : HeldDump) (progress next : Progress) : Type 0 where

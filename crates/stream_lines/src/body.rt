@@ -1,9 +1,9 @@
 //! What the body of a record makes of a dump, of the analysis and of the counts.
-ghost use Rattle.std.specs.Prelude.{◌≡◌, ◌<◌, ◌^◌, IfOk};
+ghost use Rattle.std.specs.Prelude.{◌≡◌, ◌<◌, ◌≤◌, ◌+◌, ◌^◌, IfOk};
 ghost use Rattle.report_text.specs.Refusals.{IsCause};
 ghost use Rattle.stream_lines.specs.Streams.{body_cause as number_of_fault};
 ghost use Rattle.stream_lines.specs.Taking.{GrewBy};
-ghost use Rattle.stream_lines.specs.TakingSteps.{TookBody};
+ghost use Rattle.stream_lines.specs.TakingSteps.{TookBody, judged_by};
 
 use crate::dump::OpenDump;
 use crate::taking::Progress;
@@ -24,7 +24,7 @@ pub(crate) fn take_body<L: Ledger>(
     ensures took { IfOk result (TookBody body dump.old dump.new progress) }
     ensures file { dump.new.file ≡ dump.old.file }
     ensures few { IfOk result (GrewBy 1 dump.old dump.new progress) }
-    ensures ticks { steps.new ≡ steps.old }
+    ensures ticks { steps.new ≤ steps.old + judged_by body }
 {
     match body {
         Body::Peers(table) => {

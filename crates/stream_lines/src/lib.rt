@@ -4,12 +4,14 @@
 //! until the dump is over, and adds their text to what was written and is held. What a unit makes of a dump, of the analysis and of
 //! the counts is defined in `specs/Streams.antt`, over what is left of the dump's file: begin reading there, and then in
 //! `specs/Holding.antt`, how an [`OpenDump`] stands for such a dump. From each dump any number of units has exactly one text and
-//! outcome, and as many refusals are counted as that text has (`laws`).
+//! outcome, and as many refusals are counted as that text has (`laws`). No more judgements are made than one for each route that the
+//! units announce.
 //!
 //! `dump` reads the file piece by piece and takes off what comes next. `taking` performs it, and `body` a record by what it says.
 //! `rows` writes a report of the routes and `changes` what changed, line by line; `summary` sums up, and `stop` says why a line, or
 //! the reading of a file, ends early. Lemmas for the proofs above are in `proofs/`: `FrameLemmas` for the files that a call leaves as
-//! they were, `LawLemmas` and `UnitsLemmas` for units, and `RefusalLemmas` for the refusals in a text.
+//! they were, `LawLemmas` and `UnitsLemmas` for units, `JudgementLemmas` for what units may cost, and `RefusalLemmas` for the refusals
+//! in a text.
 #![tactic(auto)]
 
 mod body;

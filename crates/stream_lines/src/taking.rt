@@ -4,8 +4,8 @@ ghost use Rattle.std.specs.Io.KnownBytes.{append_known};
 ghost use Rattle.av_base.specs.Told.{Grows, Rose};
 ghost use Rattle.report_text.specs.Refusals.{IsCause, of_unit, refusal_text};
 ghost use Rattle.stream_lines.specs.Frames.{Leaves, names_of};
-ghost use Rattle.stream_lines.specs.Taking.{GrewBy, TookSome, TookUnits, asking_of};
-ghost use Rattle.stream_lines.specs.TakingSteps.{TookUnit};
+ghost use Rattle.stream_lines.specs.Taking.{GrewBy, TicksWithinUnits, TookSome, TookUnits, asking_of};
+ghost use Rattle.stream_lines.specs.TakingSteps.{TicksWithinUnit, TookUnit};
 
 use crate::body::{body_cause, take_body};
 use crate::dump::{Next, OpenDump};
@@ -39,7 +39,7 @@ pub struct Progress {
 }
 
 /// Takes the next units of a dump, or all that come until it is over. A refused unit is reported by a line. The text is held, and
-/// written in pieces.
+/// written in pieces. Each judgement is a step.
 pub fn take_units<F: Shelf, W: Sink, L: Ledger>(
     alloc: Global,
     dump: &mut OpenDump,
@@ -65,9 +65,10 @@ pub fn take_units<F: Shelf, W: Sink, L: Ledger>(
         dump.old progress (F.files shelf.old)
         (append_known (W.written out.old) text.old.items)
         (append_known (W.written out.new) text.new.items) }
+    ensures ticks { TicksWithinUnits (asking_of asking.entry) asking.entry.count
+        dump.old progress (F.files shelf.old) steps.old steps.new }
     ensures file { dump.new.file ≡ dump.old.file }
     ensures few { IfOk result (GrewBy asking.entry.count dump.old dump.new progress) }
-    ensures ticks { steps.new ≡ steps.old }
     ensures others { Leaves (λ other. other ≢ dump.old.file)
         (F.files shelf.old) (F.files shelf.new) }
     ensures names { names_of (F.files shelf.new) ≡ names_of (F.files shelf.old) }
@@ -110,7 +111,8 @@ fn take_unit<F: Shelf, L: Ledger>(
     ensures err { OnErr result (text.new.items ≡ text.old.items) }
     ensures file { dump.new.file ≡ dump.old.file }
     ensures few { IfOk result (GrewBy 1 dump.old dump.new progress) }
-    ensures ticks { steps.new ≡ steps.old }
+    ensures ticks { TicksWithinUnit (asking_of asking.entry) dump.old progress
+        (F.files shelf.old) steps.old steps.new }
     ensures others { Leaves (λ other. other ≢ dump.old.file)
         (F.files shelf.old) (F.files shelf.new) }
     ensures opened { F.opened shelf.new ≡ F.opened shelf.old }

@@ -1,10 +1,12 @@
 pub mod AlteredLemmas
 pub mod ChangeLemmas
+pub mod CountingLemmas
 pub mod CurrentLemmas
 pub mod MemberLemmas
 pub mod MovesLemmas
 pub mod NamingLemmas
 pub mod PatchLemmas
 pub mod SourcesLemmas
+pub mod TalliesLemmas
 pub mod UnitingLemmas
 pub mod VapsLemmas

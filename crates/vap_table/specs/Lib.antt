@@ -1,9 +1,11 @@
 pub mod Change
 pub mod Codes
+pub mod Counting
 pub mod Current
 pub mod Laws
 pub mod Moves
 pub mod Naming
 pub mod Sources
+pub mod Tally
 pub mod Uniting
 pub mod Vaps

@@ -8,12 +8,14 @@ ghost use Rattle.path_model.specs.CurrentTable.{no_parts, IsCurrentRow};
 ghost use Rattle.path_model.specs.ComputedTable.{table_of};
 ghost use Rattle.vap_table.specs.Change.{Alters};
 ghost use Rattle.vap_table.specs.Moves.{AreMoves};
+ghost use Rattle.vap_table.specs.Tally.{IsTallyOf};
 ghost use Rattle.vap_table.specs.Vaps.{IsNumberOfRows};
 
 use crate::current::Current;
 use crate::parts::HeldParts;
 use crate::refreshing::refreshed;
-use crate::{Moves, TableChange};
+use crate::tallies::Tallies;
+use crate::{Moves, TableChange, Tally};
 use av_base::NoMemory;
 use path_model::{AsList, Authority, Table};
 use std::alloc::Global;
@@ -26,12 +28,14 @@ pub struct Vaps {
     parts: HeldParts,
     // the current rows, made from the parts
     current: Current,
+    // the tally of each customer of which something has a row, made from the parts
+    tallies: Tallies,
 }
 
 impl Model for Vaps {
     ghost use Rattle.path_model.specs.CurrentTable.{Parts};
     ghost use Rattle.vap_table.specs.Codes.{coded_parts};
-    ghost use Rattle.vap_table.specs.Current.{IsKept};
+    ghost use Rattle.vap_table.specs.Counting.{IsTallied};
 
     ghost Value = { Parts };
 
@@ -39,7 +43,7 @@ impl Model for Vaps {
 
     ghost view = { λ v. v.parts };
 
-    ghost invariant = { λ v. IsKept v.current v.parts };
+    ghost invariant = { λ v. IsTallied v.current v.tallies v.parts };
 }
 
 impl Vaps {
@@ -50,6 +54,7 @@ impl Vaps {
         Vaps {
             parts: HeldParts::new(alloc),
             current: Current::new(alloc),
+            tallies: Tallies::new(alloc),
         }
     }
 
@@ -58,12 +63,21 @@ impl Vaps {
         ensures parts { IfOk result (λ r. Alters self change r.0) }
         ensures moves { IfOk result (λ r. AreMoves (table_of self) (table_of r.0) r.1) }
     {
-        let Vaps { parts, current } = self;
+        let Vaps {
+            parts,
+            current,
+            tallies,
+        } = self;
         let names = parts.named(&change)?;
         let before = current.rows_of(parts.alloc, &parts, &names)?;
         let parts = parts.changed(change)?;
-        let (current, moves) = refreshed(&parts, current, &before, &names)?;
-        Ok((Vaps { parts, current }, moves))
+        let (current, tallies, moves) = refreshed(&parts, current, tallies, &before, &names)?;
+        let vaps = Vaps {
+            parts,
+            current,
+            tallies,
+        };
+        Ok((vaps, moves))
     }
 
     /// The current row of a customer, strictly ascending; `None` exactly where it is silent.
@@ -78,6 +92,14 @@ impl Vaps {
         ensures { IsNumberOfRows (table_of self.now) result }
     {
         self.current.customers.len() as u64
+    }
+
+    /// How many named sources and how many assertions have a row of a customer, and how many of them hold each number; `None` exactly where
+    /// there is no such row. Filters are no matter. It costs one ordered look-up, and takes no memory.
+    pub fn tally(&self, customer: u32) -> Option<&Tally>
+        ensures { IsTallyOf self.now customer (option_copied result) }
+    {
+        self.tallies.get(customer)
     }
 
     // The current row of a customer, as it is kept.

@@ -1,12 +1,16 @@
 //! Paths in a small world, each with its right verdict and printed witness.
+ghost use Rattle.std.specs.Prelude.{◌≡◌};
+
 use crate::wording::in_words;
 use crate::world::World;
-use av_base::NoMemory;
+use av_base::{NoMemory, Steps};
 use path_model::Role::{Customer, Mutual, Peer, Provider, Rs, RsClient};
-use path_model::{AsList, Role, Trail};
-use ramps::{decide, explain};
+use path_model::{AsList, Role, Trail, Verdict, Witness};
+use ramps::judge;
 use std::alloc::Global;
+use std::marker::Brand;
 use std::process::Abort;
+use std::sync::ledger::{Blank, Ledger};
 use witness_checker::confirm;
 
 // The neighbour's role, the neighbour, the path as it is written, neighbour first, and the right verdict with its printed witness. Hop 1
@@ -226,14 +230,24 @@ const DOWNSTREAM: [Case; 32] = [
     (Mutual, 2, &[1, 2, 3], "invalid neighbour"),
 ];
 
+// The judgement of a path in the small world, with a counter of steps of its own.
+fn judged<L: Ledger>(blank: Blank, role: Role, neighbour: u32, trail: &Trail) -> (Verdict, Witness)
+    requires name { blank.name ≡ L.name }
+    requires parts { blank.parts ≡ L.parts }
+    requires one { L.parts ≡ 1 }
+{
+    let mut steps = Steps::<L>::new(blank);
+    let judged = judge(&World, role, neighbour, trail, &mut steps);
+    (judged.verdict(), judged.witness())
+}
+
 // Each case of a table: its verdict, its printed witness, and that the checker confirms them.
 fn judge_all(rt: &impl Abort, alloc: Global, cases: &[Case]) -> Result<(), NoMemory> {
     for case in cases {
         let (role, neighbour, path, text) = *case;
         assert!(rt; path.len() <= 65_535);
         let trail = Trail::new(alloc, false, path)?;
-        let verdict = decide(&World, role, neighbour, &trail);
-        let witness = explain(&World, role, neighbour, &trail);
+        let (verdict, witness) = judged::<Brand>(Blank::new(1), role, neighbour, &trail);
         let words = in_words(alloc, verdict, witness)?;
         assert_eq!(rt; words.as_str(), text, "{path:?}");
         assert!(rt;
@@ -290,8 +304,8 @@ fn judge_by_roles(
     text: &str,
 ) -> Result<(), NoMemory> {
     for role in roles {
-        let verdict = decide(&World, *role, 3, trail);
-        let words = in_words(alloc, verdict, explain(&World, *role, 3, trail))?;
+        let (verdict, witness) = judged::<Brand>(Blank::new(1), *role, 3, trail);
+        let words = in_words(alloc, verdict, witness)?;
         assert_eq!(rt; words.as_str(), text);
     }
     Ok(())

@@ -1,10 +1,12 @@
-//! Tests of what attests: payloads and files of them, and SLURM files.
+//! Tests of what attests: payloads and files of them, SLURM files, and the table that they make.
 //!
 //! Each table has its expected values worked out by hand. `payloads` and `slurm_files` read attestations as the RPKI and an operator give
-//! them.
+//! them. `tables` changes a table, and counts who gives a customer its providers.
 #![tactic(auto)]
 
 #[cfg(test)]
 mod payloads;
 #[cfg(test)]
 mod slurm_files;
+#[cfg(test)]
+mod tables;

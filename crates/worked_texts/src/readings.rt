@@ -20,6 +20,9 @@ enum Reading {
     RoleDefault(Role),
     Open(&'static str, &'static str),
     Take(&'static str, u32),
+    Feed(&'static str, &'static str),
+    Ask(&'static str),
+    Sync(&'static str, u32),
     Judge(Role, u32, &'static [u32]),
     Report,
     Refused(LineFault),
@@ -118,6 +121,25 @@ const DUMPS: [Row; 15] = [
     (b"report now", Reading::Refused(LineFault::Words)),
 ];
 
+const FEEDS: [Row; 16] = [
+    (b"feed c cache:323", Reading::Feed("c", "cache:323")),
+    (b"feed c-1\t[::1]:8282", Reading::Feed("c-1", "[::1]:8282")),
+    (b"feed c", Reading::Refused(LineFault::Words)),
+    (b"feed c cache 323", Reading::Refused(LineFault::Words)),
+    (b"feed c:1 cache:323", Reading::Refused(LineFault::Words)),
+    (b"feeds c cache:323", Reading::Refused(LineFault::Command)),
+    (b"ask c", Reading::Ask("c")),
+    (b"ask", Reading::Refused(LineFault::Words)),
+    (b"ask c 1", Reading::Refused(LineFault::Words)),
+    (b"sync c 1", Reading::Sync("c", 1)),
+    (b"sync c 100000000", Reading::Sync("c", 100_000_000)),
+    (b"sync c", Reading::Refused(LineFault::Words)),
+    (b"sync c/ 0", Reading::Refused(LineFault::Words)),
+    (b"sync c 0", Reading::Refused(LineFault::Number)),
+    (b"sync c 100000001", Reading::Refused(LineFault::Number)),
+    (b"Sync c 1", Reading::Refused(LineFault::Command)),
+];
+
 const JUDGEMENTS: [Row; 14] = [
     (b"judge rs-client 5", Reading::Judge(Role::RsClient, 5, &[])),
     (
@@ -169,6 +191,13 @@ fn is_read_so(read: &Result<Command, LineFault>, reading: Reading) -> bool {
         (Ok(Command::Take(name, count)), Reading::Take(called, wanted)) => {
             name.text() == called && *count == wanted
         }
+        (Ok(Command::Feed(name, place)), Reading::Feed(called, of)) => {
+            name.text() == called && place.text() == of
+        }
+        (Ok(Command::Ask(name)), Reading::Ask(called)) => name.text() == called,
+        (Ok(Command::Sync(name, count)), Reading::Sync(called, wanted)) => {
+            name.text() == called && *count == wanted
+        }
         (Ok(Command::Report), Reading::Report) => true,
         (Ok(Command::Judge(role, neighbour, path)), Reading::Judge(of, wanted, all)) => {
             *role == of && *neighbour == wanted && path.as_slice() == all
@@ -193,6 +222,7 @@ fn reads_lines(rt: HostRuntime) {
     test_lines(&rt, alloc, &FILES);
     test_lines(&rt, alloc, &AMENDMENTS);
     test_lines(&rt, alloc, &DUMPS);
+    test_lines(&rt, alloc, &FEEDS);
     test_lines(&rt, alloc, &JUDGEMENTS);
 }
 

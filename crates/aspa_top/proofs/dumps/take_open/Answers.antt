@@ -9,23 +9,23 @@ pub returns-clause-goes : goal.returns-clause-goes
 returns-clause-goes g c =
     let both : Some c.in-Some.dump.now ≡ Some c.requires.is.dump = c.in-Some.ensures.value ∙ c.requires.is.here in
     let same : c.in-Some.dump.now ≡ c.requires.is.dump = cc in
-    take_goes c.args.working c.args.name.now c.args.count _ _ _ _ c.in-Some.dump.now c.take_units.new.dump _ _ _ _ (sym c.in-Some.ensures.value) c.requires.sound c.take_units.ensures.others
-    (ap (λ (d : HeldDump). d.over) same ∙ c.requires.is.yet) (λ i. record { line = c.args.working.lines; name = c.text.ensures.text i }) refl
-    _ c.in_ok-taken.taken c.in_ok-taken.ensures.took ((c.get_mut.follows.holds c.take_units.new.dump).3 (subst (λ o. IsSome o) c.in-Some.ensures.value refl)).0 refl refl refl refl refl
+    take_goes c.args.working c.args.name.now c.args.count _ _ _ _ c.in-Some.dump.now c.take_units.new.dump _ _ _ _ _ _ (sym c.in-Some.ensures.value) c.requires.sound c.take_units.ensures.others
+    (ap (λ (d : HeldDump). d.over) same ∙ c.requires.is.yet) (λ i. record { line = c.args.working.lines; name = c.text.ensures.text i }) refl c.take_units.ensures.ticks
+    _ c.in_ok-taken.taken c.in_ok-taken.ensures.took ((c.get_mut.follows.holds c.take_units.new.dump).3 (subst (λ o. IsSome o) c.in-Some.ensures.value refl)).0 refl
 
 pub returns-clause-part : goal.returns-clause-part
 returns-clause-part g c =
     let both : Some c.in-Some.dump.now ≡ Some c.requires.is.dump = c.in-Some.ensures.value ∙ c.requires.is.here in
     let same : c.in-Some.dump.now ≡ c.requires.is.dump = cc in
-    take_part c.args.working c.args.name.now c.args.count _ _ _ _ c.in-Some.dump.now c.take_units.new.dump _ _ _ _ (sym c.in-Some.ensures.value) c.requires.sound c.take_units.ensures.others
-    (ap (λ (d : HeldDump). d.over) same ∙ c.requires.is.yet) (λ i. record { line = c.args.working.lines; name = c.text.ensures.text i }) refl c.take_units.ensures.some
+    take_part c.args.working c.args.name.now c.args.count _ _ _ _ c.in-Some.dump.now c.take_units.new.dump _ _ _ _ _ _ (sym c.in-Some.ensures.value) c.requires.sound c.take_units.ensures.others
+    (ap (λ (d : HeldDump). d.over) same ∙ c.requires.is.yet) (λ i. record { line = c.args.working.lines; name = c.text.ensures.text i }) refl c.take_units.ensures.ticks c.take_units.ensures.some
 
 pub returns-in_err-taken-clause-part : goal.returns-in_err-taken-clause-part
 returns-in_err-taken-clause-part g c =
     let both : Some c.in-Some.dump.now ≡ Some c.requires.is.dump = c.in-Some.ensures.value ∙ c.requires.is.here in
     let same : c.in-Some.dump.now ≡ c.requires.is.dump = cc in
-    take_part c.args.working c.args.name.now c.args.count _ _ _ _ c.in-Some.dump.now c.take_units.new.dump _ _ _ _ (sym c.in-Some.ensures.value) c.requires.sound c.take_units.ensures.others
-    (ap (λ (d : HeldDump). d.over) same ∙ c.requires.is.yet) (λ i. record { line = c.args.working.lines; name = c.text.ensures.text i }) refl c.take_units.ensures.some
+    take_part c.args.working c.args.name.now c.args.count _ _ _ _ c.in-Some.dump.now c.take_units.new.dump _ _ _ _ _ _ (sym c.in-Some.ensures.value) c.requires.sound c.take_units.ensures.others
+    (ap (λ (d : HeldDump). d.over) same ∙ c.requires.is.yet) (λ i. record { line = c.args.working.lines; name = c.text.ensures.text i }) refl c.take_units.ensures.ticks c.take_units.ensures.some
 
 pub returns-clause-sound : goal.returns-clause-sound
 returns-clause-sound g c =
@@ -37,3 +37,11 @@ returns-clause-sound g c =
     (omega (arith, here.1, few.taken, c.requires.few, c.requires.room.0))
     (λ q d other there same. c.requires.sound.apart c.args.name.now q c.in-Some.dump.now d other (sym c.in-Some.ensures.value) there (sym c.take_units.ensures.file ∙ same))
     (omega (arith, few.passed, c.requires.few)) (omega (arith, few.refused, c.requires.few))
+
+pub take_units-requires-clause-given : goal.take_units-requires-clause-given
+take_units-requires-clause-given g c = (c.requires.sound.given c.args.name.now c.in-Some.dump.now (sym c.in-Some.ensures.value)).0
+
+pub take_units-requires-clause-few_taken : goal.take_units-requires-clause-few_taken
+take_units-requires-clause-few_taken g c =
+    let here = c.requires.sound.given c.args.name.now c.in-Some.dump.now (sym c.in-Some.ensures.value) in
+    omega (arith, here.1, c.requires.room.1)

@@ -1,95 +1,100 @@
 use Rattle.std.proofs.Common.{◌≡◌, ℕ, Err, refl, sym, ap, subst, ◌∙◌, arith}
 use Rattle.aspa_top.specs.Performing.{IsSound}
 use Rattle.av_base.proofs.PouringLemmas.{Grows-refl, Grows-trans}
-use Rattle.aspa_top.proofs.RunLemmas.{Tells-names, part_same, Performing-start, Performing-next, Performing-same, Reached-between, Reached-within, Reached-went, Reached-cut, Performing-stopped, Performing-ended}
+use Rattle.feed_lines.proofs.StandingLemmas.{start_sound}
+use Rattle.aspa_top.proofs.RunLemmas.{GoesOn-refl, GoesOn-trans, Tells-names, part_same, Performing-start, Performing-next, Performing-same, Reached-between, Reached-within, Reached-went, Reached-cut, Performing-stopped, Performing-ended}
 use Rattle.aspa_top.proofs.evaluation.evaluate.Goals as goal
 
 pub loop-line-init : goal.loop-line-init
 loop-line-init g c =
     let none : c.new-working.result.lines ≡ 0 = c.new-working.ensures.lines in
     record {
-      so_far = λ world tells. Performing-start _ _ _ _ _ _ _ (c.new-working.ensures.stands _) c.new-text.ensures.items;
+      so_far = λ world tells begins. Performing-start _ _ _ _ _ _ _ _ (c.new-working.ensures.stands _ _ world begins) c.new-text.ensures.items;
+      later = GoesOn-refl _;
       names = refl;
       shelf_faults = omega arith;
       grows = Grows-refl _;
       sink_faults = omega arith;
       count = omega (arith, none);
       sound = subst (λ (n : ℕ). IsSound (g.F.Shelf.opened c.args.shelf.now) n c.new-working.result) (sym none) (c.new-working.ensures.sound (g.F.Shelf.opened c.args.shelf.now));
+      feeds = start_sound _ _ _ c.new-working.ensures.feeds;
     }
 
 pub loop-line-preserved : goal.loop-line-preserved
 loop-line-preserved g c = record {
-  so_far = λ world tells. Performing-same _ _ _ _ _ _ _ _ _ _
-      (Performing-next _ _ _ _ _ _ _ _ _ _ _ _ _ _ _ (c.loop-line.invariant.so_far world tells) c.in-Some.ensures.first
-      (Tells-names _ _ world c.loop-line.invariant.names tells) c.in-Ok.ensures.goes) c.pour_piece.ensures.same;
+  so_far = λ world tells begins. Performing-same _ _ _ _ _ _ _ _ _ _ _
+      (Performing-next _ _ _ _ _ _ _ _ _ _ _ _ _ _ _ _ _ (c.loop-line.invariant.so_far world tells begins) c.in-Some.ensures.first
+      (Tells-names _ _ world c.loop-line.invariant.names tells) c.perform_line.ensures.later c.in-Ok.ensures.goes) c.pour_piece.ensures.same;
+  later = GoesOn-trans c.loop-line.invariant.later c.perform_line.ensures.later;
   names = c.perform_line.ensures.names ∙ c.loop-line.invariant.names;
   shelf_faults = omega (arith, c.loop-line.invariant.shelf_faults, c.perform_line.ensures.shelf_faults);
   grows = Grows-trans c.loop-line.invariant.grows (Grows-trans c.perform_line.ensures.grows c.pour_piece.ensures.grows);
   sink_faults = omega (arith, c.loop-line.invariant.sink_faults, c.perform_line.ensures.sink_faults, c.pour_piece.ensures.cause.later);
   count = omega (arith, c.loop-line.invariant.count, c.in-Some.ensures.less, c.in-Ok.ensures.lines);
   sound = c.in-Ok.ensures.sound;
+  feeds = c.in-Ok.ensures.feeds;
 }
 
 pub returns-in_err-pour-in-Err-Shelf-clause-went : goal.returns-in_err-pour-in-Err-Shelf-clause-went
-returns-in_err-pour-in-Err-Shelf-clause-went g c = λ world tells.
-    Reached-went _ _ _ _ _ _ _ (Reached-within _ _ _ _ _ _ _ _ _ _ _ _ _ (c.loop-line.invariant.so_far world tells) c.in-Some.ensures.first
-    (Tells-names _ _ world c.loop-line.invariant.names tells) (part_same _ _ _ _ _ _ c.perform_line.ensures.part c.pour.ensures.same) c.perform_line.ensures.ticks) (Grows-trans c.loop-line.invariant.grows (Grows-trans c.perform_line.ensures.grows c.pour.ensures.grows))
+returns-in_err-pour-in-Err-Shelf-clause-went g c = λ world meets.
+    Reached-went _ _ _ _ _ _ _ _ _ _ meets (Reached-within _ _ _ _ _ _ _ _ _ _ _ _ _ _ _ (c.loop-line.invariant.so_far world meets.tells meets.begins) c.in-Some.ensures.first
+    (Tells-names _ _ world c.loop-line.invariant.names meets.tells) c.perform_line.ensures.later (part_same _ _ _ _ _ _ _ _ _ _ c.in-Err-Shelf.ensures.part c.pour.ensures.same)) (Grows-trans c.loop-line.invariant.grows (Grows-trans c.perform_line.ensures.grows c.pour.ensures.grows))
 
 pub returns-in_err-pour-in-Err-Shelf-clause-cut : goal.returns-in_err-pour-in-Err-Shelf-clause-cut
-returns-in_err-pour-in-Err-Shelf-clause-cut g c = λ failed world tells.
-    Reached-cut _ _ _ _ _ _ _ (Reached-within _ _ _ _ _ _ _ _ _ _ _ _ _ (c.loop-line.invariant.so_far world tells) c.in-Some.ensures.first
-    (Tells-names _ _ world c.loop-line.invariant.names tells) (part_same _ _ _ _ _ _ c.perform_line.ensures.part c.pour.ensures.same) c.perform_line.ensures.ticks) (Grows-trans c.loop-line.invariant.grows (Grows-trans c.perform_line.ensures.grows c.pour.ensures.grows)) c.in_err-pour-in-Err-Shelf.ensures.err
+returns-in_err-pour-in-Err-Shelf-clause-cut g c = λ failed world meets told.
+    Reached-cut _ _ _ _ _ _ _ _ _ _ meets told (Reached-within _ _ _ _ _ _ _ _ _ _ _ _ _ _ _ (c.loop-line.invariant.so_far world meets.tells meets.begins) c.in-Some.ensures.first
+    (Tells-names _ _ world c.loop-line.invariant.names meets.tells) c.perform_line.ensures.later (part_same _ _ _ _ _ _ _ _ _ _ c.in-Err-Shelf.ensures.part c.pour.ensures.same)) (Grows-trans c.loop-line.invariant.grows (Grows-trans c.perform_line.ensures.grows c.pour.ensures.grows)) c.in_err-pour-in-Err-Shelf.ensures.err
 
 pub returns-in-Err-Shelf-clause-went : goal.returns-in-Err-Shelf-clause-went
-returns-in-Err-Shelf-clause-went g c = λ world tells.
-    Reached-went _ _ _ _ _ _ _ (Reached-within _ _ _ _ _ _ _ _ _ _ _ _ _ (c.loop-line.invariant.so_far world tells) c.in-Some.ensures.first
-    (Tells-names _ _ world c.loop-line.invariant.names tells) (part_same _ _ _ _ _ _ c.perform_line.ensures.part c.pour.ensures.same) c.perform_line.ensures.ticks) (Grows-trans c.loop-line.invariant.grows (Grows-trans c.perform_line.ensures.grows c.pour.ensures.grows))
+returns-in-Err-Shelf-clause-went g c = λ world meets.
+    Reached-went _ _ _ _ _ _ _ _ _ _ meets (Reached-within _ _ _ _ _ _ _ _ _ _ _ _ _ _ _ (c.loop-line.invariant.so_far world meets.tells meets.begins) c.in-Some.ensures.first
+    (Tells-names _ _ world c.loop-line.invariant.names meets.tells) c.perform_line.ensures.later (part_same _ _ _ _ _ _ _ _ _ _ c.in-Err-Shelf.ensures.part c.pour.ensures.same)) (Grows-trans c.loop-line.invariant.grows (Grows-trans c.perform_line.ensures.grows c.pour.ensures.grows))
 
 pub returns-in-Err-Shelf-clause-stopped : goal.returns-in-Err-Shelf-clause-stopped
-returns-in-Err-Shelf-clause-stopped g c = λ failed world tells.
-    Performing-stopped _ _ _ _ _ _ _ _ _ _ _ _ _ (c.loop-line.invariant.so_far world tells) c.in-Some.ensures.first
-    (Tells-names _ _ world c.loop-line.invariant.names tells) (part_same _ _ _ _ _ _ c.perform_line.ensures.part c.pour.ensures.same)
+returns-in-Err-Shelf-clause-stopped g c = λ failed world meets.
+    Performing-stopped _ _ _ _ _ _ _ _ _ _ _ _ _ _ _ _ _ _ meets (c.loop-line.invariant.so_far world meets.tells meets.begins) c.in-Some.ensures.first
+    (Tells-names _ _ world c.loop-line.invariant.names meets.tells) c.perform_line.ensures.later (part_same _ _ _ _ _ _ _ _ _ _ c.in-Err-Shelf.ensures.part c.pour.ensures.same)
     (c.in-Err-Shelf.ensures.uses (ap Err c.in-Err-Shelf.field-0-is)) c.in_ok-pour-in-Err-Shelf.ensures.ok
 
 pub returns-in-Err-Sink-clause-went : goal.returns-in-Err-Sink-clause-went
-returns-in-Err-Sink-clause-went g c = λ world tells.
-    Reached-went _ _ _ _ _ _ _ (Reached-within _ _ _ _ _ _ _ _ _ _ _ _ _ (c.loop-line.invariant.so_far world tells) c.in-Some.ensures.first
-    (Tells-names _ _ world c.loop-line.invariant.names tells) c.perform_line.ensures.part c.perform_line.ensures.ticks) (Grows-trans c.loop-line.invariant.grows c.perform_line.ensures.grows)
+returns-in-Err-Sink-clause-went g c = λ world meets.
+    Reached-went _ _ _ _ _ _ _ _ _ _ meets (Reached-within _ _ _ _ _ _ _ _ _ _ _ _ _ _ _ (c.loop-line.invariant.so_far world meets.tells meets.begins) c.in-Some.ensures.first
+    (Tells-names _ _ world c.loop-line.invariant.names meets.tells) c.perform_line.ensures.later c.in-Err-Sink.ensures.part) (Grows-trans c.loop-line.invariant.grows c.perform_line.ensures.grows)
 
 pub returns-in-Err-Sink-clause-cut : goal.returns-in-Err-Sink-clause-cut
-returns-in-Err-Sink-clause-cut g c = λ failed world tells.
-    Reached-cut _ _ _ _ _ _ _ (Reached-within _ _ _ _ _ _ _ _ _ _ _ _ _ (c.loop-line.invariant.so_far world tells) c.in-Some.ensures.first
-    (Tells-names _ _ world c.loop-line.invariant.names tells) c.perform_line.ensures.part c.perform_line.ensures.ticks) (Grows-trans c.loop-line.invariant.grows c.perform_line.ensures.grows) (c.in-Err-Sink.ensures.held (ap Err c.in-Err-Sink.field-0-is))
+returns-in-Err-Sink-clause-cut g c = λ failed world meets told.
+    Reached-cut _ _ _ _ _ _ _ _ _ _ meets told (Reached-within _ _ _ _ _ _ _ _ _ _ _ _ _ _ _ (c.loop-line.invariant.so_far world meets.tells meets.begins) c.in-Some.ensures.first
+    (Tells-names _ _ world c.loop-line.invariant.names meets.tells) c.perform_line.ensures.later c.in-Err-Sink.ensures.part) (Grows-trans c.loop-line.invariant.grows c.perform_line.ensures.grows) (c.in-Err-Sink.ensures.held (ap Err c.in-Err-Sink.field-0-is))
 
 pub returns-in-Err-NoMemory-clause-went : goal.returns-in-Err-NoMemory-clause-went
-returns-in-Err-NoMemory-clause-went g c = λ world tells.
-    Reached-went _ _ _ _ _ _ _ (Reached-within _ _ _ _ _ _ _ _ _ _ _ _ _ (c.loop-line.invariant.so_far world tells) c.in-Some.ensures.first
-    (Tells-names _ _ world c.loop-line.invariant.names tells) c.perform_line.ensures.part c.perform_line.ensures.ticks) (Grows-trans c.loop-line.invariant.grows c.perform_line.ensures.grows)
+returns-in-Err-NoMemory-clause-went g c = λ world meets.
+    Reached-went _ _ _ _ _ _ _ _ _ _ meets (Reached-within _ _ _ _ _ _ _ _ _ _ _ _ _ _ _ (c.loop-line.invariant.so_far world meets.tells meets.begins) c.in-Some.ensures.first
+    (Tells-names _ _ world c.loop-line.invariant.names meets.tells) c.perform_line.ensures.later c.in-Err-NoMemory.ensures.part) (Grows-trans c.loop-line.invariant.grows c.perform_line.ensures.grows)
 
 pub returns-in_err-pour_piece-clause-went : goal.returns-in_err-pour_piece-clause-went
-returns-in_err-pour_piece-clause-went g c = λ world tells.
-    Reached-went _ _ _ _ _ _ _ (Reached-between _ _ _ _ _ _ _ _ _ (Performing-same _ _ _ _ _ _ _ _ _ _
-    (Performing-next _ _ _ _ _ _ _ _ _ _ _ _ _ _ _ (c.loop-line.invariant.so_far world tells) c.in-Some.ensures.first
-    (Tells-names _ _ world c.loop-line.invariant.names tells) c.in-Ok.ensures.goes) c.pour_piece.ensures.same)) (Grows-trans c.loop-line.invariant.grows (Grows-trans c.perform_line.ensures.grows c.pour_piece.ensures.grows))
+returns-in_err-pour_piece-clause-went g c = λ world meets.
+    Reached-went _ _ _ _ _ _ _ _ _ _ meets (Reached-between _ _ _ _ _ _ _ _ _ _ (Performing-same _ _ _ _ _ _ _ _ _ _ _
+    (Performing-next _ _ _ _ _ _ _ _ _ _ _ _ _ _ _ _ _ (c.loop-line.invariant.so_far world meets.tells meets.begins) c.in-Some.ensures.first
+    (Tells-names _ _ world c.loop-line.invariant.names meets.tells) c.perform_line.ensures.later c.in-Ok.ensures.goes) c.pour_piece.ensures.same)) (Grows-trans c.loop-line.invariant.grows (Grows-trans c.perform_line.ensures.grows c.pour_piece.ensures.grows))
 
 pub returns-in_err-pour_piece-clause-cut : goal.returns-in_err-pour_piece-clause-cut
-returns-in_err-pour_piece-clause-cut g c = λ failed world tells.
-    Reached-cut _ _ _ _ _ _ _ (Reached-between _ _ _ _ _ _ _ _ _ (Performing-same _ _ _ _ _ _ _ _ _ _
-    (Performing-next _ _ _ _ _ _ _ _ _ _ _ _ _ _ _ (c.loop-line.invariant.so_far world tells) c.in-Some.ensures.first
-    (Tells-names _ _ world c.loop-line.invariant.names tells) c.in-Ok.ensures.goes) c.pour_piece.ensures.same)) (Grows-trans c.loop-line.invariant.grows (Grows-trans c.perform_line.ensures.grows c.pour_piece.ensures.grows)) c.in_err-pour_piece.ensures.err
+returns-in_err-pour_piece-clause-cut g c = λ failed world meets told.
+    Reached-cut _ _ _ _ _ _ _ _ _ _ meets told (Reached-between _ _ _ _ _ _ _ _ _ _ (Performing-same _ _ _ _ _ _ _ _ _ _ _
+    (Performing-next _ _ _ _ _ _ _ _ _ _ _ _ _ _ _ _ _ (c.loop-line.invariant.so_far world meets.tells meets.begins) c.in-Some.ensures.first
+    (Tells-names _ _ world c.loop-line.invariant.names meets.tells) c.perform_line.ensures.later c.in-Ok.ensures.goes) c.pour_piece.ensures.same)) (Grows-trans c.loop-line.invariant.grows (Grows-trans c.perform_line.ensures.grows c.pour_piece.ensures.grows)) c.in_err-pour_piece.ensures.err
 
 pub returns-in_err-pour-clause-went : goal.returns-in_err-pour-clause-went
-returns-in_err-pour-clause-went g c = λ world tells.
-    Reached-went _ _ _ _ _ _ _ (Reached-between _ _ _ _ _ _ _ _ _ (Performing-same _ _ _ _ _ _ _ _ _ _ (c.loop-line.invariant.so_far world tells) c.pour-2.ensures.same)) (Grows-trans c.loop-line.invariant.grows c.pour-2.ensures.grows)
+returns-in_err-pour-clause-went g c = λ world meets.
+    Reached-went _ _ _ _ _ _ _ _ _ _ meets (Reached-between _ _ _ _ _ _ _ _ _ _ (Performing-same _ _ _ _ _ _ _ _ _ _ _ (c.loop-line.invariant.so_far world meets.tells meets.begins) c.pour-2.ensures.same)) (Grows-trans c.loop-line.invariant.grows c.pour-2.ensures.grows)
 
 pub returns-in_err-pour-clause-cut : goal.returns-in_err-pour-clause-cut
-returns-in_err-pour-clause-cut g c = λ failed world tells.
-    Reached-cut _ _ _ _ _ _ _ (Reached-between _ _ _ _ _ _ _ _ _ (Performing-same _ _ _ _ _ _ _ _ _ _ (c.loop-line.invariant.so_far world tells) c.pour-2.ensures.same)) (Grows-trans c.loop-line.invariant.grows c.pour-2.ensures.grows) c.in_err-pour.ensures.err
+returns-in_err-pour-clause-cut g c = λ failed world meets told.
+    Reached-cut _ _ _ _ _ _ _ _ _ _ meets told (Reached-between _ _ _ _ _ _ _ _ _ _ (Performing-same _ _ _ _ _ _ _ _ _ _ _ (c.loop-line.invariant.so_far world meets.tells meets.begins) c.pour-2.ensures.same)) (Grows-trans c.loop-line.invariant.grows c.pour-2.ensures.grows) c.in_err-pour.ensures.err
 
 pub returns-clause-ended : goal.returns-clause-ended
-returns-clause-ended g c = λ world tells.
-    Performing-ended _ _ _ _ _ _ _ _ _ _ (Performing-same _ _ _ _ _ _ _ _ _ _ (c.loop-line.invariant.so_far world tells) c.pour-2.ensures.same) c.in_default.ensures.none c.in_ok-pour.ensures.ok
+returns-clause-ended g c = λ world meets.
+    Performing-ended _ _ _ _ _ _ _ _ _ _ _ _ _ meets (Performing-same _ _ _ _ _ _ _ _ _ _ _ (c.loop-line.invariant.so_far world meets.tells meets.begins) c.pour-2.ensures.same) c.in_default.ensures.none c.in_ok-pour.ensures.ok
 
 pub returns-clause-went : goal.returns-clause-went
-returns-clause-went g c = λ world tells.
-    Reached-went _ _ _ _ _ _ _ (Reached-between _ _ _ _ _ _ _ _ _ (Performing-same _ _ _ _ _ _ _ _ _ _ (c.loop-line.invariant.so_far world tells) c.pour-2.ensures.same)) (Grows-trans c.loop-line.invariant.grows c.pour-2.ensures.grows)
+returns-clause-went g c = λ world meets.
+    Reached-went _ _ _ _ _ _ _ _ _ _ meets (Reached-between _ _ _ _ _ _ _ _ _ _ (Performing-same _ _ _ _ _ _ _ _ _ _ _ (c.loop-line.invariant.so_far world meets.tells meets.begins) c.pour-2.ensures.same)) (Grows-trans c.loop-line.invariant.grows c.pour-2.ensures.grows)

@@ -5,9 +5,11 @@ use Rattle.script_lines.specs.declared.command.Command.TheVariants.{Open, Take, 
 use Rattle.aspa_top.specs.declared.task.Task.{Task}
 use Rattle.aspa_top.specs.declared.working.Working.{Working}
 use Rattle.aspa_top.specs.Tasks.{DoesTask}
-use Rattle.aspa_top.proofs.PerformingLemmas.{goes_as, ok_goes_as, part_as, uses_as, uses_load, within_as, listed, listed_part, IsSound-marked, reported, reported_part, part_none, part_whole}
+use Rattle.aspa_top.proofs.FeedLemmas.{IsSound-feeds, feed_goes, feed_part, feeds_kept, take_stopped, taken_feeds, takes_feed}
+use Rattle.aspa_top.proofs.PerformingLemmas.{err_as, goes_as, listed, listed_part, nothing, ok_goes_as, on_err, part_load, part_short, part_some, reported, reported_part, some_as, uses_as, uses_load, within_as, IsSound-marked}
+use Rattle.aspa_top.proofs.RunLemmas.{GoesOn-refl}
 use Rattle.aspa_top.proofs.ShortLemmas.{IsSound-short, short_goes}
-use Rattle.aspa_top.proofs.StandsLemmas.{IsSound-kept}
+use Rattle.aspa_top.proofs.StandsLemmas.{IsSound-kept, not_there}
 use Rattle.aspa_top.proofs.TableLemmas.{loaded}
 use Rattle.aspa_top.proofs.performing.perform_command.Goals as goal
 
@@ -20,17 +22,18 @@ perform_short-requires-clause-room g c = omega (arith, c.requires.sound.refused,
 pub take-requires-clause-few : goal.take-requires-clause-few
 take-requires-clause-few g c = within_as c.args.command _ (sym c.task_of.ensures ∙ c.in-Take.is) c.requires.within
 
-pub returns-in_ok-perform_short-in-Short : goal.returns-in_ok-perform_short-in-Short
-returns-in_ok-perform_short-in-Short g c =
+pub returns-in-Short : goal.returns-in-Short
+returns-in-Short g c =
     let same = sym c.task_of.ensures ∙ c.in-Short.is in
-    let goes = short_goes c.args.working _ c.args.command _ _ _ _ _ same c.in_ok-perform_short-in-Short.ensures.done _ (g.W.Sink.written c.args.out.now) in
+    let goes = short_goes c.args.working _ c.args.command _ _ _ _ _ same c.in_ok-perform_short-in-Short.ensures.done _ _ (g.W.Sink.written c.args.out.now) in
     record {
       goes = goes;
       sound = IsSound-short c.args.working _ _ _ _ (omega (arith, c.requires.room.0)) c.requires.sound c.in_ok-perform_short-in-Short.ensures.keeps;
       lines = c.in_ok-perform_short-in-Short.ensures.keeps.lines;
-      part = part_whole c.args.working _ _ _ _ _ _ _ _ goes;
+      part = search rules;
+      feeds = feeds_kept _ _ _ c.args.working c.in_ok-perform_short-in-Short.field-0 (omega (arith, c.requires.room.0)) c.in_ok-perform_short-in-Short.ensures.keeps.feeds c.requires.feeds;
+      later = GoesOn-refl _;
       grows = Grows-refl _;
-      ticks = c.perform_short.ensures.ticks;
       names = refl;
       shelf_faults = omega arith;
       sink_faults = omega arith;
@@ -46,9 +49,10 @@ returns-in_err-perform_short-in-Short g c =
       goes = search rules;
       sound = search rules;
       lines = search rules;
-      part = part_none c.args.working _ _ _ _ (ap (append_known (g.W.Sink.written c.args.out.now)) c.in_err-perform_short-in-Short.ensures.err);
+      part = on_err _ (part_some c.args.working (Ok c.args.command) _ _ _ _ _ _ (part_short c.args.working c.args.command _ _ _ _ _ _ (sym c.task_of.ensures ∙ c.in-Short.is) (ap (append_known (g.W.Sink.written c.args.out.now)) c.in_err-perform_short-in-Short.ensures.err) c.in_err-perform_short-in-Short.ensures.ticks));
+      feeds = search rules;
+      later = GoesOn-refl _;
       grows = Grows-refl _;
-      ticks = c.perform_short.ensures.ticks;
       names = refl;
       shelf_faults = omega arith;
       sink_faults = omega arith;
@@ -58,18 +62,19 @@ returns-in_err-perform_short-in-Short g c =
       sink_cause = search rules;
     }
 
-pub returns-in_ok-load-in-Load : goal.returns-in_ok-load-in-Load
-returns-in_ok-load-in-Load g c =
+pub returns-in-Load : goal.returns-in-Load
+returns-in-Load g c =
     let same = sym c.task_of.ensures ∙ c.in-Load.is in
-    let goes = loaded _ _ c.args.working _ _ _ _ _ _ (λ world state text after loads. subst (λ (task : Task). DoesTask world state task text after) (sym same) loads)
-    c.in_ok-load-in-Load.ensures.loads (g.W.Sink.written c.args.out.now) _ _ c.load.ensures.ticks in
+    let goes = loaded _ _ c.args.working _ _ _ _ _ _ _ _ (λ world state text after loads. subst (λ (task : Task). DoesTask world state task text after) (sym same) loads)
+    c.in_ok-load-in-Load.ensures.loads _ (g.W.Sink.written c.args.out.now) in
     record {
       goes = goes;
       sound = c.in_ok-load-in-Load.ensures.sound;
       lines = c.in_ok-load-in-Load.ensures.lines;
-      part = part_whole c.args.working _ _ _ _ _ _ _ _ goes;
+      part = search rules;
+      feeds = feeds_kept _ _ _ c.args.working c.in_ok-load-in-Load.field-0 (omega (arith, c.requires.room.0)) c.in_ok-load-in-Load.ensures.feeds c.requires.feeds;
+      later = GoesOn-refl _;
       grows = Grows-refl _;
-      ticks = omega (arith, c.load.ensures.ticks);
       names = c.load.ensures.names;
       shelf_faults = c.load.ensures.faults;
       sink_faults = omega arith;
@@ -85,9 +90,10 @@ returns-in_err-load-in-Load g c =
       goes = search rules;
       sound = search rules;
       lines = search rules;
-      part = part_none c.args.working _ _ _ _ (ap (append_known (g.W.Sink.written c.args.out.now)) c.in_err-load-in-Load.ensures.err);
+      part = on_err _ (part_some c.args.working (Ok c.args.command) _ _ _ _ _ _ (part_load c.args.working c.args.command _ _ _ _ _ _ _ (sym c.task_of.ensures ∙ c.in-Load.is) (ap (append_known (g.W.Sink.written c.args.out.now)) c.in_err-load-in-Load.ensures.err) c.in_err-load-in-Load.ensures.ticks));
+      feeds = search rules;
+      later = GoesOn-refl _;
       grows = Grows-refl _;
-      ticks = omega (arith, c.load.ensures.ticks);
       names = c.load.ensures.names;
       shelf_faults = c.load.ensures.faults;
       sink_faults = omega arith;
@@ -97,17 +103,18 @@ returns-in_err-load-in-Load g c =
       sink_cause = search rules;
     }
 
-pub returns-in_ok-open-in-Open : goal.returns-in_ok-open-in-Open
-returns-in_ok-open-in-Open g c =
+pub returns-in-Open : goal.returns-in-Open
+returns-in-Open g c =
     let same = sym c.task_of.ensures ∙ c.in-Open.is in
-    let goes = goes_as c.args.working _ c.args.command (Open c.in-Open.name c.in-Open.file) same _ _ _ _ _ _ (c.in_ok-open-in-Open.ensures.steps (g.W.Sink.written c.args.out.now) c.args.steps.now) in
+    let goes = goes_as c.args.working c.args.command (Open c.in-Open.name c.in-Open.file) same _ _ _ _ _ _ _ _ _ (c.in_ok-open-in-Open.ensures.steps _ (g.W.Sink.written c.args.out.now) c.args.steps.now) in
     record {
       goes = goes;
       sound = c.in_ok-open-in-Open.ensures.sound;
       lines = c.in_ok-open-in-Open.ensures.lines;
-      part = part_whole c.args.working _ _ _ _ _ _ _ _ goes;
+      part = search rules;
+      feeds = feeds_kept _ _ _ c.args.working c.in_ok-open-in-Open.field-0 (omega (arith, c.requires.room.0)) c.in_ok-open-in-Open.ensures.feeds c.requires.feeds;
+      later = GoesOn-refl _;
       grows = Grows-refl _;
-      ticks = omega arith;
       names = c.open.ensures.names;
       shelf_faults = c.open.ensures.faults;
       sink_faults = omega arith;
@@ -123,48 +130,174 @@ returns-in_err-open-in-Open g c =
       goes = search rules;
       sound = search rules;
       lines = search rules;
-      part = part_none c.args.working _ _ _ _ (ap (append_known (g.W.Sink.written c.args.out.now)) c.in_err-open-in-Open.ensures.err);
+      part = on_err _ (nothing c.args.working (Ok c.args.command) _ _ _ _ _ (ap (append_known (g.W.Sink.written c.args.out.now)) c.in_err-open-in-Open.ensures.err));
+      feeds = search rules;
+      later = GoesOn-refl _;
       grows = Grows-refl _;
-      ticks = omega arith;
       names = c.open.ensures.names;
       shelf_faults = c.open.ensures.faults;
       sink_faults = omega arith;
-      uses = λ failed. uses_as c.args.working c.args.working c.args.command (Open c.in-Open.name c.in-Open.file) (sym c.task_of.ensures ∙ c.in-Open.is) _ (λ state stands. tt);
+      uses = λ failed. uses_as c.args.working c.args.command (Open c.in-Open.name c.in-Open.file) (sym c.task_of.ensures ∙ c.in-Open.is) _ (λ links state stands. tt);
       shelf_cause = search rules;
       held = search rules;
       sink_cause = search rules;
     }
 
-pub returns-in-Take : goal.returns-in-Take
-returns-in-Take g c =
+pub returns-then-contains_key : goal.returns-then-contains_key
+returns-then-contains_key g c =
     let same = sym c.task_of.ensures ∙ c.in-Take.is in
     record {
-      goes = ok_goes_as c.args.working c.args.command (Take c.in-Take.name c.in-Take.count) same c.take.result _ _ _ _ _ _ c.take.ensures.ticks c.take.ensures.goes;
+      goes = ok_goes_as c.args.working c.args.command (Take c.in-Take.name c.in-Take.count) same c.take.result _ _ _ _ _ _ _ c.take.ensures.goes;
       sound = c.take.ensures.sound;
+      feeds = taken_feeds c.args.working c.take.result _ _ _ (omega (arith, c.requires.room.0)) c.take.ensures.feeds c.requires.feeds;
       lines = c.take.ensures.lines;
-      part = part_as c.args.working c.args.working c.args.command (Take c.in-Take.name c.in-Take.count) same _ _ _ c.take.ensures.part;
+      part = err_as c.args.working c.args.command (Take c.in-Take.name c.in-Take.count) same c.take.result _ _ _ _ _ _ c.take.ensures.part;
+      later = GoesOn-refl _;
       grows = c.take.ensures.grows;
-      ticks = omega (arith, c.take.ensures.ticks);
       names = c.take.ensures.names;
       shelf_faults = c.take.ensures.shelf_faults;
       sink_faults = c.take.ensures.sink_faults;
-      uses = λ failed. uses_as c.args.working c.args.working c.args.command (Take c.in-Take.name c.in-Take.count) same _ (c.take.ensures.uses failed);
+      uses = λ failed. uses_as c.args.working c.args.command (Take c.in-Take.name c.in-Take.count) same _ (c.take.ensures.uses failed);
       shelf_cause = c.take.ensures.shelf_cause;
       held = c.take.ensures.held;
       sink_cause = c.take.ensures.sink_cause;
     }
 
-pub returns-in_ok-put_rows-in-Report : goal.returns-in_ok-put_rows-in-Report
-returns-in_ok-put_rows-in-Report g c =
+pub returns-in-Take : goal.returns-in-Take
+returns-in-Take g c =
+    let same = sym c.task_of.ensures ∙ c.in-Take.is in
+    let none = not_there _ (sym c.contains_key.ensures ∙ c.if-contains_key.false) in
+    record {
+      goes = feed_goes c.args.working c.args.command _ same _ _ _ _ _ _ _ _ (takes_feed c.args.working _ _ _ _ _ _ none _ _ _ c.in_ok-work_on-in-Take.ensures.goes) (g.W.Sink.written c.args.out.now);
+      sound = IsSound-feeds _ _ _ c.args.working _ (omega (arith, c.requires.room.0)) c.requires.sound c.in_ok-work_on-in-Take.ensures.keeps;
+      feeds = c.in_ok-work_on-in-Take.ensures.sound;
+      lines = c.in_ok-work_on-in-Take.ensures.keeps.lines;
+      part = search rules;
+      later = c.work_on.ensures.later;
+      grows = Grows-refl _;
+      names = refl;
+      shelf_faults = omega arith;
+      sink_faults = omega arith;
+      uses = search rules;
+      shelf_cause = search rules;
+      held = search rules;
+      sink_cause = search rules;
+    }
+
+pub returns-in_err-work_on-in-Take : goal.returns-in_err-work_on-in-Take
+returns-in_err-work_on-in-Take g c =
+    let same = sym c.task_of.ensures ∙ c.in-Take.is in
+    let none = not_there _ (sym c.contains_key.ensures ∙ c.if-contains_key.false) in
+    record {
+      goes = search rules;
+      sound = search rules;
+      feeds = search rules;
+      lines = search rules;
+      part = on_err _ (feed_part c.args.working c.args.command _ same _ _ _ _ _ _ _ (ap (append_known (g.W.Sink.written c.args.out.now)) c.in_err-work_on-in-Take.ensures.err)
+          (take_stopped c.args.working _ _ _ _ _ _ none c.in_err-work_on-in-Take.ensures.part));
+      later = c.work_on.ensures.later;
+      grows = Grows-refl _;
+      names = refl;
+      shelf_faults = omega arith;
+      sink_faults = omega arith;
+      uses = search rules;
+      shelf_cause = search rules;
+      held = search rules;
+      sink_cause = search rules;
+    }
+
+pub returns-in-Connect : goal.returns-in-Connect
+returns-in-Connect g c =
+    let same = sym c.task_of.ensures ∙ c.in-Connect.is in
+    record {
+      goes = feed_goes c.args.working c.args.command _ same _ _ _ _ _ _ _ _ (c.in_ok-connect_feed-in-Connect.ensures.goes c.args.steps.now) (g.W.Sink.written c.args.out.now);
+      sound = IsSound-feeds _ _ _ c.args.working _ (omega (arith, c.requires.room.0)) c.requires.sound c.in_ok-connect_feed-in-Connect.ensures.keeps;
+      feeds = c.in_ok-connect_feed-in-Connect.ensures.sound;
+      lines = c.in_ok-connect_feed-in-Connect.ensures.keeps.lines;
+      part = search rules;
+      later = c.connect_feed.ensures.later;
+      grows = Grows-refl _;
+      names = refl;
+      shelf_faults = omega arith;
+      sink_faults = omega arith;
+      uses = search rules;
+      shelf_cause = search rules;
+      held = search rules;
+      sink_cause = search rules;
+    }
+
+pub returns-in_err-connect_feed-in-Connect : goal.returns-in_err-connect_feed-in-Connect
+returns-in_err-connect_feed-in-Connect g c =
+    let same = sym c.task_of.ensures ∙ c.in-Connect.is in
+    record {
+      goes = search rules;
+      sound = search rules;
+      feeds = search rules;
+      lines = search rules;
+      part = on_err _ (feed_part c.args.working c.args.command _ same _ _ _ _ _ _ _ (ap (append_known (g.W.Sink.written c.args.out.now)) c.in_err-connect_feed-in-Connect.ensures.err) (c.in_err-connect_feed-in-Connect.ensures.part c.args.steps.now));
+      later = c.connect_feed.ensures.later;
+      grows = Grows-refl _;
+      names = refl;
+      shelf_faults = omega arith;
+      sink_faults = omega arith;
+      uses = search rules;
+      shelf_cause = search rules;
+      held = search rules;
+      sink_cause = search rules;
+    }
+
+pub returns-in-OnFeed : goal.returns-in-OnFeed
+returns-in-OnFeed g c =
+    let same = sym c.task_of.ensures ∙ c.in-OnFeed.is in
+    record {
+      goes = feed_goes c.args.working c.args.command _ same _ _ _ _ _ _ _ _ c.in_ok-work_on-in-OnFeed.ensures.goes (g.W.Sink.written c.args.out.now);
+      sound = IsSound-feeds _ _ _ c.args.working _ (omega (arith, c.requires.room.0)) c.requires.sound c.in_ok-work_on-in-OnFeed.ensures.keeps;
+      feeds = c.in_ok-work_on-in-OnFeed.ensures.sound;
+      lines = c.in_ok-work_on-in-OnFeed.ensures.keeps.lines;
+      part = search rules;
+      later = c.work_on-in-OnFeed.ensures.later;
+      grows = Grows-refl _;
+      names = refl;
+      shelf_faults = omega arith;
+      sink_faults = omega arith;
+      uses = search rules;
+      shelf_cause = search rules;
+      held = search rules;
+      sink_cause = search rules;
+    }
+
+pub returns-in_err-work_on-in-OnFeed : goal.returns-in_err-work_on-in-OnFeed
+returns-in_err-work_on-in-OnFeed g c =
+    let same = sym c.task_of.ensures ∙ c.in-OnFeed.is in
+    record {
+      goes = search rules;
+      sound = search rules;
+      feeds = search rules;
+      lines = search rules;
+      part = on_err _ (feed_part c.args.working c.args.command _ same _ _ _ _ _ _ _ (ap (append_known (g.W.Sink.written c.args.out.now)) c.in_err-work_on-in-OnFeed.ensures.err) c.in_err-work_on-in-OnFeed.ensures.part);
+      later = c.work_on-in-OnFeed.ensures.later;
+      grows = Grows-refl _;
+      names = refl;
+      shelf_faults = omega arith;
+      sink_faults = omega arith;
+      uses = search rules;
+      shelf_cause = search rules;
+      held = search rules;
+      sink_cause = search rules;
+    }
+
+pub returns-in-Report : goal.returns-in-Report
+returns-in-Report g c =
     let same = sym c.task_of.ensures ∙ c.in-Report.is in
-    let goes = goes_as c.args.working _ c.args.command Report same _ _ _ _ _ _ (reported c.args.working _ _ _ _ _ c.store.ensures c.in_ok-put_rows-in-Report.ensures.whole) in
+    let goes = goes_as c.args.working c.args.command Report same _ _ _ _ _ _ _ _ _ (reported c.args.working _ _ _ _ _ _ c.store.ensures c.in_ok-put_rows-in-Report.ensures.whole) in
     record {
       goes = goes;
       sound = IsSound-kept _ _ _ _ c.args.working c.args.working (omega (arith, c.requires.room.0)) (omega arith) c.requires.sound (λ q. refl) (omega arith) (omega arith);
       lines = refl;
-      part = part_whole c.args.working _ _ _ _ _ _ _ _ goes;
+      part = search rules;
+      feeds = feeds_kept _ _ _ c.args.working c.args.working (omega (arith, c.requires.room.0)) refl c.requires.feeds;
+      later = GoesOn-refl _;
       grows = c.put_rows.ensures.grows;
-      ticks = omega arith;
       names = refl;
       shelf_faults = omega arith;
       sink_faults = c.put_rows.ensures.sink_faults;
@@ -180,9 +313,10 @@ returns-in_err-put_rows-in-Report g c =
       goes = search rules;
       sound = search rules;
       lines = search rules;
-      part = part_as c.args.working c.args.working c.args.command Report (sym c.task_of.ensures ∙ c.in-Report.is) _ _ _ (reported_part c.args.working _ _ _ _ c.store.ensures c.put_rows.ensures.front);
+      part = on_err _ (some_as c.args.working c.args.command Report (sym c.task_of.ensures ∙ c.in-Report.is) _ _ _ _ _ _ (reported_part c.args.working _ _ _ _ _ c.store.ensures c.put_rows.ensures.front));
+      feeds = search rules;
+      later = GoesOn-refl _;
       grows = c.put_rows.ensures.grows;
-      ticks = omega arith;
       names = refl;
       shelf_faults = omega arith;
       sink_faults = c.put_rows.ensures.sink_faults;
@@ -192,17 +326,18 @@ returns-in_err-put_rows-in-Report g c =
       sink_cause = search rules;
     }
 
-pub returns-in_ok-put_changes-in-Changes : goal.returns-in_ok-put_changes-in-Changes
-returns-in_ok-put_changes-in-Changes g c =
+pub returns : goal.returns
+returns g c =
     let same = sym c.task_of.ensures ∙ c.in-Changes.is in
-    let goes = goes_as c.args.working _ c.args.command Changes same _ _ _ _ _ _ (listed c.args.working _ _ _ _ _ _ c.store-in-Changes.ensures c.in_ok-put_changes-in-Changes.ensures.whole c.mark.ensures) in
+    let goes = goes_as c.args.working c.args.command Changes same _ _ _ _ _ _ _ _ _ (listed c.args.working _ _ _ _ _ _ _ c.store-in-Changes.ensures c.in_ok-put_changes-in-Changes.ensures.whole c.mark.ensures) in
     record {
       goes = goes;
       sound = IsSound-marked c.args.working _ _ _ _ (omega (arith, c.requires.room.0)) c.requires.sound c.mark.ensures;
       lines = ap (λ (w : Working). w.lines) c.mark.ensures.left;
-      part = part_whole c.args.working _ _ _ _ _ _ _ _ goes;
+      part = search rules;
+      feeds = feeds_kept _ _ _ c.args.working c.mark.result (omega (arith, c.requires.room.0)) (ap (λ (w : Working). w.feeds) c.mark.ensures.left) c.requires.feeds;
+      later = GoesOn-refl _;
       grows = c.put_changes.ensures.grows;
-      ticks = omega arith;
       names = refl;
       shelf_faults = omega arith;
       sink_faults = c.put_changes.ensures.sink_faults;
@@ -218,9 +353,10 @@ returns-in_err-put_changes-in-Changes g c =
       goes = search rules;
       sound = search rules;
       lines = search rules;
-      part = part_as c.args.working c.args.working c.args.command Changes (sym c.task_of.ensures ∙ c.in-Changes.is) _ _ _ (listed_part c.args.working _ _ _ _ c.store-in-Changes.ensures c.put_changes.ensures.front);
+      part = on_err _ (some_as c.args.working c.args.command Changes (sym c.task_of.ensures ∙ c.in-Changes.is) _ _ _ _ _ _ (listed_part c.args.working _ _ _ _ _ c.store-in-Changes.ensures c.put_changes.ensures.front));
+      feeds = search rules;
+      later = GoesOn-refl _;
       grows = c.put_changes.ensures.grows;
-      ticks = omega arith;
       names = refl;
       shelf_faults = omega arith;
       sink_faults = c.put_changes.ensures.sink_faults;

@@ -5,25 +5,25 @@ use Rattle.aspa_top.proofs.ProgramLemmas.{performed-front, Ran-whole, Ran-early}
 use Rattle.aspa_top.proofs.program.run_front.Goals as goal
 
 pub returns-in-Ok-clause-ran : goal.returns-in-Ok-clause-ran
-returns-in-Ok-clause-ran g c = λ world tells more.
+returns-in-Ok-clause-ran g c = λ world meets more.
     let front = performed-front SCRIPT_LIMIT c.args.script.now more c.requires in
-    Ran-whole _ _ _ _ _ _ _ _ _ 6 c.in-Ok.field-0 (inr (inr refl)) (rw (front, ← c.split_at.ensures.front) (c.evaluate.ensures.went world tells)) (rw (front, ← c.split_at.ensures.front) (c.in-Ok.ensures.ended world tells))
+    Ran-whole _ _ _ _ _ _ _ _ _ 6 c.in-Ok.field-0 (inr (inr refl)) (rw (front, ← c.split_at.ensures.front) (c.evaluate.ensures.went world meets)) (rw (front, ← c.split_at.ensures.front) (c.in-Ok.ensures.ended world meets))
     (λ same. absurd (omega (arith, same))) (λ same. absurd (omega (arith, same))) (λ same. omega (arith, length-append c.args.script.now more))
 
 pub returns-in-Err-Shelf-clause-ran : goal.returns-in-Err-Shelf-clause-ran
-returns-in-Err-Shelf-clause-ran g c = λ world tells more.
+returns-in-Err-Shelf-clause-ran g c = λ world meets more.
     let front = performed-front SCRIPT_LIMIT c.args.script.now more c.requires in
     let failed = ap Err c.in-Err-Shelf.field-0-is in
-    Ran-early _ _ _ _ _ _ _ _ _ 3 (omega arith) (omega arith) (rw (front, ← c.split_at.ensures.front) (c.evaluate.ensures.went world tells))
-    (λ same. inr (c.in-Err-Shelf.ensures.shelf_cause failed, rw (front, ← c.split_at.ensures.front) (c.in-Err-Shelf.ensures.stopped failed world tells))) (λ same. absurd (omega (arith, same)))
+    Ran-early _ _ _ _ _ _ _ _ _ 3 (omega arith) (omega arith) (rw (front, ← c.split_at.ensures.front) (c.evaluate.ensures.went world meets))
+    (λ same. inr (c.in-Err-Shelf.ensures.shelf_cause failed, rw (front, ← c.split_at.ensures.front) (c.in-Err-Shelf.ensures.stopped failed world meets))) (λ same. absurd (omega (arith, same)))
 
 pub returns-in-Err-Sink-clause-ran : goal.returns-in-Err-Sink-clause-ran
-returns-in-Err-Sink-clause-ran g c = λ world tells more.
+returns-in-Err-Sink-clause-ran g c = λ world meets more.
     let front = performed-front SCRIPT_LIMIT c.args.script.now more c.requires in
-    Ran-early _ _ _ _ _ _ _ _ _ 4 (omega arith) (omega arith) (rw (front, ← c.split_at.ensures.front) (c.evaluate.ensures.went world tells))
-    (λ same. absurd (omega (arith, same))) (λ same. rw (front, ← c.split_at.ensures.front) (c.in-Err-Sink.ensures.cut (ap Err c.in-Err-Sink.field-0-is) world tells))
+    Ran-early _ _ _ _ _ _ _ _ _ 4 (omega arith) (omega arith) (rw (front, ← c.split_at.ensures.front) (c.evaluate.ensures.went world meets))
+    (λ same. absurd (omega (arith, same))) (λ same. rw (front, ← c.split_at.ensures.front) (c.in-Err-Sink.ensures.cut (ap Err c.in-Err-Sink.field-0-is) world meets))
 
 pub returns-in-Err-NoMemory-clause-ran : goal.returns-in-Err-NoMemory-clause-ran
-returns-in-Err-NoMemory-clause-ran g c = λ world tells more.
+returns-in-Err-NoMemory-clause-ran g c = λ world meets more.
     let front = performed-front SCRIPT_LIMIT c.args.script.now more c.requires in
-    Ran-early _ _ _ _ _ _ _ _ _ 5 (omega arith) (omega arith) (rw (front, ← c.split_at.ensures.front) (c.evaluate.ensures.went world tells)) (λ same. absurd (omega (arith, same))) (λ same. absurd (omega (arith, same)))
+    Ran-early _ _ _ _ _ _ _ _ _ 5 (omega arith) (omega arith) (rw (front, ← c.split_at.ensures.front) (c.evaluate.ensures.went world meets)) (λ same. absurd (omega (arith, same))) (λ same. absurd (omega (arith, same)))

@@ -1,18 +1,27 @@
 use Rattle.std.proofs.Common.{ℕ, List, inl, inr, Err, refl, arith, ap, sym, ◌∙◌}
 use Rattle.std.specs.Io.KnownBytes.{prepend_known}
+use Rattle.av_base.specs.Told.{Rose}
+use Rattle.aspa_top.specs.declared.program.TheConstants.{SCRIPT_LIMIT}
+use Rattle.aspa_top.specs.World.{linked}
 use Rattle.aspa_top.proofs.ProgramLemmas.{Ran-start, Ran-told, Ran-told_more}
 use Rattle.aspa_top.proofs.program.run_script.Goals as goal
 
 pub returns-then-text-le-SCRIPT_LIMIT-clause-ran : goal.returns-then-text-le-SCRIPT_LIMIT-clause-ran
 returns-then-text-le-SCRIPT_LIMIT-clause-ran g c =
-    Ran-told _ _ _ _ _ _ _ _ _ _ _ _ (c.in-Ok.ensures.taken ∙ ap (λ (bytes : List ℕ). prepend_known bytes (g.S.Source.left c.read_all.new.source)) (sym c.as_slice-text.ensures.value)) (c.in-Ok.ensures.ended (rw c.as_slice-text.ensures.value at c.if-text-le-SCRIPT_LIMIT.true)) c.run_whole.ensures.ran
+    Ran-told _ _ _ _ _ _ _ _ _ _ _ _ _ _ (c.in-Ok.ensures.taken ∙ ap (λ (bytes : List ℕ). prepend_known bytes (g.S.Source.left c.read_all.new.source)) (sym c.as_slice-text.ensures.value)) (c.in-Ok.ensures.ended (rw c.as_slice-text.ensures.value at c.if-text-le-SCRIPT_LIMIT.true)) c.run_whole.ensures.ran
 
 pub returns-in-Ok-clause-ran : goal.returns-in-Ok-clause-ran
 returns-in-Ok-clause-ran g c =
-    Ran-told_more _ _ _ _ _ _ _ _ _ _ _ _ (c.in-Ok.ensures.taken ∙ ap (λ (bytes : List ℕ). prepend_known bytes (g.S.Source.left c.read_all.new.source)) (sym c.as_slice-text.ensures.value)) c.run_front.ensures.ran
+    Ran-told_more _ _ _ _ _ _ _ _ _ _ _ _ _ _ (c.in-Ok.ensures.taken ∙ ap (λ (bytes : List ℕ). prepend_known bytes (g.S.Source.left c.read_all.new.source)) (sym c.as_slice-text.ensures.value)) c.run_front.ensures.ran
 
 pub returns-in-Err-Source-clause-ran : goal.returns-in-Err-Source-clause-ran
-returns-in-Err-Source-clause-ran g c = Ran-start _ _ _ _ _ _ _ 3 (omega arith) (inl (omega arith)) (λ same. c.in-Err-Source.ensures.cause (ap Err c.in-Err-Source.field-0-is))
+returns-in-Err-Source-clause-ran g c =
+    Ran-start SCRIPT_LIMIT (g.S.Source.left c.args.script.now) (g.F.Shelf.files c.args.shelf.now) (linked (g.K.Links.attempts c.args.links.now) (g.K.Links.wire c.args.links.now))
+    (Rose (g.S.Source.faults c.args.script.now) (g.S.Source.faults c.read_all.new.source)) (Rose (g.F.Shelf.faults c.args.shelf.now) (g.F.Shelf.faults c.args.shelf.now))
+    (g.W.Sink.written c.args.out.now) c.args.steps.now 3 (omega arith) (inl (omega arith)) (λ same. c.in-Err-Source.ensures.cause (ap Err c.in-Err-Source.field-0-is))
 
 pub returns-clause-ran : goal.returns-clause-ran
-returns-clause-ran g c = Ran-start _ _ _ _ _ _ _ 5 (omega arith) (inr refl) (λ same. absurd (omega (arith, same)))
+returns-clause-ran g c =
+    Ran-start SCRIPT_LIMIT (g.S.Source.left c.args.script.now) (g.F.Shelf.files c.args.shelf.now) (linked (g.K.Links.attempts c.args.links.now) (g.K.Links.wire c.args.links.now))
+    (Rose (g.S.Source.faults c.args.script.now) (g.S.Source.faults c.read_all.new.source)) (Rose (g.F.Shelf.faults c.args.shelf.now) (g.F.Shelf.faults c.args.shelf.now))
+    (g.W.Sink.written c.args.out.now) c.args.steps.now 5 (omega arith) (inr refl) (λ same. absurd (omega (arith, same)))

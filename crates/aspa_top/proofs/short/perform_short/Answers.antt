@@ -1,6 +1,7 @@
 use Rattle.std.proofs.Common.{◌≡◌, refl, ap, ◌∙◌}
 use Rattle.rib_store.specs.State.{State as Analysis}
-use Rattle.aspa_top.proofs.ShortLemmas.{idle, happened, judged, summed, kept_all, kept_happened}
+use Rattle.aspa_top.proofs.PerformingLemmas.{on_err}
+use Rattle.aspa_top.proofs.ShortLemmas.{idle, happened, judged, summed, kept_all, kept_happened, event_ticked, judge_ticked, none_ticked}
 use Rattle.aspa_top.proofs.short.perform_short.Goals as goal
 
 pub returns-in-Idle-clause-done : goal.returns-in-Idle-clause-done
@@ -19,3 +20,15 @@ returns-in_ok-put_summary-in-Summary-clause-done g c =
 
 pub returns-in_ok-next-in-Why-clause-done : goal.returns-in_ok-next-in-Why-clause-done
 returns-in_ok-next-in-Why-clause-done g c = rw c.in-Why.is (c.in_ok-next-in-Why.ensures.done c.args.steps.now)
+
+pub returns-in_err-next-in-Happen-clause-ticks : goal.returns-in_err-next-in-Happen-clause-ticks
+returns-in_err-next-in-Happen-clause-ticks g c = rw c.in-Happen.is (on_err _ (event_ticked c.args.working _ _ _ c.happen.ensures.ticks))
+
+pub returns-in_err-put_judgement-in-Judge-clause-ticks : goal.returns-in_err-put_judgement-in-Judge-clause-ticks
+returns-in_err-put_judgement-in-Judge-clause-ticks g c = rw c.in-Judge.is (on_err _ (judge_ticked c.args.working c.in-Judge.role c.in-Judge.neighbour c.in-Judge.path _ _ c.put_judgement.ensures.ticks))
+
+pub returns-in_err-put_summary-in-Summary-clause-ticks : goal.returns-in_err-put_summary-in-Summary-clause-ticks
+returns-in_err-put_summary-in-Summary-clause-ticks g c = on_err _ (none_ticked c.args.working c.args.short _)
+
+pub returns-in_err-next-in-Why-clause-ticks : goal.returns-in_err-next-in-Why-clause-ticks
+returns-in_err-next-in-Why-clause-ticks g c = on_err _ (none_ticked c.args.working c.args.short _)

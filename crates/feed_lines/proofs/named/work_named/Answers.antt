@@ -13,7 +13,7 @@ use Rattle.feed_lines.proofs.named.work_named.Goals as goal
 
 pub returns-in-None-clause-works : goal.returns-in-None-clause-works
 returns-in-None-clause-works g c =
-    refused_named _ (g.K.Links.wire c.args.links.now) c.args.name.now c.args.work c.args.feeds.now c.lend.new.feeds NoName c.args.analyser c.in-None.ensures.same
+    refused_named _ (g.K.Links.wire c.args.links.now) c.args.name.now c.args.work c.args.feeds.now c.lend.new.feeds NoName c.args.analyser c.args.steps.now c.in-None.ensures.same
     (λ world old holds. no_name (g.K.Links.wire c.args.links.now) c.args.name.now c.args.work (feed_in c.args.feeds.now c.args.name.now) (sym c.lend.ensures.was ∙ c.in-None.is) world old (old.feeds c.args.name.now) holds)
 
 pub returns-in-None-clause-sound : goal.returns-in-None-clause-sound
@@ -27,7 +27,7 @@ returns-in-None-clause-others g c = Spares-refl _ _ _
 pub returns-in-Some-None-clause-works : goal.returns-in-Some-None-clause-works
 returns-in-Some-None-clause-works g c =
     let there : feed_in c.args.feeds.now c.args.name.now ≡ Some None = sym c.lend.ensures.was ∙ c.in-Some-None.is ∙ ap (λ (s : Option OpenFeed). Some s) c.in-Some-None.field-0-is in
-    refused_named _ (g.K.Links.wire c.args.links.now) c.args.name.now c.args.work c.args.feeds.now c.lend.new.feeds StreamOver c.args.analyser
+    refused_named _ (g.K.Links.wire c.args.links.now) c.args.name.now c.args.work c.args.feeds.now c.lend.new.feeds StreamOver c.args.analyser c.args.steps.now
     (Puts-over c.args.feeds.now c.lend.new.feeds c.args.name.now there c.in-Some-None.ensures.now)
     (λ world old holds. is_over (g.K.Links.wire c.args.links.now) c.args.name.now c.args.work (feed_in c.args.feeds.now c.args.name.now) there world old (old.feeds c.args.name.now) holds)
 
@@ -56,7 +56,7 @@ returns-in_err-slot-in-Some-Some-clause-halts g c =
     on_err c.from_residual.result c.from_residual.ensures.0
     (began_named (g.K.Links.attempts c.args.links.now) (g.K.Links.attempts c.work_on.new.links) (g.K.Links.wire c.args.links.now) (g.K.Links.wire c.work_on.new.links)
     (g.K.Links.standings c.args.links.now) (g.K.Links.standings c.work_on.new.links) c.args.name.now c.args.work c.args.feeds.now c.in-Some-Some.feed c.args.analyser
-    c.work_on.ensures.attempts (2 ^ 61) c.requires.sound (sym c.lend.ensures.was ∙ c.in-Some-Some.is ∙ ap (λ (s : Option OpenFeed). Some s) c.in-Some-Some.field-0-is) c.work_on.ensures.only c.in_err-slot-in-Some-Some.ensures.halts)
+    c.args.steps.now c.work_on.new.steps c.work_on.ensures.attempts (2 ^ 61) c.requires.sound (sym c.lend.ensures.was ∙ c.in-Some-Some.is ∙ ap (λ (s : Option OpenFeed). Some s) c.in-Some-Some.field-0-is) c.work_on.ensures.only c.in_err-slot-in-Some-Some.ensures.halts)
 
 pub returns-in_err-slot-in-Some-Some-clause-others : goal.returns-in_err-slot-in-Some-Some-clause-others
 returns-in_err-slot-in-Some-Some-clause-others g c =
@@ -70,7 +70,7 @@ pub returns-in_ok-slot-in-Some-Some-clause-works : goal.returns-in_ok-slot-in-So
 returns-in_ok-slot-in-Some-Some-clause-works g c =
     works_named (g.K.Links.attempts c.args.links.now) (g.K.Links.attempts c.work_on.new.links) (g.K.Links.wire c.args.links.now) (g.K.Links.wire c.work_on.new.links)
     (g.K.Links.standings c.args.links.now) (g.K.Links.standings c.work_on.new.links) c.args.name.now c.args.work c.args.feeds.now c.in-Some-Some.feed c.args.analyser
-    c.work_on.ensures.attempts (2 ^ 61) c.requires.sound (sym c.lend.ensures.was ∙ c.in-Some-Some.is ∙ ap (λ (s : Option OpenFeed). Some s) c.in-Some-Some.field-0-is) c.work_on.ensures.only
+    c.args.steps.now c.work_on.new.steps c.work_on.ensures.attempts (2 ^ 61) c.requires.sound (sym c.lend.ensures.was ∙ c.in-Some-Some.is ∙ ap (λ (s : Option OpenFeed). Some s) c.in-Some-Some.field-0-is) c.work_on.ensures.only
     c.lend.new.feeds c.give.new.feeds c.in_ok-slot-in-Some-Some.field-0.slot c.in_ok-slot-in-Some-Some.field-0.told c.in_ok-slot-in-Some-Some.field-0.analyser c.in-Some-Some.ensures.now c.give.ensures c.in_ok-slot-in-Some-Some.ensures.works
 
 pub returns-in_ok-slot-in-Some-Some-clause-sound : goal.returns-in_ok-slot-in-Some-Some-clause-sound

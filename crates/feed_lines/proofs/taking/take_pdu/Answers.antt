@@ -1,46 +1,24 @@
-use Rattle.std.proofs.Common.{◌∙◌}
-use Rattle.feed_lines.proofs.ConnectionLemmas.{Spares-trans, Only-loud, KeepsSent-trans}
-use Rattle.feed_lines.proofs.PduLemmas.{goes_on}
-use Rattle.feed_lines.proofs.TakingLemmas.{next_lost, next_refused, next_pdu, refused_now, on_err}
+use Rattle.std.proofs.Common.{refl}
+use Rattle.feed_lines.specs.Feeds.{TakesNext}
+use Rattle.feed_lines.specs.Steps.{going}
+use Rattle.feed_lines.proofs.CountingLemmas.{moved_halted, moved_took, none_halted}
+use Rattle.feed_lines.proofs.TakingLemmas.{on_err}
 use Rattle.feed_lines.proofs.taking.take_pdu.Goals as goal
 
-pub returns-in-Lost-clause-took : goal.returns-in-Lost-clause-took
-returns-in-Lost-clause-took g c = λ state stands.
-    next_lost _ (g.K.Links.wire c.next_pdu.new.links) _ c.args.name.now c.args.feed c.in_ok-framer.framer c.in_ok-framer.asked c.args.analyser state stands
-    c.in_ok-framer.ensures.answer c.in-Lost.is c.close.ensures.closed
+pub returns-clause-took : goal.returns-clause-took
+returns-clause-took g c = λ state judgements stands.
+    moved_took (g.K.Links.wire c.move_feed.new.links) c.args.feed.link c.in_ok-outcome.change (λ t. TakesNext t c.args.name.now state) c.args.steps.now c.follow.new.steps (going state c.args.analyser judgements)
+    c.in_ok-analyser.analyser c.in_ok-outcome.outcome (c.in_ok-outcome.ensures.moved state stands) (λ slot. c.in_ok-analyser.ensures (going state c.args.analyser judgements) slot refl)
 
-pub returns-in-Lost-clause-only : goal.returns-in-Lost-clause-only
-returns-in-Lost-clause-only g c = Spares-trans c.in_ok-framer.ensures.only (Only-loud _ _ c.close.ensures.later c.close.ensures.closed c.close.ensures.standings)
+pub returns-in_err-outcome-clause-halts : goal.returns-in_err-outcome-clause-halts
+returns-in_err-outcome-clause-halts g c =
+    on_err c.from_residual.result c.from_residual.ensures.0
+    (λ state judgements stands.
+    none_halted _ _ c.args.feed (λ t. TakesNext t c.args.name.now state (going state c.args.analyser judgements)) c.args.analyser c.args.steps.now state judgements stands c.in_err-outcome.ensures.halts)
 
-pub report-requires : goal.report-requires
-report-requires g c = refused_now c.in_ok-framer.framer c.in_ok-framer.asked c.in-Refused.cause c.in-Refused.is c.in_ok-framer.ensures.refused
-
-pub returns-in_ok-report-in-Refused-clause-took : goal.returns-in_ok-report-in-Refused-clause-took
-returns-in_ok-report-in-Refused-clause-took g c = λ state stands.
-    next_refused _ (g.K.Links.wire c.next_pdu.new.links) _ c.args.name.now c.args.feed c.in_ok-framer.framer c.in_ok-framer.asked c.args.analyser state stands
-    c.in_ok-framer.ensures.answer c.in-Refused.cause c.report.result _ c.in-Refused.is c.in_ok-framer.ensures.refused c.report.ensures
-    (c.as_slice.ensures.value ∙ c.in_ok-report-in-Refused.ensures) c.finish.ensures.finishes
-
-pub returns-in_ok-report-in-Refused-clause-only : goal.returns-in_ok-report-in-Refused-clause-only
-returns-in_ok-report-in-Refused-clause-only g c = Spares-trans c.in_ok-framer.ensures.only c.finish.ensures.only
-
-pub perform-requires-clause-phase : goal.perform-requires-clause-phase
-perform-requires-clause-phase g c = λ on. goes_on c.args.feed.session c.in-Pdu.pdu c.in_ok-session-in-Pdu.act c.in_ok-session-in-Pdu.session c.in_ok-session-in-Pdu.ensures c.requires.fit.phase on
-
-pub returns-in_ok-outcome-in-Pdu-clause-took : goal.returns-in_ok-outcome-in-Pdu-clause-took
-returns-in_ok-outcome-in-Pdu-clause-took g c = λ state stands.
-    next_pdu _ (g.K.Links.wire c.next_pdu.new.links) _ c.args.name.now c.args.feed c.in_ok-framer.framer c.in_ok-framer.asked c.args.analyser state stands
-    c.in_ok-framer.ensures.answer c.in-Pdu.pdu c.in_ok-session-in-Pdu.act c.in_ok-session-in-Pdu.session c.in_ok-outcome-in-Pdu.outcome c.in_ok-outcome-in-Pdu.analyser
-    c.perform.ensures.only.later c.in-Pdu.is c.in_ok-session-in-Pdu.ensures c.in_ok-outcome-in-Pdu.ensures.took
-
-pub returns-in_ok-outcome-in-Pdu-clause-only : goal.returns-in_ok-outcome-in-Pdu-clause-only
-returns-in_ok-outcome-in-Pdu-clause-only g c = Spares-trans c.in_ok-framer.ensures.only c.perform.ensures.only
-
--- ---- for want of memory
-
-pub returns-in_err-outcome-in-Pdu-clause-only : goal.returns-in_err-outcome-in-Pdu-clause-only
-returns-in_err-outcome-in-Pdu-clause-only g c = Spares-trans c.next_pdu.ensures.only c.perform.ensures.only
-
-pub returns-in_err-outcome-in-Pdu-clause-halts : goal.returns-in_err-outcome-in-Pdu-clause-halts
-returns-in_err-outcome-in-Pdu-clause-halts g c =
-    on_err c.from_residual-in_err-outcome-in-Pdu.result c.from_residual-in_err-outcome-in-Pdu.ensures.0 (KeepsSent-trans c.next_pdu.ensures.keeps c.in_err-outcome-in-Pdu.ensures.halts)
+pub returns-in_err-analyser-clause-halts : goal.returns-in_err-analyser-clause-halts
+returns-in_err-analyser-clause-halts g c =
+    on_err c.from_residual-in_err-analyser.result c.from_residual-in_err-analyser.ensures.0
+    (λ state judgements stands.
+    moved_halted (g.K.Links.wire c.move_feed.new.links) c.args.feed.link c.in_ok-outcome.change (λ t. TakesNext t c.args.name.now state) c.args.steps.now c.follow.new.steps (going state c.args.analyser judgements)
+    c.follow.result c.in_ok-outcome.outcome (c.in_ok-outcome.ensures.moved state stands) (λ slot. c.follow.ensures (going state c.args.analyser judgements) slot refl))

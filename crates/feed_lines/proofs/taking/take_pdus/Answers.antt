@@ -2,34 +2,36 @@ use Rattle.std.proofs.Common.{◌≡◌, ◌+◌, ℕ, refl, sym, subst, ◌∙�
 use Rattle.feed_lines.specs.declared.taking.Outcome.{Outcome}
 use Rattle.feed_lines.specs.declared.taking.Outcome.TheVariants.{Open as GoesOn, Ended}
 use Rattle.feed_lines.specs.Moves.{Only}
-use Rattle.feed_lines.specs.Steps.{OutcomeFits}
+use Rattle.feed_lines.specs.Holding.{AreWithin}
+use Rattle.feed_lines.specs.Steps.{OutcomeFits, going}
 use Rattle.feed_lines.proofs.ConnectionLemmas.{Spares-refl, Spares-trans}
 use Rattle.feed_lines.proofs.TakingLemmas.{pdus_start, pdus_next, pdus_ended, pdus_enough, pdus_halted, on_err}
 use Rattle.feed_lines.proofs.taking.take_pdus.Goals as goal
 
 pub loop-turn-init : goal.loop-turn-init
 loop-turn-init g c = record {
-  took = λ state stands. pdus_start c.args.until_ready c.args.name.now _ c.args.feed.link _ c.args.feed state c.args.analyser refl refl stands;
+  took = λ state judgements stands. pdus_start c.args.until_ready c.args.name.now (going state c.args.analyser judgements) c.args.feed.link c.args.steps.now _ c.args.feed state c.args.analyser refl refl stands;
   within = omega arith;
   fit = c.requires.fit;
   same = refl;
   most = omega arith;
   only = Spares-refl _ _ _;
-  ticks = refl;
   attempts = refl;
   faults = omega arith;
 }
 
 pub returns-then-is_enough-clause-took : goal.returns-then-is_enough-clause-took
-returns-then-is_enough-clause-took g c = λ state stands.
-    pdus_enough c.args.until_ready c.args.name.now _ c.args.feed.link _ c.loop-turn._turn c.args.count c.loop-turn.feed c.loop-turn.analyser c.loop-turn.invariant.within
-    (sym c.is_enough.ensures ∙ c.if-is_enough.true) (c.loop-turn.invariant.took state stands)
+returns-then-is_enough-clause-took g c = λ state judgements stands.
+    pdus_enough c.args.until_ready c.args.name.now (going state c.args.analyser judgements) c.args.feed.link (AreWithin c.args.steps.now c.loop-turn.steps judgements) _ c.loop-turn._turn c.args.count c.loop-turn.analyser
+    c.loop-turn.invariant.within c.loop-turn.feed (sym c.is_enough.ensures ∙ c.if-is_enough.true) (c.loop-turn.invariant.took state judgements stands)
 
 pub returns-in_err-outcome-clause-halts : goal.returns-in_err-outcome-clause-halts
 returns-in_err-outcome-clause-halts g c =
     on_err c.from_residual.result c.from_residual.ensures.0
-    (λ state stands. pdus_halted c.args.until_ready c.args.name.now c.args.feed.link (g.K.Links.wire c.loop-turn.links) _ c.loop-turn._turn c.args.count c.loop-turn.feed state c.args.analyser c.loop-turn.analyser
-    c.loop-turn.invariant.same c.loop-turn.invariant.within c.take_pdu.ensures.only.later c.in_err-outcome.ensures.halts (c.loop-turn.invariant.took state stands))
+    (λ state judgements stands.
+    pdus_halted c.args.until_ready c.args.name.now (going state c.args.analyser judgements) c.args.feed.link c.args.steps.now c.loop-turn.steps c.take_pdu.new.steps (g.K.Links.wire c.loop-turn.links) _
+    c.loop-turn._turn c.loop-turn.feed c.loop-turn.analyser c.loop-turn.invariant.same (sym c.is_enough.ensures ∙ c.if-is_enough.false) c.take_pdu.ensures.only.later (c.loop-turn.invariant.took state judgements stands)
+    c.args.count (omega arith) c.in_err-outcome.ensures.halts)
 
 pub returns-in_err-outcome-clause-only : goal.returns-in_err-outcome-clause-only
 returns-in_err-outcome-clause-only g c =
@@ -37,10 +39,12 @@ returns-in_err-outcome-clause-only g c =
     (subst (λ (k : ℕ). Only k (g.K.Links.wire c.loop-turn.links) (g.K.Links.wire c.take_pdu.new.links) (g.K.Links.standings c.loop-turn.links) (g.K.Links.standings c.take_pdu.new.links)) c.loop-turn.invariant.same c.take_pdu.ensures.only)
 
 pub returns-in-Ended-clause-took : goal.returns-in-Ended-clause-took
-returns-in-Ended-clause-took g c = λ state stands.
-    pdus_ended c.args.until_ready c.args.name.now _ c.args.feed.link _ (c.loop-turn._turn + 1) c.args.count c.in-Ended.telling c.in_ok-outcome.next (omega arith)
-    (pdus_next c.args.until_ready c.args.name.now _ c.args.feed.link (g.K.Links.wire c.loop-turn.links) _ c.loop-turn._turn c.loop-turn.feed c.loop-turn.analyser c.in_ok-outcome.next c.in_ok-outcome.outcome (Ended c.in-Ended.telling) c.in-Ended.is
-    c.loop-turn.invariant.same (sym c.is_enough.ensures ∙ c.if-is_enough.false) c.take_pdu.ensures.only.later (c.loop-turn.invariant.took state stands) c.in_ok-outcome.ensures.took)
+returns-in-Ended-clause-took g c = λ state judgements stands.
+    pdus_ended c.args.until_ready c.args.name.now (going state c.args.analyser judgements) c.args.feed.link (AreWithin c.args.steps.now c.take_pdu.new.steps judgements) _ (c.loop-turn._turn + 1) c.args.count c.in_ok-outcome.next (omega arith)
+    c.in-Ended.telling
+    (pdus_next c.args.until_ready c.args.name.now (going state c.args.analyser judgements) c.args.feed.link c.args.steps.now c.loop-turn.steps c.take_pdu.new.steps (g.K.Links.wire c.loop-turn.links) _
+    c.loop-turn._turn c.loop-turn.feed c.loop-turn.analyser c.loop-turn.invariant.same (sym c.is_enough.ensures ∙ c.if-is_enough.false) c.take_pdu.ensures.only.later (c.loop-turn.invariant.took state judgements stands)
+    c.in_ok-outcome.next c.in_ok-outcome.outcome (Ended c.in-Ended.telling) c.in-Ended.is c.in_ok-outcome.ensures.took)
 
 pub returns-in-Ended-clause-only : goal.returns-in-Ended-clause-only
 returns-in-Ended-clause-only g c =
@@ -51,16 +55,16 @@ pub loop-turn-preserved : goal.loop-turn-preserved
 loop-turn-preserved g c =
     let fits = subst (λ (o : Outcome). OutcomeFits (g.K.Links.standings c.take_pdu.new.links) c.loop-turn.feed.link (c.loop-turn.feed.taken + 1) o) c.in-Open.is c.in_ok-outcome.ensures.fits in
     record {
-      took = λ state stands.
-          pdus_next c.args.until_ready c.args.name.now _ c.args.feed.link (g.K.Links.wire c.loop-turn.links) _ c.loop-turn._turn c.loop-turn.feed c.loop-turn.analyser c.in_ok-outcome.next c.in_ok-outcome.outcome (GoesOn c.in-Open.more) c.in-Open.is
-          c.loop-turn.invariant.same (sym c.is_enough.ensures ∙ c.if-is_enough.false) c.take_pdu.ensures.only.later (c.loop-turn.invariant.took state stands) c.in_ok-outcome.ensures.took;
+      took = λ state judgements stands.
+          pdus_next c.args.until_ready c.args.name.now (going state c.args.analyser judgements) c.args.feed.link c.args.steps.now c.loop-turn.steps c.take_pdu.new.steps (g.K.Links.wire c.loop-turn.links) _
+          c.loop-turn._turn c.loop-turn.feed c.loop-turn.analyser c.loop-turn.invariant.same (sym c.is_enough.ensures ∙ c.if-is_enough.false) c.take_pdu.ensures.only.later (c.loop-turn.invariant.took state judgements stands)
+          c.in_ok-outcome.next c.in_ok-outcome.outcome (GoesOn c.in-Open.more) c.in-Open.is c.in_ok-outcome.ensures.took;
       within = omega arith;
       fit = fits.0;
       same = fits.1 ∙ c.loop-turn.invariant.same;
       most = omega (arith, fits.2, c.loop-turn.invariant.most);
       only = Spares-trans c.loop-turn.invariant.only
           (subst (λ (k : ℕ). Only k (g.K.Links.wire c.loop-turn.links) (g.K.Links.wire c.take_pdu.new.links) (g.K.Links.standings c.loop-turn.links) (g.K.Links.standings c.take_pdu.new.links)) c.loop-turn.invariant.same c.take_pdu.ensures.only);
-      ticks = c.take_pdu.ensures.ticks ∙ c.loop-turn.invariant.ticks;
       attempts = c.take_pdu.ensures.attempts ∙ c.loop-turn.invariant.attempts;
       faults = omega (arith, c.take_pdu.ensures.faults, c.loop-turn.invariant.faults);
     }

@@ -1,7 +1,12 @@
+use Rattle.feed_lines.proofs.TakingLemmas.{on_err}
+use Rattle.feed_lines.proofs.WorkingLemmas.{asked_halted, worked_ask}
 use Rattle.feed_lines.proofs.working.work_on.Goals as goal
 
-pub returns-in-Ask-clause-halts : goal.returns-in-Ask-clause-halts
-returns-in-Ask-clause-halts g c = rw c.in-Ask.is c.ask_feed.ensures.halts
+pub returns-in_err-slot-in-Ask-clause-halts : goal.returns-in_err-slot-in-Ask-clause-halts
+returns-in_err-slot-in-Ask-clause-halts g c =
+    on_err c.from_residual.result c.from_residual.ensures.0
+    (λ state judgements stands.
+    rw c.in-Ask.is (asked_halted (g.K.Links.wire c.ask_feed.new.links) c.args.name.now c.args.feed c.args.analyser c.args.steps.now state judgements (g.K.Links.wire c.args.links.now) stands c.in_err-slot-in-Ask.ensures.halts))
 
 pub returns-in-Take-clause-halts : goal.returns-in-Take-clause-halts
 returns-in-Take-clause-halts g c = rw c.in-Take.is c.take_some.ensures.halts
@@ -9,8 +14,11 @@ returns-in-Take-clause-halts g c = rw c.in-Take.is c.take_some.ensures.halts
 pub returns-in-Sync-clause-halts : goal.returns-in-Sync-clause-halts
 returns-in-Sync-clause-halts g c = rw c.in-Sync.is c.sync_some.ensures.halts
 
-pub returns-in-Ask-clause-works : goal.returns-in-Ask-clause-works
-returns-in-Ask-clause-works g c = rw c.in-Ask.is c.ask_feed.ensures.works
+pub returns-in_ok-slot-in-Ask-clause-works : goal.returns-in_ok-slot-in-Ask-clause-works
+returns-in_ok-slot-in-Ask-clause-works g c = λ state judgements stands.
+    rw c.in-Ask.is
+    (worked_ask (g.K.Links.wire c.ask_feed.new.links) c.args.name.now c.args.feed c.args.analyser c.args.steps.now state judgements c.in_ok-slot-in-Ask.slot c.in_ok-slot-in-Ask.told
+    (c.in_ok-slot-in-Ask.ensures.asks state stands))
 
 pub returns-in-Take-clause-works : goal.returns-in-Take-clause-works
 returns-in-Take-clause-works g c = rw c.in-Take.is c.take_some.ensures.works

@@ -1,4 +1,4 @@
-use Rattle.script_lines.specs.declared.command.CommandName.TheVariants.{Aspa as AspaName, Aspa64 as Aspa64Name, Slurm as SlurmName, Filter as FilterName, Unfilter as UnfilterName, Assert as AssertName, Unassert as UnassertName, Role as RoleName, Open as OpenName, Take as TakeName, Judge as JudgeName, Report as ReportName, Changes as ChangesName, Summary as SummaryName, Why as WhyName}
+use Rattle.script_lines.specs.declared.command.CommandName.TheVariants.{Aspa as AspaName, Aspa64 as Aspa64Name, Slurm as SlurmName, Filter as FilterName, Unfilter as UnfilterName, Assert as AssertName, Unassert as UnassertName, Role as RoleName, Open as OpenName, Take as TakeName, Feed as FeedName, Ask as AskName, Sync as SyncName, Judge as JudgeName, Report as ReportName, Changes as ChangesName, Summary as SummaryName, Why as WhyName}
 use Rattle.script_lines.specs.Commands.{made_by}
 use Rattle.script_lines.proofs.grammar.read_fields.Goals as goal
 
@@ -31,6 +31,15 @@ returns-in_ok-name-in-Open-clause-spelled c = rw c.in-Open.is (c.in_ok-name-in-O
 
 pub returns-in_ok-name-in-Take-clause-spelled : goal.returns-in_ok-name-in-Take-clause-spelled
 returns-in_ok-name-in-Take-clause-spelled c = rw c.in-Take.is (c.in_ok-name-in-Take.ensures.spelled (made_by TakeName))
+
+pub returns-in_ok-name-in-Feed-clause-spelled : goal.returns-in_ok-name-in-Feed-clause-spelled
+returns-in_ok-name-in-Feed-clause-spelled c = rw c.in-Feed.is (c.in_ok-name-in-Feed.ensures.spelled (made_by FeedName))
+
+pub returns-in_ok-name-in-Ask-clause-spelled : goal.returns-in_ok-name-in-Ask-clause-spelled
+returns-in_ok-name-in-Ask-clause-spelled c = rw c.in-Ask.is (c.in_ok-name-in-Ask.ensures.spelled (made_by AskName))
+
+pub returns-in_ok-name-in-Sync-clause-spelled : goal.returns-in_ok-name-in-Sync-clause-spelled
+returns-in_ok-name-in-Sync-clause-spelled c = rw c.in-Sync.is (c.in_ok-name-in-Sync.ensures.spelled (made_by SyncName))
 
 pub returns-in_ok-role-in-Judge-clause-spelled : goal.returns-in_ok-role-in-Judge-clause-spelled
 returns-in_ok-role-in-Judge-clause-spelled c = rw c.in-Judge.is (c.in_ok-role-in-Judge.ensures.spelled (made_by JudgeName))

@@ -4,6 +4,7 @@ use Rattle.mrt_reader.specs.declared.body.Body.{Body}
 use Rattle.mrt_reader.specs.declared.fault.BodyFault.{BodyFault}
 use Rattle.stream_lines.specs.declared.dump.Next.TheVariants.{Record}
 use Rattle.stream_lines.specs.Taking.{asking_of}
+use Rattle.stream_lines.proofs.JudgementLemmas.{ticks_none, ticks_body}
 use Rattle.stream_lines.proofs.TakingLemmas.{took_body, took_refused, took_too_long, took_cut_short, took_end}
 use Rattle.stream_lines.proofs.taking.take_unit.Goals as goal
 
@@ -36,3 +37,44 @@ pub returns-in-End-clause-took : goal.returns-in-End-clause-took
 returns-in-End-clause-took g c =
     took_end (asking_of c.args.asking) c.args.dump.now c.args.progress (g.F.Shelf.files c.args.shelf.now) (g.F.Shelf.files c.next.new.shelf) c.next.new.self.held c.in_ok-body.field-0
     c.in_ok-body.ensures.next c.next.new.self c.end-in-End.new.self c.args.text.now.items c.in-End.is c.in_ok-body.ensures.held c.end-in-End.ensures
+
+pub returns-in_ok-take_body-in-Record-Ok-clause-ticks : goal.returns-in_ok-take_body-in-Record-Ok-clause-ticks
+returns-in_ok-take_body-in-Record-Ok-clause-ticks g c =
+    ticks_body (asking_of c.args.asking) c.args.dump.now c.args.progress (g.F.Shelf.files c.args.shelf.now) (g.F.Shelf.files c.next.new.shelf) c.next.new.self.held c.in_ok-body.field-0
+    c.in_ok-body.ensures.next c.in-Record-Ok.body c.args.steps.now c.take_body.new.steps
+    (c.in-Record-Ok.is ∙ ap (λ (r : Result Body BodyFault). Record r) c.in-Record-Ok.field-0-is) c.take_body.ensures.ticks
+
+pub returns-in_err-take_body-in-Record-Ok-clause-ticks : goal.returns-in_err-take_body-in-Record-Ok-clause-ticks
+returns-in_err-take_body-in-Record-Ok-clause-ticks g c =
+    ticks_body (asking_of c.args.asking) c.args.dump.now c.args.progress (g.F.Shelf.files c.args.shelf.now) (g.F.Shelf.files c.next.new.shelf) c.next.new.self.held c.in_ok-body.field-0
+    c.in_ok-body.ensures.next c.in-Record-Ok.body c.args.steps.now c.take_body.new.steps
+    (c.in-Record-Ok.is ∙ ap (λ (r : Result Body BodyFault). Record r) c.in-Record-Ok.field-0-is) c.take_body.ensures.ticks
+
+-- no other arm takes a step
+
+pub returns-in_err-body-clause-ticks : goal.returns-in_err-body-clause-ticks
+returns-in_err-body-clause-ticks g c = ticks_none _ _ _ _ _
+
+pub returns-in_err-cause-in-Record-Err-clause-ticks : goal.returns-in_err-cause-in-Record-Err-clause-ticks
+returns-in_err-cause-in-Record-Err-clause-ticks g c = ticks_none _ _ _ _ _
+
+pub returns-in_err-report-in-Record-Err-clause-ticks : goal.returns-in_err-report-in-Record-Err-clause-ticks
+returns-in_err-report-in-Record-Err-clause-ticks g c = ticks_none _ _ _ _ _
+
+pub returns-in_ok-report-in-Record-Err-clause-ticks : goal.returns-in_ok-report-in-Record-Err-clause-ticks
+returns-in_ok-report-in-Record-Err-clause-ticks g c = ticks_none _ _ _ _ _
+
+pub returns-in_err-report-in-TooLong-clause-ticks : goal.returns-in_err-report-in-TooLong-clause-ticks
+returns-in_err-report-in-TooLong-clause-ticks g c = ticks_none _ _ _ _ _
+
+pub returns-in_ok-report-in-TooLong-clause-ticks : goal.returns-in_ok-report-in-TooLong-clause-ticks
+returns-in_ok-report-in-TooLong-clause-ticks g c = ticks_none _ _ _ _ _
+
+pub returns-in_err-report-in-CutShort-clause-ticks : goal.returns-in_err-report-in-CutShort-clause-ticks
+returns-in_err-report-in-CutShort-clause-ticks g c = ticks_none _ _ _ _ _
+
+pub returns-in_ok-report-in-CutShort-clause-ticks : goal.returns-in_ok-report-in-CutShort-clause-ticks
+returns-in_ok-report-in-CutShort-clause-ticks g c = ticks_none _ _ _ _ _
+
+pub returns-in-End-clause-ticks : goal.returns-in-End-clause-ticks
+returns-in-End-clause-ticks g c = ticks_none _ _ _ _ _

@@ -1,8 +1,9 @@
-use Rattle.std.proofs.Common.{◌≡◌, ◌≢◌, ℕ, ap, refl, sym, ◌∙◌, arith, subst}
+use Rattle.std.proofs.Common.{◌≡◌, ◌≢◌, ℕ, ◌+◌, ap, refl, sym, ◌∙◌, arith, subst}
 use Rattle.std.specs.Io.KnownBytes.{append_known}
 use Rattle.av_base.proofs.PouringLemmas.{Grows-refl, Grows-trans}
 use Rattle.stream_lines.specs.Frames.{Leaves}
 use Rattle.stream_lines.proofs.FrameLemmas.{Leaves-refl, Leaves-trans}
+use Rattle.stream_lines.proofs.JudgementLemmas.{ticks_start, ticks_next, ticks_more}
 use Rattle.stream_lines.proofs.UnitsLemmas.{TookUnits-start, TookUnits-next, TookUnits-over, TookUnits-some}
 use Rattle.stream_lines.proofs.taking.take_units.Goals as goal
 
@@ -12,7 +13,7 @@ loop-turn-init g c = record {
   within = omega arith;
   file = refl;
   few = record { taken = omega arith; passed = omega arith; refused = omega arith };
-  ticks = refl;
+  ticks = ticks_start _ _ _ _ _;
   others = Leaves-refl _ _;
   opened = refl;
   shelf_faults = omega arith;
@@ -57,7 +58,7 @@ loop-turn-preserved g c = record {
     passed = omega (arith, c.in_ok-progress.ensures.few.passed, c.loop-turn.invariant.few.passed);
     refused = omega (arith, c.in_ok-progress.ensures.few.refused, c.loop-turn.invariant.few.refused);
   };
-  ticks = c.take_unit.ensures.ticks ∙ c.loop-turn.invariant.ticks;
+  ticks = ticks_next _ c.loop-turn._turn _ _ _ _ _ _ _ _ _ _ _ c.loop-turn.invariant.took c.loop-turn.invariant.ticks (sym c.is_over.ensures ∙ c.if-is_over.false) c.take_unit.ensures.ticks;
   others = Leaves-trans c.loop-turn.invariant.others
       (subst (λ (file : ℕ). Leaves (λ other. other ≢ file) (g.F.Shelf.files c.loop-turn.shelf) (g.F.Shelf.files c.take_unit.new.shelf)) c.loop-turn.invariant.file c.take_unit.ensures.others);
   opened = c.take_unit.ensures.opened ∙ c.loop-turn.invariant.opened;
@@ -73,3 +74,19 @@ returns-clause-took g c =
 
 pub returns-clause-some : goal.returns-clause-some
 returns-clause-some g c = TookUnits-some _ _ _ _ _ c.loop-turn._turn _ _ _ _ _ _ c.loop-turn.invariant.within c.loop-turn.invariant.took refl
+
+-- the steps
+
+pub returns-then-is_over-clause-ticks : goal.returns-then-is_over-clause-ticks
+returns-then-is_over-clause-ticks g c = ticks_more _ c.loop-turn._turn _ _ _ _ _ _ c.loop-turn.invariant.within c.loop-turn.invariant.ticks
+
+pub returns-in_err-progress-clause-ticks : goal.returns-in_err-progress-clause-ticks
+returns-in_err-progress-clause-ticks g c = ticks_more _ (c.loop-turn._turn + 1) _ _ _ _ _ _ (omega arith)
+    (ticks_next _ c.loop-turn._turn _ _ _ _ _ _ _ _ _ _ _ c.loop-turn.invariant.took c.loop-turn.invariant.ticks (sym c.is_over.ensures ∙ c.if-is_over.false) c.take_unit.ensures.ticks)
+
+pub returns-in_err-pour_piece-clause-ticks : goal.returns-in_err-pour_piece-clause-ticks
+returns-in_err-pour_piece-clause-ticks g c = ticks_more _ (c.loop-turn._turn + 1) _ _ _ _ _ _ (omega arith)
+    (ticks_next _ c.loop-turn._turn _ _ _ _ _ _ _ _ _ _ _ c.loop-turn.invariant.took c.loop-turn.invariant.ticks (sym c.is_over.ensures ∙ c.if-is_over.false) c.take_unit.ensures.ticks)
+
+pub returns-clause-ticks : goal.returns-clause-ticks
+returns-clause-ticks g c = ticks_more _ c.loop-turn._turn _ _ _ _ _ _ c.loop-turn.invariant.within c.loop-turn.invariant.ticks

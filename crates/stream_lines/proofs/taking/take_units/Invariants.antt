@@ -2,7 +2,7 @@ use Rattle.std.proofs.Common.{◌≡◌, ◌≢◌, ◌≤◌}
 use Rattle.std.specs.Io.KnownBytes.{append_known}
 use Rattle.av_base.specs.Told.{Grows}
 use Rattle.stream_lines.specs.Frames.{Leaves}
-use Rattle.stream_lines.specs.Taking.{GrewBy, TookUnits, asking_of}
+use Rattle.stream_lines.specs.Taking.{GrewBy, TicksWithinUnits, TookUnits, asking_of}
 use Rattle.stream_lines.proofs.taking.take_units.Given as goal
 
 abbrev pub invariant-loop-turn : goal.invariant-loop-turn
@@ -12,7 +12,7 @@ invariant-loop-turn g l = record {
   within : l._turn ≤ l.asking.count;
   file : l.dump.file ≡ l.fn.dump.file;
   few : GrewBy l._turn l.fn.dump l.dump l.fn.progress l.progress;
-  ticks : l.steps ≡ l.fn.steps;
+  ticks : TicksWithinUnits (asking_of l.asking) l._turn l.fn.dump l.fn.progress (g.F.Shelf.files l.fn.shelf) l.fn.steps l.steps;
   others : Leaves (λ other. other ≢ l.fn.dump.file) (g.F.Shelf.files l.fn.shelf) (g.F.Shelf.files l.shelf);
   opened : g.F.Shelf.opened l.shelf ≡ g.F.Shelf.opened l.fn.shelf;
   shelf_faults : g.F.Shelf.faults l.fn.shelf ≤ g.F.Shelf.faults l.shelf;

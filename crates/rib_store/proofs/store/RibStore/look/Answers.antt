@@ -1,13 +1,35 @@
-use Rattle.std.proofs.Common.{◌≡◌, Some, ap, sym, ◌∙◌}
-use Rattle.std.specs.Option.{option_copied}
+use Rattle.std.proofs.Common.{◌≡◌, Some, refl, ap, sym, subst, ◌∙◌}
+use Rattle.std.specs.declared.option.Option.{Option}
+use Rattle.std.specs.BTreeMap.{is_at}
 use Rattle.std.specs.FinMap as fin
+use Rattle.std.specs.Map.{lookup}
+use Rattle.std.specs.Option.{option_copied, option_map}
+use Rattle.path_model.specs.Key.{key_cmp}
+use Rattle.shared_cases.specs.declared.case.Case.{Case}
+use Rattle.shared_cases.specs.Cases.{at}
+use Rattle.shared_cases.specs.Cases.{IsShown as IsCase}
+use Rattle.rib_store.specs.Cased.{marked_by, path_or}
+use Rattle.rib_store.specs.Shown.{IsShown}
 use Rattle.rib_store.specs.Stored.{Stored}
-use Rattle.rib_store.proofs.ShownLemmas.{shown_by_parts}
+use Rattle.rib_store.proofs.CasedLemmas.{get_through}
+use Rattle.rib_store.proofs.ShownLemmas.{has_case, if_none, stored_shown}
 use Rattle.rib_store.proofs.store.RibStore.look.Goals as goal
+
+pub returns-in_err-number-clause-none : goal.returns-in_err-number-clause-none
+returns-in_err-number-clause-none c = if_none c.from_residual.result _
+    (ap (λ (s : Stored). fin.get s.state.routes c.args.key.now) (sym c.self.view_is) ∙ get_through path_or c.self.inside.cases c.self.inside.routes c.args.key.now
+    ∙ ap (option_map (λ n. path_or (at c.self.inside.cases n))) (sym c.get.ensures ∙ ap option_copied c.in_err-number.was))
+
+pub returns-in_err-case-clause-none : goal.returns-in_err-case-clause-none
+returns-in_err-case-clause-none c =
+    let here : lookup (is_at (key_cmp c.args.key.now)) c.self.inside.routes ≡ Some c.in_ok-number.number.now = sym c.get.ensures ∙ ap option_copied c.in_ok-number.was in
+    absurd (has_case c.self.inside.table c.self.inside.roles c.self.inside.routes c.self.inside.cases (marked_by c.self.inside.is_marked c.self.inside.cases c.self.inside.routes c.self.inside.notes)
+    c.self.invariant c.args.key.now c.in_ok-number.number.now here c.get-2.result c.in_err-case.was c.get-2.ensures)
 
 pub returns-clause-some : goal.returns-clause-some
 returns-clause-some c =
-    let route : fin.get c.args.self.now.state.routes c.args.key.now ≡ Some c.in_ok-trail.trail.now =
-    ap (λ (s : Stored). fin.get s.state.routes c.args.key.now) (sym c.self.view_is) ∙ sym c.get.ensures ∙ ap option_copied c.in_ok-trail.was in
-    shown_by_parts c.self.inside.table c.self.inside.roles c.args.self.now.state c.args.key.now _ (ap (λ (s : Stored). s.state.parts) c.self.view_is) (ap (λ (s : Stored). s.state.roles) c.self.view_is)
-    route c.of-role.ensures c.verdict.ensures c.explain-witness.ensures
+    let here : lookup (is_at (key_cmp c.args.key.now)) c.self.inside.routes ≡ Some c.in_ok-number.number.now = sym c.get.ensures ∙ ap option_copied c.in_ok-number.was in
+    subst (λ (s : Stored). IsShown s.state c.args.key.now (record { verdict = c.verdict.result; witness = c.witness.result; role = c.of.result; trail = c.in_ok-case.case.trail })) c.self.view_is
+    (stored_shown c.self.inside.table c.self.inside.roles c.self.inside.routes c.self.inside.cases (marked_by c.self.inside.is_marked c.self.inside.cases c.self.inside.routes c.self.inside.notes)
+    c.self.invariant c.args.key.now c.in_ok-number.number.now here (record { verdict = c.verdict.result; witness = c.witness.result; role = c.of.result; trail = c.in_ok-case.case.trail }) c.in_ok-case.case
+    (subst (λ (o : Option Case). IsCase o (at c.self.inside.cases c.in_ok-number.number.now)) c.in_ok-case.was c.get-2.ensures) refl c.verdict.ensures c.witness.ensures c.of.ensures)

@@ -1,16 +1,20 @@
-use Rattle.std.proofs.Common.{arith, ap, subst}
-use Rattle.rib_store.specs.Held.{RoutesAndMarks, paths_in}
-use Rattle.rib_store.specs.Rows.{rows_of}
-use Rattle.rib_store.specs.State.{State, AreRows}
+use Rattle.std.proofs.Common.{arith, sym, subst}
+use Rattle.shared_cases.specs.Cases.{verdict_or}
+use Rattle.rib_store.specs.Cased.{Numbered, marked_by, through}
+use Rattle.rib_store.specs.State.{AreRows}
 use Rattle.rib_store.specs.Stored.{Stored}
-use Rattle.rib_store.proofs.RowLemmas.{rows_held, rows_fewer}
+use Rattle.rib_store.proofs.CasedLemmas.{through_length}
+use Rattle.rib_store.proofs.RouteLemmas.{state_by}
+use Rattle.rib_store.proofs.VerdictLemmas.{stored_rows}
 use Rattle.rib_store.proofs.store.RibStore.rows.Goals as goal
 
 pub returns-clause-rows : goal.returns-clause-rows
 returns-clause-rows c =
-    let state : State = record { parts = c.self.inside.table; roles = c.self.inside.roles; routes = c.self.inside.held.routes; marked = c.self.inside.held.marked } in
-    subst (λ (s : Stored). AreRows s.state (rows_of c.self.inside.table c.self.inside.roles (paths_in c.iter.result))) c.self.view_is
-    (rows_held state c.iter.result c.iter.ensures.ordered (ap (λ (h : RoutesAndMarks). h.routes) c.iter.ensures.whole))
+    subst (λ (s : Stored). AreRows s.state (through verdict_or c.self.inside.cases c.iter.result)) c.self.view_is
+    (subst (λ (routes : Numbered). AreRows (state_by c.self.inside.table c.self.inside.roles c.self.inside.is_marked c.self.inside.cases c.self.inside.routes c.self.inside.notes) (through verdict_or c.self.inside.cases routes))
+    (sym c.iter.ensures.whole)
+    (stored_rows c.self.inside.table c.self.inside.roles c.self.inside.routes c.self.inside.cases c.self.invariant c.iter.ensures.in_order
+    (marked_by c.self.inside.is_marked c.self.inside.cases c.self.inside.routes c.self.inside.notes)))
 
 pub returns-clause-few : goal.returns-clause-few
-returns-clause-few c = omega (arith, rows_fewer c.self.inside.table c.self.inside.roles c.iter.result, c.iter.ensures.few)
+returns-clause-few c = omega (arith, through_length verdict_or c.self.inside.cases c.iter.result, c.iter.ensures.few)

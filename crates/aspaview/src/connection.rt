@@ -1,0 +1,104 @@
+//! One connection.
+ghost use Rattle.std.specs.Prelude.{◌≡◌, ◌<◌, ◌≤◌, Some, true, length, IfOk, OnOk, OnErr};
+ghost use Rattle.std.specs.Io.KnownBytes.{ReadConsumes, WriteAppends};
+ghost use Rattle.av_base.specs.Connections.{new_standing};
+ghost use Rattle.av_base.specs.declared.standing.Break.TheVariants.{BySend, ByRecv};
+ghost use Rattle.aspaview.specs.Known.{new_known};
+
+use av_base::{Break, Fault};
+use std::io::{Read, Write};
+use std::marker::Model;
+use std::net::{OpenStream, Shutdown};
+
+/// A connection: its stream until it is closed, and the call by which it broke. It is closed where its stream is dropped.
+#[derive(Drop)]
+pub struct Connection<S: Read + Write + OpenStream> {
+    stream: Option<S>,
+    broken: Option<Break>,
+}
+
+/// A contract sees how it stands, and the bytes that its stream knows.
+impl<S: Read + Write + OpenStream> Model for Connection<S> {
+    ghost use Rattle.aspaview.specs.Known.{KnownLink, known_in, stands};
+
+    ghost Value = { KnownLink };
+
+    ghost view = { λ c. record {
+      standing = stands c.stream c.broken;
+      to_come = known_in S.remaining c.stream;
+      sent = known_in S.contents c.stream;
+    } };
+}
+
+impl<S: Read + Write + OpenStream + Drop> Connection<S> {
+    /// The connection over this stream.
+    pub fn new(stream: S) -> Connection<S>
+        ensures { result ≡ new_known (S.remaining stream) (S.contents stream) }
+    {
+        Connection {
+            stream: Some(stream),
+            broken: None,
+        }
+    }
+
+    /// Sends bytes from the front of the buffer, at least one, and answers how many. A fault breaks the connection.
+    pub fn send(&mut self, buf: &[u8]) -> Result<usize, Fault>
+        requires some_bytes { 0 < length buf.now }
+        requires usable { self.old.standing ≡ new_standing }
+        ensures some { IfOk result (λ n. 0 < n) }
+        ensures bound { IfOk result (λ n. n ≤ length buf.now) }
+        ensures ok { OnOk result (self.new.standing ≡ self.old.standing) }
+        ensures err { OnErr result
+            (self.new.standing ≡ record self.old.standing { broken = Some BySend }) }
+
+        // The bytes that the stream has taken, where it knows them, grow by those that were sent, and at a fault they stay.
+        ensures known { WriteAppends self.old.sent self.new.sent result buf.now }
+    {
+        let Some(stream) = &mut self.stream else {
+            return Err(Fault);
+        };
+        match stream.write(buf) {
+            Ok(count) if count > 0 => Ok(count),
+            _ => {
+                self.broken = Some(Break::BySend);
+                Err(Fault)
+            }
+        }
+    }
+
+    /// Receives bytes into the front of the buffer, and answers how many: 0 only where nothing is to come. It waits for the
+    /// first of them. A fault breaks the connection.
+    pub fn recv(&mut self, buf: &mut [u8]) -> Result<usize, Fault>
+        requires some_room { 0 < length buf.old }
+        requires usable { self.old.standing ≡ new_standing }
+        ensures bound { IfOk result (λ n. n ≤ length buf.new) }
+        ensures ok { OnOk result (self.new.standing ≡ self.old.standing) }
+        ensures err { OnErr result
+            (self.new.standing ≡ record self.old.standing { broken = Some ByRecv }) }
+
+        // Bytes that the stream knows are given as they are, 0 comes only at their end, and at a fault none is lost.
+        ensures known { ReadConsumes self.old.to_come self.new.to_come result buf.new }
+    {
+        let Some(stream) = &mut self.stream else {
+            return Err(Fault);
+        };
+        match stream.read(buf) {
+            Ok(count) => Ok(count),
+            Err(_) => {
+                self.broken = Some(Break::ByRecv);
+                Err(Fault)
+            }
+        }
+    }
+
+    /// Shuts both ways of the connection, and lets it go. It may have been broken.
+    pub fn close(&mut self)
+        ensures { self.new.standing ≡ record self.old.standing { closed = true } }
+    {
+        if let Some(stream) = &self.stream {
+            // The other end may be gone already.
+            let _ = stream.shutdown(Shutdown::Both);
+        }
+        self.stream = None;
+    }
+}

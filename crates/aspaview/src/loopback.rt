@@ -1,0 +1,50 @@
+//! Connections to a listener of the test's own: both ends speak in turn over the system's buffers.
+ghost use Rattle.av_base.specs.Connections.{IsUsable};
+
+use crate::tcp_links::TcpLinks;
+use av_base::{Fault, Links};
+use std::io::{self, ErrorKind, Read, Write};
+use std::net::{OpenStream, Shutdown, TcpListener};
+
+// What the other end hears, what this one hears then, and how many bytes each call moved: the last meets the other's end.
+type Heard = ([u8; 4], [u8; 4], [usize; 3]);
+
+// Sends, lets the other end answer and end, receives to that end, and closes.
+fn talk<K: Links, S: Read + Write + OpenStream>(
+    links: &mut K,
+    link: u32,
+    other: &mut S,
+) -> Result<Heard, Fault>
+    requires { IsUsable (K.standings links.old) link }
+{
+    let mut question = [0u8; 4];
+    let mut answer = [0u8; 4];
+    let sent = links.send(link, b"ping")?;
+    let _ = other.read(&mut question);
+    let _ = other.write(b"pong");
+    let _ = other.shutdown(Shutdown::Write);
+    let received = links.recv(link, &mut answer)?;
+    let ended = links.recv(link, &mut [0u8; 4])?;
+    links.close(link);
+    Ok((question, answer, [sent, received, ended]))
+}
+
+#[test]
+fn a_connection_carries_bytes_both_ways(rt: HostRuntime) -> io::Result<()> {
+    let listener = TcpListener::bind(&rt, "127.0.0.1:0")?;
+    let place = format!(in rt.alloc(); "{}", listener.local_addr()?)?;
+    let mut links = TcpLinks::new(rt.alloc(), &rt);
+    let Ok(link) = links.connect(place.as_str()) else {
+        return Err(io::Error::from(ErrorKind::NotConnected));
+    };
+    let (mut other, _) = listener.accept()?;
+    assert_eq!(rt;
+        talk(&mut links, link, &mut other),
+        Ok((*b"ping", *b"pong", [4, 4, 0]))
+    );
+    assert_eq!(rt; other.read(&mut [0u8; 4]).ok(), Some(0));
+    drop(listener);
+    assert_eq!(rt; links.connect(place.as_str()), Err(Fault));
+    assert_eq!(rt; links.connect("no such place"), Err(Fault));
+    Ok(())
+}

@@ -1,0 +1,35 @@
+-- What another table or other roles make of the state, and how many judgements they cost.
+use Rattle.std.proofs.Common.{◌≡◌, ℕ, Bool, refl, sym, ◌∙◌}
+use Rattle.std.specs.List.Sorted.{IsStrictlySortedBy}
+use Rattle.std.specs.Map.{keys_of}
+use Rattle.path_model.specs.CurrentTable.{Parts}
+use Rattle.path_model.specs.Key.{key_cmp}
+use Rattle.path_model.specs.Roles.{Relations}
+use Rattle.vap_table.specs.declared.change.TableChange.{TableChange}
+use Rattle.vap_table.specs.Change.{Alters}
+use Rattle.vap_table.proofs.ChangeLemmas.{one_outcome}
+use Rattle.shared_cases.specs.Cases.{Slots, AreSameCases}
+use Rattle.shared_cases.specs.Grounds.{grounds}
+use Rattle.shared_cases.specs.Touched.{AreWithinTouched}
+use Rattle.rib_store.specs.Cased.{Numbered, AreStored}
+use Rattle.rib_store.specs.Merge.{Noted}
+use Rattle.rib_store.specs.Touched.{IsWithinTouched}
+use Rattle.rib_store.proofs.NotedLemmas.{marked_rejudged}
+use Rattle.rib_store.proofs.RouteLemmas.{state_by, same_state, routes_rejudged}
+use Rattle.rib_store.proofs.TouchedLemmas.{within_routes}
+
+module _ (parts parts' : Parts) (relations relations' : Relations) (is_marked : Bool) (routes : Numbered) (notes : Noted) where
+  -- only the parts and the roles are other ones
+  pub rejudged_state : (old new : Slots) → AreSameCases old new
+      → state_by parts' relations' is_marked new routes notes ≡ record (state_by parts relations is_marked old routes notes) { parts = parts'; roles = relations' }
+  rejudged_state old new same = same_state parts' relations' _ _ _ _ (routes_rejudged old new routes same) (marked_rejudged is_marked old new routes notes same)
+
+  pub few_judged : (cases : Slots) (ticks : ℕ) → AreStored (grounds parts relations) routes cases → IsStrictlySortedBy key_cmp (keys_of routes)
+      → AreWithinTouched (grounds parts relations) (grounds parts' relations') cases ticks
+      → IsWithinTouched (state_by parts relations is_marked cases routes notes) (record (state_by parts relations is_marked cases routes notes) { parts = parts'; roles = relations' }) ticks
+  few_judged cases ticks stored sorted within = within_routes (grounds parts relations) (state_by parts relations is_marked cases routes notes)
+      (record (state_by parts relations is_marked cases routes notes) { parts = parts'; roles = relations' }) routes cases ticks stored sorted refl within
+
+-- a change has one outcome
+pub same_outcome : (parts one other : Parts) (change : TableChange) → Alters parts change one → Alters parts change other → one ≡ other
+same_outcome parts one other change a b = let outcome = one_outcome parts change in outcome.only one a ∙ sym (outcome.only other b)

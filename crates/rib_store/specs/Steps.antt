@@ -1,0 +1,27 @@
+-- How changes of one route go. Private contracts alone cite it.
+use Rattle.std.specs.Prelude.{◌≡◌, ℕ, Bool, true, false, List, if◌then◌else◌, ⊤}
+use Rattle.std.specs.declared.option.Option.{Option}
+use Rattle.std.specs.declared.option.Option.TheVariants.{Some, None}
+use Rattle.std.specs.BTreeMap.{is_at}
+use Rattle.std.specs.Map.{lookup}
+use Rattle.path_model.specs.declared.key.Key.{Key}
+use Rattle.path_model.specs.declared.verdict.Verdict.{Verdict}
+use Rattle.path_model.specs.Key.{key_cmp}
+use Rattle.shared_cases.specs.Cases.{Slots, at, Rewrites}
+use Rattle.shared_cases.specs.Taking.{left}
+
+-- the case of a key that had one has one user less
+abbrev pub Leaves : Slots → Option ℕ → Slots → Type 0
+Leaves old None new = new ≡ old
+Leaves old (Some n) new = Rewrites old new n (left (at old n))
+
+-- the first note of a key stays
+abbrev pub or_noted : Option (Option Verdict) → Bool → Option Verdict → Option (Option Verdict)
+or_noted None here marked = if here then Some marked else None
+or_noted (Some noted) here marked = Some noted
+
+-- what was marked of the key is noted, once verdicts were marked
+abbrev pub Notes : Bool → List (Key × Option Verdict) → Key → Option Verdict → List (Key × Option Verdict) → Type 0
+Notes false old key marked new = ⊤
+Notes true old key marked new =
+    (q : Key) → lookup (is_at (key_cmp q)) new ≡ or_noted (lookup (is_at (key_cmp q)) old) (is_at (key_cmp key) q) marked
