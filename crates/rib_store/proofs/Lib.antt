@@ -17,6 +17,7 @@ pub mod ReportLemmas
 pub mod RouteLemmas
 pub mod RowChangeLemmas
 pub mod RowLemmas
+pub mod SharingLemmas
 pub mod ShownLemmas
 pub mod StoredLemmas
 pub mod TouchedLemmas

@@ -31,9 +31,9 @@ use Rattle.rib_store.proofs.CountedLemmas.{one-other}
 use Rattle.rib_store.proofs.KeyLemmas.{key_itself, same_key, none_below}
 
 -- a case with users is that of some key
-record HasKey (routes : Numbered) (n : ℕ) : Type 0 where
-  key : Key
-  there : lookup (is_at (key_cmp key)) routes ≡ Some n
+pub record HasKey (routes : Numbered) (n : ℕ) : Type 0 where
+  pub key : Key
+  pub there : lookup (is_at (key_cmp key)) routes ≡ Some n
 
 first_key : (e : Key × ℕ) (es : Numbered) (n : ℕ) → e.1 ≡ n → HasKey (e ∷ es) n
 first_key e es n same = record { key = e.0; there = ap (λ (b : Bool). cond b (Some e.1) (lookup (is_at (key_cmp e.0)) es)) (key_itself e.0) ∙ ap Some same }
@@ -43,7 +43,7 @@ later_key e es n sorted h true t = absurd (
     let none : None ≡ Some n = sym (none_below e.0 es (sorted_head key_cmp e.0 (keys_of es) sorted)) ∙ ap (λ (k : Key). lookup (is_at (key_cmp k)) es) (sym (same_key h.key e.0 t)) ∙ h.there in cc)
 later_key e es n sorted h false t = record { key = h.key; there = ap (λ (b : Bool). cond b (Some e.1) (lookup (is_at (key_cmp h.key)) es)) t ∙ h.there }
 
-has_key : (routes : Numbered) (n : ℕ) → IsStrictlySortedBy key_cmp (keys_of routes) → 0 < users_of routes n → HasKey routes n
+pub has_key : (routes : Numbered) (n : ℕ) → IsStrictlySortedBy key_cmp (keys_of routes) → 0 < users_of routes n → HasKey routes n
 has_key [] n sorted used = absurd (omega (arith, used))
 has_key (e ∷ es) n sorted used = elim (decide_eq e.1 n) [
   | inl same ↦ first_key e es n same
@@ -51,15 +51,15 @@ has_key (e ∷ es) n sorted used = elim (decide_eq e.1 n) [
       later_key e es n sorted h (is_at (key_cmp h.key) e.0) refl
 ]
 
-stored_used : (c : Option StoredCase) (asn : ℕ) (path : Path) (users : ℕ) → IsStoredAs c asn path → IsCounted c users → 0 < users
+pub stored_used : (c : Option StoredCase) (asn : ℕ) (path : Path) (users : ℕ) → IsStoredAs c asn path → IsCounted c users → 0 < users
 stored_used None asn path users stored counted = absurd stored
 stored_used (Some c) asn path users stored counted = counted.1
 
-stored_as : (c : Option StoredCase) (asn a : ℕ) (path : Path) → IsStoredAs c asn path → IsOfAs c a → a ≡ asn
+pub stored_as : (c : Option StoredCase) (asn a : ℕ) (path : Path) → IsStoredAs c asn path → IsOfAs c a → a ≡ asn
 stored_as None asn a path stored is = absurd stored
 stored_as (Some c) asn a path stored is = sym is ∙ stored.0
 
-stored_path : (c : Option StoredCase) (asn : ℕ) (path : Path) → IsStoredAs c asn path → path_or c ≡ path
+pub stored_path : (c : Option StoredCase) (asn : ℕ) (path : Path) → IsStoredAs c asn path → path_or c ≡ path
 stored_path None asn path stored = absurd stored
 stored_path (Some c) asn path stored = stored.1
 

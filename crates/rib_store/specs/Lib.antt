@@ -9,6 +9,7 @@ pub mod Laws
 pub mod Merge
 pub mod OfPeer
 pub mod Rows
+pub mod Sharing
 pub mod Shown
 pub mod State
 pub mod Steps

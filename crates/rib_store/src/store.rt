@@ -11,6 +11,7 @@ ghost use Rattle.rib_store.specs.Altered.{IsAltered};
 ghost use Rattle.rib_store.specs.Changes.{AreChanges, IsMarked};
 ghost use Rattle.rib_store.specs.ChangesLeft.{changes_left};
 ghost use Rattle.rib_store.specs.Rows.{rows_left};
+ghost use Rattle.rib_store.specs.Sharing.{AreCasesOf};
 ghost use Rattle.rib_store.specs.Shown.{IsShown};
 ghost use Rattle.rib_store.specs.Counts.{AreCounts};
 ghost use Rattle.rib_store.specs.Touched.{announced, IsWithinTouched};
@@ -321,6 +322,16 @@ impl RibStore {
         ensures { IsIndexOf self.now.cases result.now }
     {
         self.cases.index()
+    }
+
+    /// The stored cases are exactly the distinct pairs of a peer AS and a path of the routes, each under one number with its right
+    /// judgement: a law, and the body does nothing.
+    pub fn cases_are_those_of_the_routes(&self)
+        ensures { AreCasesOf self.now.state self.now.cases }
+    {
+        // it comes with the order of the keys
+        let _length = self.routes.len();
+        self.cases.are_distinct();
     }
 
     /// The case under a number; `None` exactly where no route has a case of this number.
