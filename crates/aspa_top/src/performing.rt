@@ -70,13 +70,16 @@ pub(crate) fn perform_line<F: Shelf, K: Links, W: Sink, L: Ledger>(
         ..working
     };
     match read(alloc, line) {
+        // Nothing is made ready here that a command alone needs.
+        Ok(Command::Idle) => Ok(counted),
         Ok(command) => perform_command(alloc, counted, command, shelf, links, out, text, steps),
         Err(LineFault::NoMemory) => Err(Stop::NoMemory),
         Err(fault) => Ok(refuse(counted, Place::Line, line_cause(fault), text)?),
     }
 }
 
-// Performs a command, whose line is counted already.
+// Performs a command, whose line is counted already. What it needs must not be cleared at each line.
+#[inline(never)]
 fn perform_command<F: Shelf, K: Links, W: Sink, L: Ledger>(
     alloc: Global,
     working: Working,

@@ -64,7 +64,8 @@ pub fn run<S: Source, F: Shelf, K: Links, W: Sink, L: Ledger>(
         × (links.new ≡ links.old) × (out.new ≡ out.old) × (steps.new ≡ steps.old) }
     ensures at_end { IsRun (map string_bytes words.now.items) → (result ≡ 0) ⊎ (result ≡ 1)
         → IsAtEnd (S.left script.new) }
-    ensures input_cause { result ≡ 3 → (Rose (S.faults script.old) (S.faults script.new) × (out.new ≡ out.old))
+    ensures input_cause { result ≡ 3 → (Rose (S.faults script.old) (S.faults script.new) × (out.new ≡ out.old)
+        × (shelf.new ≡ shelf.old) × (links.new ≡ links.old) × (steps.new ≡ steps.old))
         ⊎ Rose (F.faults shelf.old) (F.faults shelf.new) }
     ensures sink_cause { result ≡ 4 → Rose (W.faults out.old) (W.faults out.new) }
 
@@ -101,7 +102,8 @@ fn run_script<S: Source, F: Shelf, K: Links, W: Sink, L: Ledger>(
         (W.written out.old) (W.written out.new) steps.old steps.new result }
     ensures known { IsEnding result }
     ensures at_end { (result ≡ 0) ⊎ (result ≡ 1) → IsAtEnd (S.left script.new) }
-    ensures input_cause { result ≡ 3 → (Rose (S.faults script.old) (S.faults script.new) × (out.new ≡ out.old))
+    ensures input_cause { result ≡ 3 → (Rose (S.faults script.old) (S.faults script.new) × (out.new ≡ out.old)
+        × (shelf.new ≡ shelf.old) × (links.new ≡ links.old) × (steps.new ≡ steps.old))
         ⊎ Rose (F.faults shelf.old) (F.faults shelf.new) }
     ensures sink_cause { result ≡ 4 → Rose (W.faults out.old) (W.faults out.new) }
     ensures complete { Completes SCRIPT_LIMIT (S.left script.old)

@@ -92,7 +92,8 @@ fn perform<S: Source, F: Shelf, K: Links, W: Sink, L: Ledger>(
         × (links.new ≡ links.old) × (out.new ≡ out.old) }
     ensures at_end { IsRun (map string_bytes words.now.items) → (result ≡ 0) ⊎ (result ≡ 1)
         → IsAtEnd (S.left script.new) }
-    ensures input_cause { result ≡ 3 → (Rose (S.faults script.old) (S.faults script.new) × (out.new ≡ out.old))
+    ensures input_cause { result ≡ 3 → (Rose (S.faults script.old) (S.faults script.new) × (out.new ≡ out.old)
+        × (shelf.new ≡ shelf.old) × (links.new ≡ links.old))
         ⊎ Rose (F.faults shelf.old) (F.faults shelf.new) }
     ensures sink_cause { result ≡ 4 → Rose (W.faults out.old) (W.faults out.new) }
     ensures complete { IsRun (map string_bytes words.now.items) → Completes SCRIPT_LIMIT (S.left script.old)
