@@ -19,7 +19,7 @@ use Rattle.rib_store.specs.Merge.{Noted}
 use Rattle.rib_store.specs.State.{State, Marked}
 use Rattle.rib_store.specs.Steps.{Leaves, Notes}
 use Rattle.path_model.specs.Routes.{Routes}
-use Rattle.rib_store.proofs.CasedLemmas.{through_inserted, through_removed, same_through}
+use Rattle.rib_store.proofs.CasedLemmas.{through_inserted, through_removed, same_through, kept_part}
 use Rattle.rib_store.proofs.CountedLemmas.{users_positive}
 use Rattle.rib_store.proofs.KeyLemmas.{key_itself}
 use Rattle.rib_store.proofs.NotedLemmas.{mark_at, marked_route}
@@ -53,6 +53,11 @@ pub same_state : (parts : Parts) (relations : Relations) (routes routes' : Route
 same_state parts relations routes routes' marked marked' e f = λ i. record { parts = parts; roles = relations; routes = e i; marked = f i }
 
 module _ (g : Grounds) (parts : Parts) (relations : Relations) (is_marked : Bool) (before after : Numbered) (notes notes' : Noted) (k : Key) where
+  -- what was marked of the key is still marked where its new path has a case
+  pub mark_taken : (old mid : Slots) (n : ℕ) (path : Path) → AreStored g before old → Takes g k.peer.asn path old mid n → mark_at mid before k ≡ mark_at old before k
+  mark_taken old mid n path stored takes = kept_part marked_or old mid (lookup (is_at (key_cmp k)) before)
+      (λ j was. taken_part g before after old mid k n path stored takes marked_or raised_mark j (users_positive before k j was))
+
   -- a route comes
   module _ (old mid new : Slots) (n : ℕ) (path : Path) (stored : AreStored g before old) (takes : Takes g k.peer.asn path old mid n) (sorted : IsStrictlySortedBy key_cmp (keys_of before))
       (is : after ≡ insert_entry key_cmp before k n) (updates : (q : Key) → lookup (is_at (key_cmp q)) after ≡ cond (is_at (key_cmp k) q) (Some n) (lookup (is_at (key_cmp q)) before))

@@ -7,11 +7,11 @@ ghost use Rattle.rib_store.specs.Steps.{Leaves};
 ghost use Rattle.rib_store.specs.Touched.{announces};
 
 use crate::RibStore;
-use crate::journal::mark_of;
 use crate::notes::note;
 use av_base::{NoMemory, Steps};
 use path_model::{Change, Key, Peer, Trail};
 use shared_cases::SharedCases;
+use std::collections::BTreeMap;
 use std::sync::ledger::Ledger;
 
 impl RibStore {
@@ -56,13 +56,12 @@ impl RibStore {
         } = self;
         // it comes with the order of the keys
         let _length = routes.len();
-        let marked = mark_of(&cases, routes.get(&key).copied());
-        note(&mut notes, is_marked, key, marked)?;
         let asn = key.peer.asn;
         let hint = hints.get(&asn).copied();
         let (cases, number) = cases.take(asn, trail, hint, &table, &roles, steps)?;
-        hints.insert(asn, number)?;
+        hint_at(&mut hints, asn, hint, number)?;
         let before = routes.insert(key, number)?;
+        note(&mut notes, is_marked, &cases, &key, before)?;
         let cases = leave(cases, before);
         Ok(RibStore {
             alloc,
@@ -93,9 +92,8 @@ impl RibStore {
         } = self;
         // it comes with the order of the keys
         let _length = routes.len();
-        let marked = mark_of(&cases, routes.get(key).copied());
-        note(&mut notes, is_marked, *key, marked)?;
         let before = routes.remove(key);
+        note(&mut notes, is_marked, &cases, key, before)?;
         let cases = leave(cases, before);
         Ok(RibStore {
             alloc,
@@ -132,6 +130,19 @@ impl RibStore {
             Some(key) => Some(key),
         }
     }
+}
+
+// Keeps the number of the case that this AS announced last, where it is another one.
+fn hint_at(
+    hints: &mut BTreeMap<u32, u32>,
+    asn: u32,
+    hint: Option<u32>,
+    number: u32,
+) -> Result<(), NoMemory> {
+    if hint != Some(number) {
+        hints.insert(asn, number)?;
+    }
+    Ok(())
 }
 
 // One route less has the case that a key had, if it had one.

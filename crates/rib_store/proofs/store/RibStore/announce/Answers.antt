@@ -6,22 +6,24 @@ use Rattle.shared_cases.specs.Cases.{at, marked_or}
 use Rattle.shared_cases.specs.Grounds.{grounds}
 use Rattle.rib_store.specs.Steps.{Leaves, Notes}
 use Rattle.rib_store.specs.Stored.{Stored}
-use Rattle.rib_store.proofs.RouteLemmas.{announced_state}
+use Rattle.rib_store.proofs.RouteLemmas.{announced_state, mark_taken}
 use Rattle.rib_store.proofs.StoredLemmas.{inserted, settled}
 use Rattle.rib_store.proofs.store.RibStore.announce.Goals as goal
 
 pub invariant_of-result : goal.invariant_of-result
-invariant_of-result g c = settled (grounds c.self.inside.table c.self.inside.roles) c.insert-2.new.self c.in_ok-cases.cases c.leave-cases.result _
-    (inserted (grounds c.self.inside.table c.self.inside.roles) c.self.inside.routes c.insert-2.new.self c.self.inside.cases c.in_ok-cases.cases c.args.key c.in_ok-cases.number c.args.trail
+invariant_of-result g c = settled (grounds c.self.inside.table c.self.inside.roles) c.insert.new.self c.in_ok-cases.cases c.leave-cases.result _
+    (inserted (grounds c.self.inside.table c.self.inside.roles) c.self.inside.routes c.insert.new.self c.self.inside.cases c.in_ok-cases.cases c.args.key c.in_ok-cases.number c.args.trail
     c.self.invariant c.in_ok-cases.ensures.taken c.len-length.ensures.in_order c.in_ok-before.ensures.inserted c.in_ok-before.ensures.updates)
     (subst (λ (o : Option ℕ). Leaves c.in_ok-cases.cases o c.leave-cases.result) c.in_ok-before.ensures.before c.leave-cases.ensures)
 
 pub returns-clause-state : goal.returns-clause-state
 returns-clause-state g c =
-    announced_state (grounds c.self.inside.table c.self.inside.roles) c.self.inside.table c.self.inside.roles c.self.inside.is_marked c.self.inside.routes c.insert-2.new.self c.self.inside.notes c.note.new.notes c.args.key
+    announced_state (grounds c.self.inside.table c.self.inside.roles) c.self.inside.table c.self.inside.roles c.self.inside.is_marked c.self.inside.routes c.insert.new.self c.self.inside.notes c.note.new.notes c.args.key
     c.self.inside.cases c.in_ok-cases.cases c.leave-cases.result c.in_ok-cases.number c.args.trail
     c.self.invariant c.in_ok-cases.ensures.taken c.len-length.ensures.in_order c.in_ok-before.ensures.inserted c.in_ok-before.ensures.updates
     (subst (λ (o : Option ℕ). Leaves c.in_ok-cases.cases o c.leave-cases.result) c.in_ok-before.ensures.before c.leave-cases.ensures)
     (subst (λ (o : Option Verdict). Notes c.self.inside.is_marked c.self.inside.notes c.args.key o c.note.new.notes)
-    (c.mark_of-marked.ensures ∙ ap (option_map (λ n. marked_or (at c.self.inside.cases n))) (c.copied.ensures ∙ c.get.ensures)) c.in_ok-note.ensures)
+    (ap (option_map (λ n. marked_or (at c.in_ok-cases.cases n))) c.in_ok-before.ensures.before
+    ∙ mark_taken (grounds c.self.inside.table c.self.inside.roles) c.self.inside.table c.self.inside.roles c.self.inside.is_marked c.self.inside.routes c.insert.new.self c.self.inside.notes c.note.new.notes c.args.key
+    c.self.inside.cases c.in_ok-cases.cases c.in_ok-cases.number c.args.trail c.self.invariant c.in_ok-cases.ensures.taken) c.in_ok-note.ensures)
     ∙ ap (λ (s : Stored). record s.state { routes = fin.insert s.state.routes c.args.key c.args.trail }) c.self.view_is

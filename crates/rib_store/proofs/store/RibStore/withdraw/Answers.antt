@@ -21,5 +21,5 @@ returns c =
     c.self.inside.cases c.leave-cases.result c.self.invariant c.remove-before.ensures.removed c.remove-before.ensures.updates
     (subst (λ (o : Option ℕ). Leaves c.self.inside.cases o c.leave-cases.result) c.remove-before.ensures.before c.leave-cases.ensures)
     (subst (λ (o : Option Verdict). Notes c.self.inside.is_marked c.self.inside.notes c.args.key.now o c.note.new.notes)
-    (c.mark_of-marked.ensures ∙ ap (option_map (λ n. marked_or (at c.self.inside.cases n))) (c.copied.ensures ∙ c.get.ensures)) c.in_ok-note.ensures)
+    (ap (option_map (λ n. marked_or (at c.self.inside.cases n))) c.remove-before.ensures.before) c.in_ok-note.ensures)
     ∙ ap (λ (s : Stored). record s.state { routes = fin.remove s.state.routes c.args.key.now }) c.self.view_is
