@@ -17,6 +17,7 @@ use std::sync::ledger::Ledger;
 use stream_lines::{Asked, OpenDump, Progress, ReadFault, Stop, take_units};
 
 /// Opens a dump under a new name.
+#[inline(never)]
 pub(crate) fn open<F: Shelf>(
     alloc: Global,
     working: Working,
@@ -56,6 +57,7 @@ fn name_dump(mut working: Working, name: Name, dump: OpenDump) -> Result<Working
 }
 
 /// Takes the next units of the dump of this name.
+#[inline(never)]
 pub(crate) fn take<F: Shelf, W: Sink, L: Ledger>(
     alloc: Global,
     working: Working,

@@ -17,6 +17,7 @@ use std::alloc::Global;
 use std::sync::ledger::Ledger;
 
 /// Connects a feed under a name that no source and no dump has.
+#[inline(never)]
 pub(crate) fn connect_feed<K: Links>(
     alloc: Global,
     working: Working,
@@ -75,6 +76,7 @@ pub(crate) fn connect_feed<K: Links>(
 }
 
 /// Asks or takes, on the feed of this name.
+#[inline(never)]
 pub(crate) fn work_on<K: Links, L: Ledger>(
     alloc: Global,
     working: Working,

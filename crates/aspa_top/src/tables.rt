@@ -21,6 +21,7 @@ use stream_lines::ReadFault;
 use vap_table::TableChange;
 
 /// Loads the file of this name: a good one changes the table, and by another one the line is refused.
+#[inline(never)]
 pub(crate) fn load<F: Shelf, L: Ledger>(
     alloc: Global,
     working: Working,
