@@ -1,8 +1,10 @@
 -- The routes of all peers as one list.
-use Rattle.std.specs.Prelude.{ℕ, nat_eq, Bool, true, List, [], ◌∷◌, ◌++◌}
+use Rattle.std.specs.Prelude.{ℕ, Bool, true, List, [], ◌∷◌, ◌++◌}
 use Rattle.std.specs.declared.option.Option.{Option}
 use Rattle.std.specs.declared.option.Option.TheVariants.{Some, None}
+use Rattle.std.specs.BTreeSet.{BTreeSet, contains}
 use Rattle.std.specs.List.{filter}
+use Rattle.std.specs.Ordering.{nat_cmp}
 use Rattle.path_model.specs.declared.key.Key.{Key}
 use Rattle.path_model.specs.declared.peer.Peer.{Peer}
 use Rattle.path_model.specs.Prefix.{Subnet}
@@ -27,11 +29,15 @@ abbrev pub entries_or : {V : Type 0} → Option (List (Key × V)) → List (Key 
 entries_or None = []
 entries_or (Some es) = es
 
--- whether it is a peer of the AS, if there is one
-abbrev pub is_peer_of : Option ℕ → Peer → Bool
-is_peer_of None peer = true
-is_peer_of (Some asn) peer = nat_eq peer.asn asn
+-- whether it is a peer of one of the ASes
+abbrev pub is_among : BTreeSet ℕ → Peer → Bool
+is_among ases peer = contains nat_cmp ases peer.asn
 
--- the peers of the AS, or all
-abbrev pub peers_of : {V : Type 0} → Option ℕ → List (Peer × List (Subnet × V)) → List (Peer × List (Subnet × V))
-peers_of asn ps = filter (λ p. is_peer_of asn p.0) ps
+-- the same, if there are any to choose by
+abbrev pub is_chosen : Option (BTreeSet ℕ) → Peer → Bool
+is_chosen None peer = true
+is_chosen (Some ases) peer = is_among ases peer
+
+-- the peers of these ASes, or all
+abbrev pub peers_of : {V : Type 0} → Option (BTreeSet ℕ) → List (Peer × List (Subnet × V)) → List (Peer × List (Subnet × V))
+peers_of ases ps = filter (λ p. is_chosen ases p.0) ps

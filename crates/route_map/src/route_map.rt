@@ -1,12 +1,12 @@
 //! The values of all routes.
-ghost use Rattle.std.specs.Prelude.{◌≡◌, ◌↔◌, ◌<◌, ◌^◌, [], Some, length, nat_eq, IfSome, IfNone, IfOk, OnOk, OnErr, IsTrue, option_copied};
+ghost use Rattle.std.specs.Prelude.{◌≡◌, ◌↔◌, ◌<◌, ◌^◌, [], Some, length, IfSome, IfNone, IfOk, OnOk, OnErr, IsTrue, option_copied};
 ghost use Rattle.std.specs.BTreeMap.{insert_entry, is_at};
 ghost use Rattle.std.specs.List.{filter};
 ghost use Rattle.std.specs.List.Sorted.{IsStrictlySortedBy};
 ghost use Rattle.std.specs.Map.{keys_of, lookup, remove_entry};
 ghost use Rattle.path_model.specs.Key.{key_cmp};
 ghost use Rattle.path_model.specs.Routes.{is_of_peer};
-ghost use Rattle.route_map.specs.Flat.{flat};
+ghost use Rattle.route_map.specs.Flat.{flat, is_among};
 ghost use Rattle.route_map.specs.Held.{found, value_at, without, HaveRoutes, Puts, TakesOut};
 ghost use Rattle.route_map.specs.OfPeer.{HasNoRouteOf, IsRouteOf, first_key};
 ghost use Rattle.route_map.specs.Updates.{Gets, Loses};
@@ -17,7 +17,7 @@ use crate::peer_routes::PeerRoutes;
 use av_base::NoMemory;
 use path_model::{Key, Peer};
 use std::alloc::Global;
-use std::collections::BTreeMap;
+use std::collections::{BTreeMap, BTreeSet};
 use std::marker::Model;
 
 // How many routes there may be: their number is that of a `Vec`'s elements at most.
@@ -86,18 +86,18 @@ impl<V> RouteMap<V> {
         ensures in_order { IsStrictlySortedBy key_cmp (keys_of self.now) }
     {
         Iter {
-            asn: None,
+            ases: None,
             first: None,
             others: self.peers.iter(),
         }
     }
 
-    /// The routes of all peers of one AS, in key order. It costs a step for each peer of another AS, and then what these routes cost.
-    pub fn of_as(&self, asn: u32) -> Iter<'_, V>
-        ensures { result ≡ filter (λ e. nat_eq e.0.peer.asn asn) self.now }
+    /// The routes of all peers of these ASes, in key order. It costs a look-up among the ASes for each peer, and then what these routes cost.
+    pub fn of_ases<'a>(&'a self, ases: &'a BTreeSet<u32>) -> Iter<'a, V>
+        ensures { result ≡ filter (λ e. is_among ases.now e.0.peer) self.now }
     {
         Iter {
-            asn: Some(asn),
+            ases: Some(ases),
             first: None,
             others: self.peers.iter(),
         }

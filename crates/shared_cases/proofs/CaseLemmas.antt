@@ -49,7 +49,7 @@ same_hops None (Some d) x y same = absurd same
 same_hops (Some c) None x y same = absurd same
 same_hops (Some c) (Some d) x y same = ap (λ (p : Path). has_hop p.chain x y) same.1
 
-same_peer : (c d : Option StoredCase) (asn : ℕ) → IsSameName c d → is_of_peer c asn ≡ is_of_peer d asn
+pub same_peer : (c d : Option StoredCase) (asn : ℕ) → IsSameName c d → is_of_peer c asn ≡ is_of_peer d asn
 same_peer None None asn same = refl
 same_peer None (Some d) asn same = absurd same
 same_peer (Some c) None asn same = absurd same

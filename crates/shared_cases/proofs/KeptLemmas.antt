@@ -1,33 +1,35 @@
 -- What is kept of the cases when one of them changes.
-use Rattle.std.proofs.Common.{◌≡◌, ◌≢◌, ℕ, Bool, true, false, List, [], ◌∷◌, None, Some, refl, ap, sym, subst, ◌∙◌, ◌⊎◌, inl, inr, true≢false, ◌||◌}
+use Rattle.std.proofs.Common.{◌≡◌, ◌≢◌, ℕ, Bool, true, false, List, ◌∷◌, None, Some, refl, ap, sym, subst, ◌∙◌, ◌⊎◌, inl, inr, true≢false, ◌||◌}
 use Rattle.std.specs.declared.option.Option.{Option}
-use Rattle.std.proofs.lemmas.Bool.{or_parts}
+use Rattle.std.specs.BTreeSet.{contains}
+use Rattle.std.specs.Ordering.{nat_cmp}
+use Rattle.std.proofs.lemmas.Bool.{false_from_ne_true, or_parts}
 use Rattle.path_model.specs.declared.verdict.Verdict.{Verdict}
 use Rattle.path_model.specs.Trail.{Path}
 use Rattle.ramps.specs.Judgement.{Judgement}
 use Rattle.hop_index.specs.Index.{Entries}
 use Rattle.shared_cases.specs.declared.case.StoredCase.{StoredCase}
-use Rattle.shared_cases.specs.Cases.{Slots, at, Rewrites, IsSettled, IsSameCase, AreSameCases, marked_now}
-use Rattle.shared_cases.specs.Kept.{AreKept}
+use Rattle.shared_cases.specs.declared.noted.Noted.{Noted}
+use Rattle.shared_cases.specs.Cases.{Slots, at, Rewrites, IsSettled, IsSameCase, AreSameCases, is_of_peer, marked_now}
+use Rattle.shared_cases.specs.Kept.{AreKept, IsNoted}
 use Rattle.shared_cases.specs.Numbers.{has}
 use Rattle.shared_cases.specs.Peers.{Members}
 use Rattle.shared_cases.specs.Taking.{lowered, new_case, raised}
-use Rattle.shared_cases.proofs.CaseLemmas.{IsSameName, Names, decide_eq, rewritten, same_names}
+use Rattle.shared_cases.proofs.CaseLemmas.{IsSameName, Names, decide_eq, rewritten, same_names, same_peer}
 use Rattle.shared_cases.proofs.NumberLemmas.{has_cases, has_first, has_later}
 
-settled_at : (old new : Slots) (n m : ℕ) (v : Option StoredCase) → Rewrites old new n v → IsSettled v → IsSettled (at old m) → (m ≡ n) ⊎ (m ≢ n) → IsSettled (at new m)
-settled_at old new n m v writes here was (inl e) = subst (λ (o : Option StoredCase). IsSettled o) (sym (ap (at new) e ∙ writes.here)) here
-settled_at old new n m v writes here was (inr other) = subst (λ (o : Option StoredCase). IsSettled o) (sym (writes.others m other)) was
+-- what holds of each number
+each_at : (P : ℕ → Option StoredCase → Type 0) (old new : Slots) (n m : ℕ) (v : Option StoredCase) → Rewrites old new n v → P n v → P m (at old m) → (m ≡ n) ⊎ (m ≢ n) → P m (at new m)
+each_at P old new n m v writes here was (inl e) = subst (λ (k : ℕ). P k (at new k)) (sym e) (subst (P n) (sym writes.here) here)
+each_at P old new n m v writes here was (inr other) = subst (P m) (sym (writes.others m other)) was
 
-same_settled : (old new : Slots) (n m : ℕ) (v : Option StoredCase) → Rewrites old new n v → (IsSettled (at old n) → IsSettled v) → IsSettled (at old m) → (m ≡ n) ⊎ (m ≢ n) → IsSettled (at new m)
-same_settled old new n m v writes keeps was (inl e) =
-    settled_at old new n m v writes (keeps (subst (λ (k : ℕ). IsSettled (at old k)) e was)) was (inl e)
-same_settled old new n m v writes keeps was (inr other) = subst (λ (o : Option StoredCase). IsSettled o) (sym (writes.others m other)) was
+noted_settled : (noted : Noted) (n : ℕ) (c : Option StoredCase) → IsSettled c → IsNoted noted n c
+noted_settled noted n c settled = record { by_number = λ absent. settled; by_as = λ asn of_it absent. settled }
 
 -- a case that is settled stands or goes
-pub still_settled : (old new : Slots) (n : ℕ) (v : Option StoredCase) (noted : List ℕ) → Rewrites old new n v → IsSettled v
-    → ((m : ℕ) → has noted m ≡ false → IsSettled (at old m)) → (m : ℕ) → has noted m ≡ false → IsSettled (at new m)
-still_settled old new n v noted writes here settled m absent = settled_at old new n m v writes here (settled m absent) (decide_eq m n)
+pub still_noted : (old new : Slots) (n : ℕ) (v : Option StoredCase) (noted : Noted) → Rewrites old new n v → IsSettled v
+    → ((m : ℕ) → IsNoted noted m (at old m)) → (m : ℕ) → IsNoted noted m (at new m)
+still_noted old new n v noted writes here was m = each_at (IsNoted noted) old new n m v writes (noted_settled noted n v here) (was m) (decide_eq m n)
 
 -- what is stored of a new case
 pub same_new : (slot : Option StoredCase) (asn : ℕ) (copy path : Path) (verdict : Verdict) (judgement : Judgement)
@@ -35,12 +37,12 @@ pub same_new : (slot : Option StoredCase) (asn : ℕ) (copy path : Path) (verdic
 same_new slot asn copy path verdict judgement here same_path same_verdict =
     here ∙ (λ i. Some (record { trail = same_path i; users = 1; judged = judgement; asn = asn; marked = same_verdict i }))
 
-module _ (old new : Slots) (n : ℕ) (names : Names) (index : Entries) (peers : Members) (noted : List ℕ) (kept : AreKept old names index peers noted) where
+module _ (old new : Slots) (n : ℕ) (names : Names) (index : Entries) (peers : Members) (noted : Noted) (kept : AreKept old names index peers noted) where
   -- a case with another number of users
-  rewrite_kept : (v : Option StoredCase) → Rewrites old new n v → IsSameName (at old n) v → (IsSettled (at old n) → IsSettled v) → AreKept new names index peers noted
+  rewrite_kept : (v : Option StoredCase) → Rewrites old new n v → IsSameName (at old n) v → (IsNoted noted n (at old n) → IsNoted noted n v) → AreKept new names index peers noted
   rewrite_kept v writes same keeps = record {
     indexed = rewritten old new n v names index peers writes same kept.indexed;
-    settled = λ m absent. same_settled old new n m v writes keeps (kept.settled m absent) (decide_eq m n);
+    are_noted = λ m. each_at (IsNoted noted) old new n m v writes (keeps (kept.are_noted n)) (kept.are_noted m) (decide_eq m n);
   }
 
   pub raised_kept : Rewrites old new n (raised (at old n)) → AreKept new names index peers noted
@@ -49,9 +51,9 @@ module _ (old new : Slots) (n : ℕ) (names : Names) (index : Entries) (peers : 
     same None = tt
     same (Some c) = (refl, refl)
 
-    keeps : (c : Option StoredCase) → IsSettled c → IsSettled (raised c)
-    keeps None settled = tt
-    keeps (Some c) settled = settled
+    keeps : (c : Option StoredCase) → IsNoted noted n c → IsNoted noted n (raised c)
+    keeps None is = is
+    keeps (Some c) is = record { by_number = is.by_number; by_as = is.by_as }
 
   pub lowered_kept : Rewrites old new n (lowered (at old n)) → AreKept new names index peers noted
   lowered_kept writes = rewrite_kept (lowered (at old n)) writes (same (at old n)) (keeps (at old n)) where
@@ -59,9 +61,9 @@ module _ (old new : Slots) (n : ℕ) (names : Names) (index : Entries) (peers : 
     same None = tt
     same (Some c) = (refl, refl)
 
-    keeps : (c : Option StoredCase) → IsSettled c → IsSettled (lowered c)
-    keeps None settled = tt
-    keeps (Some c) settled = settled
+    keeps : (c : Option StoredCase) → IsNoted noted n c → IsNoted noted n (lowered c)
+    keeps None is = is
+    keeps (Some c) is = record { by_number = is.by_number; by_as = is.by_as }
 
 -- ---- marking
 pub record IsMarking (noted : ℕ → Bool) (first now : Slots) (rest : List ℕ) : Type 0 where
@@ -111,19 +113,19 @@ marked_by old new n true marked others settled = marked refl
 marked_by old new n false marked others settled = others refl ∙ sym (settled_marked (at old n) (settled refl))
 
 -- each case has its verdict as the marked one: the noted are marked, and the others were
-pub all_marked : (old new : Slots) (names : Names) (index : Entries) (peers : Members) (noted : List ℕ) → AreKept old names index peers noted
-    → ((n : ℕ) → has noted n ≡ true → at new n ≡ marked_now (at old n)) → ((n : ℕ) → has noted n ≡ false → at new n ≡ at old n) → (n : ℕ) → at new n ≡ marked_now (at old n)
-all_marked old new names index peers noted kept marked others n = marked_by old new n (has noted n) (marked n) (others n) (kept.settled n)
+pub all_marked : (old new : Slots) (names : Names) (index : Entries) (peers : Members) (noted : Noted) → AreKept old names index peers noted
+    → ((n : ℕ) → has noted.numbers n ≡ true → at new n ≡ marked_now (at old n)) → ((n : ℕ) → has noted.numbers n ≡ false → at new n ≡ at old n) → (n : ℕ) → at new n ≡ marked_now (at old n)
+all_marked old new names index peers noted kept marked others n = marked_by old new n (has noted.numbers n) (marked n) (others n) (kept.are_noted n).by_number
 
 marked_same : (c : Option StoredCase) → IsSameName c (marked_now c)
 marked_same None = tt
 marked_same (Some c) = (refl, refl)
 
-pub marked_all_kept : (old new : Slots) (names : Names) (index : Entries) (peers : Members) (noted : List ℕ) → AreKept old names index peers noted
-    → ((n : ℕ) → at new n ≡ marked_now (at old n)) → AreKept new names index peers []
-marked_all_kept old new names index peers noted kept marked = record {
+pub marked_all_kept : (old new : Slots) (names : Names) (index : Entries) (peers : Members) (noted noted' : Noted) → AreKept old names index peers noted
+    → ((n : ℕ) → at new n ≡ marked_now (at old n)) → AreKept new names index peers noted'
+marked_all_kept old new names index peers noted noted' kept marked = record {
   indexed = same_names old new names index peers (λ n. subst (λ (o : Option StoredCase). IsSameName (at old n) o) (sym (marked n)) (marked_same (at old n))) kept.indexed;
-  settled = λ n absent. subst (λ (o : Option StoredCase). IsSettled o) (sym (marked n)) (settled_now (at old n));
+  are_noted = λ n. noted_settled noted' n (at new n) (subst (λ (o : Option StoredCase). IsSettled o) (sym (marked n)) (settled_now (at old n)));
 }
 
 -- ---- other judgements
@@ -133,10 +135,27 @@ same_case_name None (Some d) same = absurd same
 same_case_name (Some c) None same = absurd same
 same_case_name (Some c) (Some d) same = (same.0, same.1)
 
-pub rejudged_kept : (old new : Slots) (names : Names) (index : Entries) (peers : Members) (noted noted' touched : List ℕ) → AreKept old names index peers noted → AreSameCases old new
-    → ((n : ℕ) → has noted' n ≡ (has noted n || has touched n)) → ((n : ℕ) → has touched n ≡ false → at new n ≡ at old n) → AreKept new names index peers noted'
-rejudged_kept old new names index peers noted noted' touched kept same notes others = record {
-  indexed = same_names old new names index peers (λ n. same_case_name (at old n) (at new n) (same n)) kept.indexed;
-  settled = λ n absent. let both = or_parts (has noted n) (has touched n) (sym (notes n) ∙ absent) in
-      subst (λ (o : Option StoredCase). IsSettled o) (sym (others n both.1)) (kept.settled n both.0);
-}
+-- these cases are noted too, and others maybe
+pub record NotesCases (cases : Slots) (touched : List ℕ) (before after : Noted) : Type 0 where
+  pub numbers : (n : ℕ) → has after.numbers n ≡ (has before.numbers n || has touched n)
+  pub kept : (asn : ℕ) → contains nat_cmp before.ases asn ≡ true → contains nat_cmp after.ases asn ≡ true
+  pub ases : (n asn : ℕ) → has touched n ≡ true → is_of_peer (at cases n) asn ≡ true → contains nat_cmp after.ases asn ≡ true
+
+module _ (old new : Slots) (noted noted' : Noted) (touched : List ℕ) (same : AreSameCases old new) (notes : NotesCases old touched noted noted') (others : (n : ℕ) → has touched n ≡ false → at new n ≡ at old n) where
+  noted_number : (n : ℕ) → IsNoted noted n (at old n) → has noted'.numbers n ≡ false → IsSettled (at new n)
+  noted_number n was absent = let both = or_parts (has noted.numbers n) (has touched n) (sym (notes.numbers n) ∙ absent) in
+      subst (λ (o : Option StoredCase). IsSettled o) (sym (others n both.1)) (was.by_number both.0)
+
+  noted_as : (n asn : ℕ) → IsNoted noted n (at old n) → is_of_peer (at old n) asn ≡ true → contains nat_cmp noted'.ases asn ≡ false → (b : Bool) → has touched n ≡ b → IsSettled (at new n)
+  noted_as n asn was of_it absent true there = absurd (true≢false (sym (notes.ases n asn there of_it) ∙ absent))
+  noted_as n asn was of_it absent false there = subst (λ (o : Option StoredCase). IsSettled o) (sym (others n there))
+      (was.by_as asn of_it (false_from_ne_true (contains nat_cmp noted.ases asn) (λ is. true≢false (sym (notes.kept asn is) ∙ absent))))
+
+  pub rejudged_kept : (names : Names) (index : Entries) (peers : Members) → AreKept old names index peers noted → AreKept new names index peers noted'
+  rejudged_kept names index peers kept = record {
+    indexed = same_names old new names index peers (λ n. same_case_name (at old n) (at new n) (same n)) kept.indexed;
+    are_noted = λ n. record {
+      by_number = noted_number n (kept.are_noted n);
+      by_as = λ asn of_it absent. noted_as n asn (kept.are_noted n) (same_peer (at old n) (at new n) asn (same_case_name (at old n) (at new n) (same n)) ∙ of_it) absent (has touched n) refl;
+    };
+  }

@@ -1,7 +1,9 @@
 -- The cases by number.
-use Rattle.std.specs.Prelude.{◌≡◌, ◌≢◌, ℕ, nat_eq, Bool, false, List, slice_index_or, ⊤}
+use Rattle.std.specs.Prelude.{◌≡◌, ◌≢◌, ℕ, nat_eq, Bool, true, false, List, slice_index_or, ⊤}
 use Rattle.std.specs.declared.option.Option.{Option}
 use Rattle.std.specs.declared.option.Option.TheVariants.{Some, None}
+use Rattle.std.specs.BTreeSet.{BTreeSet, contains}
+use Rattle.std.specs.Ordering.{nat_cmp}
 use Rattle.path_model.specs.declared.verdict.Verdict.{Verdict}
 use Rattle.path_model.specs.declared.verdict.Verdict.TheVariants.{Invalid}
 use Rattle.path_model.specs.Trail.{Path}
@@ -72,6 +74,11 @@ marked_or (Some c) = c.marked
 abbrev pub IsSettled : Option StoredCase → Type 0
 IsSettled None = ⊤
 IsSettled (Some c) = c.marked ≡ c.judged.verdict
+
+-- each case of an AS other than these is settled
+abbrev pub AreSettledBut : BTreeSet ℕ → Slots → Type 0
+AreSettledBut ases cases =
+    (n asn : ℕ) → is_of_peer (at cases n) asn ≡ true → contains nat_cmp ases asn ≡ false → IsSettled (at cases n)
 
 -- its verdict becomes the marked one
 abbrev pub marked_now : Option StoredCase → Option StoredCase

@@ -1,12 +1,16 @@
 -- What keeps the cases, their names and their indexes together. Private contracts alone cite it.
-use Rattle.std.specs.Prelude.{◌≡◌, ℕ, false, List}
+use Rattle.std.specs.Prelude.{◌≡◌, ℕ, true, false, List}
 use Rattle.std.specs.declared.option.Option.{Option}
 use Rattle.std.specs.declared.option.Option.TheVariants.{Some}
 use Rattle.std.specs.BTreeMap.{is_at}
+use Rattle.std.specs.BTreeSet.{contains}
 use Rattle.std.specs.Map.{lookup}
+use Rattle.std.specs.Ordering.{nat_cmp}
 use Rattle.path_model.specs.Trail.{Path}
 use Rattle.hop_index.specs.Index.{Entries}
+use Rattle.shared_cases.specs.declared.case.StoredCase.{StoredCase}
 use Rattle.shared_cases.specs.declared.case_name.CaseName.{CaseName}
+use Rattle.shared_cases.specs.declared.noted.Noted.{Noted}
 use Rattle.shared_cases.specs.Cases.{Slots, at, IsStoredAs, IsIndexOf, is_of_peer, IsSettled}
 use Rattle.shared_cases.specs.Names.{name_of, name_cmp}
 use Rattle.shared_cases.specs.Numbers.{has}
@@ -23,7 +27,12 @@ pub record AreIndexed (cases : Slots) (names : List (CaseName × ℕ)) (index : 
   pub indexed : IsIndexOf cases index
   pub members : (asn n : ℕ) → is_member peers asn n ≡ is_of_peer (at cases n) asn
 
+-- its verdict is the marked one, where its number isn't noted, and where its AS isn't
+pub record IsNoted (noted : Noted) (n : ℕ) (c : Option StoredCase) : Type 0 where
+  pub by_number : has noted.numbers n ≡ false → IsSettled c
+  pub by_as : (asn : ℕ) → is_of_peer c asn ≡ true → contains nat_cmp noted.ases asn ≡ false → IsSettled c
+
 -- and each case whose verdict isn't the marked one is noted
-pub record AreKept (cases : Slots) (names : List (CaseName × ℕ)) (index : Entries) (peers : Members) (noted : List ℕ) : Type 0 where
+pub record AreKept (cases : Slots) (names : List (CaseName × ℕ)) (index : Entries) (peers : Members) (noted : Noted) : Type 0 where
   pub indexed : AreIndexed cases names index peers
-  pub settled : (n : ℕ) → has noted n ≡ false → IsSettled (at cases n)
+  pub are_noted : (n : ℕ) → IsNoted noted n (at cases n)

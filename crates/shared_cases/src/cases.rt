@@ -1,6 +1,6 @@
 //! The cases.
 ghost use Rattle.std.specs.Prelude.{◌≡◌, ◌≤◌, ◌+◌, ℕ, true, false, [], None, Some, IfOk, IfNone, IfSome};
-ghost use Rattle.shared_cases.specs.Cases.{at, verdict_or, marked_or, marked_now, Rewrites, IsAbsent, IsStoredAs, AreDistinct, IsIndexOf, IsShown};
+ghost use Rattle.shared_cases.specs.Cases.{at, verdict_or, marked_or, marked_now, Rewrites, IsAbsent, IsStoredAs, AreDistinct, AreSettledBut, IsIndexOf, IsShown};
 ghost use Rattle.shared_cases.specs.Grounds.{grounds};
 ghost use Rattle.shared_cases.specs.Names.{name_of};
 ghost use Rattle.shared_cases.specs.Numbers.{has};
@@ -8,6 +8,7 @@ ghost use Rattle.shared_cases.specs.Taking.{is_shared, left, lowered, raised, ne
 
 use crate::case::{Case, StoredCase};
 use crate::case_name::CaseName;
+use crate::noted::Noted;
 use crate::numbers::Numbers;
 use crate::peers::Peers;
 use crate::slots;
@@ -17,13 +18,14 @@ use path_model::{Roles, Trail, Verdict};
 use ramps::{Judged, judge};
 use slab::Slab;
 use std::alloc::Global;
-use std::collections::BTreeMap;
+use std::collections::{BTreeMap, BTreeSet};
 use std::marker::Model;
 use std::sync::ledger::Ledger;
 use vap_table::Vaps;
 
 /// The cases that routes share, each under a number below 2^32 for as long as some route has it. A case takes about 250 bytes, 8 for
-/// each AS of its path, and what its hops take in the index.
+/// each AS of its path, and what its hops take in the index; one that was judged anew since the last mark, 8 to 18 bytes more, and its AS 4
+/// to 9.
 #[derive(Drop)]
 pub struct SharedCases {
     pub(crate) alloc: Global,
@@ -31,8 +33,7 @@ pub struct SharedCases {
     pub(crate) names: BTreeMap<CaseName, u32>,
     pub(crate) index: HopIndex,
     pub(crate) peers: Peers,
-    // each case whose verdict isn't the marked one, and maybe others
-    pub(crate) noted: Numbers,
+    pub(crate) noted: Noted,
 }
 
 impl Model for SharedCases {
@@ -57,7 +58,7 @@ impl SharedCases {
             names: BTreeMap::new(alloc),
             index: HopIndex::new(alloc),
             peers: Peers::new(alloc),
-            noted: Numbers::new(alloc),
+            noted: Noted::new(alloc),
         }
     }
 
@@ -106,6 +107,14 @@ impl SharedCases {
         ensures { AreDistinct self.now }
     {
         let _names = &self.names;
+    }
+
+    /// The ASes of the cases that were judged anew since the last mark: each case of another AS has its marked verdict. It takes no
+    /// memory.
+    pub fn unsettled_ases(&self) -> &BTreeSet<u32>
+        ensures { AreSettledBut result.now self.now }
+    {
+        &self.noted.ases
     }
 
     /// One route more has the case of this AS and path, and the number of the case, which stays until its last route leaves it. A new
@@ -160,14 +169,14 @@ impl SharedCases {
             peers,
             noted,
         } = self;
-        mark_all(&mut slab, &noted);
+        mark_all(&mut slab, &noted.numbers);
         SharedCases {
             alloc,
             slab,
             names,
             index,
             peers,
-            noted: Numbers::new(alloc),
+            noted: Noted::new(alloc),
         }
     }
 

@@ -6,12 +6,14 @@
 //! `specs/Taking.antt` and in `specs/Touched.antt`.
 //!
 //! A case has a number as long as some route has it. It is found by its name (`case_name`), by its hops (the crate `hop_index`) and by
-//! its AS (`peers`); `specs/Kept.antt` says what keeps these together.
+//! its AS (`peers`); each case that is judged anew is noted until the next mark (`noted`); `specs/Kept.antt` says what keeps these
+//! together.
 #![tactic(auto)]
 
 mod case;
 mod case_name;
 mod cases;
+mod noted;
 mod numbers;
 mod peers;
 mod rejudging;

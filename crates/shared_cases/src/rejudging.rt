@@ -115,7 +115,7 @@ impl SharedCases {
             peers,
             mut noted,
         } = self;
-        noted.insert_all(touched)?;
+        noted.note(&slab, touched)?;
         rejudge_all(&mut slab, touched, table, roles, steps);
         Ok(SharedCases {
             alloc,

@@ -4,7 +4,7 @@ use Rattle.shared_cases.specs.declared.case_name.CaseName.{CaseName}
 use Rattle.shared_cases.specs.Cases.{Slots, Rewrites, IsAbsent}
 use Rattle.shared_cases.specs.Taking.{new_case}
 use Rattle.shared_cases.proofs.CaseLemmas.{HasAt, case_come}
-use Rattle.shared_cases.proofs.KeptLemmas.{same_new, still_settled}
+use Rattle.shared_cases.proofs.KeptLemmas.{same_new, still_noted}
 use Rattle.shared_cases.proofs.cases.SharedCases.add.Goals as goal
 
 pub invariant_of-cases : goal.invariant_of-cases
@@ -23,5 +23,5 @@ invariant_of-cases c =
           (subst (λ (cases : Slots). IsAbsent cases c.args.name.asn c.args.name.trail) (sym c.self.view_is) c.requires.absent)
           (subst (λ (chain : List ℕ). Adds c.self.inside.index n chain c.in_ok-index.index) c.chain.ensures.chain c.in_ok-index.ensures)
           c.in_ok-peers.ensures;
-      settled = still_settled c.self.inside.slab.slots c.insert.new.self.slots n (Some (new_case c.args.name.asn c.args.name.trail c.args.judged)) c.self.inside.noted writes refl c.self.invariant.settled;
+      are_noted = still_noted c.self.inside.slab.slots c.insert.new.self.slots n (Some (new_case c.args.name.asn c.args.name.trail c.args.judged)) c.self.inside.noted writes refl c.self.invariant.are_noted;
     }
