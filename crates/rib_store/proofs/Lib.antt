@@ -22,3 +22,4 @@ pub mod ShownLemmas
 pub mod StoredLemmas
 pub mod TouchedLemmas
 pub mod VerdictLemmas
+pub mod WalkLemmas

@@ -22,7 +22,7 @@ use Rattle.rib_store.proofs.KeyLemmas.{Below, below_less, same_key, none_below}
 abbrev Rows : Type 0
 Rows = List (Key × Row)
 
-below_same : (x y : Key) (ks : List Key) → key_cmp x y ≡ Equal → Below y ks → Below x ks
+pub below_same : (x y : Key) (ks : List Key) → key_cmp x y ≡ Equal → Below y ks → Below x ks
 below_same x y [] e h = tt
 below_same x y (k ∷ ks) e h = (key_total.congr x y k e ∙ h.0, below_same x y ks e h.1)
 
@@ -47,11 +47,11 @@ below_merge x [] fs he hf = below_routes x fs hf
 below_merge x (e ∷ es) fs he hf = below_one x e (merge es) he.0 (λ gs hg. below_merge x es gs he.1 hg) fs hf
 
 -- the keys are in order
-abbrev Ascending : List Key → Type 0
+abbrev pub Ascending : List Key → Type 0
 Ascending [] = Unit {0}
 Ascending (x ∷ xs) = Below x xs × Ascending xs
 
-from_sorted : (ks : List Key) → IsStrictlySortedBy key_cmp ks → Ascending ks
+pub from_sorted : (ks : List Key) → IsStrictlySortedBy key_cmp ks → Ascending ks
 unfolding IsStrictlySortedBy
 from_sorted [] h = tt
 from_sorted (k ∷ ks) h = (h.0, from_sorted ks h.1)

@@ -25,7 +25,7 @@ use Rattle.rib_store.specs.declared.journal.ChangedKey.{ChangedKey}
 use Rattle.rib_store.specs.declared.merged.Row.{Row}
 use Rattle.rib_store.specs.Cased.{Numbered, path_or, routes_by, marked_by, AreStored}
 use Rattle.rib_store.specs.Changes.{AreChanges}
-use Rattle.rib_store.specs.ChangesLeft.{change_of, change_at, change_between, changes_in, present_verdict}
+use Rattle.rib_store.specs.ChangesLeft.{case_of, case_or, change_of, change_at, change_between, changes_in, present_verdict}
 use Rattle.rib_store.specs.Held.{Held, RoutesAndMarks, held_in, paths_in, marks_in}
 use Rattle.rib_store.specs.Held as held
 use Rattle.rib_store.specs.Merge.{Noted, merge, merge_one, noted_row, route_row, both_row, noted_or, marked_of, held_of}
@@ -65,13 +65,13 @@ no_mark_of cases None None = refl
 no_mark_of cases None (Some n) = refl
 no_mark_of cases (Some v) o = refl
 
-case_of : (v : Option (Option Verdict)) (o : Option ℕ) (row : Row) → joined v o ≡ Some row → row.case ≡ o
-case_of None None row e = absurd cc
-case_of None (Some n) row e = sym (ap (λ (r : Option Row). by r) e) where
+case_is : (v : Option (Option Verdict)) (o : Option ℕ) (row : Row) → joined v o ≡ Some row → row.case ≡ o
+case_is None None row e = absurd cc
+case_is None (Some n) row e = sym (ap (λ (r : Option Row). by r) e) where
   by : Option Row → Option ℕ
   by None = Some n
   by (Some r) = r.case
-case_of (Some v) o row e = sym (ap (λ (r : Option Row). by r) e) where
+case_is (Some v) o row e = sym (ap (λ (r : Option Row). by r) e) where
   by : Option Row → Option ℕ
   by None = o
   by (Some r) = r.case
@@ -95,19 +95,26 @@ module _ (parts : Parts) (relations : Relations) (is_marked : Bool) (routes : Nu
       ∙ trail_of is_marked cases (lookup (is_at (key_cmp q)) notes) (lookup (is_at (key_cmp q)) routes) ∙ sym (get_through path_or cases routes q))
 
   -- the verdict of a row's case is the current one of its key
-  verdict_at : (key : Key) (row : Row) → lookup (is_at (key_cmp key)) rows ≡ Some row → option_map (λ n. verdict_or (at cases n)) row.case ≡ present_verdict parts relations key (option_map (λ n. path_or (at cases n)) row.case)
-  verdict_at key row here = by row.case (case_of (lookup (is_at (key_cmp key)) notes) (lookup (is_at (key_cmp key)) routes) row (sym (found_merge key notes routes notes_sorted sorted) ∙ here)) where
+  verdict_at : (key : Key) (row : Row) → lookup (is_at (key_cmp key)) rows ≡ Some row → option_map (λ n. verdict_or (at cases n)) (case_of routes (key, row)) ≡ present_verdict parts relations key (option_map (λ n. path_or (at cases n)) row.case)
+  verdict_at key row here = ap (option_map (λ n. verdict_or (at cases n))) (own row.noted) ∙ by row.case is_own where
+    is_own : row.case ≡ lookup (is_at (key_cmp key)) routes
+    is_own = case_is (lookup (is_at (key_cmp key)) notes) (lookup (is_at (key_cmp key)) routes) row (sym (found_merge key notes routes notes_sorted sorted) ∙ here)
+
+    own : (noted : Option (Option Verdict)) → case_or noted row.case (lookup (is_at (key_cmp key)) routes) ≡ row.case
+    own None = refl
+    own (Some v) = sym is_own
+
     by : (o : Option ℕ) → o ≡ lookup (is_at (key_cmp key)) routes → option_map (λ n. verdict_or (at cases n)) o ≡ present_verdict parts relations key (option_map (λ n. path_or (at cases n)) o)
     by None e = refl
     by (Some n) e = ap Some (verdict_is parts relations routes cases stored key n (sym e))
 
-  same_changes_by : (es : List (Key × Row)) → AllFound rows es → filter_map (change_of is_marked cases) es ≡ changes_in parts relations (map (held_of is_marked cases) es)
+  same_changes_by : (es : List (Key × Row)) → AllFound rows es → filter_map (change_of is_marked routes cases) es ≡ changes_in parts relations (map (held_of is_marked cases) es)
   same_changes_by [] found = refl
   same_changes_by (e ∷ es) found =
-      ap (λ (v : Option Verdict). cons_option (change_between e.0 (marked_of is_marked cases e.1) v) (filter_map (change_of is_marked cases) es)) (verdict_at e.0 e.1 (sym (find_lookup rows e.0) ∙ found.0))
+      ap (λ (v : Option Verdict). cons_option (change_between e.0 (marked_of is_marked cases e.1) v) (filter_map (change_of is_marked routes cases) es)) (verdict_at e.0 e.1 (sym (find_lookup rows e.0) ∙ found.0))
       ∙ ap (cons_option (change_at parts relations (held_of is_marked cases e))) (same_changes_by es found.1)
 
-  pub same_changes : filter_map (change_of is_marked cases) rows ≡ changes_in parts relations all
+  pub same_changes : filter_map (change_of is_marked routes cases) rows ≡ changes_in parts relations all
   same_changes = same_changes_by rows (all_found rows (sorted_entries rows (merge_sorted notes routes notes_sorted sorted)))
 
   same_marks : (b : Bool) → is_marked ≡ b → fin.from_entries {R = key_cmp} (marks_in all) ≡ marked_by b cases routes notes
@@ -119,7 +126,7 @@ module _ (parts : Parts) (relations : Relations) (is_marked : Bool) (routes : Nu
       ∙ no_mark_of cases (lookup (is_at (key_cmp q)) notes) (lookup (is_at (key_cmp q)) routes) ∙ sym (fin.get-empty key_cmp q))
 
   -- the changes that are left at first are those of the state
-  pub stored_changes : AreChanges (state_by parts relations is_marked cases routes notes) (filter_map (change_of is_marked cases) rows)
+  pub stored_changes : AreChanges (state_by parts relations is_marked cases routes notes) (filter_map (change_of is_marked routes cases) rows)
   stored_changes = subst (λ (changes : List ChangedKey). AreChanges (state_by parts relations is_marked cases routes notes) changes) (sym same_changes)
       (changes_held parts relations all (record { routes = routes_by cases routes; marked = marked_by is_marked cases routes notes }) all_sorted
       (λ i. record { routes = same_routes i; marked = same_marks is_marked refl i }))
@@ -141,5 +148,5 @@ pub merge_length : (es : Noted) (fs : Numbered) → length (merge es fs) ≤ len
 merge_length [] fs = omega (arith, routes_length fs)
 merge_length (e ∷ es) fs = omega (arith, one_length e (merge es) (length es) (λ gs. merge_length es gs) fs)
 
-pub changes_fewer_than : (is_marked : Bool) (cases : Slots) (es : List (Key × Row)) → length (filter_map (change_of is_marked cases) es) ≤ length es
-changes_fewer_than is_marked cases es = fewer (change_of is_marked cases) es
+pub changes_fewer_than : (is_marked : Bool) (routes : Numbered) (cases : Slots) (es : List (Key × Row)) → length (filter_map (change_of is_marked routes cases) es) ≤ length es
+changes_fewer_than is_marked routes cases es = fewer (change_of is_marked routes cases) es

@@ -2,18 +2,22 @@
 use Rattle.std.specs.Prelude.{ℕ, nat_eq, Bool, List, cond}
 use Rattle.std.specs.declared.option.Option.{Option}
 use Rattle.std.specs.declared.option.Option.TheVariants.{Some, None}
+use Rattle.std.specs.BTreeMap.{is_at}
 use Rattle.std.specs.List.{filter_map}
+use Rattle.std.specs.Map.{lookup}
 use Rattle.std.specs.Option.{option_map, option_eq}
 use Rattle.path_model.specs.declared.key.Key.{Key}
 use Rattle.path_model.specs.declared.verdict.Verdict.{Verdict}
 use Rattle.path_model.specs.declared.verdict.Verdict.TheVariants.{Valid, Unknown, Invalid}
 use Rattle.path_model.specs.CurrentTable.{Parts}
+use Rattle.path_model.specs.Key.{key_cmp}
 use Rattle.path_model.specs.Roles.{Relations}
 use Rattle.path_model.specs.Trail.{Path}
 use Rattle.shared_cases.specs.Cases.{Slots, at, verdict_or}
 use Rattle.rib_store.specs.declared.journal.ChangedKey.{ChangedKey}
 use Rattle.rib_store.specs.declared.journal.Journal.{Journal}
 use Rattle.rib_store.specs.declared.merged.Row.{Row}
+use Rattle.rib_store.specs.Cased.{Numbered}
 use Rattle.rib_store.specs.Held.{Held}
 use Rattle.rib_store.specs.Merge.{marked_of, merged_left}
 use Rattle.rib_store.specs.Rows.{current_verdict}
@@ -41,9 +45,19 @@ change_at parts relations e = change_between e.0 e.1.marked (present_verdict par
 abbrev pub changes_in : Parts → Relations → List (Key × Held) → List ChangedKey
 changes_in parts relations es = filter_map (change_at parts relations) es
 
+-- the row's own case, or that of its key where the row has a note: the route of a noted key may not be with its note
+abbrev pub case_or : Option (Option Verdict) → Option ℕ → Option ℕ → Option ℕ
+case_or None own of_key = own
+case_or (Some noted) own of_key = of_key
+
+abbrev pub case_of : Numbered → Key × Row → Option ℕ
+case_of routes e = case_or e.1.noted e.1.case (lookup (is_at (key_cmp e.0)) routes)
+
 -- the change of a row, by its case's verdict
-abbrev pub change_of : Bool → Slots → Key × Row → Option ChangedKey
-change_of is_marked cases e = change_between e.0 (marked_of is_marked cases e.1) (option_map (λ n. verdict_or (at cases n)) e.1.case)
+abbrev pub change_of : Bool → Numbered → Slots → Key × Row → Option ChangedKey
+change_of is_marked routes cases e =
+    change_between e.0 (marked_of is_marked cases e.1) (option_map (λ n. verdict_or (at cases n)) (case_of routes e))
 
 abbrev pub changes_left : Journal → List ChangedKey
-changes_left journal = filter_map (change_of journal.is_marked journal.cases.now) (merged_left journal.merged)
+changes_left journal =
+    filter_map (change_of journal.is_marked journal.routes.now journal.cases.now) (merged_left journal.merged)

@@ -15,3 +15,4 @@ pub mod State
 pub mod Steps
 pub mod Stored
 pub mod Touched
+pub mod Walk

@@ -7,7 +7,8 @@
 //! Each route has the number of a case that it shares with all routes of the same peer AS and path (the crate `shared_cases`);
 //! `specs/Cased.antt` says how the routes and the marked verdicts are read through the cases, and what holds of them. `routing` changes
 //! one route, `notes` keeps what was marked of the keys whose route changed since, `rib` lists the routes, `counts` counts the verdicts,
-//! and `journal` lists what changed since verdicts were marked, from `merged` notes and routes.
+//! and `journal` lists what changed since verdicts were marked, from `merged` notes and routes, and leaves out the routes of ASes of which no
+//! case was judged anew.
 #![tactic(auto)]
 
 mod counts;

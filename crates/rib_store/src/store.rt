@@ -17,7 +17,7 @@ ghost use Rattle.rib_store.specs.Counts.{AreCounts};
 ghost use Rattle.rib_store.specs.Touched.{announced, IsWithinTouched};
 
 use crate::counts::{Counts, count};
-use crate::journal::Journal;
+use crate::journal::{Journal, walk};
 use crate::merged::Merged;
 use crate::rib::{Rib, Shown};
 use av_base::{NoMemory, Steps};
@@ -262,19 +262,25 @@ impl RibStore {
     }
 
     /// Each key whose verdict or presence differs from the marked one, in key order. At the start nothing is marked. It takes no
-    /// memory.
+    /// memory, and after a mark the time of a look-up for each peer and for each key whose route changed since, and of the routes of the
+    /// peers of those ASes of which a case was judged anew since; before the first mark that of all routes.
     pub fn changes(&self) -> Journal<'_>
         ensures changes { AreChanges self.now.state (changes_left result) }
         ensures few { length (changes_left result) < 2 ^ 64 }
     {
+        // it comes with the order of the keys
+        let _length = self.routes.len();
+        let routes = walk(self.is_marked, &self.routes, &self.cases);
         Journal {
-            merged: Merged::new(self.notes.iter(), self.routes.iter()),
+            merged: Merged::new(self.notes.iter(), routes),
+            routes: &self.routes,
             cases: &self.cases,
             is_marked: self.is_marked,
         }
     }
 
-    /// The current verdicts are the marked ones from now on. It takes no memory.
+    /// The current verdicts are the marked ones from now on. It takes no memory, and the time of the cases judged anew and of the keys whose
+    /// route changed since the last mark.
     pub fn mark(self) -> RibStore
         ensures { IsMarked self.state result.state }
     {

@@ -7,24 +7,28 @@ use Rattle.rib_store.specs.ChangesLeft.{change_of}
 use Rattle.rib_store.specs.Merge.{Noted, merge, merged_left}
 use Rattle.rib_store.specs.Stored.{Stored}
 use Rattle.rib_store.proofs.RouteLemmas.{state_by}
-use Rattle.rib_store.proofs.RowChangeLemmas.{stored_changes, merge_length, changes_fewer_than}
+use Rattle.rib_store.proofs.RowChangeLemmas.{merge_length, changes_fewer_than}
+use Rattle.rib_store.proofs.WalkLemmas.{walk_changes, walk_length}
 use Rattle.rib_store.proofs.store.RibStore.changes.Goals as goal
 
 pub returns-clause-changes : goal.returns-clause-changes
 returns-clause-changes c =
-    let merged : merged_left c.new.result ≡ merge c.self.inside.notes c.self.inside.routes =
-    c.new.ensures ∙ ap (λ (notes : Noted). merge notes c.iter-2.result) c.iter.ensures.whole ∙ ap (merge c.self.inside.notes) c.iter-2.ensures.whole in
-    subst (λ (s : Stored). AreChanges s.state (filter_map (change_of c.self.inside.is_marked c.self.inside.cases) (merged_left c.new.result))) c.self.view_is
+    let merged : merged_left c.new.result ≡ merge c.self.inside.notes c.walk-routes.result =
+    c.new.ensures ∙ ap (λ (notes : Noted). merge notes c.walk-routes.result) c.iter.ensures.whole in
+    subst (λ (s : Stored). AreChanges s.state (filter_map (change_of c.self.inside.is_marked c.self.inside.routes c.self.inside.cases) (merged_left c.new.result))) c.self.view_is
     (subst (λ (rows : List (Key × Row)). AreChanges (state_by c.self.inside.table c.self.inside.roles c.self.inside.is_marked c.self.inside.cases c.self.inside.routes c.self.inside.notes)
-    (filter_map (change_of c.self.inside.is_marked c.self.inside.cases) rows)) (sym merged)
-    (stored_changes c.self.inside.table c.self.inside.roles c.self.inside.is_marked c.self.inside.routes c.self.inside.cases c.self.inside.notes c.self.invariant c.iter.ensures.in_order c.iter-2.ensures.in_order))
+    (filter_map (change_of c.self.inside.is_marked c.self.inside.routes c.self.inside.cases) rows)) (sym merged)
+    (walk_changes c.self.inside.table c.self.inside.roles c.self.inside.is_marked c.self.inside.routes c.walk-routes.result c.self.inside.cases c.self.inside.notes c.self.invariant c.len-length.ensures.in_order
+    c.walk-routes.ensures c.iter.ensures.in_order))
 
 pub returns-clause-few : goal.returns-clause-few
 returns-clause-few c = omega (
   arith,
-  changes_fewer_than c.self.inside.is_marked c.self.inside.cases (merged_left c.new.result),
+  changes_fewer_than c.self.inside.is_marked c.self.inside.routes c.self.inside.cases (merged_left c.new.result),
   ap (λ (rows : List (Key × Row)). length rows) c.new.ensures,
-  merge_length c.iter.result c.iter-2.result,
+  merge_length c.iter.result c.walk-routes.result,
+  walk_length c.self.inside.is_marked c.self.inside.cases c.self.inside.routes c.walk-routes.result c.walk-routes.ensures,
   c.iter.ensures.few,
-  c.iter-2.ensures.few,
+  c.len-length.ensures.len,
+  c.len-length.ensures.few,
 )
