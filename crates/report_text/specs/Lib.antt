@@ -3,6 +3,7 @@ pub mod Feeds
 pub mod Laws
 pub mod Places
 pub mod Refusals
+pub mod Reported
 pub mod Rows
 pub mod Summary
 pub mod Why
