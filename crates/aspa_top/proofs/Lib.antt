@@ -8,6 +8,7 @@ pub mod NamedLemmas
 pub mod OutcomeLemmas
 pub mod PerformingLemmas
 pub mod ProgramLemmas
+pub mod ReportingLemmas
 pub mod RunLemmas
 pub mod ShortLemmas
 pub mod StandsLemmas

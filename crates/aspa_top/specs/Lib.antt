@@ -6,6 +6,7 @@ pub mod Loading
 pub mod LoadingSteps
 pub mod Performing
 pub mod Program
+pub mod Reporting
 pub mod Tasks
 pub mod Words
 pub mod World

@@ -1,9 +1,11 @@
 //! `open` and `take`: dumps.
-ghost use Rattle.std.specs.Prelude.{◌≡◌, is_some, true, ◌-◌, ◌^◌, ◌<◌, ◌≤◌, Ok, IfOk, OnErr, IsErrOf, length};
+ghost use Rattle.std.specs.Prelude.{◌≡◌, is_some, true, ◌-◌, ◌^◌, ◌<◌, ◌≤◌, Ok, IfOk, OnOk, OnErr, IsErrOf, length};
 ghost use Rattle.std.specs.Io.KnownBytes.{append_known};
 ghost use Rattle.av_base.specs.Told.{Grows, Rose};
+ghost use Rattle.report_text.specs.Reported.{AddsQuiet};
 ghost use Rattle.script_lines.specs.declared.command.Command.TheVariants.{Open as OpenLine, Take as TakeLine};
 ghost use Rattle.aspa_top.specs.Performing.{Goes, GoesPart, GoesSome, IsOpenIn, IsSound, NamesDump, Steps as StepsBy, Uses, dump_in, most};
+ghost use Rattle.aspa_top.specs.Reporting.{AddsText};
 ghost use Rattle.aspa_top.specs.World.{Links, names_of};
 
 use crate::acting::refuse;
@@ -33,6 +35,7 @@ pub(crate) fn open<F: Shelf>(
     ensures sound { IfOk result (IsSound (F.opened shelf.new) working.lines) }
     ensures feeds { IfOk result (λ next. next.feeds ≡ working.feeds) }
     ensures lines { IfOk result (λ next. next.lines ≡ working.lines) }
+    ensures adds { OnOk result (AddsText text.old.items text.new.items) }
     ensures err { OnErr result (text.new.items ≡ text.old.items) }
     ensures names { names_of (F.files shelf.new) ≡ names_of (F.files shelf.old) }
     ensures cause { IsErrOf result ReadFault.Source → Rose (F.faults shelf.old) (F.faults shelf.new) }
@@ -91,6 +94,8 @@ pub(crate) fn take<F: Shelf, W: Sink, L: Ledger>(
     ensures sink_faults { W.faults out.old ≤ W.faults out.new }
     ensures grows { Grows (W.written out.old) (W.written out.new) }
     ensures uses { IsErrOf result Stop.Shelf → Uses working (Ok (TakeLine name.now count)) (F.files shelf.old) }
+    ensures adds { AddsQuiet (append_known (W.written out.old) text.old.items)
+        (append_known (W.written out.new) text.new.items) }
 {
     let Some(dump) = working.dumps.get(name) else {
         unreachable!();
@@ -133,6 +138,8 @@ fn take_open<F: Shelf, W: Sink, L: Ledger>(
     ensures sink_cause { IsErrOf result Stop.Sink → Rose (W.faults out.old) (W.faults out.new) }
     ensures sink_faults { W.faults out.old ≤ W.faults out.new }
     ensures grows { Grows (W.written out.old) (W.written out.new) }
+    ensures adds { AddsQuiet (append_known (W.written out.old) text.old.items)
+        (append_known (W.written out.new) text.new.items) }
 {
     let Working {
         analyser,

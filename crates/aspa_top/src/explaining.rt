@@ -1,7 +1,8 @@
 //! `why`: the reason of a route's verdict.
-ghost use Rattle.std.specs.Prelude.{◌≡◌, ℕ, ◌^◌, ◌<◌, IfOk, OnErr};
+ghost use Rattle.std.specs.Prelude.{◌≡◌, ℕ, ◌^◌, ◌<◌, IfOk, OnOk, OnErr};
 ghost use Rattle.aspa_top.specs.declared.task.Short.TheVariants.{Why as WhyRoute};
 ghost use Rattle.aspa_top.specs.Performing.{DoneShort, KeepsDumps};
+ghost use Rattle.aspa_top.specs.Reporting.{AddsText};
 
 use crate::acting::refuse;
 use crate::working::Working;
@@ -15,6 +16,7 @@ pub(crate) fn explain(working: Working, key: &Key, text: &mut Vec<u8>) -> Result
     ensures done { IfOk result (λ next. (ticks : ℕ)
         → DoneShort working (WhyRoute key.now) text.old.items text.new.items ticks ticks next) }
     ensures keeps { IfOk result (KeepsDumps working) }
+    ensures adds { OnOk result (AddsText text.old.items text.new.items) }
     ensures err { OnErr result (text.new.items ≡ text.old.items) }
 {
     let Some(shown) = working.analyser.store().look(key) else {

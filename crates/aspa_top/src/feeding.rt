@@ -1,9 +1,10 @@
 //! `feed`, `ask` and `sync`, and `take` on a feed.
-ghost use Rattle.std.specs.Prelude.{◌≡◌, ℕ, ◌*◌, ◌-◌, ◌^◌, ◌<◌, ◌≤◌, IfOk, OnErr};
+ghost use Rattle.std.specs.Prelude.{◌≡◌, ℕ, ◌*◌, ◌-◌, ◌^◌, ◌<◌, ◌≤◌, IfOk, OnOk, OnErr};
 ghost use Rattle.feed_lines.specs.Lines.{units_of};
 ghost use Rattle.aspa_top.specs.declared.task.Task.TheVariants.{Connect, OnFeed};
 ghost use Rattle.aspa_top.specs.Feeding.{AreSound, DoesOn, KeepsDumps, StopsOn};
 ghost use Rattle.aspa_top.specs.Performing.{GoesOn, most};
+ghost use Rattle.aspa_top.specs.Reporting.{AddsEnds};
 ghost use Rattle.aspa_top.specs.World.{linked};
 
 use crate::acting::refuse;
@@ -40,10 +41,14 @@ pub(crate) fn connect_feed<K: Links>(
     ensures sound { IfOk result (AreSound (K.standings links.new) working.lines) }
     ensures later { GoesOn (linked (K.attempts links.old) (K.wire links.old))
         (linked (K.attempts links.new) (K.wire links.new)) }
+    ensures adds { OnOk result (AddsEnds text.old.items text.new.items (K.faults links.old) (K.faults links.new)) }
+    ensures faults { K.faults links.old ≤ K.faults links.new }
 {
     if working.is_no_feeds(name) {
         return Ok(refuse(working, Place::Line, 35, text)?);
     }
+    // it comes with what stands in a name
+    let _name = name.text();
     let Working {
         analyser,
         sources,
@@ -101,7 +106,11 @@ pub(crate) fn work_on<K: Links, L: Ledger>(
     ensures sound { IfOk result (AreSound (K.standings links.new) working.lines) }
     ensures later { GoesOn (linked (K.attempts links.old) (K.wire links.old))
         (linked (K.attempts links.new) (K.wire links.new)) }
+    ensures adds { OnOk result (AddsEnds text.old.items text.new.items (K.faults links.old) (K.faults links.new)) }
+    ensures faults { K.faults links.old ≤ K.faults links.new }
 {
+    // it comes with what stands in a name
+    let _name = name.text();
     let Working {
         analyser,
         sources,

@@ -3,6 +3,7 @@ ghost use Rattle.std.specs.Prelude.{◌≡◌, ◌≢◌, ◌+◌, ◌^◌, ◌<
 ghost use Rattle.std.specs.Io.KnownBytes.{prepend_known, IsAtEnd};
 ghost use Rattle.av_base.specs.Files.{left_of};
 ghost use Rattle.av_base.specs.Told.{Rose};
+ghost use Rattle.av_text.specs.Spellings.{IsInLine};
 ghost use Rattle.report_text.specs.Refusals.{IsCause};
 ghost use Rattle.aspa_top.specs.Loading.{unit_name, payload_cause as number_of_payload, slurm_cause as number_of_slurm};
 ghost use Rattle.aspa_top.specs.LoadingSteps.{ComesTold, HasKnownCause, IsRowsOutcome, Understands};
@@ -33,7 +34,8 @@ pub(crate) enum FileKind {
 impl FileKind {
     /// The name by which its refused units are reported.
     pub(crate) fn unit_name(&self) -> &str
-        ensures { result.now ≡ unit_name self.now }
+        ensures name { result.now ≡ unit_name self.now }
+        ensures in_line { IsInLine (unit_name self.now) }
     {
         match self {
             FileKind::Payloads(name) => name.text(),

@@ -1,8 +1,9 @@
 //! One line performed: its text, and what it leaves.
-ghost use Rattle.std.specs.Prelude.{◌≡◌, ◌≢◌, ◌+◌, ◌-◌, ◌^◌, ◌<◌, ◌≤◌, length, Ok, Err, IfOk, OnErr, IsErrOf};
+ghost use Rattle.std.specs.Prelude.{◌≡◌, ◌≢◌, ◌+◌, ◌-◌, ◌^◌, ◌<◌, ◌≤◌, length, Ok, Err, IfOk, OnOk, OnErr, IsErrOf};
 ghost use Rattle.std.specs.Io.KnownBytes.{append_known};
 ghost use Rattle.av_base.specs.Told.{Grows, Rose};
 ghost use Rattle.report_text.specs.Refusals.{IsCause};
+ghost use Rattle.report_text.specs.Reported.{AddsFront, AddsLines};
 ghost use Rattle.aspa_top.specs.Evaluation.{line_cause as number_of};
 ghost use Rattle.aspa_top.specs.Feeding.{AreSound};
 ghost use Rattle.aspa_top.specs.Performing.{Goes, GoesBy, GoesOn, GoesPart, IsSound, IsWithinBounds, PartBy, Uses, UsesBy};
@@ -50,6 +51,15 @@ pub(crate) fn perform_line<F: Shelf, K: Links, W: Sink, L: Ledger>(
         (linked (K.attempts links.old) (K.wire links.old)) (linked (K.attempts links.new) (K.wire links.new))
         (append_known (W.written out.old) text.old.items) (append_known (W.written out.new) text.new.items)
         steps.old steps.new) }
+
+    // Whatever the world tells: whole lines were added, of which no more say that a feed's place wasn't to be had than faults were
+    // counted, or where it ended early a front of such lines.
+    ensures adds { OnOk result (AddsLines
+        (append_known (W.written out.old) text.old.items) (append_known (W.written out.new) text.new.items)
+        (K.faults links.old) (K.faults links.new)) }
+    ensures adds_front { AddsFront
+        (append_known (W.written out.old) text.old.items) (append_known (W.written out.new) text.new.items)
+        (K.faults links.old) (K.faults links.new) }
 
     // Whether it was performed or not.
     ensures grows { Grows (W.written out.old) (W.written out.new) }
@@ -107,6 +117,15 @@ fn perform_command<F: Shelf, K: Links, W: Sink, L: Ledger>(
         (linked (K.attempts links.old) (K.wire links.old)) (linked (K.attempts links.new) (K.wire links.new))
         (append_known (W.written out.old) text.old.items) (append_known (W.written out.new) text.new.items)
         steps.old steps.new) }
+
+    // Whatever the world tells: whole lines were added, of which no more say that a feed's place wasn't to be had than faults were
+    // counted, or where it ended early a front of such lines.
+    ensures adds { OnOk result (AddsLines
+        (append_known (W.written out.old) text.old.items) (append_known (W.written out.new) text.new.items)
+        (K.faults links.old) (K.faults links.new)) }
+    ensures adds_front { AddsFront
+        (append_known (W.written out.old) text.old.items) (append_known (W.written out.new) text.new.items)
+        (K.faults links.old) (K.faults links.new) }
 
     // Whether it was performed or not.
     ensures grows { Grows (W.written out.old) (W.written out.new) }

@@ -1,8 +1,9 @@
 //! The top call: from the words to the status.
-ghost use Rattle.std.specs.Prelude.{◌≡◌, ◌≢◌, ◌+◌, ◌<◌, ◌≤◌, ◌⊎◌, ◌++◌, ℕ, List, length, map};
+ghost use Rattle.std.specs.Prelude.{◌≡◌, ◌≢◌, ◌+◌, ◌<◌, ◌≤◌, ◌⊎◌, ◌++◌, ℕ, List, Some, length, map};
 ghost use Rattle.std.specs.String.{string_bytes};
 ghost use Rattle.std.specs.Io.KnownBytes.{IsAtEnd};
 ghost use Rattle.av_base.specs.Told.{Rose};
+ghost use Rattle.report_text.specs.Reported.{AddsFront, IsWithinRise, unreachables_in};
 ghost use Rattle.aspa_top.specs.Program.{AreOwn, Completes, Demonstrates, IsDemo, IsEnding, IsRun, IsStatus, Ran, RanIfTold};
 ghost use Rattle.aspa_top.specs.World.{Meets, World, linked, names_of};
 
@@ -74,6 +75,12 @@ pub fn run<S: Source, F: Shelf, K: Links, W: Sink, L: Ledger>(
         (Rose (S.faults script.old) (S.faults script.new)) (Rose (F.faults shelf.old) (F.faults shelf.new))
         (Rose (W.faults out.old) (W.faults out.new)) result }
 
+    // For every script, shelf and links, where the sink tells what was written: no more feeds were `unreachable` than the links counted
+    // faults, unless that count stands at its last value.
+    ensures few_unreachable { IsRun (map string_bytes words.now.items) → (before text : List ℕ)
+        → W.written out.old ≡ Some before → W.written out.new ≡ Some (before ++ text)
+        → IsWithinRise (unreachables_in text) (K.faults links.old) (K.faults links.new) }
+
     // Counts of faults don't fall, and the names of the shelf stay as they are.
     ensures script_faults { S.faults script.old ≤ S.faults script.new }
     ensures sink_faults { W.faults out.old ≤ W.faults out.new }
@@ -105,6 +112,7 @@ fn run_script<S: Source, F: Shelf, K: Links, W: Sink, L: Ledger>(
     ensures input_cause { result ≡ 3 → (Rose (S.faults script.old) (S.faults script.new) × (out.new ≡ out.old)
         × (shelf.new ≡ shelf.old) × (links.new ≡ links.old) × (steps.new ≡ steps.old))
         ⊎ Rose (F.faults shelf.old) (F.faults shelf.new) }
+    ensures reported { AddsFront (W.written out.old) (W.written out.new) (K.faults links.old) (K.faults links.new) }
     ensures sink_cause { result ≡ 4 → Rose (W.faults out.old) (W.faults out.new) }
     ensures complete { Completes SCRIPT_LIMIT (S.left script.old)
         (Rose (S.faults script.old) (S.faults script.new)) (Rose (F.faults shelf.old) (F.faults shelf.new))
@@ -144,6 +152,7 @@ fn run_whole<F: Shelf, K: Links, W: Sink, L: Ledger>(
         (W.written out.old) (W.written out.new) steps.old steps.new result }
     ensures known { (result ≡ 0) ⊎ (result ≡ 1) ⊎ (result ≡ 3) ⊎ (result ≡ 4) ⊎ (result ≡ 5) }
     ensures shelf_cause { result ≡ 3 → Rose (F.faults shelf.old) (F.faults shelf.new) }
+    ensures reported { AddsFront (W.written out.old) (W.written out.new) (K.faults links.old) (K.faults links.new) }
     ensures sink_cause { result ≡ 4 → Rose (W.faults out.old) (W.faults out.new) }
     ensures sink_faults { W.faults out.old ≤ W.faults out.new }
     ensures names { names_of (F.files shelf.new) ≡ names_of (F.files shelf.old) }
@@ -174,6 +183,7 @@ fn run_front<F: Shelf, K: Links, W: Sink, L: Ledger>(
         (W.written out.old) (W.written out.new) steps.old steps.new result }
     ensures known { (result ≡ 6) ⊎ (result ≡ 3) ⊎ (result ≡ 4) ⊎ (result ≡ 5) }
     ensures shelf_cause { result ≡ 3 → Rose (F.faults shelf.old) (F.faults shelf.new) }
+    ensures reported { AddsFront (W.written out.old) (W.written out.new) (K.faults links.old) (K.faults links.new) }
     ensures sink_cause { result ≡ 4 → Rose (W.faults out.old) (W.faults out.new) }
     ensures sink_faults { W.faults out.old ≤ W.faults out.new }
     ensures names { names_of (F.files shelf.new) ≡ names_of (F.files shelf.old) }

@@ -1,6 +1,7 @@
 //! What a line does within memory.
-ghost use Rattle.std.specs.Prelude.{◌≡◌, ◌+◌, ◌^◌, ◌<◌, ◌≤◌, IfOk, OnErr};
+ghost use Rattle.std.specs.Prelude.{◌≡◌, ◌+◌, ◌^◌, ◌<◌, ◌≤◌, IfOk, OnOk, OnErr};
 ghost use Rattle.aspa_top.specs.Performing.{DoneShort, IsWithinShort, KeepsDumps, TickedShort};
+ghost use Rattle.aspa_top.specs.Reporting.{AddsText};
 
 use crate::acting::happen;
 use crate::explaining::explain;
@@ -26,6 +27,7 @@ pub(crate) fn perform_short<L: Ledger>(
     ensures done { IfOk result (DoneShort working short text.old.items text.new.items
         steps.old steps.new) }
     ensures keeps { IfOk result (KeepsDumps working) }
+    ensures adds { OnOk result (AddsText text.old.items text.new.items) }
     ensures err { OnErr result (text.new.items ≡ text.old.items) }
     ensures ticks { OnErr result (TickedShort working short steps.old steps.new) }
 {

@@ -1,10 +1,11 @@
 //! `aspa`, `aspa64` and `slurm`: files that change the table.
-ghost use Rattle.std.specs.Prelude.{◌≡◌, ◌+◌, ◌-◌, ◌^◌, ◌<◌, ◌≤◌, IfOk, OnErr, IsErrOf};
+ghost use Rattle.std.specs.Prelude.{◌≡◌, ◌+◌, ◌-◌, ◌^◌, ◌<◌, ◌≤◌, IfOk, OnOk, OnErr, IsErrOf};
 ghost use Rattle.av_base.specs.Told.{Rose};
 ghost use Rattle.analyser.specs.declared.event.Event.TheVariants.{Table as TableEvent};
 ghost use Rattle.analyser.specs.Touched.{TicksWithin};
 ghost use Rattle.aspa_top.specs.LoadingSteps.{HasKnownCause};
 ghost use Rattle.aspa_top.specs.Performing.{Acted, ActedWithin, Held, IsSound, LoadsAs, Names, TickedLoad};
+ghost use Rattle.aspa_top.specs.Reporting.{AddsText};
 ghost use Rattle.aspa_top.specs.World.{names_of};
 
 use crate::acting::{happen, refuse};
@@ -39,6 +40,7 @@ pub(crate) fn load<F: Shelf, L: Ledger>(
     ensures sound { IfOk result (IsSound (F.opened shelf.new) working.lines) }
     ensures feeds { IfOk result (λ next. next.feeds ≡ working.feeds) }
     ensures lines { IfOk result (λ next. next.lines ≡ working.lines) }
+    ensures adds { OnOk result (AddsText text.old.items text.new.items) }
     ensures err { OnErr result (text.new.items ≡ text.old.items) }
     ensures names { names_of (F.files shelf.new) ≡ names_of (F.files shelf.old) }
     ensures cause { IsErrOf result ReadFault.Source → Rose (F.faults shelf.old) (F.faults shelf.new) }
@@ -63,6 +65,7 @@ fn act_on<L: Ledger>(
     requires known { HasKnownCause outcome }
     ensures acted { IfOk result (Acted working kind outcome text.old.items text.new.items) }
     ensures ticks { ActedWithin working outcome steps.old steps.new }
+    ensures adds { OnOk result (AddsText text.old.items text.new.items) }
     ensures err { OnErr result (text.new.items ≡ text.old.items) }
 {
     match outcome {

@@ -1,8 +1,10 @@
 use Rattle.std.proofs.Common.{◌≡◌, ℕ, ◌+◌, ◌-◌, ◌≤◌, ◌<◌, refl, sym, ap, ◌∙◌, arith}
+use Rattle.report_text.specs.Refusals.{of_line}
 use Rattle.stream_lines.specs.Held.{HeldDump}
 use Rattle.aspa_top.specs.declared.working.Working.{Working}
 use Rattle.aspa_top.specs.World.{names_of}
 use Rattle.aspa_top.proofs.StandsLemmas.{IsSound-same, IsSound-put}
+use Rattle.aspa_top.proofs.ReportingLemmas.{text_none, text_refused}
 use Rattle.aspa_top.proofs.DumpLemmas.{open_used, open_misses, open_new, opens_names}
 use Rattle.aspa_top.proofs.dumps.open.Goals as goal
 
@@ -45,3 +47,12 @@ pub returns-clause-names : goal.returns-clause-names
 returns-clause-names g c =
     let opened = rw c.in-Some.is at c.in_ok-number.ensures.answer in
     ap names_of opened.told ∙ opens_names opened.bytes _
+
+pub returns-then-has_name-clause-adds : goal.returns-then-has_name-clause-adds
+returns-then-has_name-clause-adds g c = text_refused _ of_line 35 _ _ tt c.in_ok-refuse.ensures.text
+
+pub returns-in_default-clause-adds : goal.returns-in_default-clause-adds
+returns-in_default-clause-adds g c = text_refused _ of_line 37 _ _ tt c.in_ok-refuse-2.ensures.text
+
+pub returns-clause-adds : goal.returns-clause-adds
+returns-clause-adds g c = text_none _

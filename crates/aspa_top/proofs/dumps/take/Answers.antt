@@ -1,10 +1,12 @@
-use Rattle.std.proofs.Common.{◌≡◌, ◌+◌, ◌-◌, ◌≤◌, Ok, inl, inr, refl, sym, ap, ◌∙◌, arith}
+use Rattle.std.proofs.Common.{◌≡◌, ℕ, ◌+◌, ◌-◌, ◌≤◌, List, Ok, inl, inr, refl, sym, ap, subst, ◌∙◌, arith}
 use Rattle.std.specs.Io.KnownBytes.{append_known}
 use Rattle.report_text.specs.Refusals.{of_line}
+use Rattle.report_text.specs.Reported.{AddsQuiet}
 use Rattle.script_lines.specs.declared.command.Command.TheVariants.{Take}
 use Rattle.stream_lines.proofs.FrameLemmas.{Leaves-refl}
 use Rattle.aspa_top.proofs.PerformingLemmas.{nothing_done, on_err}
 use Rattle.aspa_top.proofs.StandsLemmas.{refused_same, IsSound-same}
+use Rattle.aspa_top.proofs.ReportingLemmas.{text_none, text_refused}
 use Rattle.aspa_top.proofs.DumpLemmas.{take_over, take_uses}
 use Rattle.aspa_top.proofs.dumps.take.Goals as goal
 
@@ -29,3 +31,10 @@ returns-in_err-refuse-clause-part g c =
 
 pub returns-clause-part : goal.returns-clause-part
 returns-clause-part g c = on_err c.take_open.result (λ links. inr (inl (refl, c.take_open.ensures.part)))
+
+pub returns-then-is_over-clause-adds : goal.returns-then-is_over-clause-adds
+returns-then-is_over-clause-adds g c = text_refused _ of_line 38 _ _ tt c.in_ok-refuse.ensures.text (g.W.Sink.written c.args.out.now)
+
+pub returns-in_err-refuse-clause-adds : goal.returns-in_err-refuse-clause-adds
+returns-in_err-refuse-clause-adds g c =
+    subst (λ (t : List ℕ). AddsQuiet _ (append_known (g.W.Sink.written c.args.out.now) t)) (sym c.in_err-refuse.ensures.err) (text_none _ (g.W.Sink.written c.args.out.now))

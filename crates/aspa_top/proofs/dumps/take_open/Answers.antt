@@ -1,5 +1,7 @@
-use Rattle.std.proofs.Common.{Some, ◌≡◌, ◌+◌, ◌-◌, ◌≤◌, ◌<◌, subst, refl, sym, ap, ◌∙◌, arith}
+use Rattle.std.proofs.Common.{Some, ℕ, List, ◌≡◌, ◌+◌, ◌-◌, ◌≤◌, ◌<◌, subst, refl, sym, ap, ◌∙◌, arith}
 use Rattle.std.specs.Option.{IsSome}
+use Rattle.av_text.specs.Spellings.{IsInLine}
+use Rattle.av_text.proofs.AnySpellingLemmas.{names_in_line}
 use Rattle.stream_lines.specs.Held.{HeldDump}
 use Rattle.aspa_top.proofs.StandsLemmas.{IsSound-put}
 use Rattle.aspa_top.proofs.DumpLemmas.{take_goes, take_part}
@@ -45,3 +47,9 @@ pub take_units-requires-clause-few_taken : goal.take_units-requires-clause-few_t
 take_units-requires-clause-few_taken g c =
     let here = c.requires.sound.given c.args.name.now c.in-Some.dump.now (sym c.in-Some.ensures.value) in
     omega (arith, here.1, c.requires.room.1)
+
+pub returns-clause-adds : goal.returns-clause-adds
+returns-clause-adds g c = c.take_units.ensures.reports (subst (λ (name : List ℕ). IsInLine name) (sym c.text.ensures.text) (names_in_line _ c.text.ensures.is_name))
+
+pub returns-in_err-taken-clause-adds : goal.returns-in_err-taken-clause-adds
+returns-in_err-taken-clause-adds g c = c.take_units.ensures.reports (subst (λ (name : List ℕ). IsInLine name) (sym c.text.ensures.text) (names_in_line _ c.text.ensures.is_name))

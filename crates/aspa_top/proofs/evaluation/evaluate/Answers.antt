@@ -2,6 +2,8 @@ use Rattle.std.proofs.Common.{◌≡◌, ℕ, Err, refl, sym, ap, subst, ◌∙�
 use Rattle.aspa_top.specs.Performing.{IsSound}
 use Rattle.av_base.proofs.PouringLemmas.{Grows-refl, Grows-trans}
 use Rattle.feed_lines.proofs.StandingLemmas.{start_sound}
+use Rattle.report_text.proofs.ReportedLemmas.{adds_front, adds_more, adds_more_front, written_lines}
+use Rattle.aspa_top.proofs.ReportingLemmas.{front_poured, lines_begun, lines_poured}
 use Rattle.aspa_top.proofs.RunLemmas.{GoesOn-refl, GoesOn-trans, Tells-names, part_same, Performing-start, Performing-next, Performing-same, Reached-between, Reached-within, Reached-went, Reached-cut, Performing-stopped, Performing-ended}
 use Rattle.aspa_top.proofs.evaluation.evaluate.Goals as goal
 
@@ -18,6 +20,7 @@ loop-line-init g c =
       count = omega (arith, none);
       sound = subst (λ (n : ℕ). IsSound (g.F.Shelf.opened c.args.shelf.now) n c.new-working.result) (sym none) (c.new-working.ensures.sound (g.F.Shelf.opened c.args.shelf.now));
       feeds = start_sound _ _ _ c.new-working.ensures.feeds;
+      adds = lines_begun _ _ _ c.new-text.ensures.items;
     }
 
 pub loop-line-preserved : goal.loop-line-preserved
@@ -33,6 +36,7 @@ loop-line-preserved g c = record {
   count = omega (arith, c.loop-line.invariant.count, c.in-Some.ensures.less, c.in-Ok.ensures.lines);
   sound = c.in-Ok.ensures.sound;
   feeds = c.in-Ok.ensures.feeds;
+  adds = lines_poured _ _ _ _ _ c.pour_piece.ensures.same (adds_more _ _ _ _ _ _ c.loop-line.invariant.adds c.in-Ok.ensures.adds);
 }
 
 pub returns-in_err-pour-in-Err-Shelf-clause-went : goal.returns-in_err-pour-in-Err-Shelf-clause-went
@@ -98,3 +102,26 @@ returns-clause-ended g c = λ world meets.
 pub returns-clause-went : goal.returns-clause-went
 returns-clause-went g c = λ world meets.
     Reached-went _ _ _ _ _ _ _ _ _ _ meets (Reached-between _ _ _ _ _ _ _ _ _ _ (Performing-same _ _ _ _ _ _ _ _ _ _ _ (c.loop-line.invariant.so_far world meets.tells meets.begins) c.pour-2.ensures.same)) (Grows-trans c.loop-line.invariant.grows c.pour-2.ensures.grows)
+
+-- what was written, whatever the world tells
+
+pub returns-in_err-pour-in-Err-Shelf-clause-reported : goal.returns-in_err-pour-in-Err-Shelf-clause-reported
+returns-in_err-pour-in-Err-Shelf-clause-reported g c = written_lines _ _ _ _ _ (Grows-trans c.loop-line.invariant.grows (Grows-trans c.perform_line.ensures.grows c.pour.ensures.grows)) (front_poured _ _ _ _ _ c.pour.ensures.same (adds_more_front _ _ _ _ _ _ c.loop-line.invariant.adds c.perform_line.ensures.adds_front))
+
+pub returns-in-Err-Shelf-clause-reported : goal.returns-in-Err-Shelf-clause-reported
+returns-in-Err-Shelf-clause-reported g c = written_lines _ _ _ _ _ (Grows-trans c.loop-line.invariant.grows (Grows-trans c.perform_line.ensures.grows c.pour.ensures.grows)) (front_poured _ _ _ _ _ c.pour.ensures.same (adds_more_front _ _ _ _ _ _ c.loop-line.invariant.adds c.perform_line.ensures.adds_front))
+
+pub returns-in-Err-Sink-clause-reported : goal.returns-in-Err-Sink-clause-reported
+returns-in-Err-Sink-clause-reported g c = written_lines _ _ _ _ _ (Grows-trans c.loop-line.invariant.grows c.perform_line.ensures.grows) (adds_more_front _ _ _ _ _ _ c.loop-line.invariant.adds c.perform_line.ensures.adds_front)
+
+pub returns-in-Err-NoMemory-clause-reported : goal.returns-in-Err-NoMemory-clause-reported
+returns-in-Err-NoMemory-clause-reported g c = written_lines _ _ _ _ _ (Grows-trans c.loop-line.invariant.grows c.perform_line.ensures.grows) (adds_more_front _ _ _ _ _ _ c.loop-line.invariant.adds c.perform_line.ensures.adds_front)
+
+pub returns-in_err-pour_piece-clause-reported : goal.returns-in_err-pour_piece-clause-reported
+returns-in_err-pour_piece-clause-reported g c = written_lines _ _ _ _ _ (Grows-trans c.loop-line.invariant.grows (Grows-trans c.perform_line.ensures.grows c.pour_piece.ensures.grows)) (front_poured _ _ _ _ _ c.pour_piece.ensures.same (adds_more_front _ _ _ _ _ _ c.loop-line.invariant.adds c.perform_line.ensures.adds_front))
+
+pub returns-in_err-pour-clause-reported : goal.returns-in_err-pour-clause-reported
+returns-in_err-pour-clause-reported g c = written_lines _ _ _ _ _ (Grows-trans c.loop-line.invariant.grows c.pour-2.ensures.grows) (front_poured _ _ _ _ _ c.pour-2.ensures.same (adds_front _ _ _ _ c.loop-line.invariant.adds))
+
+pub returns-clause-reported : goal.returns-clause-reported
+returns-clause-reported g c = written_lines _ _ _ _ _ (Grows-trans c.loop-line.invariant.grows c.pour-2.ensures.grows) (front_poured _ _ _ _ _ c.pour-2.ensures.same (adds_front _ _ _ _ c.loop-line.invariant.adds))

@@ -2,6 +2,7 @@ use Rattle.std.proofs.Common.{◌≡◌, ◌+◌, ◌≤◌, length}
 use Rattle.std.specs.Io.KnownBytes.{append_known}
 use Rattle.av_base.specs.Told.{Grows}
 use Rattle.av_text.specs.Lines.{lines_in}
+use Rattle.report_text.specs.Reported.{AddsLines}
 use Rattle.aspa_top.specs.Feeding.{AreSound}
 use Rattle.aspa_top.specs.Performing.{GoesOn, IsSound, Performing}
 use Rattle.aspa_top.specs.World.{BeginsAt, Tells, World, linked, names_of}
@@ -19,6 +20,7 @@ invariant-loop-line g l = record {
   sink_faults : g.W.Sink.faults l.fn.out ≤ g.W.Sink.faults l.out;
   count : l.working.lines + length l.left ≤ length l.script;
   sound : IsSound (g.F.Shelf.opened l.shelf) l.working.lines l.working;
+  adds : AddsLines (g.W.Sink.written l.fn.out) (append_known (g.W.Sink.written l.out) l.text.items) (g.K.Links.faults l.fn.links) (g.K.Links.faults l.links);
   feeds : AreSound (g.K.Links.standings l.links) l.working.lines l.working;
 }
 

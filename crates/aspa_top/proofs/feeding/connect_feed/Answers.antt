@@ -1,7 +1,9 @@
 use Rattle.std.proofs.Common.{◌≡◌, ◌+◌, ◌-◌, ◌*◌, ◌≤◌, refl, sym, ◌∙◌, arith, rules}
+use Rattle.report_text.specs.Refusals.{of_line}
 use Rattle.aspa_top.specs.Performing.{most}
 use Rattle.aspa_top.proofs.FeedLemmas.{connect_refused, connect_stopped, connected, feeds_refused, keeps_refused, sound_weaker, stopped_at_once}
 use Rattle.aspa_top.proofs.PerformingLemmas.{on_err}
+use Rattle.aspa_top.proofs.ReportingLemmas.{ends_quiet, text_refused, told_adds}
 use Rattle.aspa_top.proofs.RunLemmas.{GoesOn-refl}
 use Rattle.aspa_top.proofs.feeding.connect_feed.Goals as goal
 
@@ -17,6 +19,8 @@ returns-then-is_no_feeds g c =
       keeps = keeps_refused c.args.working _ c.in_ok-refuse.ensures.next;
       sound = feeds_refused _ _ _ c.args.working _ (omega (arith, c.requires.room.0)) c.in_ok-refuse.ensures.next c.requires.sound;
       later = GoesOn-refl _;
+      adds = ends_quiet _ _ _ _ (omega arith) (text_refused _ of_line 35 _ _ tt c.in_ok-refuse.ensures.text);
+      faults = omega arith;
     }
 
 pub returns-in_err-refuse-clause-part : goal.returns-in_err-refuse-clause-part
@@ -46,4 +50,8 @@ returns g c =
       keeps = record { dumps = λ name. refl; lines = refl; passed = refl; refused = c.in_ok-next.ensures.few };
       sound = sound_weaker _ _ _ _ (omega arith) (c.in_ok-next.ensures.sound _ c.requires.sound);
       later = record { attempts = goes.attempts; wire = goes.links };
+      adds =
+          let told = c.in_ok-next.ensures.tells in
+          told_adds _ c.args.name.now _ _ told.0 _ _ c.text-_name.ensures.is_name told.1.1.later told.1.1.rose told.1.0;
+      faults = c.connect.ensures.faults;
     }

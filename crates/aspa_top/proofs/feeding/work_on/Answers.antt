@@ -3,6 +3,7 @@ use Rattle.feed_lines.specs.Lines.{units_of}
 use Rattle.aspa_top.specs.Performing.{most}
 use Rattle.aspa_top.proofs.FeedLemmas.{sound_weaker, work_stopped, worked}
 use Rattle.aspa_top.proofs.PerformingLemmas.{on_err}
+use Rattle.aspa_top.proofs.ReportingLemmas.{told_adds}
 use Rattle.aspa_top.proofs.feeding.work_on.Goals as goal
 
 pub work-requires-clause-sound : goal.work-requires-clause-sound
@@ -26,4 +27,8 @@ returns g c =
       keeps = record { dumps = λ name. refl; lines = refl; passed = refl; refused = c.in_ok-next.ensures.few };
       sound = sound_weaker _ _ _ _ (omega (arith, c.requires.room.0, c.requires.within)) (c.in_ok-next.ensures.sound _ c.requires.sound);
       later = record { attempts = goes.attempts; wire = goes.links };
+      adds =
+          let told = c.in_ok-next.ensures.tells in
+          told_adds _ c.args.name.now _ _ told.0 _ _ c.text-_name.ensures.is_name c.work.ensures.faults (λ same. absurd (told.1.1 same)) told.1.0;
+      faults = c.work.ensures.faults;
     }

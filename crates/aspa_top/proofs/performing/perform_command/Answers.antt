@@ -2,11 +2,14 @@ use Rattle.std.proofs.Common.{◌≡◌, ◌+◌, ◌-◌, ◌≤◌, Ok, refl, 
 use Rattle.std.specs.Io.KnownBytes.{append_known}
 use Rattle.av_base.proofs.PouringLemmas.{Grows-refl}
 use Rattle.script_lines.specs.declared.command.Command.TheVariants.{Open, Take, Report, Changes}
+use Rattle.report_text.proofs.ReportedLemmas.{adds_front}
+use Rattle.stream_lines.proofs.ReportedLemmas.{changes_reported, changes_reported_front, rows_reported, rows_reported_front}
 use Rattle.aspa_top.specs.declared.task.Task.{Task}
 use Rattle.aspa_top.specs.declared.working.Working.{Working}
 use Rattle.aspa_top.specs.Tasks.{DoesTask}
 use Rattle.aspa_top.proofs.FeedLemmas.{IsSound-feeds, feed_goes, feed_part, feeds_kept, take_stopped, taken_feeds, takes_feed}
 use Rattle.aspa_top.proofs.PerformingLemmas.{err_as, goes_as, listed, listed_part, nothing, ok_goes_as, on_err, part_load, part_short, part_some, reported, reported_part, some_as, uses_as, uses_load, within_as, IsSound-marked}
+use Rattle.aspa_top.proofs.ReportingLemmas.{front_same, on_ok}
 use Rattle.aspa_top.proofs.RunLemmas.{GoesOn-refl}
 use Rattle.aspa_top.proofs.ShortLemmas.{IsSound-short, short_goes}
 use Rattle.aspa_top.proofs.StandsLemmas.{IsSound-kept, not_there}
@@ -41,6 +44,8 @@ returns-in-Short g c =
       shelf_cause = search rules;
       held = search rules;
       sink_cause = search rules;
+      adds = c.in_ok-perform_short-in-Short.ensures.adds (g.W.Sink.written c.args.out.now) (g.K.Links.faults c.args.links.now);
+      adds_front = adds_front _ _ _ _ (c.in_ok-perform_short-in-Short.ensures.adds (g.W.Sink.written c.args.out.now) (g.K.Links.faults c.args.links.now));
     }
 
 pub returns-in_err-perform_short-in-Short : goal.returns-in_err-perform_short-in-Short
@@ -60,6 +65,8 @@ returns-in_err-perform_short-in-Short g c =
       shelf_cause = search rules;
       held = search rules;
       sink_cause = search rules;
+      adds = search rules;
+      adds_front = front_same (g.W.Sink.written c.args.out.now) _ _ _ _ (omega arith) c.in_err-perform_short-in-Short.ensures.err;
     }
 
 pub returns-in-Load : goal.returns-in-Load
@@ -82,6 +89,8 @@ returns-in-Load g c =
       shelf_cause = search rules;
       held = search rules;
       sink_cause = search rules;
+      adds = c.in_ok-load-in-Load.ensures.adds (g.W.Sink.written c.args.out.now) (g.K.Links.faults c.args.links.now);
+      adds_front = adds_front _ _ _ _ (c.in_ok-load-in-Load.ensures.adds (g.W.Sink.written c.args.out.now) (g.K.Links.faults c.args.links.now));
     }
 
 pub returns-in_err-load-in-Load : goal.returns-in_err-load-in-Load
@@ -101,6 +110,8 @@ returns-in_err-load-in-Load g c =
       shelf_cause = search rules;
       held = search rules;
       sink_cause = search rules;
+      adds = search rules;
+      adds_front = front_same (g.W.Sink.written c.args.out.now) _ _ _ _ (omega arith) c.in_err-load-in-Load.ensures.err;
     }
 
 pub returns-in-Open : goal.returns-in-Open
@@ -122,6 +133,8 @@ returns-in-Open g c =
       shelf_cause = search rules;
       held = search rules;
       sink_cause = search rules;
+      adds = c.in_ok-open-in-Open.ensures.adds (g.W.Sink.written c.args.out.now) (g.K.Links.faults c.args.links.now);
+      adds_front = adds_front _ _ _ _ (c.in_ok-open-in-Open.ensures.adds (g.W.Sink.written c.args.out.now) (g.K.Links.faults c.args.links.now));
     }
 
 pub returns-in_err-open-in-Open : goal.returns-in_err-open-in-Open
@@ -141,6 +154,8 @@ returns-in_err-open-in-Open g c =
       shelf_cause = search rules;
       held = search rules;
       sink_cause = search rules;
+      adds = search rules;
+      adds_front = front_same (g.W.Sink.written c.args.out.now) _ _ _ _ (omega arith) c.in_err-open-in-Open.ensures.err;
     }
 
 pub returns-then-contains_key : goal.returns-then-contains_key
@@ -161,6 +176,8 @@ returns-then-contains_key g c =
       shelf_cause = c.take.ensures.shelf_cause;
       held = c.take.ensures.held;
       sink_cause = c.take.ensures.sink_cause;
+      adds = on_ok c.take.result (c.take.ensures.adds (g.K.Links.faults c.args.links.now));
+      adds_front = adds_front _ _ _ _ (c.take.ensures.adds (g.K.Links.faults c.args.links.now));
     }
 
 pub returns-in-Take : goal.returns-in-Take
@@ -182,6 +199,8 @@ returns-in-Take g c =
       shelf_cause = search rules;
       held = search rules;
       sink_cause = search rules;
+      adds = c.in_ok-work_on-in-Take.ensures.adds (g.W.Sink.written c.args.out.now);
+      adds_front = adds_front _ _ _ _ (c.in_ok-work_on-in-Take.ensures.adds (g.W.Sink.written c.args.out.now));
     }
 
 pub returns-in_err-work_on-in-Take : goal.returns-in_err-work_on-in-Take
@@ -204,6 +223,8 @@ returns-in_err-work_on-in-Take g c =
       shelf_cause = search rules;
       held = search rules;
       sink_cause = search rules;
+      adds = search rules;
+      adds_front = front_same (g.W.Sink.written c.args.out.now) _ _ _ _ c.work_on.ensures.faults c.in_err-work_on-in-Take.ensures.err;
     }
 
 pub returns-in-Connect : goal.returns-in-Connect
@@ -224,6 +245,8 @@ returns-in-Connect g c =
       shelf_cause = search rules;
       held = search rules;
       sink_cause = search rules;
+      adds = c.in_ok-connect_feed-in-Connect.ensures.adds (g.W.Sink.written c.args.out.now);
+      adds_front = adds_front _ _ _ _ (c.in_ok-connect_feed-in-Connect.ensures.adds (g.W.Sink.written c.args.out.now));
     }
 
 pub returns-in_err-connect_feed-in-Connect : goal.returns-in_err-connect_feed-in-Connect
@@ -244,6 +267,8 @@ returns-in_err-connect_feed-in-Connect g c =
       shelf_cause = search rules;
       held = search rules;
       sink_cause = search rules;
+      adds = search rules;
+      adds_front = front_same (g.W.Sink.written c.args.out.now) _ _ _ _ c.connect_feed.ensures.faults c.in_err-connect_feed-in-Connect.ensures.err;
     }
 
 pub returns-in-OnFeed : goal.returns-in-OnFeed
@@ -264,6 +289,8 @@ returns-in-OnFeed g c =
       shelf_cause = search rules;
       held = search rules;
       sink_cause = search rules;
+      adds = c.in_ok-work_on-in-OnFeed.ensures.adds (g.W.Sink.written c.args.out.now);
+      adds_front = adds_front _ _ _ _ (c.in_ok-work_on-in-OnFeed.ensures.adds (g.W.Sink.written c.args.out.now));
     }
 
 pub returns-in_err-work_on-in-OnFeed : goal.returns-in_err-work_on-in-OnFeed
@@ -284,6 +311,8 @@ returns-in_err-work_on-in-OnFeed g c =
       shelf_cause = search rules;
       held = search rules;
       sink_cause = search rules;
+      adds = search rules;
+      adds_front = front_same (g.W.Sink.written c.args.out.now) _ _ _ _ c.work_on-in-OnFeed.ensures.faults c.in_err-work_on-in-OnFeed.ensures.err;
     }
 
 pub returns-in-Report : goal.returns-in-Report
@@ -305,6 +334,8 @@ returns-in-Report g c =
       shelf_cause = search rules;
       held = search rules;
       sink_cause = search rules;
+      adds = rows_reported _ _ _ c.in_ok-put_rows-in-Report.ensures.whole (g.K.Links.faults c.args.links.now);
+      adds_front = rows_reported_front _ _ _ c.put_rows.ensures.front (g.K.Links.faults c.args.links.now);
     }
 
 pub returns-in_err-put_rows-in-Report : goal.returns-in_err-put_rows-in-Report
@@ -324,6 +355,8 @@ returns-in_err-put_rows-in-Report g c =
       shelf_cause = search rules;
       held = search rules;
       sink_cause = search rules;
+      adds = search rules;
+      adds_front = rows_reported_front _ _ _ c.put_rows.ensures.front (g.K.Links.faults c.args.links.now);
     }
 
 pub returns : goal.returns
@@ -345,6 +378,8 @@ returns g c =
       shelf_cause = search rules;
       held = search rules;
       sink_cause = search rules;
+      adds = changes_reported _ _ _ c.in_ok-put_changes-in-Changes.ensures.whole (g.K.Links.faults c.args.links.now);
+      adds_front = changes_reported_front _ _ _ c.put_changes.ensures.front (g.K.Links.faults c.args.links.now);
     }
 
 pub returns-in_err-put_changes-in-Changes : goal.returns-in_err-put_changes-in-Changes
@@ -364,4 +399,6 @@ returns-in_err-put_changes-in-Changes g c =
       shelf_cause = search rules;
       held = search rules;
       sink_cause = search rules;
+      adds = search rules;
+      adds_front = changes_reported_front _ _ _ c.put_changes.ensures.front (g.K.Links.faults c.args.links.now);
     }

@@ -1,11 +1,18 @@
 use Rattle.std.proofs.Common.{◌≡◌, ◌+◌, ◌≤◌, Ok, Err, refl, ap, arith, rules}
 use Rattle.std.specs.Io.KnownBytes.{append_known}
+use Rattle.script_lines.specs.declared.command.Command.TheVariants.{Idle}
 use Rattle.script_lines.specs.declared.command.LineFault.TheVariants.{NoMemory}
 use Rattle.av_base.proofs.PouringLemmas.{Grows-refl}
 use Rattle.aspa_top.proofs.PerformingLemmas.{IsWithinBounds-IsReading, on_err, part_by, part_read, refused}
+use Rattle.report_text.specs.Refusals.{of_line}
+use Rattle.report_text.proofs.ReportedLemmas.{adds_front}
 use Rattle.aspa_top.proofs.FeedLemmas.{feeds_begun, feeds_counted}
+use Rattle.aspa_top.proofs.ReportingLemmas.{front_none, front_same, text_none, text_refused}
 use Rattle.aspa_top.proofs.RunLemmas.{GoesOn-refl}
-use Rattle.aspa_top.proofs.StandsLemmas.{IsSound-begun, IsSound-counted, IsSound-same}
+use Rattle.aspa_top.proofs.ShortLemmas.{idle, short_goes}
+use Rattle.aspa_top.proofs.StandsLemmas.{IsSound-begun, IsSound-counted, IsSound-kept, IsSound-same}
+use Rattle.aspa_top.specs.declared.task.Short.TheVariants.{Idle as Nothing}
+use Rattle.aspa_top.specs.Performing.{counted_in}
 use Rattle.aspa_top.specs.declared.working.Working.{Working}
 use Rattle.aspa_top.proofs.performing.perform_line.Goals as goal
 
@@ -41,6 +48,8 @@ returns-in_ok-refuse-in-Err g c =
       shelf_cause = search rules;
       held = search rules;
       sink_cause = search rules;
+      adds = text_refused _ of_line _ _ _ tt c.in_ok-refuse-in-Err.ensures.text (g.W.Sink.written c.args.out.now) (g.K.Links.faults c.args.links.now);
+      adds_front = adds_front _ _ _ _ (text_refused _ of_line _ _ _ tt c.in_ok-refuse-in-Err.ensures.text (g.W.Sink.written c.args.out.now) (g.K.Links.faults c.args.links.now));
     }
 
 pub perform_command-requires-clause-sound : goal.perform_command-requires-clause-sound
@@ -57,3 +66,37 @@ returns-in_err-refuse-in-Err-clause-later g c = GoesOn-refl _
 
 pub returns-in-Err-NoMemory-clause-later : goal.returns-in-Err-NoMemory-clause-later
 returns-in-Err-NoMemory-clause-later g c = GoesOn-refl _
+
+pub returns-in_err-refuse-in-Err-clause-adds_front : goal.returns-in_err-refuse-in-Err-clause-adds_front
+returns-in_err-refuse-in-Err-clause-adds_front g c = front_same (g.W.Sink.written c.args.out.now) _ _ _ _ (omega arith) c.in_err-refuse-in-Err.ensures.err
+
+pub returns-in-Err-NoMemory-clause-adds_front : goal.returns-in-Err-NoMemory-clause-adds_front
+returns-in-Err-NoMemory-clause-adds_front g c = front_none _ _ _ _ (omega arith) refl
+
+-- a line without a command
+
+pub returns-in-Ok-Idle : goal.returns-in-Ok-Idle
+returns-in-Ok-Idle g c =
+    let counted : Working = counted_in c.args.working in
+    record {
+      goes = record {
+        reading = Ok Idle;
+        reads = c.in-Ok-Idle.ensures (λ none. cc);
+        holds = short_goes counted counted Idle Nothing _ _ _ _ refl (idle counted _ _) _ _ (g.W.Sink.written c.args.out.now);
+      };
+      sound = IsSound-kept _ _ c.args.working.lines _ c.args.working counted (omega arith) (omega arith) c.requires.sound (λ q. refl) (omega arith) (omega arith);
+      lines = refl;
+      part = search rules;
+      feeds = feeds_counted _ c.args.working counted refl refl c.requires.feeds;
+      later = GoesOn-refl _;
+      grows = Grows-refl _;
+      names = refl;
+      shelf_faults = omega arith;
+      sink_faults = omega arith;
+      uses = search rules;
+      shelf_cause = search rules;
+      held = search rules;
+      sink_cause = search rules;
+      adds = text_none _ (g.W.Sink.written c.args.out.now) (g.K.Links.faults c.args.links.now);
+      adds_front = adds_front _ _ _ _ (text_none _ (g.W.Sink.written c.args.out.now) (g.K.Links.faults c.args.links.now));
+    }

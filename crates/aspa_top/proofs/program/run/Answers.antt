@@ -1,5 +1,8 @@
-use Rattle.std.proofs.Common.{◌≡◌, ℕ, subst, map}
+use Rattle.std.proofs.Common.{◌≡◌, ℕ, List, Some, subst, map}
+use Rattle.std.specs.declared.option.Option.{Option}
 use Rattle.std.specs.String.{string_bytes}
+use Rattle.report_text.specs.Reported.{AddsFront}
+use Rattle.report_text.proofs.ReportedLemmas.{few_unreachable}
 use Rattle.aspa_top.specs.declared.words.Form.{Form}
 use Rattle.aspa_top.specs.Program.{Demonstrates}
 use Rattle.aspa_top.specs.Words.{HasForm}
@@ -11,3 +14,7 @@ returns-in-Demo-clause-demonstrated g c = λ seed demo.
     let words = map string_bytes c.args.words.now.items in
     let asked = subst (λ (form : Form). HasForm words form) c.in-Demo.is c.form_of.ensures in
     subst (λ (n : ℕ). Demonstrates n (g.W.Sink.written c.args.out.now) (g.W.Sink.written c.run_demo.new.out) c.run_demo.result) (one_seed words c.in-Demo.seed seed asked demo) c.run_demo.ensures.demonstrates
+
+pub returns-in-Run-clause-few_unreachable : goal.returns-in-Run-clause-few_unreachable
+returns-in-Run-clause-few_unreachable g c = λ run before text old new.
+    few_unreachable before text _ _ _ (subst (λ (o : Option (List ℕ)). AddsFront o (g.W.Sink.written c.run_script.new.out) (g.K.Links.faults c.args.links.now) (g.K.Links.faults c.run_script.new.links)) old c.run_script.ensures.reported) new

@@ -27,3 +27,15 @@ pub returns-in-Err-NoMemory-clause-ran : goal.returns-in-Err-NoMemory-clause-ran
 returns-in-Err-NoMemory-clause-ran g c = λ world meets more.
     let front = performed-front SCRIPT_LIMIT c.args.script.now more c.requires in
     Ran-early _ _ _ _ _ _ _ _ _ 5 (omega arith) (omega arith) (rw (front, ← c.split_at.ensures.front) (c.evaluate.ensures.went world meets)) (λ same. absurd (omega (arith, same))) (λ same. absurd (omega (arith, same)))
+
+pub returns-in-Ok-clause-reported : goal.returns-in-Ok-clause-reported
+returns-in-Ok-clause-reported g c = c.evaluate.ensures.reported
+
+pub returns-in-Err-Shelf-clause-reported : goal.returns-in-Err-Shelf-clause-reported
+returns-in-Err-Shelf-clause-reported g c = c.evaluate.ensures.reported
+
+pub returns-in-Err-Sink-clause-reported : goal.returns-in-Err-Sink-clause-reported
+returns-in-Err-Sink-clause-reported g c = c.evaluate.ensures.reported
+
+pub returns-in-Err-NoMemory-clause-reported : goal.returns-in-Err-NoMemory-clause-reported
+returns-in-Err-NoMemory-clause-reported g c = c.evaluate.ensures.reported

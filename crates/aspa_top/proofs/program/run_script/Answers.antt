@@ -4,6 +4,7 @@ use Rattle.av_base.specs.Told.{Rose}
 use Rattle.aspa_top.specs.declared.program.TheConstants.{SCRIPT_LIMIT}
 use Rattle.aspa_top.specs.World.{linked}
 use Rattle.aspa_top.proofs.ProgramLemmas.{Ran-start, Ran-told, Ran-told_more}
+use Rattle.aspa_top.proofs.ReportingLemmas.{front_none}
 use Rattle.aspa_top.proofs.program.run_script.Goals as goal
 
 pub returns-then-text-le-SCRIPT_LIMIT-clause-ran : goal.returns-then-text-le-SCRIPT_LIMIT-clause-ran
@@ -25,3 +26,15 @@ returns-clause-ran g c =
     Ran-start SCRIPT_LIMIT (g.S.Source.left c.args.script.now) (g.F.Shelf.files c.args.shelf.now) (linked (g.K.Links.attempts c.args.links.now) (g.K.Links.wire c.args.links.now))
     (Rose (g.S.Source.faults c.args.script.now) (g.S.Source.faults c.read_all.new.source)) (Rose (g.F.Shelf.faults c.args.shelf.now) (g.F.Shelf.faults c.args.shelf.now))
     (g.W.Sink.written c.args.out.now) c.args.steps.now 5 (omega arith) (inr refl) (λ same. absurd (omega (arith, same)))
+
+pub returns-then-text-le-SCRIPT_LIMIT-clause-reported : goal.returns-then-text-le-SCRIPT_LIMIT-clause-reported
+returns-then-text-le-SCRIPT_LIMIT-clause-reported g c = c.run_whole.ensures.reported
+
+pub returns-in-Ok-clause-reported : goal.returns-in-Ok-clause-reported
+returns-in-Ok-clause-reported g c = c.run_front.ensures.reported
+
+pub returns-in-Err-Source-clause-reported : goal.returns-in-Err-Source-clause-reported
+returns-in-Err-Source-clause-reported g c = front_none _ _ _ _ (omega arith) refl
+
+pub returns-clause-reported : goal.returns-clause-reported
+returns-clause-reported g c = front_none _ _ _ _ (omega arith) refl

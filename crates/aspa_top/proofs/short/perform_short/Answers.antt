@@ -1,6 +1,7 @@
 use Rattle.std.proofs.Common.{◌≡◌, refl, ap, ◌∙◌}
 use Rattle.rib_store.specs.State.{State as Analysis}
 use Rattle.aspa_top.proofs.PerformingLemmas.{on_err}
+use Rattle.aspa_top.proofs.ReportingLemmas.{text_judged, text_none, text_summed}
 use Rattle.aspa_top.proofs.ShortLemmas.{idle, happened, judged, summed, kept_all, kept_happened, event_ticked, judge_ticked, none_ticked}
 use Rattle.aspa_top.proofs.short.perform_short.Goals as goal
 
@@ -32,3 +33,17 @@ returns-in_err-put_summary-in-Summary-clause-ticks g c = on_err _ (none_ticked c
 
 pub returns-in_err-next-in-Why-clause-ticks : goal.returns-in_err-next-in-Why-clause-ticks
 returns-in_err-next-in-Why-clause-ticks g c = on_err _ (none_ticked c.args.working c.args.short _)
+
+-- what is added
+
+pub returns-in-Idle-clause-adds : goal.returns-in-Idle-clause-adds
+returns-in-Idle-clause-adds g c = text_none _
+
+pub returns-in_ok-next-in-Happen-clause-adds : goal.returns-in_ok-next-in-Happen-clause-adds
+returns-in_ok-next-in-Happen-clause-adds g c = text_none _
+
+pub returns-in_ok-put_judgement-in-Judge-clause-adds : goal.returns-in_ok-put_judgement-in-Judge-clause-adds
+returns-in_ok-put_judgement-in-Judge-clause-adds g c = text_judged _ _ _ _ _ _ c.in_ok-put_judgement-in-Judge.ensures.judged
+
+pub returns-in_ok-put_summary-in-Summary-clause-adds : goal.returns-in_ok-put_summary-in-Summary-clause-adds
+returns-in_ok-put_summary-in-Summary-clause-adds g c = text_summed c.summary_of.result _ _ c.in_ok-put_summary-in-Summary.ensures.ok

@@ -3,6 +3,7 @@ use Rattle.report_text.specs.Refusals.{of_line}
 use Rattle.stream_lines.proofs.FrameLemmas.{Leaves-refl}
 use Rattle.aspa_top.proofs.StandsLemmas.{IsSound-same, IsSound-kept}
 use Rattle.aspa_top.proofs.PerformingLemmas.{on_err}
+use Rattle.aspa_top.proofs.ReportingLemmas.{text_refused}
 use Rattle.aspa_top.proofs.TableLemmas.{load_refused, load_acted, act_ticked, load_unticked, Acted-kept}
 use Rattle.aspa_top.proofs.tables.load.Goals as goal
 
@@ -41,3 +42,6 @@ returns-clause-feeds g c = (Acted-kept c.args.kind c.args.working _ c.in_ok-outc
 
 pub returns-clause-lines : goal.returns-clause-lines
 returns-clause-lines g c = (Acted-kept c.args.kind c.args.working _ c.in_ok-outcome.outcome _ _ c.in_ok-act_on.ensures.acted).2
+
+pub returns-then-is_taken-clause-adds : goal.returns-then-is_taken-clause-adds
+returns-then-is_taken-clause-adds g c = text_refused _ of_line 35 _ _ tt c.in_ok-refuse.ensures.text
