@@ -1,3 +1,4 @@
 pub mod AnswerLemmas
 mod InLineLemmas
 pub mod RefusalLemmas
+pub mod ReportedLemmas

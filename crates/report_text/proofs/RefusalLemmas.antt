@@ -1,11 +1,9 @@
 -- The lines of a refusal and of a feed's end are each one line that begins with `! `.
-use Rattle.std.proofs.Common.{◌≡◌, ◌≢◌, ℕ, ◌≤◌, Bool, true, false, nat_le, nat_eq, cond, List, [], ◌∷◌, ◌++◌, codes, decimal, refl, arith}
+use Rattle.std.proofs.Common.{◌≡◌, ◌≢◌, ℕ, Bool, true, false, nat_eq, cond, List, [], ◌∷◌, ◌++◌, codes, decimal, refl}
 use Rattle.std.specs.List.{All, list_all}
-use Rattle.std.proofs.lemmas.Bool.{leb-true}
-use Rattle.std.proofs.lemmas.List.Elements.{All-head, All-tail, All-nil, All-append, All-weaker}
+use Rattle.std.proofs.lemmas.List.Elements.{All-head, All-tail, All-nil}
 use Rattle.std.proofs.lemmas.List.Sums.{AllPass-from_list_all}
 use Rattle.av_text.specs.Spellings.{IsInLine}
-use Rattle.av_text.proofs.LackLemmas.{decimal-lacks, from-lacks}
 use Rattle.report_text.specs.declared.feed.FeedEnd.{FeedEnd}
 use Rattle.report_text.specs.declared.feed.FeedEnd.TheVariants.{Unreachable, Lost, Short}
 use Rattle.report_text.specs.Feeds.{end_word, feed_line}
@@ -13,22 +11,27 @@ use Rattle.report_text.specs.Refusals.{AnyPlace, of_line, of_unit, file_words, p
 use Rattle.report_text.specs.Laws.{IsPlaceInLine, IsRefusalLine}
 use Rattle.report_text.proofs.InLineLemmas.{is_clean, clean, both, number}
 
-either-clean : (b : Bool) (one other : List ℕ) → is_clean one ≡ true → is_clean other ≡ true → is_clean (cond b one other) ≡ true
-either-clean true one other a c = a
-either-clean false one other a c = c
+either-passes : (p : List ℕ → Bool) (b : Bool) (one other : List ℕ) → p one ≡ true → p other ≡ true → p (cond b one other) ≡ true
+either-passes p true one other a c = a
+either-passes p false one other a c = c
 
--- the word found in a list of clean words
-word_in-clean : (words : List (ℕ × List ℕ)) (cause : ℕ) → All (λ entry. is_clean entry.1 ≡ true) words → is_clean (word_in words cause) ≡ true
-word_in-clean [] cause all = refl
-word_in-clean (entry ∷ more) cause all =
-    let P : ℕ × List ℕ → Type 0 = λ e. is_clean e.1 ≡ true in
-    either-clean (nat_eq entry.0 cause) entry.1 (word_in more cause) (All-head P entry more all) (word_in-clean more cause (All-tail P entry more all))
+-- the word found in a list, where each passes a test, and so does the empty one
+word_in-passes : (p : List ℕ → Bool) (words : List (ℕ × List ℕ)) (cause : ℕ) → p [] ≡ true → All (λ entry. p entry.1 ≡ true) words → p (word_in words cause) ≡ true
+word_in-passes p [] cause none all = none
+word_in-passes p (entry ∷ more) cause none all =
+    let P : ℕ × List ℕ → Type 0 = λ e. p e.1 ≡ true in
+    either-passes p (nat_eq entry.0 cause) entry.1 (word_in more cause) (All-head P entry more all) (word_in-passes p more cause none (All-tail P entry more all))
+
+-- the word of a cause passes a test that each in the tables passes
+pub word_of-passes : (p : List ℕ → Bool) (cause : ℕ) → p [] ≡ true → list_all (λ entry. p entry.1) (file_words ++ pdu_words ++ record_words ++ line_words) ≡ true
+    → p (word_of cause) ≡ true
+unfolding word_of
+word_of-passes p cause none all =
+    let words : List (ℕ × List ℕ) = file_words ++ pdu_words ++ record_words ++ line_words in
+    word_in-passes p words cause none (AllPass-from_list_all (λ (e : ℕ × List ℕ). p e.1) words all)
 
 word_of-in_line : (cause : ℕ) → IsInLine (word_of cause)
-unfolding word_of
-word_of-in_line cause =
-    let words : List (ℕ × List ℕ) = file_words ++ pdu_words ++ record_words ++ line_words in
-    clean (word_of cause) (word_in-clean words cause (AllPass-from_list_all (λ (e : ℕ × List ℕ). is_clean e.1) words refl))
+word_of-in_line cause = clean (word_of cause) (word_of-passes is_clean cause refl refl)
 
 place-in_line : (place : AnyPlace) → IsPlaceInLine place → IsInLine (place_text place)
 place-in_line of_line in_line = All-nil (λ byte. byte ≢ 10)
