@@ -52,6 +52,6 @@ returns g c =
       later = record { attempts = goes.attempts; wire = goes.links };
       adds =
           let told = c.in_ok-next.ensures.tells in
-          told_adds _ c.args.name.now _ _ told.0 _ _ c.text-_name.ensures.is_name told.1.1.later told.1.1.rose told.1.0;
+          told_adds _ c.args.name.now _ _ told.0 _ _ c.text-name.ensures.is_name told.1.1.later told.1.1.rose told.1.0;
       faults = c.connect.ensures.faults;
     }
