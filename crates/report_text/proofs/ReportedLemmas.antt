@@ -255,10 +255,10 @@ adds_answers_front old new lines faults answers front = record {
 -- ---- the lines of a text that is a front
 
 -- no byte is a line feed, by test
-abbrev lacks_lf : List ℕ → Type 0
+abbrev pub lacks_lf : List ℕ → Type 0
 lacks_lf text = All (λ byte. is_lf byte ≡ false) text
 
-lacks : (text : List ℕ) → IsInLine text → lacks_lf text
+pub lacks : (text : List ℕ) → IsInLine text → lacks_lf text
 lacks text in_line = All-weaker (λ byte. byte ≢ 10) (λ byte. is_lf byte ≡ false) (λ byte. ne_eqb byte 10) text in_line
 
 -- a front of a text whose first line ends has that line whole, or no line

@@ -4,6 +4,7 @@ pub mod JudgementLemmas
 pub mod LawLemmas
 pub mod NextLemmas
 pub mod RefusalLemmas
+pub mod ReportedLemmas
 pub mod RowsLemmas
 pub mod SummaryLemmas
 pub mod TakingLemmas

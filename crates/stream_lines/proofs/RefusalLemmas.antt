@@ -1,19 +1,18 @@
 -- The refusals in a text are those that were counted.
-use Rattle.std.proofs.Common.{◌≡◌, ◌≢◌, ℕ, zero, suc, ◌+◌, Bool, true, false, not, cond, nat_eq, List, [], ◌∷◌, ◌++◌, Ok, Err, codes, refl, sym, ap, ◌∙◌, arith}
-use Rattle.std.specs.List.{All, list_all, slice_split, starts_with, count_by}
+use Rattle.std.proofs.Common.{◌≡◌, ℕ, zero, suc, ◌+◌, Bool, true, false, not, cond, nat_eq, List, [], ◌∷◌, ◌++◌, Ok, Err, codes, refl, sym, ap, ◌∙◌, arith}
+use Rattle.std.specs.List.{list_all, slice_split, starts_with, count_by}
 use Rattle.std.specs.declared.result.Result.{Result}
 use Rattle.std.proofs.lemmas.List.{append_assoc}
 use Rattle.std.proofs.lemmas.List.Elements.{All-weaker}
 use Rattle.std.proofs.lemmas.List.Splits.{slice_split_at}
 use Rattle.std.proofs.lemmas.List.Sums.{AllPass-from_list_all, sum_by-cons}
 use Rattle.std.proofs.lemmas.Bool.{not-true}
-use Rattle.std.proofs.lemmas.Bool.Decides.{nat_tests}
 use Rattle.av_text.specs.Lines.{is_lf}
-use Rattle.av_text.specs.Marks.{Lacks}
 use Rattle.av_text.specs.Spellings.{IsInLine}
 use Rattle.report_text.specs.Refusals.{AnyPlace, of_unit, refusal_line, refusal_text}
 use Rattle.report_text.specs.Laws.{IsPlaceInLine}
 use Rattle.report_text.proofs.RefusalLemmas.{refusal_is_one_line}
+pub use Rattle.report_text.proofs.ReportedLemmas.{lacks_lf, lacks}
 use Rattle.mrt_reader.specs.declared.body.Body.{Body}
 use Rattle.mrt_reader.specs.declared.body.Body.TheVariants.{Peers, Routes as RoutesBody, Passed}
 use Rattle.mrt_reader.specs.declared.fault.BodyFault.{BodyFault}
@@ -24,17 +23,8 @@ use Rattle.stream_lines.specs.Streams.{Asking, Taking, TakesBody, TakesComing, T
 
 -- ---- texts without a line feed
 
-abbrev pub lacks_lf : List ℕ → Type 0
-lacks_lf text = All (λ byte. is_lf byte ≡ false) text
-
 pub literal : (text : List ℕ) → list_all (λ byte. not (is_lf byte)) text ≡ true → lacks_lf text
 literal text passes = All-weaker (λ byte. not (is_lf byte) ≡ true) (λ byte. is_lf byte ≡ false) (λ byte. not-true (is_lf byte)) text (AllPass-from_list_all (λ byte. not (is_lf byte)) text passes)
-
-pub lacks : (text : List ℕ) → Lacks 10 text → lacks_lf text
-lacks text without = All-weaker (λ byte. byte ≢ 10) (λ byte. is_lf byte ≡ false) no_line_feed text without
-  where
-    no_line_feed : (byte : ℕ) → byte ≢ 10 → is_lf byte ≡ false
-    no_line_feed byte other = grind (arith, nat_tests)
 
 -- ---- one line of text
 

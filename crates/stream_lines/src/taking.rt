@@ -1,8 +1,11 @@
 //! The units that a line takes from a dump.
-ghost use Rattle.std.specs.Prelude.{◌≡◌, ◌<◌, ◌≤◌, ◌≢◌, ◌+◌, ◌++◌, ◌^◌, ℕ, IfOk, OnOk, OnErr, IsErrOf, length};
+ghost use Rattle.std.specs.Prelude.{◌≡◌, ◌<◌, ◌≤◌, ◌≢◌, ◌+◌, ◌++◌, ◌^◌, ℕ, List, IfOk, OnOk, OnErr, IsErrOf, length};
 ghost use Rattle.std.specs.Io.KnownBytes.{append_known};
+ghost use Rattle.std.specs.declared.option.Option.{Option};
 ghost use Rattle.av_base.specs.Told.{Grows, Rose};
+ghost use Rattle.av_text.specs.Spellings.{IsInLine};
 ghost use Rattle.report_text.specs.Refusals.{IsCause, of_unit, refusal_text};
+ghost use Rattle.report_text.specs.Reported.{AddsQuiet};
 ghost use Rattle.stream_lines.specs.Frames.{Leaves, names_of};
 ghost use Rattle.stream_lines.specs.Taking.{GrewBy, TicksWithinUnits, TookSome, TookUnits, asking_of};
 ghost use Rattle.stream_lines.specs.TakingSteps.{TicksWithinUnit, TookUnit};
@@ -80,6 +83,11 @@ pub fn take_units<F: Shelf, W: Sink, L: Ledger>(
     ensures sink_cause { IsErrOf result Stop.Sink → Rose (W.faults out.old) (W.faults out.new) }
     ensures sink_faults { W.faults out.old ≤ W.faults out.new }
     ensures grows { Grows (W.written out.old) (W.written out.new) }
+
+    // Whatever the shelf tells: only whole lines are added, and none says that a feed's place wasn't to be had.
+    ensures reports { IsInLine asking.entry.name.now
+        → AddsQuiet (append_known (W.written out.old) text.old.items)
+        (append_known (W.written out.new) text.new.items) }
 {
     let mut progress = progress;
     for _turn in 0..asking.count {
@@ -119,6 +127,8 @@ fn take_unit<F: Shelf, L: Ledger>(
     ensures cause { IsErrOf result ReadFault.Source
         → Rose (F.faults shelf.old) (F.faults shelf.new) }
     ensures faults { F.faults shelf.old ≤ F.faults shelf.new }
+    ensures reports { IsInLine asking.entry.name.now → (written : Option (List ℕ))
+        → AddsQuiet (append_known written text.old.items) (append_known written text.new.items) }
 {
     match dump.next(alloc, shelf)? {
         Next::Record(Ok(body)) => Ok(take_body(dump, body, progress, steps)?),

@@ -5,6 +5,7 @@ use Rattle.mrt_reader.specs.declared.fault.BodyFault.{BodyFault}
 use Rattle.stream_lines.specs.declared.dump.Next.TheVariants.{Record}
 use Rattle.stream_lines.specs.Taking.{asking_of}
 use Rattle.stream_lines.proofs.JudgementLemmas.{ticks_none, ticks_body}
+use Rattle.stream_lines.proofs.ReportedLemmas.{none_reported, unit_reported}
 use Rattle.stream_lines.proofs.TakingLemmas.{took_body, took_refused, took_too_long, took_cut_short, took_end}
 use Rattle.stream_lines.proofs.taking.take_unit.Goals as goal
 
@@ -78,3 +79,23 @@ returns-in_ok-report-in-CutShort-clause-ticks g c = ticks_none _ _ _ _ _
 
 pub returns-in-End-clause-ticks : goal.returns-in-End-clause-ticks
 returns-in-End-clause-ticks g c = ticks_none _ _ _ _ _
+
+-- what is held
+
+pub returns-in_err-report-in-Record-Err-clause-reports : goal.returns-in_err-report-in-Record-Err-clause-reports
+returns-in_err-report-in-Record-Err-clause-reports g c = λ in_line written. none_reported written _ _ c.in_err-report-in-Record-Err.ensures.err
+
+pub returns-in_ok-report-in-Record-Err-clause-reports : goal.returns-in_ok-report-in-Record-Err-clause-reports
+returns-in_ok-report-in-Record-Err-clause-reports g c = λ in_line written. unit_reported written _ _ _ _ _ _ in_line c.in_ok-report-in-Record-Err.ensures.ok
+
+pub returns-in_err-report-in-TooLong-clause-reports : goal.returns-in_err-report-in-TooLong-clause-reports
+returns-in_err-report-in-TooLong-clause-reports g c = λ in_line written. none_reported written _ _ c.in_err-report-in-TooLong.ensures.err
+
+pub returns-in_ok-report-in-TooLong-clause-reports : goal.returns-in_ok-report-in-TooLong-clause-reports
+returns-in_ok-report-in-TooLong-clause-reports g c = λ in_line written. unit_reported written _ _ _ _ _ _ in_line c.in_ok-report-in-TooLong.ensures.ok
+
+pub returns-in_err-report-in-CutShort-clause-reports : goal.returns-in_err-report-in-CutShort-clause-reports
+returns-in_err-report-in-CutShort-clause-reports g c = λ in_line written. none_reported written _ _ c.in_err-report-in-CutShort.ensures.err
+
+pub returns-in_ok-report-in-CutShort-clause-reports : goal.returns-in_ok-report-in-CutShort-clause-reports
+returns-in_ok-report-in-CutShort-clause-reports g c = λ in_line written. unit_reported written _ _ _ _ _ _ in_line c.in_ok-report-in-CutShort.ensures.ok

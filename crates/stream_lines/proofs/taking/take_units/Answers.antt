@@ -1,9 +1,11 @@
 use Rattle.std.proofs.Common.{◌≡◌, ◌≢◌, ℕ, ◌+◌, ap, refl, sym, ◌∙◌, arith, subst}
 use Rattle.std.specs.Io.KnownBytes.{append_known}
 use Rattle.av_base.proofs.PouringLemmas.{Grows-refl, Grows-trans}
+use Rattle.report_text.proofs.ReportedLemmas.{adds_quiet_none}
 use Rattle.stream_lines.specs.Frames.{Leaves}
 use Rattle.stream_lines.proofs.FrameLemmas.{Leaves-refl, Leaves-trans}
 use Rattle.stream_lines.proofs.JudgementLemmas.{ticks_start, ticks_next, ticks_more}
+use Rattle.stream_lines.proofs.ReportedLemmas.{units_reported}
 use Rattle.stream_lines.proofs.UnitsLemmas.{TookUnits-start, TookUnits-next, TookUnits-over, TookUnits-some}
 use Rattle.stream_lines.proofs.taking.take_units.Goals as goal
 
@@ -19,6 +21,7 @@ loop-turn-init g c = record {
   shelf_faults = omega arith;
   grows = Grows-refl _;
   sink_faults = omega arith;
+  reports = λ in_line. adds_quiet_none _;
 }
 
 pub returns-then-is_over-clause-took : goal.returns-then-is_over-clause-took
@@ -65,6 +68,8 @@ loop-turn-preserved g c = record {
   shelf_faults = omega (arith, c.take_unit.ensures.faults, c.loop-turn.invariant.shelf_faults);
   grows = Grows-trans c.loop-turn.invariant.grows c.pour_piece.ensures.grows;
   sink_faults = omega (arith, c.pour_piece.ensures.cause.later, c.loop-turn.invariant.sink_faults);
+  reports = λ in_line. units_reported _ _ (g.W.Sink.written c.loop-turn.out) _ _ (c.loop-turn.invariant.reports in_line)
+      (c.take_unit.ensures.reports in_line (g.W.Sink.written c.loop-turn.out)) c.pour_piece.ensures.same;
 }
 
 pub returns-clause-took : goal.returns-clause-took
@@ -90,3 +95,21 @@ returns-in_err-pour_piece-clause-ticks g c = ticks_more _ (c.loop-turn._turn + 1
 
 pub returns-clause-ticks : goal.returns-clause-ticks
 returns-clause-ticks g c = ticks_more _ c.loop-turn._turn _ _ _ _ _ _ c.loop-turn.invariant.within c.loop-turn.invariant.ticks
+
+-- what was written and is held
+
+pub returns-then-is_over-clause-reports : goal.returns-then-is_over-clause-reports
+returns-then-is_over-clause-reports g c = c.loop-turn.invariant.reports
+
+pub returns-in_err-progress-clause-reports : goal.returns-in_err-progress-clause-reports
+returns-in_err-progress-clause-reports g c =
+    λ in_line. units_reported _ _ (g.W.Sink.written c.loop-turn.out) _ _ (c.loop-turn.invariant.reports in_line)
+    (c.take_unit.ensures.reports in_line (g.W.Sink.written c.loop-turn.out)) refl
+
+pub returns-in_err-pour_piece-clause-reports : goal.returns-in_err-pour_piece-clause-reports
+returns-in_err-pour_piece-clause-reports g c =
+    λ in_line. units_reported _ _ (g.W.Sink.written c.loop-turn.out) _ _ (c.loop-turn.invariant.reports in_line)
+    (c.take_unit.ensures.reports in_line (g.W.Sink.written c.loop-turn.out)) c.pour_piece.ensures.same
+
+pub returns-clause-reports : goal.returns-clause-reports
+returns-clause-reports g c = c.loop-turn.invariant.reports

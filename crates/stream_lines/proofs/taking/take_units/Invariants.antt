@@ -1,6 +1,8 @@
 use Rattle.std.proofs.Common.{◌≡◌, ◌≢◌, ◌≤◌}
 use Rattle.std.specs.Io.KnownBytes.{append_known}
 use Rattle.av_base.specs.Told.{Grows}
+use Rattle.av_text.specs.Spellings.{IsInLine}
+use Rattle.report_text.specs.Reported.{AddsQuiet}
 use Rattle.stream_lines.specs.Frames.{Leaves}
 use Rattle.stream_lines.specs.Taking.{GrewBy, TicksWithinUnits, TookUnits, asking_of}
 use Rattle.stream_lines.proofs.taking.take_units.Given as goal
@@ -18,4 +20,5 @@ invariant-loop-turn g l = record {
   shelf_faults : g.F.Shelf.faults l.fn.shelf ≤ g.F.Shelf.faults l.shelf;
   grows : Grows (g.W.Sink.written l.fn.out) (g.W.Sink.written l.out);
   sink_faults : g.W.Sink.faults l.fn.out ≤ g.W.Sink.faults l.out;
+  reports : IsInLine l.asking.name.now → AddsQuiet (append_known (g.W.Sink.written l.fn.out) l.fn.text.items) (append_known (g.W.Sink.written l.out) l.text.items);
 }

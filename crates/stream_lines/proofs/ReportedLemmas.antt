@@ -1,0 +1,84 @@
+-- The lines of reports and of units say of no feed that its place wasn't to be had.
+use Rattle.std.proofs.Common.{◌≡◌, ℕ, List, [], ◌∷◌, ◌++◌, map, refl, sym, ap, subst, ◌∙◌}
+use Rattle.std.specs.Io.KnownBytes.{append_known}
+use Rattle.std.specs.List.{All}
+use Rattle.std.specs.declared.option.Option.{Option}
+use Rattle.std.proofs.lemmas.List.Elements.{All-map}
+use Rattle.av_base.specs.Told.{AppendsFront}
+use Rattle.av_base.proofs.ToldLemmas.{append_known-append}
+use Rattle.av_text.specs.Spellings.{IsInLine}
+use Rattle.path_model.specs.declared.key.Key.{Key}
+use Rattle.path_model.specs.declared.verdict.Verdict.{Verdict}
+use Rattle.report_text.specs.Change.{change_line}
+use Rattle.report_text.specs.Laws.{IsAnswerLine}
+use Rattle.report_text.specs.Refusals.{of_unit, refusal_text}
+use Rattle.report_text.specs.Reported.{lines_text, AddsFront, AddsQuiet}
+use Rattle.report_text.specs.Rows.{row_line, row_text}
+use Rattle.report_text.proofs.AnswerLemmas.{row_is_one_line, change_is_one_line}
+use Rattle.report_text.proofs.ReportedLemmas.{adds_answers, adds_answers_front, adds_quiet_none, adds_refusal, quiet_more}
+use Rattle.rib_store.specs.declared.journal.ChangedKey.{ChangedKey}
+use Rattle.rib_store.specs.State.{State}
+use Rattle.stream_lines.specs.Changes.{changes_text, Lists, ListsFront}
+use Rattle.stream_lines.specs.Rows.{rows_text, Reports, ReportsFront}
+
+-- ---- rows
+
+abbrev line_of : Key × Verdict → List ℕ
+line_of row = row_line row.0 row.1
+
+rows_are_lines : (rows : List (Key × Verdict)) → rows_text rows ≡ lines_text (map line_of rows)
+rows_are_lines [] = refl
+rows_are_lines (row ∷ rows) = ap (λ (t : List ℕ). row_text row.0 row.1 ++ t) (rows_are_lines rows)
+
+rows_answer : (rows : List (Key × Verdict)) → All IsAnswerLine (map line_of rows)
+rows_answer rows = All-map IsAnswerLine line_of rows (λ k row within. row_is_one_line _ _)
+
+pub rows_reported : (state : State) (old new : Option (List ℕ)) → Reports state old new → AddsQuiet old new
+rows_reported state old new reports =
+    adds_answers old new (map line_of reports.rows) (rows_answer reports.rows) (reports.added ∙ ap (append_known old) (rows_are_lines reports.rows))
+
+pub rows_reported_front : (state : State) (old new : Option (List ℕ)) → ReportsFront state old new → (faults : ℕ) → AddsFront old new faults faults
+rows_reported_front state old new reports faults =
+    adds_answers_front old new (map line_of reports.rows) faults (rows_answer reports.rows) (subst (AppendsFront old new) (rows_are_lines reports.rows) reports.front)
+
+-- ---- changes
+
+abbrev line_of_change : ChangedKey → List ℕ
+line_of_change change = change_line change.key change.before change.after
+
+changes_are_lines : (changes : List ChangedKey) → changes_text changes ≡ lines_text (map line_of_change changes)
+changes_are_lines [] = refl
+changes_are_lines (change ∷ changes) = ap (λ (t : List ℕ). (line_of_change change ++ 10 ∷ []) ++ t) (changes_are_lines changes)
+
+changes_answer : (changes : List ChangedKey) → All IsAnswerLine (map line_of_change changes)
+changes_answer changes = All-map IsAnswerLine line_of_change changes (λ k change within. change_is_one_line _ _ _)
+
+pub changes_reported : (state : State) (old new : Option (List ℕ)) → Lists state old new → AddsQuiet old new
+changes_reported state old new lists =
+    adds_answers old new (map line_of_change lists.changes) (changes_answer lists.changes) (lists.added ∙ ap (append_known old) (changes_are_lines lists.changes))
+
+pub changes_reported_front : (state : State) (old new : Option (List ℕ)) → ListsFront state old new → (faults : ℕ) → AddsFront old new faults faults
+changes_reported_front state old new lists faults =
+    adds_answers_front old new (map line_of_change lists.changes) faults (changes_answer lists.changes)
+    (subst (AppendsFront old new) (changes_are_lines lists.changes) lists.front)
+
+-- ---- units
+
+-- nothing more is held
+pub none_reported : (written : Option (List ℕ)) (text_old text_new : List ℕ) → text_new ≡ text_old → AddsQuiet (append_known written text_old) (append_known written text_new)
+none_reported written text_old text_new same =
+    subst (λ (t : List ℕ). AddsQuiet (append_known written text_old) (append_known written t)) (sym same) (adds_quiet_none (append_known written text_old))
+
+-- a unit's refusal is held
+pub unit_reported : (written : Option (List ℕ)) (text_old text_new : List ℕ) (number : ℕ) (name : List ℕ) (unit cause : ℕ) → IsInLine name
+    → text_new ≡ text_old ++ refusal_text number (of_unit name unit) cause → AddsQuiet (append_known written text_old) (append_known written text_new)
+unit_reported written text_old text_new number name unit cause in_line held =
+    let refusal = refusal_text number (of_unit name unit) cause in
+    adds_refusal (append_known written text_old) (append_known written text_new) number (of_unit name unit) cause in_line
+    (ap (append_known written) held ∙ sym (append_known-append written text_old refusal))
+
+-- what is held was perhaps written
+pub units_reported : (old new written : Option (List ℕ)) (text_old text_new : List ℕ) → AddsQuiet old (append_known written text_old)
+    → AddsQuiet (append_known written text_old) (append_known written text_new) → new ≡ append_known written text_new → AddsQuiet old new
+units_reported old new written text_old text_new so_far next same =
+    quiet_more old (append_known written text_old) new so_far (subst (AddsQuiet (append_known written text_old)) (sym same) next)
