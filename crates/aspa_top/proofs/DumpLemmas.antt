@@ -1,9 +1,6 @@
 -- A dump that a line opens, and one that it takes from.
-use Rattle.std.proofs.Common.{◌≡◌, ◌≢◌, ℕ, ◌+◌, ◌-◌, ◌<◌, ◌≤◌, Bool, true, false, ◌||◌, cond, List, [], ◌++◌, length, None, Some, IfSome, Ok, refl, sym, ◌∙◌, ap, subst, append-nil, arith}
-use Rattle.std.specs.Prelude.{nat_eq}
-use Rattle.std.specs.Cmp.Lexicographic.{pointwise}
-use Rattle.indexmap.specs.IndexSet.{contains}
-use Rattle.std.specs.Io.KnownBytes.{append_known, prepend_known}
+use Rattle.std.proofs.Common.{◌≡◌, ◌≢◌, ℕ, ◌+◌, ◌-◌, Bool, true, false, ◌||◌, cond, List, [], ◌++◌, length, None, Some, IfSome, Ok, refl, sym, ◌∙◌, ap, subst, append-nil, arith}
+use Rattle.std.specs.Io.KnownBytes.{prepend_known}
 use Rattle.std.specs.Option.{option_map}
 use Rattle.std.specs.declared.option.Option.{Option}
 use Rattle.av_base.specs.Files.{Files, Opens, Misses, left_of, opens}
@@ -25,8 +22,8 @@ use Rattle.stream_lines.proofs.UnitsLemmas.{TakesUnits-join}
 use Rattle.aspa_top.specs.declared.working.Working.{Working}
 use Rattle.aspa_top.specs.Tasks.{State, OpensNamed, TakesNamed, TakesOpen, is_stream, new_dump, with_dump, same_name, asking_of, taking_of, after_taking}
 use Rattle.aspa_top.specs.Evaluation.{Does}
-use Rattle.aspa_top.specs.Performing.{HoldsOr, IsSound, StandsFor, Goes, GoesSome, Steps, dump_in, has_source, has_stream}
-use Rattle.aspa_top.specs.World.{Links, World, Tells, ending, names_of}
+use Rattle.aspa_top.specs.Performing.{IsSound, StandsFor, Goes, GoesSome, Steps, dump_in, has_source, has_stream}
+use Rattle.aspa_top.specs.World.{Links, World, ending, names_of}
 use Rattle.aspa_top.proofs.StandsLemmas.{HoldsOr-leaves, HoldsOr-some, HoldsOr-put, StandsFor-leaves, added_text, differ, is_same, refused_same, same_stream}
 
 -- ---- `open`

@@ -1,5 +1,5 @@
 -- Lines on feeds.
-use Rattle.std.proofs.Common.{◌≡◌, ℕ, ◌+◌, ◌-◌, ◌*◌, ◌≤◌, Bool, true, false, ◌||◌, is_some, List, ◌++◌, None, Some, Ok, Err, IfOk, inl, inr, refl, sym, ap, subst, ◌∙◌, arith}
+use Rattle.std.proofs.Common.{◌≡◌, ℕ, ◌+◌, ◌-◌, ◌*◌, ◌≤◌, Bool, true, false, ◌||◌, is_some, List, ◌++◌, None, Ok, Err, IfOk, inl, inr, refl, sym, ap, subst, ◌∙◌, arith}
 use Rattle.std.specs.declared.option.Option.{Option}
 use Rattle.std.specs.declared.result.Result.{Result}
 use Rattle.std.specs.Io.KnownBytes.{append_known}
@@ -24,7 +24,7 @@ use Rattle.aspa_top.specs.Tasks.{State, ConnectsUnless, DoesTask, TakesNamed, as
 use Rattle.aspa_top.specs.Evaluation.{task_of}
 use Rattle.aspa_top.specs.Feeding.{AreSound, DoesOn, KeepsDumps, StopsOn}
 use Rattle.aspa_top.specs.Performing.{Goes, GoesOn, GoesPart, IsSound, MovesPart, StandsFor, counted_in, dump_in, has_source, most}
-use Rattle.aspa_top.specs.World.{ComesTo, Links, World, ending}
+use Rattle.aspa_top.specs.World.{Links, ending}
 use Rattle.aspa_top.proofs.StandsLemmas.{HoldsOr-is_some, HoldsOr-none, IsSound-kept, added_text}
 
 -- ---- soundness

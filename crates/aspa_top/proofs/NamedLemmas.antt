@@ -1,5 +1,5 @@
 -- The names in a script's lines have no line feed.
-use Rattle.std.proofs.Common.{ℕ, List, codes, Ok, Err}
+use Rattle.std.proofs.Common.{ℕ, List, Ok, Err}
 use Rattle.std.specs.declared.result.Result.{Result}
 use Rattle.av_text.specs.Spellings.{IsInLine}
 use Rattle.av_text.proofs.AnySpellingLemmas.{names_in_line}

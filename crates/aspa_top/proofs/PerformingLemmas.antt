@@ -1,10 +1,8 @@
 -- One line performed.
-use Rattle.std.proofs.Common.{◌≡◌, ℕ, ◌+◌, ◌-◌, ◌≤◌, List, [], ◌++◌, Ok, Err, IfOk, OnErr, inl, inr, refl, sym, ap, subst, ◌∙◌, append-nil, arith}
+use Rattle.std.proofs.Common.{◌≡◌, ℕ, ◌+◌, ◌≤◌, List, [], ◌++◌, Ok, Err, IfOk, OnErr, inl, inr, refl, sym, ap, subst, ◌∙◌, arith}
 use Rattle.std.specs.declared.option.Option.{Option}
 use Rattle.std.specs.declared.result.Result.{Result}
-use Rattle.std.specs.Io.KnownBytes.{append_known}
 use Rattle.av_base.specs.Files.{Files}
-use Rattle.av_base.specs.Told.{AppendsFront}
 use Rattle.av_base.proofs.ToldLemmas.{append_known-nil}
 use Rattle.feed_lines.specs.declared.feed.Feeds.{Feeds}
 use Rattle.feed_lines.specs.Holding.{feed_in}
@@ -29,10 +27,10 @@ use Rattle.aspa_top.specs.declared.task.Task.{Task}
 use Rattle.aspa_top.specs.declared.task.Short.{Short as ShortTask}
 use Rattle.aspa_top.specs.declared.task.Task.TheVariants.{Short, Load}
 use Rattle.aspa_top.specs.declared.working.Working.{Working}
-use Rattle.aspa_top.specs.Tasks.{State, DoesTask, TaskUsesFile}
-use Rattle.aspa_top.specs.Evaluation.{Does, line_cause, task_of}
-use Rattle.aspa_top.specs.Performing.{IsWithinBounds, IsWithinTask, IsSound, HoldsOr, Marked, StandsFor, Goes, GoesPart, GoesSome, MovesPart, Steps, PartBy, TickedLoad, TickedShort, Uses, counted_in, dump_in, has_source}
-use Rattle.aspa_top.specs.World.{Links, World, Tells, ending}
+use Rattle.aspa_top.specs.Tasks.{DoesTask, TaskUsesFile}
+use Rattle.aspa_top.specs.Evaluation.{line_cause, task_of}
+use Rattle.aspa_top.specs.Performing.{IsWithinBounds, IsWithinTask, IsSound, HoldsOr, Marked, Goes, GoesPart, GoesSome, MovesPart, Steps, PartBy, TickedLoad, TickedShort, Uses, counted_in, dump_in, has_source}
+use Rattle.aspa_top.specs.World.{Links, ending}
 use Rattle.aspa_top.proofs.StandsLemmas.{Loads-ending, IsSound-kept, refused_same}
 
 -- a line is too short for a path that is too long, and names no count over the most

@@ -1,5 +1,5 @@
 -- What lines add to the text, whatever the world tells.
-use Rattle.std.proofs.Common.{◌≡◌, ◌≢◌, ℕ, ◌≤◌, List, [], ◌∷◌, ◌++◌, Ok, Err, codes, refl, sym, ap, subst, ◌∙◌, arith}
+use Rattle.std.proofs.Common.{◌≡◌, ℕ, ◌≤◌, List, [], ◌++◌, Ok, Err, refl, sym, ap, subst, ◌∙◌, arith}
 use Rattle.std.proofs.lemmas.List.{append-nil}
 use Rattle.std.specs.Io.KnownBytes.{append_known}
 use Rattle.std.specs.Option.{option_to_list}
@@ -7,7 +7,7 @@ use Rattle.std.specs.Result.{OnOk}
 use Rattle.std.specs.declared.option.Option.{Option}
 use Rattle.std.specs.declared.result.Result.{Result}
 use Rattle.std.specs.declared.option.Option.TheVariants.{Some, None}
-use Rattle.av_base.specs.Told.{Rose, Grows}
+use Rattle.av_base.specs.Told.{Rose}
 use Rattle.av_base.proofs.ToldLemmas.{append_known-nil}
 use Rattle.path_model.specs.declared.role.Role.{Role}
 use Rattle.path_model.specs.declared.verdict.Verdict.{Verdict}
@@ -22,17 +22,14 @@ use Rattle.report_text.specs.declared.feed.FeedEnd.TheVariants.{Unreachable}
 use Rattle.report_text.specs.declared.summary.Summary.{Summary}
 use Rattle.report_text.specs.Laws.{IsAnswerLine, IsPlaceInLine}
 use Rattle.report_text.specs.Refusals.{AnyPlace, of_line, of_unit, refusal_text}
-use Rattle.report_text.specs.Reported.{AddsFront, AddsLines, AddsQuiet}
+use Rattle.report_text.specs.Reported.{AddsFront, AddsLines}
 use Rattle.report_text.specs.Summary.{summary_line, summary_text}
 use Rattle.report_text.specs.Why.{why_line, why_text}
 use Rattle.report_text.proofs.AnswerLemmas.{summary_is_one_line, reason_is_one_line}
-use Rattle.report_text.proofs.RefusalLemmas.{slurm-in_line}
 use Rattle.report_text.proofs.ReportedLemmas.{adds_answer, adds_end, adds_front, adds_later, adds_none, adds_quiet_none, adds_refusal}
 use Rattle.feed_lines.specs.declared.telling.Telling.{Telling}
 use Rattle.feed_lines.specs.declared.telling.Telling.TheVariants.{NoName, StreamOver, Pdu, End}
-use Rattle.feed_lines.specs.Tellings.{Asking, number_of, telling_text, tells_text}
-use Rattle.aspa_top.specs.declared.loading.FileKind.{FileKind}
-use Rattle.aspa_top.specs.declared.working.Working.{Working}
+use Rattle.feed_lines.specs.Tellings.{number_of, telling_text, tells_text}
 use Rattle.aspa_top.specs.Performing.{Judges}
 use Rattle.aspa_top.specs.Reporting.{AddsText, AddsEnds}
 use Rattle.aspa_top.proofs.StandsLemmas.{added_text}
@@ -52,8 +49,8 @@ verdict_is_one_line Invalid = record { in_line = verdicts_in_line Invalid; unmar
 
 pub text_judged : (parts : Parts) (role : Role) (neighbour : ℕ) (path text_old text_new : List ℕ) → Judges parts role neighbour path text_old text_new → AddsText text_old text_new
 text_judged parts role neighbour path text_old text_new judges = λ written.
-    adds_answer _ _ (verdict_text judges.1.0.verdict) (verdict_is_one_line judges.1.0.verdict)
-    (added_text written text_old text_new judges.0 judges.1.1 ∙ ap (append_known (append_known written text_old)) judges.1.0.text_is)
+    adds_answer _ _ (verdict_text judges.1.verdict) (verdict_is_one_line judges.1.verdict)
+    (added_text written text_old text_new judges.0 judges.2 ∙ ap (append_known (append_known written text_old)) judges.1.text_is)
 
 pub text_summed : (summary : Summary) (text_old text_new : List ℕ) → text_new ≡ text_old ++ summary_text summary → AddsText text_old text_new
 text_summed summary text_old text_new is = λ written. adds_answer _ _ (summary_line summary) (summary_is_one_line summary) (added_text written text_old text_new _ is)

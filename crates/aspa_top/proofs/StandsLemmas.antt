@@ -1,5 +1,5 @@
 -- How the working state goes on standing for the evaluation of the lines so far.
-use Rattle.std.proofs.Common.{true≢false, ◌≡◌, ◌≢◌, ℕ, ◌+◌, ◌*◌, ◌-◌, ◌<◌, ◌≤◌, ◌⊎◌, inl, inr, Bool, true, false, cond, nat_eq, is_some, ◌&&◌, ◌||◌, List, [], ◌∷◌, ◌++◌, None, Some, Ok, Err, refl, sym, ◌∙◌, ap, subst, arith}
+use Rattle.std.proofs.Common.{true≢false, ◌≡◌, ◌≢◌, ℕ, ◌+◌, ◌*◌, ◌-◌, ◌<◌, ◌≤◌, ◌⊎◌, inl, inr, Bool, true, false, cond, nat_eq, is_some, ◌&&◌, ◌||◌, List, [], ◌∷◌, ◌++◌, None, Some, refl, sym, ◌∙◌, ap, subst, arith}
 use Rattle.std.specs.Cmp.Lexicographic.{pointwise, nat_list_eq_equiv}
 use Rattle.std.specs.Io.KnownBytes.{append_known, prepend_known}
 use Rattle.std.specs.declared.option.Option.{Option}
@@ -19,10 +19,9 @@ use Rattle.stream_lines.specs.Frames.{Leaves}
 use Rattle.stream_lines.specs.Holding.{HoldsDump}
 use Rattle.stream_lines.specs.Streams.{Dump}
 use Rattle.stream_lines.specs.Held.{HeldDump}
-use Rattle.stream_lines.proofs.FrameLemmas.{Leaves-refl}
 use Rattle.aspa_top.specs.declared.working.Working.{Working}
 use Rattle.aspa_top.specs.declared.loading.FileKind.{FileKind}
-use Rattle.aspa_top.specs.Tasks.{State, Loads, LoadsUnless, same_name, is_stream, is_taken, Refuses}
+use Rattle.aspa_top.specs.Tasks.{State, Loads, LoadsUnless, same_name, is_stream, is_taken}
 use Rattle.aspa_top.specs.Evaluation.{counted, Does}
 use Rattle.aspa_top.specs.Performing.{HoldsOr, IsSound, StandsFor, Steps, counted_in, dump_in, has_source, has_stream, most}
 use Rattle.aspa_top.specs.World.{Links, World, Tells, ending}

@@ -1,5 +1,5 @@
 -- A file of payloads or a SLURM file that a line names.
-use Rattle.std.proofs.Common.{◌≡◌, ℕ, ◌+◌, ◌-◌, ◌≤◌, ◌<◌, Bool, true, false, cond, is_some, List, [], ◌++◌, Some, Ok, Err, refl, sym, ◌∙◌, ap, subst, append-nil, arith}
+use Rattle.std.proofs.Common.{◌≡◌, ℕ, ◌+◌, ◌≤◌, Bool, true, false, cond, List, [], ◌++◌, Some, refl, sym, ◌∙◌, ap, subst, append-nil, arith}
 use Rattle.std.specs.declared.option.Option.{Option}
 use Rattle.std.specs.Io.KnownBytes.{append_known}
 use Rattle.std.specs.declared.result.Result.{Result}
@@ -28,7 +28,7 @@ use Rattle.aspa_top.specs.Loading.{ComesOf, unit_name}
 use Rattle.aspa_top.specs.LoadingSteps.{ComesTold}
 use Rattle.aspa_top.specs.Tasks.{State, Refuses, TakesFile, Loads, LoadsUnless, is_taken, same_name, with_name}
 use Rattle.aspa_top.specs.Evaluation.{Does}
-use Rattle.aspa_top.specs.Performing.{Acted, ActedWithin, Goes, Happened, Held, HoldsOr, IsSound, IsTakenIn, LoadsAs, NamesBy, StandsFor, TickedLoad, dump_in, has_source}
+use Rattle.aspa_top.specs.Performing.{Acted, ActedWithin, Goes, Held, HoldsOr, IsTakenIn, LoadsAs, NamesBy, StandsFor, TickedLoad, dump_in, has_source}
 use Rattle.aspa_top.specs.World.{Links, World, Tells, ending}
 use Rattle.aspa_top.proofs.StandsLemmas.{Loads-ending, StandsFor-leaves, added_text, same_stream}
 use Rattle.aspa_top.proofs.TaskLemmas.{some_load}

@@ -3,7 +3,6 @@ use Rattle.std.proofs.Common.{◌≡◌, ℕ, ◌+◌, Bool, true, false, ◌||�
 use Rattle.std.specs.FinMap as fin
 use Rattle.std.specs.declared.option.Option.{Option}
 use Rattle.std.specs.Option.{unwrap_or}
-use Rattle.path_model.specs.declared.role.Role.{Role}
 use Rattle.path_model.specs.declared.key.Key.{Key}
 use Rattle.path_model.specs.declared.verdict.Verdict.{Verdict}
 use Rattle.path_model.specs.declared.witness.Witness.{Witness}
@@ -49,7 +48,7 @@ use Rattle.aspa_top.specs.declared.task.Short.{Short as ShortTask}
 use Rattle.aspa_top.specs.declared.task.Short.TheVariants.{Idle, Happen, Judge, Summary as SumUp, Why}
 use Rattle.aspa_top.specs.declared.task.Task.{Task}
 use Rattle.aspa_top.specs.declared.task.Task.TheVariants.{Short, Load, Open, Take, Connect, OnFeed, Report, Changes}
-use Rattle.aspa_top.specs.Tasks.{State, Causes, Holds, TakesFile, LoadsUnless, OpensNamed, TakesOpen, TakesNamed, Works, ConnectsUnless, IsJudged, Reports, SumsUp, ShowsChanges, ExplainsRoute, DoesShort, DoesTask, is_stream, is_taken, with_name, asking_of, asking_on, feeds_of, with_feeds, taking_of, after_taking}
+use Rattle.aspa_top.specs.Tasks.{State, Causes, Holds, TakesFile, LoadsUnless, OpensNamed, TakesOpen, TakesNamed, Works, ConnectsUnless, Reports, SumsUp, ShowsChanges, ExplainsRoute, DoesShort, DoesTask, is_stream, is_taken, with_name, asking_of, asking_on, feeds_of, with_feeds, taking_of, after_taking}
 use Rattle.aspa_top.specs.World.{World}
 use Rattle.aspa_top.proofs.JudgedLemmas.{IsJudged-unique}
 use Rattle.aspa_top.proofs.OutcomeLemmas.{some_outcome, outcome_unique}

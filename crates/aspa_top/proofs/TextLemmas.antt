@@ -28,7 +28,6 @@ use Rattle.report_text.specs.Summary.{summary_line, summary_text}
 use Rattle.report_text.specs.Why.{why_line, why_text}
 use Rattle.report_text.proofs.AnswerLemmas.{row_is_one_line, change_is_one_line, summary_is_one_line, reason_is_one_line}
 use Rattle.analyser.specs.declared.event.Event.{Event}
-use Rattle.analyser.specs.declared.event.Event.TheVariants.{Table as TableEvent}
 use Rattle.script_lines.specs.declared.command.Command.{Command}
 use Rattle.script_lines.specs.declared.command.LineFault.{LineFault}
 use Rattle.rib_store.specs.declared.journal.ChangedKey.{ChangedKey}

@@ -1,9 +1,8 @@
 -- The words that the program is called with.
-use Rattle.std.proofs.Common.{◌≡◌, ◌⊎◌, inl, inr, ℕ, ◌<◌, ◌≤◌, List, [], ◌∷◌, length, map, sym, ap, ◌∙◌, arith, subst, IsTrue, ◌↔◌, Bool, codes, get_or}
+use Rattle.std.proofs.Common.{◌≡◌, inl, inr, ℕ, ◌<◌, ◌≤◌, List, [], ◌∷◌, length, map, sym, ap, ◌∙◌, arith, IsTrue, ◌↔◌, Bool, codes, get_or}
 use Rattle.std.proofs.lemmas.Fmt.{decimal_injective}
 use Rattle.std.proofs.lemmas.Slice.Eq.{bytes_eq-Decides}
 use Rattle.std.specs.Str.{bytes_eq}
-use Rattle.av_text.specs.Number.{IsNumber}
 use Rattle.aspa_top.specs.Program.{AreOwn, IsDemo, IsEnding, IsRun}
 
 -- a list of one item

@@ -8,7 +8,7 @@ use Rattle.feed_lines.specs.Lines.{World as Ends}
 use Rattle.aspa_top.specs.declared.task.Task.{Task}
 use Rattle.aspa_top.specs.declared.working.Working.{Working}
 use Rattle.aspa_top.specs.Tasks.{State, DoesTask}
-use Rattle.aspa_top.specs.Performing.{MovesPart, StandsFor, dump_in, has_source, most}
+use Rattle.aspa_top.specs.Performing.{MovesPart, StandsFor, dump_in, most}
 use Rattle.aspa_top.specs.World.{ComesTo, Links, World, ending}
 
 -- after so many lines each feed that goes on has a connection of its own that may be used, and hasn't taken too many PDUs

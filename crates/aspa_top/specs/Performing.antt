@@ -2,12 +2,12 @@
 use Rattle.std.specs.Prelude.{◌≡◌, ◌≢◌, ℕ, ◌+◌, ◌-◌, ◌*◌, ◌<◌, ◌≤◌, nat_eq, is_some, Bool, true, false, ◌||◌, ◌⊎◌, cond, List, ◌++◌, length}
 use Rattle.std.specs.Cmp.Lexicographic.{pointwise}
 use Rattle.std.specs.declared.result.Result.{Result}
-use Rattle.std.specs.declared.result.Result.TheVariants.{Ok, Err}
+use Rattle.std.specs.declared.result.Result.TheVariants.{Ok}
 use Rattle.std.specs.declared.option.Option.{Option}
 use Rattle.std.specs.declared.option.Option.TheVariants.{Some, None}
 use Rattle.std.specs.Io.KnownBytes.{append_known}
-use Rattle.indexmap.specs.IndexMap.{IndexMap, get}
-use Rattle.indexmap.specs.IndexSet.{IndexSet, contains}
+use Rattle.indexmap.specs.IndexMap.{get}
+use Rattle.indexmap.specs.IndexSet.{contains}
 use Rattle.av_base.specs.Connections.{Attempt, ToldLater}
 use Rattle.av_base.specs.Files.{Files}
 use Rattle.feed_lines.specs.Holding.{AddsAttempts, feed_in}
@@ -42,7 +42,7 @@ use Rattle.aspa_top.specs.declared.task.Task.{Task}
 use Rattle.aspa_top.specs.declared.task.Task.TheVariants.{Short, Load, Open, Take, Connect, OnFeed, Report, Changes}
 use Rattle.aspa_top.specs.declared.working.Working.{Working}
 use Rattle.aspa_top.specs.World.{ComesTo, Links, World, Tells, ending}
-use Rattle.aspa_top.specs.Tasks.{State, start, same_name, feeds_of, IsJudged, Loads, DoesShort, DoesTask, Moves}
+use Rattle.aspa_top.specs.Tasks.{State, start, same_name, feeds_of, IsJudged, Loads, DoesShort, Moves}
 use Rattle.aspa_top.specs.Evaluation.{Does, Evaluates, UsesFile, task_of}
 
 -- the most units that a line takes

@@ -1,4 +1,4 @@
-use Rattle.std.proofs.Common.{◌≡◌, ℕ, ◌+◌, ◌-◌, ◌≤◌, List, Ok, inl, inr, refl, sym, ap, subst, ◌∙◌, arith}
+use Rattle.std.proofs.Common.{ℕ, List, Ok, inl, inr, refl, sym, ap, subst, ◌∙◌, arith}
 use Rattle.std.specs.Io.KnownBytes.{append_known}
 use Rattle.report_text.specs.Refusals.{of_line}
 use Rattle.report_text.specs.Reported.{AddsQuiet}
@@ -37,4 +37,4 @@ returns-then-is_over-clause-adds g c = text_refused _ of_line 38 _ _ tt c.in_ok-
 
 pub returns-in_err-refuse-clause-adds : goal.returns-in_err-refuse-clause-adds
 returns-in_err-refuse-clause-adds g c =
-    subst (λ (t : List ℕ). AddsQuiet _ (append_known (g.W.Sink.written c.args.out.now) t)) (sym c.in_err-refuse.ensures.err) (text_none _ (g.W.Sink.written c.args.out.now))
+    subst (λ (t : List ℕ). AddsQuiet (append_known (g.W.Sink.written c.args.out.now) c.args.text.now.items) (append_known (g.W.Sink.written c.args.out.now) t)) (sym c.in_err-refuse.ensures.err) (text_none _ (g.W.Sink.written c.args.out.now))

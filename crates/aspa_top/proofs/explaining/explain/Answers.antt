@@ -1,4 +1,3 @@
-use Rattle.std.proofs.Common.{refl}
 use Rattle.report_text.specs.Refusals.{of_line}
 use Rattle.aspa_top.proofs.ReportingLemmas.{text_explained, text_refused}
 use Rattle.aspa_top.proofs.ShortLemmas.{explained, unknown}

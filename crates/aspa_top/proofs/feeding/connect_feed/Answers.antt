@@ -1,6 +1,5 @@
-use Rattle.std.proofs.Common.{◌≡◌, ◌+◌, ◌-◌, ◌*◌, ◌≤◌, refl, sym, ◌∙◌, arith, rules}
+use Rattle.std.proofs.Common.{refl, sym, ◌∙◌, arith, rules}
 use Rattle.report_text.specs.Refusals.{of_line}
-use Rattle.aspa_top.specs.Performing.{most}
 use Rattle.aspa_top.proofs.FeedLemmas.{connect_refused, connect_stopped, connected, feeds_refused, keeps_refused, sound_weaker, stopped_at_once}
 use Rattle.aspa_top.proofs.PerformingLemmas.{on_err}
 use Rattle.aspa_top.proofs.ReportingLemmas.{ends_quiet, text_refused, told_adds}
@@ -52,6 +51,6 @@ returns g c =
       later = record { attempts = goes.attempts; wire = goes.links };
       adds =
           let told = c.in_ok-next.ensures.tells in
-          told_adds _ c.args.name.now _ _ told.0 _ _ c.text-name.ensures.is_name told.1.1.later told.1.1.rose told.1.0;
+          told_adds _ c.args.name.now _ _ told.0 _ _ c.text-name.ensures.is_name told.2.later told.2.rose told.1;
       faults = c.connect.ensures.faults;
     }

@@ -1,6 +1,4 @@
-use Rattle.std.proofs.Common.{◌≡◌, ◌+◌, ◌-◌, ◌*◌, ◌≤◌, refl, arith, rules}
-use Rattle.feed_lines.specs.Lines.{units_of}
-use Rattle.aspa_top.specs.Performing.{most}
+use Rattle.std.proofs.Common.{refl, arith, rules}
 use Rattle.aspa_top.proofs.FeedLemmas.{sound_weaker, work_stopped, worked}
 use Rattle.aspa_top.proofs.PerformingLemmas.{on_err}
 use Rattle.aspa_top.proofs.ReportingLemmas.{told_adds}
@@ -29,6 +27,6 @@ returns g c =
       later = record { attempts = goes.attempts; wire = goes.links };
       adds =
           let told = c.in_ok-next.ensures.tells in
-          told_adds _ c.args.name.now _ _ told.0 _ _ c.text-name.ensures.is_name c.work.ensures.faults (λ same. absurd (told.1.1 same)) told.1.0;
+          told_adds _ c.args.name.now _ _ told.0 _ _ c.text-name.ensures.is_name c.work.ensures.faults (λ same. absurd (told.2 same)) told.1;
       faults = c.work.ensures.faults;
     }

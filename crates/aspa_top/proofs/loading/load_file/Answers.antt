@@ -1,4 +1,4 @@
-use Rattle.std.proofs.Common.{◌≡◌, ◌≤◌, arith}
+use Rattle.std.proofs.Common.{arith}
 use Rattle.stream_lines.proofs.FrameLemmas.{Leaves-opens, Leaves-trans, Leaves-weaker}
 use Rattle.aspa_top.proofs.LoadingLemmas.{file_within, file_beyond}
 use Rattle.aspa_top.proofs.loading.load_file.Goals as goal

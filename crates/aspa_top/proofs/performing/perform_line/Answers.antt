@@ -1,4 +1,4 @@
-use Rattle.std.proofs.Common.{◌≡◌, ◌+◌, ◌≤◌, Ok, Err, refl, ap, arith, rules}
+use Rattle.std.proofs.Common.{◌≡◌, Ok, Err, refl, ap, arith, rules}
 use Rattle.std.specs.Io.KnownBytes.{append_known}
 use Rattle.script_lines.specs.declared.command.Command.TheVariants.{Idle}
 use Rattle.script_lines.specs.declared.command.LineFault.TheVariants.{NoMemory}
@@ -81,7 +81,7 @@ returns-in-Ok-Idle g c =
     record {
       goes = record {
         reading = Ok Idle;
-        reads = c.in-Ok-Idle.ensures (λ none. cc);
+        reads = rw c.in-Ok-Idle.field-0-is at (c.in-Ok-Idle.ensures (λ none. cc));
         holds = short_goes counted counted Idle Nothing _ _ _ _ refl (idle counted _ _) _ _ (g.W.Sink.written c.args.out.now);
       };
       sound = IsSound-kept _ _ c.args.working.lines _ c.args.working counted (omega arith) (omega arith) c.requires.sound (λ q. refl) (omega arith) (omega arith);

@@ -1,4 +1,4 @@
-use Rattle.std.proofs.Common.{◌≡◌, ℕ, List, Some, subst, map}
+use Rattle.std.proofs.Common.{ℕ, List, subst, map}
 use Rattle.std.specs.declared.option.Option.{Option}
 use Rattle.std.specs.String.{string_bytes}
 use Rattle.report_text.specs.Reported.{AddsFront}

@@ -1,8 +1,8 @@
-use Rattle.std.proofs.Common.{◌≡◌, refl, ap, ◌∙◌}
+use Rattle.std.proofs.Common.{ap, ◌∙◌}
 use Rattle.rib_store.specs.State.{State as Analysis}
 use Rattle.aspa_top.proofs.PerformingLemmas.{on_err}
 use Rattle.aspa_top.proofs.ReportingLemmas.{text_judged, text_none, text_summed}
-use Rattle.aspa_top.proofs.ShortLemmas.{idle, happened, judged, summed, kept_all, kept_happened, event_ticked, judge_ticked, none_ticked}
+use Rattle.aspa_top.proofs.ShortLemmas.{idle, happened, judged, summed, event_ticked, judge_ticked, none_ticked}
 use Rattle.aspa_top.proofs.short.perform_short.Goals as goal
 
 pub returns-in-Idle-clause-done : goal.returns-in-Idle-clause-done

@@ -1,4 +1,4 @@
-use Rattle.std.proofs.Common.{◌≡◌, ◌+◌, ◌-◌, ◌≤◌, refl, ap, arith}
+use Rattle.std.proofs.Common.{arith}
 use Rattle.report_text.specs.Refusals.{of_line}
 use Rattle.stream_lines.proofs.FrameLemmas.{Leaves-refl}
 use Rattle.aspa_top.proofs.StandsLemmas.{IsSound-same, IsSound-kept}

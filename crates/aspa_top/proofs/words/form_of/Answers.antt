@@ -1,4 +1,4 @@
-use Rattle.std.proofs.Common.{◌≡◌, ap, ◌∙◌, sym, subst, map, List, ℕ, [], ◌∷◌}
+use Rattle.std.proofs.Common.{ap, ◌∙◌, sym, subst, map, List, ℕ, [], ◌∷◌}
 use Rattle.std.specs.String.{string_bytes}
 use Rattle.aspa_top.specs.Program.{AreOwn}
 use Rattle.aspa_top.proofs.WordsLemmas.{one_item, two_items, run_word, two_other}

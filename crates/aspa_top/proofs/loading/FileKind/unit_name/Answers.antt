@@ -8,5 +8,5 @@ returns-in-Payloads-clause-in_line c = rw c.in-Payloads.is (names_in_line _ c.te
 pub returns-in-PayloadLines-clause-in_line : goal.returns-in-PayloadLines-clause-in_line
 returns-in-PayloadLines-clause-in_line c = rw c.in-PayloadLines.is (names_in_line _ c.text-in-PayloadLines.ensures.is_name)
 
-pub returns-clause-in_line : goal.returns-clause-in_line
-returns-clause-in_line c = rw c.in-Slurm.is slurm-in_line
+pub returns-in-Slurm-clause-in_line : goal.returns-in-Slurm-clause-in_line
+returns-in-Slurm-clause-in_line c = rw c.in-Slurm.is slurm-in_line
