@@ -90,7 +90,7 @@ fn reads_slurm_files(rt: HostRuntime) {
 #[test]
 fn refuses_slurm_files_by_the_first_cause(rt: HostRuntime) {
     let alloc = rt.alloc();
-    let files: [(&[u8], SlurmFault); 9] = [
+    let files: [(&[u8], SlurmFault); 10] = [
         (b"", SlurmFault::Json),
         (b"\xFF", SlurmFault::Json),
         (b"{}}", SlurmFault::Json),
@@ -100,6 +100,11 @@ fn refuses_slurm_files_by_the_first_cause(rt: HostRuntime) {
         (b"{\"slurmVersion\":2.0}", SlurmFault::Version),
         (b"{\"slurmVersion\":\"2\"}", SlurmFault::Version),
         (b"{\"slurmVersion\":1}", SlurmFault::Member),
+        // A member of the file's own that isn't listed.
+        (
+            b"{\"slurmVersion\":2,\"validationOutputFilters\":{\"prefixFilters\":[],\"bgpsecFilters\":[],\"aspaFilters\":[]},\"locallyAddedAssertions\":{\"prefixAssertions\":[],\"bgpsecAssertions\":[],\"aspaAssertions\":[]},\"x\":1}",
+            SlurmFault::Member,
+        ),
     ];
     for (bytes, fault) in files {
         assert_eq!(rt; fault_of(read(alloc, bytes)), Some(fault));

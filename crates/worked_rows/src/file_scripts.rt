@@ -77,7 +77,7 @@ const PAYLOADS: [FileRow; 10] = [
 const AMENDED: &[u8] =
     b"aspa a f\nslurm g\njudge customer 64499 64499 64496\njudge customer 64497 64497 64496\n";
 
-const AMENDMENTS: [FileRow; 3] = [
+const AMENDMENTS: [FileRow; 6] = [
     (
         AMENDED,
         &[("f", &[ONE]), ("g", &[SLURM])],
@@ -88,6 +88,49 @@ const AMENDMENTS: [FileRow; 3] = [
         AMENDED,
         &[("f", &[ONE]), ("g", &[b"{"])],
         b"! line 2 slurm unit 1 cause 11 Json\ninvalid\nvalid\n",
+        1,
+    ),
+    // The same file in version 3, with a member more, and with an AS that is too large: nothing of it takes effect.
+    (
+        AMENDED,
+        &[
+            ("f", &[ONE]),
+            (
+                "g",
+                &[
+                    b"{\"slurmVersion\":3,\"validationOutputFilters\":{\"prefixFilters\":[],\"bgpsecFilters\":[],\"aspaFilters\":[{\"customerAsn\":64496}]},\"locallyAddedAssertions\":{\"prefixAssertions\":[],\"bgpsecAssertions\":[],\"aspaAssertions\":[{\"customerAsn\":64496,\"providerAsns\":[64499]}]}}",
+                ],
+            ),
+        ],
+        b"! line 2 slurm unit 1 cause 12 Version\ninvalid\nvalid\n",
+        1,
+    ),
+    (
+        AMENDED,
+        &[
+            ("f", &[ONE]),
+            (
+                "g",
+                &[
+                    b"{\"slurmVersion\":2,\"validationOutputFilters\":{\"prefixFilters\":[],\"bgpsecFilters\":[],\"aspaFilters\":[{\"customerAsn\":64496}]},\"locallyAddedAssertions\":{\"prefixAssertions\":[],\"bgpsecAssertions\":[],\"aspaAssertions\":[{\"customerAsn\":64496,\"providerAsns\":[64499]}]},\"x\":1}",
+                ],
+            ),
+        ],
+        b"! line 2 slurm unit 1 cause 13 Member\ninvalid\nvalid\n",
+        1,
+    ),
+    (
+        AMENDED,
+        &[
+            ("f", &[ONE]),
+            (
+                "g",
+                &[
+                    b"{\"slurmVersion\":2,\"validationOutputFilters\":{\"prefixFilters\":[],\"bgpsecFilters\":[],\"aspaFilters\":[{\"customerAsn\":4294967296}]},\"locallyAddedAssertions\":{\"prefixAssertions\":[],\"bgpsecAssertions\":[],\"aspaAssertions\":[{\"customerAsn\":64496,\"providerAsns\":[64499]}]}}",
+                ],
+            ),
+        ],
+        b"! line 2 slurm unit 1 cause 14 Number\ninvalid\nvalid\n",
         1,
     ),
     (
