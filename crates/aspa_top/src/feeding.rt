@@ -1,5 +1,6 @@
 //! `feed`, `ask` and `sync`, and `take` on a feed.
 ghost use Rattle.std.specs.Prelude.{◌≡◌, ℕ, ◌*◌, ◌-◌, ◌^◌, ◌<◌, ◌≤◌, IfOk, OnOk, OnErr};
+ghost use Rattle.feed_lines.specs.Faults.{BreaksByFault};
 ghost use Rattle.feed_lines.specs.Lines.{units_of};
 ghost use Rattle.aspa_top.specs.declared.task.Task.TheVariants.{Connect, OnFeed};
 ghost use Rattle.aspa_top.specs.Feeding.{AreSound, DoesOn, KeepsDumps, StopsOn};
@@ -42,7 +43,8 @@ pub(crate) fn connect_feed<K: Links>(
     ensures later { GoesOn (linked (K.attempts links.old) (K.wire links.old))
         (linked (K.attempts links.new) (K.wire links.new)) }
     ensures adds { OnOk result (AddsEnds text.old.items text.new.items (K.faults links.old) (K.faults links.new)) }
-    ensures faults { K.faults links.old ≤ K.faults links.new }
+    ensures broke { BreaksByFault (K.faults links.old) (K.faults links.new)
+        (K.standings links.old) (K.standings links.new) }
 {
     if working.is_no_feeds(name) {
         return Ok(refuse(working, Place::Line, 35, text)?);
@@ -107,7 +109,8 @@ pub(crate) fn work_on<K: Links, L: Ledger>(
     ensures later { GoesOn (linked (K.attempts links.old) (K.wire links.old))
         (linked (K.attempts links.new) (K.wire links.new)) }
     ensures adds { OnOk result (AddsEnds text.old.items text.new.items (K.faults links.old) (K.faults links.new)) }
-    ensures faults { K.faults links.old ≤ K.faults links.new }
+    ensures broke { BreaksByFault (K.faults links.old) (K.faults links.new)
+        (K.standings links.old) (K.standings links.new) }
 {
     // it comes with what stands in a name
     let _name = name.text();

@@ -2,6 +2,7 @@
 ghost use Rattle.std.specs.Prelude.{◌≡◌, ◌≢◌, ◌+◌, ◌-◌, ◌^◌, ◌<◌, ◌≤◌, length, Ok, Err, IfOk, OnOk, OnErr, IsErrOf};
 ghost use Rattle.std.specs.Io.KnownBytes.{append_known};
 ghost use Rattle.av_base.specs.Told.{Grows, Rose};
+ghost use Rattle.feed_lines.specs.Faults.{BreaksByFault};
 ghost use Rattle.report_text.specs.Refusals.{IsCause};
 ghost use Rattle.report_text.specs.Reported.{AddsFront, AddsLines};
 ghost use Rattle.aspa_top.specs.Evaluation.{line_cause as number_of};
@@ -65,6 +66,8 @@ pub(crate) fn perform_line<F: Shelf, K: Links, W: Sink, L: Ledger>(
     ensures grows { Grows (W.written out.old) (W.written out.new) }
     ensures later { GoesOn (linked (K.attempts links.old) (K.wire links.old))
         (linked (K.attempts links.new) (K.wire links.new)) }
+    ensures broke { BreaksByFault (K.faults links.old) (K.faults links.new)
+        (K.standings links.old) (K.standings links.new) }
     ensures names { names_of (F.files shelf.new) ≡ names_of (F.files shelf.old) }
     ensures shelf_faults { F.faults shelf.old ≤ F.faults shelf.new }
     ensures sink_faults { W.faults out.old ≤ W.faults out.new }
@@ -131,6 +134,8 @@ fn perform_command<F: Shelf, K: Links, W: Sink, L: Ledger>(
     ensures grows { Grows (W.written out.old) (W.written out.new) }
     ensures later { GoesOn (linked (K.attempts links.old) (K.wire links.old))
         (linked (K.attempts links.new) (K.wire links.new)) }
+    ensures broke { BreaksByFault (K.faults links.old) (K.faults links.new)
+        (K.standings links.old) (K.standings links.new) }
     ensures names { names_of (F.files shelf.new) ≡ names_of (F.files shelf.old) }
     ensures shelf_faults { F.faults shelf.old ≤ F.faults shelf.new }
     ensures sink_faults { W.faults out.old ≤ W.faults out.new }

@@ -3,6 +3,7 @@ ghost use Rattle.std.specs.Prelude.{◌≡◌, ◌≢◌, ◌+◌, ◌<◌, ◌�
 ghost use Rattle.std.specs.String.{string_bytes};
 ghost use Rattle.std.specs.Io.KnownBytes.{IsAtEnd};
 ghost use Rattle.av_base.specs.Told.{Rose};
+ghost use Rattle.feed_lines.specs.Faults.{BreaksByFault};
 ghost use Rattle.report_text.specs.Reported.{AddsFront, IsWithinRise, unreachables_in};
 ghost use Rattle.aspa_top.specs.Program.{AreOwn, Completes, Demonstrates, IsDemo, IsEnding, IsRun, IsStatus, Ran, RanIfTold};
 ghost use Rattle.aspa_top.specs.World.{Meets, World, linked, names_of};
@@ -81,6 +82,10 @@ pub fn run<S: Source, F: Shelf, K: Links, W: Sink, L: Ledger>(
         → W.written out.old ≡ Some before → W.written out.new ≡ Some (before ++ text)
         → IsWithinRise (unreachables_in text) (K.faults links.old) (K.faults links.new) }
 
+    // Whatever is told: where a connection broke, the links' count of faults rose, or stands at its last value.
+    ensures unbroken { BreaksByFault (K.faults links.old) (K.faults links.new)
+        (K.standings links.old) (K.standings links.new) }
+
     // Counts of faults don't fall, and the names of the shelf stay as they are.
     ensures script_faults { S.faults script.old ≤ S.faults script.new }
     ensures sink_faults { W.faults out.old ≤ W.faults out.new }
@@ -113,6 +118,8 @@ fn run_script<S: Source, F: Shelf, K: Links, W: Sink, L: Ledger>(
         × (shelf.new ≡ shelf.old) × (links.new ≡ links.old) × (steps.new ≡ steps.old))
         ⊎ Rose (F.faults shelf.old) (F.faults shelf.new) }
     ensures reported { AddsFront (W.written out.old) (W.written out.new) (K.faults links.old) (K.faults links.new) }
+    ensures broke { BreaksByFault (K.faults links.old) (K.faults links.new)
+        (K.standings links.old) (K.standings links.new) }
     ensures sink_cause { result ≡ 4 → Rose (W.faults out.old) (W.faults out.new) }
     ensures complete { Completes SCRIPT_LIMIT (S.left script.old)
         (Rose (S.faults script.old) (S.faults script.new)) (Rose (F.faults shelf.old) (F.faults shelf.new))
@@ -153,6 +160,8 @@ fn run_whole<F: Shelf, K: Links, W: Sink, L: Ledger>(
     ensures known { (result ≡ 0) ⊎ (result ≡ 1) ⊎ (result ≡ 3) ⊎ (result ≡ 4) ⊎ (result ≡ 5) }
     ensures shelf_cause { result ≡ 3 → Rose (F.faults shelf.old) (F.faults shelf.new) }
     ensures reported { AddsFront (W.written out.old) (W.written out.new) (K.faults links.old) (K.faults links.new) }
+    ensures broke { BreaksByFault (K.faults links.old) (K.faults links.new)
+        (K.standings links.old) (K.standings links.new) }
     ensures sink_cause { result ≡ 4 → Rose (W.faults out.old) (W.faults out.new) }
     ensures sink_faults { W.faults out.old ≤ W.faults out.new }
     ensures names { names_of (F.files shelf.new) ≡ names_of (F.files shelf.old) }
@@ -184,6 +193,8 @@ fn run_front<F: Shelf, K: Links, W: Sink, L: Ledger>(
     ensures known { (result ≡ 6) ⊎ (result ≡ 3) ⊎ (result ≡ 4) ⊎ (result ≡ 5) }
     ensures shelf_cause { result ≡ 3 → Rose (F.faults shelf.old) (F.faults shelf.new) }
     ensures reported { AddsFront (W.written out.old) (W.written out.new) (K.faults links.old) (K.faults links.new) }
+    ensures broke { BreaksByFault (K.faults links.old) (K.faults links.new)
+        (K.standings links.old) (K.standings links.new) }
     ensures sink_cause { result ≡ 4 → Rose (W.faults out.old) (W.faults out.new) }
     ensures sink_faults { W.faults out.old ≤ W.faults out.new }
     ensures names { names_of (F.files shelf.new) ≡ names_of (F.files shelf.old) }

@@ -1,6 +1,7 @@
 pub mod ConnectingLemmas
 pub mod ConnectionLemmas
 pub mod CountingLemmas
+pub mod FaultsLemmas
 pub mod GoingLemmas
 pub mod LawLemmas
 pub mod LineLemmas

@@ -1,4 +1,5 @@
 pub mod Connection
+pub mod Faults
 pub mod Feeds
 pub mod Holding
 pub mod Laws

@@ -1,7 +1,8 @@
 //! Asking a connection for its next PDU.
-ghost use Rattle.std.specs.Prelude.{◌≡◌, ℕ, ◌<◌, ◌≤◌, List, ◌++◌, length, IfOk};
+ghost use Rattle.std.specs.Prelude.{◌≡◌, ℕ, ◌<◌, List, ◌++◌, length, IfOk};
 ghost use Rattle.av_base.specs.Connections.{IsUsable};
 ghost use Rattle.feed_lines.specs.Connection.{Has, Now};
+ghost use Rattle.feed_lines.specs.Faults.{BreaksByFault};
 ghost use Rattle.feed_lines.specs.Moves.{Answers, AnswersTurn, Grows, KeepsSent, Only, RefusesNow, StaysUsable, TurnsUsable};
 
 use crate::telling::{Cause, refusal};
@@ -39,7 +40,8 @@ pub(crate) fn next_pdu<K: Links>(
     ensures only { Only link (K.wire links.old) (K.wire links.new)
         (K.standings links.old) (K.standings links.new) }
     ensures attempts { K.attempts links.new ≡ K.attempts links.old }
-    ensures faults { K.faults links.old ≤ K.faults links.new }
+    ensures broke { BreaksByFault (K.faults links.old) (K.faults links.new)
+        (K.standings links.old) (K.standings links.new) }
 {
     let mut framer = framer;
     'pieces: loop {
@@ -67,7 +69,8 @@ fn receive<K: Links>(framer: Framer, link: u32, links: &mut K) -> Result<Turn, N
     ensures only { Only link (K.wire links.old) (K.wire links.new)
         (K.standings links.old) (K.standings links.new) }
     ensures attempts { K.attempts links.new ≡ K.attempts links.old }
-    ensures faults { K.faults links.old ≤ K.faults links.new }
+    ensures broke { BreaksByFault (K.faults links.old) (K.faults links.new)
+        (K.standings links.old) (K.standings links.new) }
 {
     let mut buffer = [0u8; PIECE];
     match links.recv(link, &mut buffer) {

@@ -1,9 +1,10 @@
 //! Starting a feed.
-ghost use Rattle.std.specs.Prelude.{◌≡◌, ◌≢◌, ℕ, ◌+◌, ◌^◌, ◌<◌, ◌≤◌, [], Some, None, length, IfOk, OnErr};
+ghost use Rattle.std.specs.Prelude.{◌≡◌, ◌≢◌, ℕ, ◌+◌, ◌^◌, ◌<◌, [], Some, None, length, IfOk, OnErr};
 ghost use Rattle.av_base.specs.Connections.{IsUsable, ToldLater};
 ghost use Rattle.report_text.specs.declared.feed.FeedEnd.TheVariants.{Unreachable};
 ghost use Rattle.feed_lines.specs.declared.telling.Telling.TheVariants.{End as FeedEnds};
 ghost use Rattle.feed_lines.specs.Connection.{Has, Now, Spares};
+ghost use Rattle.feed_lines.specs.Faults.{BreaksByFault};
 ghost use Rattle.feed_lines.specs.Moves.{Only};
 ghost use Rattle.feed_lines.specs.Feeds.{query_bytes};
 ghost use Rattle.feed_lines.specs.Holding.{IsCounted, IsNoFeeds, IsSound};
@@ -42,6 +43,8 @@ pub(crate) fn connect_named<K: Links>(
         → IsSound (K.standings links.new) most feeds.new) }
     ensures counted { IfOk result (λ told.
         IsCounted (K.faults links.old) (K.faults links.new) told) }
+    ensures broke { BreaksByFault (K.faults links.old) (K.faults links.new)
+        (K.standings links.old) (K.standings links.new) }
 {
     let query = spell_query(alloc, Query::Reset)?;
     let old = hold(feeds, name)?;
@@ -58,7 +61,8 @@ fn close<K: Links>(slot: Option<OpenFeed>, links: &mut K)
     ensures spares { Spares (IsApart slot) (K.wire links.old) (K.wire links.new)
         (K.standings links.old) (K.standings links.new) }
     ensures attempts { K.attempts links.new ≡ K.attempts links.old }
-    ensures faults { K.faults links.old ≤ K.faults links.new }
+    ensures broke { BreaksByFault (K.faults links.old) (K.faults links.new)
+        (K.standings links.old) (K.standings links.new) }
 {
     match slot {
         Some(feed) => links.close(feed.link),
@@ -81,6 +85,8 @@ fn start<K: Links>(
     ensures spares { Spares (λ other. other ≢ length (K.standings links.old))
         (K.wire links.old) (K.wire links.new) (K.standings links.old) (K.standings links.new) }
     ensures counted { IsCounted (K.faults links.old) (K.faults links.new) result.1 }
+    ensures broke { BreaksByFault (K.faults links.old) (K.faults links.new)
+        (K.standings links.old) (K.standings links.new) }
 {
     match links.connect(place) {
         Ok(link) => start_session(alloc, query, link, links),
@@ -104,7 +110,8 @@ fn start_session<K: Links>(
         (K.standings links.old) (K.standings links.new) }
     ensures reached { result.1 ≢ Some (FeedEnds Unreachable) }
     ensures attempts { K.attempts links.new ≡ K.attempts links.old }
-    ensures faults { K.faults links.old ≤ K.faults links.new }
+    ensures broke { BreaksByFault (K.faults links.old) (K.faults links.new)
+        (K.standings links.old) (K.standings links.new) }
 {
     let (session, _query) = Session::new(alloc).ask();
     if send_query(query, link, links) {

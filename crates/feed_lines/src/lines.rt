@@ -5,6 +5,7 @@ ghost use Rattle.report_text.specs.declared.feed.FeedEnd.TheVariants.{Unreachabl
 ghost use Rattle.feed_lines.specs.declared.telling.Telling.{Telling as TellingOf};
 ghost use Rattle.feed_lines.specs.declared.telling.Telling.TheVariants.{End as FeedEnds};
 ghost use Rattle.feed_lines.specs.Connection.{Spares};
+ghost use Rattle.feed_lines.specs.Faults.{BreaksByFault};
 ghost use Rattle.feed_lines.specs.Holding.{AreWithin, Goes, HasMoved, Holds, IsCounted, IsNoFeeds, IsSound};
 ghost use Rattle.feed_lines.specs.Lines.{ConnectLine, ConnectPart, WorkLine, WorkPart, units_of};
 ghost use Rattle.feed_lines.specs.Tellings.{tells_text};
@@ -66,7 +67,7 @@ pub fn connect<K: Links>(
     ensures err { OnErr result (text.new.items ≡ text.old.items) }
 
     // Whatever is told: what it reports, and that a connection which wasn't to be had was a fault.
-    // Connections that no feed has stay as they were.
+    // Connections that no feed has stay as they were, and one breaks only where a fault was counted.
     ensures tells { IfOk result (λ next. (told : Option TellingOf)
         × (text.new.items ≡ text.old.items
         ++ tells_text (record { line = line; name = name.now }) (option_to_list told))
@@ -77,7 +78,8 @@ pub fn connect<K: Links>(
         → IsSound (K.standings links.old) most feeds.old
         → IsSound (K.standings links.new) most feeds.new) }
     ensures few { IfOk result (λ next. next.refused ≤ progress.refused + 1) }
-    ensures faults { K.faults links.old ≤ K.faults links.new }
+    ensures broke { BreaksByFault (K.faults links.old) (K.faults links.new)
+        (K.standings links.old) (K.standings links.new) }
 {
     let told = connect_named(alloc, name, place, feeds, links)?;
     let next = report(line, name, told, progress, text)?;
@@ -122,7 +124,7 @@ pub fn work<K: Links, L: Ledger>(
     ensures err { OnErr result (text.new.items ≡ text.old.items) }
 
     // Whatever is told: what it reports, and nothing of a connection that wasn't to be had.
-    // Connections that no feed has stay as they were.
+    // Connections that no feed has stay as they were, and one breaks only where a fault was counted.
     ensures tells { IfOk result (λ next. (told : Option TellingOf)
         × (text.new.items ≡ text.old.items
         ++ tells_text (record { line = line; name = name.now }) (option_to_list told))
@@ -134,7 +136,8 @@ pub fn work<K: Links, L: Ledger>(
         → IsSound (K.standings links.new) (most + units_of work) feeds.new) }
     ensures few { IfOk result (λ next. next.refused ≤ progress.refused + 1) }
     ensures attempts { K.attempts links.new ≡ K.attempts links.old }
-    ensures faults { K.faults links.old ≤ K.faults links.new }
+    ensures broke { BreaksByFault (K.faults links.old) (K.faults links.new)
+        (K.standings links.old) (K.standings links.new) }
 {
     let Progress { analyser, refused } = progress;
     let (told, analyser) = work_named(alloc, name, work, feeds, analyser, links, steps)?;

@@ -1,6 +1,7 @@
 //! Feeds by their names.
-ghost use Rattle.std.specs.Prelude.{◌≡◌, ◌≢◌, ℕ, ◌+◌, ◌^◌, ◌<◌, ◌≤◌, Some, None, is_some, true, IfOk, IfSome, IfNone, OnOk, OnErr};
+ghost use Rattle.std.specs.Prelude.{◌≡◌, ◌≢◌, ℕ, ◌+◌, ◌^◌, ◌<◌, Some, None, is_some, true, IfOk, IfSome, IfNone, OnOk, OnErr};
 ghost use Rattle.feed_lines.specs.Connection.{Spares};
+ghost use Rattle.feed_lines.specs.Faults.{BreaksByFault};
 ghost use Rattle.report_text.specs.declared.feed.FeedEnd.TheVariants.{Unreachable};
 ghost use Rattle.feed_lines.specs.declared.telling.Telling.TheVariants.{End as FeedEnds};
 ghost use Rattle.feed_lines.specs.Holding.{IsNoFeeds, IsSound, feed_in};
@@ -41,7 +42,8 @@ pub(crate) fn work_named<K: Links, L: Ledger>(
     ensures others { Spares (IsNoFeeds (K.standings links.old) feeds.old)
         (K.wire links.old) (K.wire links.new) (K.standings links.old) (K.standings links.new) }
     ensures attempts { K.attempts links.new ≡ K.attempts links.old }
-    ensures faults { K.faults links.old ≤ K.faults links.new }
+    ensures broke { BreaksByFault (K.faults links.old) (K.faults links.new)
+        (K.standings links.old) (K.standings links.new) }
 {
     match lend(feeds, name) {
         None => Ok((Some(Telling::NoName), analyser)),

@@ -1,8 +1,9 @@
 //! Sending queries and error reports.
-ghost use Rattle.std.specs.Prelude.{◌≡◌, ℕ, ◌≤◌, List, true, IfOk};
+ghost use Rattle.std.specs.Prelude.{◌≡◌, ℕ, List, true, IfOk};
 ghost use Rattle.av_base.specs.Connections.{IsOpen, IsUsable};
 ghost use Rattle.rtr_pdu.specs.Spelled.{IsWritable, spelled};
 ghost use Rattle.feed_lines.specs.Connection.{Has, Now};
+ghost use Rattle.feed_lines.specs.Faults.{BreaksByFault};
 ghost use Rattle.feed_lines.specs.Moves.{Asks, Finishes, Only, Sends};
 ghost use Rattle.feed_lines.specs.Feeds.{query_bytes, report_bytes};
 
@@ -50,7 +51,8 @@ pub(crate) fn send_query<K: Links>(bytes: &[u8], link: u32, links: &mut K) -> bo
     ensures only { Only link (K.wire links.old) (K.wire links.new)
         (K.standings links.old) (K.standings links.new) }
     ensures attempts { K.attempts links.new ≡ K.attempts links.old }
-    ensures faults { K.faults links.old ≤ K.faults links.new }
+    ensures broke { BreaksByFault (K.faults links.old) (K.faults links.new)
+        (K.standings links.old) (K.standings links.new) }
 {
     if send_all(bytes, link, links) {
         return true;
@@ -67,7 +69,8 @@ pub(crate) fn finish<K: Links>(bytes: &[u8], link: u32, links: &mut K)
     ensures only { Only link (K.wire links.old) (K.wire links.new)
         (K.standings links.old) (K.standings links.new) }
     ensures attempts { K.attempts links.new ≡ K.attempts links.old }
-    ensures faults { K.faults links.old ≤ K.faults links.new }
+    ensures broke { BreaksByFault (K.faults links.old) (K.faults links.new)
+        (K.standings links.old) (K.standings links.new) }
 {
     send_all(bytes, link, links);
     links.close(link);
@@ -83,7 +86,8 @@ fn send_all<K: Links>(bytes: &[u8], link: u32, links: &mut K) -> bool
     ensures only { Only link (K.wire links.old) (K.wire links.new)
         (K.standings links.old) (K.standings links.new) }
     ensures attempts { K.attempts links.new ≡ K.attempts links.old }
-    ensures faults { K.faults links.old ≤ K.faults links.new }
+    ensures broke { BreaksByFault (K.faults links.old) (K.faults links.new)
+        (K.standings links.old) (K.standings links.new) }
 {
     let mut rest = bytes;
     while !rest.is_empty() {

@@ -1,8 +1,9 @@
 //! Taking PDUs from a feed.
-ghost use Rattle.std.specs.Prelude.{◌≡◌, ◌≢◌, ℕ, ◌+◌, ◌^◌, ◌<◌, ◌≤◌, Option, IfOk, OnErr};
+ghost use Rattle.std.specs.Prelude.{◌≡◌, ◌≢◌, ℕ, ◌+◌, ◌^◌, ◌<◌, Option, IfOk, OnErr};
 ghost use Rattle.av_base.specs.Connections.{IsUsable};
 ghost use Rattle.rtr_session.specs.declared.act.Act.TheVariants.{End as EndAct};
 ghost use Rattle.rtr_session.specs.declared.act.Phase.TheVariants.{Over};
+ghost use Rattle.feed_lines.specs.Faults.{BreaksByFault};
 ghost use Rattle.feed_lines.specs.Moves.{KeepsSent, Only};
 ghost use Rattle.feed_lines.specs.Feeds.{Feed, Follows, Moves, Taking, TakesNext, TakesPdus, change_by, change_due, is_enough_at};
 ghost use Rattle.feed_lines.specs.Holding.{AreWithin, StandsFor};
@@ -58,7 +59,8 @@ pub(crate) fn take_pdus<K: Links, L: Ledger>(
     ensures fits { IfOk result (λ r.
         OutcomeFits (K.standings links.new) feed.link (feed.taken + count) r.0) }
     ensures attempts { K.attempts links.new ≡ K.attempts links.old }
-    ensures faults { K.faults links.old ≤ K.faults links.new }
+    ensures broke { BreaksByFault (K.faults links.old) (K.faults links.new)
+        (K.standings links.old) (K.standings links.new) }
 {
     let mut feed = feed;
     let mut analyser = analyser;
@@ -114,7 +116,8 @@ fn take_pdu<K: Links, L: Ledger>(
     ensures fits { IfOk result (λ r.
         OutcomeFits (K.standings links.new) feed.link (feed.taken + 1) r.0) }
     ensures attempts { K.attempts links.new ≡ K.attempts links.old }
-    ensures faults { K.faults links.old ≤ K.faults links.new }
+    ensures broke { BreaksByFault (K.faults links.old) (K.faults links.new)
+        (K.standings links.old) (K.standings links.new) }
 {
     let (outcome, change) = move_feed(alloc, name, feed, links)?;
     let analyser = follow(change, analyser, steps)?;
@@ -154,7 +157,8 @@ fn move_feed<K: Links>(
     ensures fits { IfOk result (λ r.
         OutcomeFits (K.standings links.new) feed.link (feed.taken + 1) r.0) }
     ensures attempts { K.attempts links.new ≡ K.attempts links.old }
-    ensures faults { K.faults links.old ≤ K.faults links.new }
+    ensures broke { BreaksByFault (K.faults links.old) (K.faults links.new)
+        (K.standings links.old) (K.standings links.new) }
 {
     let OpenFeed {
         framer,
@@ -207,7 +211,8 @@ fn perform<K: Links>(
     ensures fits { IfOk result (λ r.
         OutcomeFits (K.standings links.new) feed.link feed.taken r.0) }
     ensures attempts { K.attempts links.new ≡ K.attempts links.old }
-    ensures faults { K.faults links.old ≤ K.faults links.new }
+    ensures broke { BreaksByFault (K.faults links.old) (K.faults links.new)
+        (K.standings links.old) (K.standings links.new) }
 {
     match act {
         Act::Nothing => Ok((Outcome::Open(feed), None)),

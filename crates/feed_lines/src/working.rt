@@ -1,8 +1,9 @@
 //! What a line does with a feed that goes on.
-ghost use Rattle.std.specs.Prelude.{◌≡◌, ◌≢◌, ℕ, ◌+◌, ◌^◌, ◌<◌, ◌≤◌, Some, None, IfOk, OnErr};
+ghost use Rattle.std.specs.Prelude.{◌≡◌, ◌≢◌, ℕ, ◌+◌, ◌^◌, ◌<◌, Some, None, IfOk, OnErr};
 ghost use Rattle.report_text.specs.declared.feed.FeedEnd.TheVariants.{Unreachable};
 ghost use Rattle.feed_lines.specs.declared.telling.Telling.TheVariants.{End as FeedEnds};
 ghost use Rattle.feed_lines.specs.declared.working.Work.TheVariants.{Sync as SyncWork, Take as TakeWork};
+ghost use Rattle.feed_lines.specs.Faults.{BreaksByFault};
 ghost use Rattle.feed_lines.specs.Moves.{KeepsSent, Only};
 ghost use Rattle.feed_lines.specs.Feeds.{AsksFeed, Feed};
 ghost use Rattle.feed_lines.specs.Holding.{AreWithin, StandsFor};
@@ -66,7 +67,8 @@ pub(crate) fn work_on<K: Links, L: Ledger>(
         SlotFits (K.standings links.new) feed.link (feed.taken + units_of work) r.slot) }
     ensures reached { IfOk result (λ r. r.told ≢ Some (FeedEnds Unreachable)) }
     ensures attempts { K.attempts links.new ≡ K.attempts links.old }
-    ensures faults { K.faults links.old ≤ K.faults links.new }
+    ensures broke { BreaksByFault (K.faults links.old) (K.faults links.new)
+        (K.standings links.old) (K.standings links.new) }
 {
     match work {
         Work::Ask => {
@@ -98,7 +100,8 @@ fn ask_feed<K: Links>(
         SlotFits (K.standings links.new) feed.link feed.taken r.0) }
     ensures reached { IfOk result (λ r. r.1 ≢ Some (FeedEnds Unreachable)) }
     ensures attempts { K.attempts links.new ≡ K.attempts links.old }
-    ensures faults { K.faults links.old ≤ K.faults links.new }
+    ensures broke { BreaksByFault (K.faults links.old) (K.faults links.new)
+        (K.standings links.old) (K.standings links.new) }
 {
     let OpenFeed {
         framer,
@@ -152,7 +155,8 @@ fn take_some<K: Links, L: Ledger>(
         SlotFits (K.standings links.new) feed.link (feed.taken + count) r.slot) }
     ensures reached { IfOk result (λ r. r.told ≢ Some (FeedEnds Unreachable)) }
     ensures attempts { K.attempts links.new ≡ K.attempts links.old }
-    ensures faults { K.faults links.old ≤ K.faults links.new }
+    ensures broke { BreaksByFault (K.faults links.old) (K.faults links.new)
+        (K.standings links.old) (K.standings links.new) }
 {
     let (outcome, analyser) = take_pdus(alloc, name, feed, count, false, analyser, links, steps)?;
     match outcome {
@@ -188,7 +192,8 @@ fn sync_some<K: Links, L: Ledger>(
         SlotFits (K.standings links.new) feed.link (feed.taken + count) r.slot) }
     ensures reached { IfOk result (λ r. r.told ≢ Some (FeedEnds Unreachable)) }
     ensures attempts { K.attempts links.new ≡ K.attempts links.old }
-    ensures faults { K.faults links.old ≤ K.faults links.new }
+    ensures broke { BreaksByFault (K.faults links.old) (K.faults links.new)
+        (K.standings links.old) (K.standings links.new) }
 {
     let (outcome, analyser) = take_pdus(alloc, name, feed, count, true, analyser, links, steps)?;
     match outcome {

@@ -1,6 +1,7 @@
 use Rattle.std.proofs.Common.{◌≡◌, ℕ, Err, refl, sym, ap, subst, ◌∙◌, arith}
 use Rattle.aspa_top.specs.Performing.{IsSound}
 use Rattle.av_base.proofs.PouringLemmas.{Grows-refl, Grows-trans}
+use Rattle.feed_lines.proofs.FaultsLemmas.{BreaksByFault-refl, BreaksByFault-trans}
 use Rattle.feed_lines.proofs.StandingLemmas.{start_sound}
 use Rattle.report_text.proofs.ReportedLemmas.{adds_front, adds_more, adds_more_front, written_lines}
 use Rattle.aspa_top.proofs.ReportingLemmas.{front_poured, lines_begun, lines_poured}
@@ -21,6 +22,7 @@ loop-line-init g c =
       sound = subst (λ (n : ℕ). IsSound (g.F.Shelf.opened c.args.shelf.now) n c.new-working.result) (sym none) (c.new-working.ensures.sound (g.F.Shelf.opened c.args.shelf.now));
       feeds = start_sound _ _ _ c.new-working.ensures.feeds;
       adds = lines_begun _ _ _ c.new-text.ensures.items;
+      broke = BreaksByFault-refl _ _;
     }
 
 pub loop-line-preserved : goal.loop-line-preserved
@@ -37,6 +39,7 @@ loop-line-preserved g c = record {
   sound = c.in-Ok.ensures.sound;
   feeds = c.in-Ok.ensures.feeds;
   adds = lines_poured _ _ _ _ _ c.pour_piece.ensures.same (adds_more _ _ _ _ _ _ c.loop-line.invariant.adds c.in-Ok.ensures.adds);
+  broke = BreaksByFault-trans c.loop-line.invariant.broke c.perform_line.ensures.broke;
 }
 
 pub returns-in_err-pour-in-Err-Shelf-clause-went : goal.returns-in_err-pour-in-Err-Shelf-clause-went
@@ -125,3 +128,20 @@ returns-in_err-pour-clause-reported g c = written_lines _ _ _ _ _ (Grows-trans c
 
 pub returns-clause-reported : goal.returns-clause-reported
 returns-clause-reported g c = written_lines _ _ _ _ _ (Grows-trans c.loop-line.invariant.grows c.pour-2.ensures.grows) (front_poured _ _ _ _ _ c.pour-2.ensures.same (adds_front _ _ _ _ c.loop-line.invariant.adds))
+
+-- where connections broke
+
+pub returns-in_err-pour-in-Err-Shelf-clause-broke : goal.returns-in_err-pour-in-Err-Shelf-clause-broke
+returns-in_err-pour-in-Err-Shelf-clause-broke g c = BreaksByFault-trans c.loop-line.invariant.broke c.perform_line.ensures.broke
+
+pub returns-in-Err-Shelf-clause-broke : goal.returns-in-Err-Shelf-clause-broke
+returns-in-Err-Shelf-clause-broke g c = BreaksByFault-trans c.loop-line.invariant.broke c.perform_line.ensures.broke
+
+pub returns-in-Err-Sink-clause-broke : goal.returns-in-Err-Sink-clause-broke
+returns-in-Err-Sink-clause-broke g c = BreaksByFault-trans c.loop-line.invariant.broke c.perform_line.ensures.broke
+
+pub returns-in-Err-NoMemory-clause-broke : goal.returns-in-Err-NoMemory-clause-broke
+returns-in-Err-NoMemory-clause-broke g c = BreaksByFault-trans c.loop-line.invariant.broke c.perform_line.ensures.broke
+
+pub returns-in_err-pour_piece-clause-broke : goal.returns-in_err-pour_piece-clause-broke
+returns-in_err-pour_piece-clause-broke g c = BreaksByFault-trans c.loop-line.invariant.broke c.perform_line.ensures.broke

@@ -2,6 +2,7 @@ use Rattle.std.proofs.Common.{◌≡◌, ◌+◌, ◌≤◌, length}
 use Rattle.std.specs.Io.KnownBytes.{append_known}
 use Rattle.av_base.specs.Told.{Grows}
 use Rattle.av_text.specs.Lines.{lines_in}
+use Rattle.feed_lines.specs.Faults.{BreaksByFault}
 use Rattle.report_text.specs.Reported.{AddsLines}
 use Rattle.aspa_top.specs.Feeding.{AreSound}
 use Rattle.aspa_top.specs.Performing.{GoesOn, IsSound, Performing}
@@ -21,6 +22,7 @@ invariant-loop-line g l = record {
   count : l.working.lines + length l.left ≤ length l.script;
   sound : IsSound (g.F.Shelf.opened l.shelf) l.working.lines l.working;
   adds : AddsLines (g.W.Sink.written l.fn.out) (append_known (g.W.Sink.written l.out) l.text.items) (g.K.Links.faults l.fn.links) (g.K.Links.faults l.links);
+  broke : BreaksByFault (g.K.Links.faults l.fn.links) (g.K.Links.faults l.links) (g.K.Links.standings l.fn.links) (g.K.Links.standings l.links);
   feeds : AreSound (g.K.Links.standings l.links) l.working.lines l.working;
 }
 

@@ -1,4 +1,5 @@
 use Rattle.std.proofs.Common.{refl, sym, ◌∙◌, arith, rules}
+use Rattle.feed_lines.proofs.FaultsLemmas.{BreaksByFault-refl}
 use Rattle.report_text.specs.Refusals.{of_line}
 use Rattle.aspa_top.proofs.FeedLemmas.{connect_refused, connect_stopped, connected, feeds_refused, keeps_refused, sound_weaker, stopped_at_once}
 use Rattle.aspa_top.proofs.PerformingLemmas.{on_err}
@@ -19,7 +20,7 @@ returns-then-is_no_feeds g c =
       sound = feeds_refused _ _ _ c.args.working _ (omega (arith, c.requires.room.0)) c.in_ok-refuse.ensures.next c.requires.sound;
       later = GoesOn-refl _;
       adds = ends_quiet _ _ _ _ (omega arith) (text_refused _ of_line 35 _ _ tt c.in_ok-refuse.ensures.text);
-      faults = omega arith;
+      broke = BreaksByFault-refl _ _;
     }
 
 pub returns-in_err-refuse-clause-part : goal.returns-in_err-refuse-clause-part
@@ -52,5 +53,8 @@ returns g c =
       adds =
           let told = c.in_ok-next.ensures.tells in
           told_adds _ c.args.name.now _ _ told.0 _ _ c.text-name.ensures.is_name told.2.later told.2.rose told.1;
-      faults = c.connect.ensures.faults;
+      broke = c.connect.ensures.broke;
     }
+
+pub returns-in_err-refuse-clause-broke : goal.returns-in_err-refuse-clause-broke
+returns-in_err-refuse-clause-broke g c = BreaksByFault-refl _ _

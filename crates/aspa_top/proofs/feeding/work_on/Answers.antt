@@ -27,6 +27,6 @@ returns g c =
       later = record { attempts = goes.attempts; wire = goes.links };
       adds =
           let told = c.in_ok-next.ensures.tells in
-          told_adds _ c.args.name.now _ _ told.0 _ _ c.text-name.ensures.is_name c.work.ensures.faults (λ same. absurd (told.2 same)) told.1;
-      faults = c.work.ensures.faults;
+          told_adds _ c.args.name.now _ _ told.0 _ _ c.text-name.ensures.is_name c.work.ensures.broke.later (λ same. absurd (told.2 same)) told.1;
+      broke = c.work.ensures.broke;
     }

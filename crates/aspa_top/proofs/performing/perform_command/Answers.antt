@@ -1,6 +1,7 @@
 use Rattle.std.proofs.Common.{Ok, refl, sym, ap, subst, ◌∙◌, arith, rules}
 use Rattle.std.specs.Io.KnownBytes.{append_known}
 use Rattle.av_base.proofs.PouringLemmas.{Grows-refl}
+use Rattle.feed_lines.proofs.FaultsLemmas.{BreaksByFault-refl}
 use Rattle.script_lines.specs.declared.command.Command.TheVariants.{Open, Take, Report, Changes}
 use Rattle.report_text.proofs.ReportedLemmas.{adds_front}
 use Rattle.stream_lines.proofs.ReportedLemmas.{changes_reported, changes_reported_front, rows_reported, rows_reported_front}
@@ -36,6 +37,7 @@ returns-in-Short g c =
       part = search rules;
       feeds = feeds_kept _ _ _ c.args.working c.in_ok-perform_short-in-Short.field-0 (omega (arith, c.requires.room.0)) c.in_ok-perform_short-in-Short.ensures.keeps.feeds c.requires.feeds;
       later = GoesOn-refl _;
+      broke = BreaksByFault-refl _ _;
       grows = Grows-refl _;
       names = refl;
       shelf_faults = omega arith;
@@ -57,6 +59,7 @@ returns-in_err-perform_short-in-Short g c =
       part = on_err _ (part_some c.args.working (Ok c.args.command) _ _ _ _ _ _ (part_short c.args.working c.args.command _ _ _ _ _ _ (sym c.task_of.ensures ∙ c.in-Short.is) (ap (append_known (g.W.Sink.written c.args.out.now)) c.in_err-perform_short-in-Short.ensures.err) c.in_err-perform_short-in-Short.ensures.ticks));
       feeds = search rules;
       later = GoesOn-refl _;
+      broke = BreaksByFault-refl _ _;
       grows = Grows-refl _;
       names = refl;
       shelf_faults = omega arith;
@@ -81,6 +84,7 @@ returns-in-Load g c =
       part = search rules;
       feeds = feeds_kept _ _ _ c.args.working c.in_ok-load-in-Load.field-0 (omega (arith, c.requires.room.0)) c.in_ok-load-in-Load.ensures.feeds c.requires.feeds;
       later = GoesOn-refl _;
+      broke = BreaksByFault-refl _ _;
       grows = Grows-refl _;
       names = c.load.ensures.names;
       shelf_faults = c.load.ensures.faults;
@@ -102,6 +106,7 @@ returns-in_err-load-in-Load g c =
       part = on_err _ (part_some c.args.working (Ok c.args.command) _ _ _ _ _ _ (part_load c.args.working c.args.command _ _ _ _ _ _ _ (sym c.task_of.ensures ∙ c.in-Load.is) (ap (append_known (g.W.Sink.written c.args.out.now)) c.in_err-load-in-Load.ensures.err) c.in_err-load-in-Load.ensures.ticks));
       feeds = search rules;
       later = GoesOn-refl _;
+      broke = BreaksByFault-refl _ _;
       grows = Grows-refl _;
       names = c.load.ensures.names;
       shelf_faults = c.load.ensures.faults;
@@ -125,6 +130,7 @@ returns-in-Open g c =
       part = search rules;
       feeds = feeds_kept _ _ _ c.args.working c.in_ok-open-in-Open.field-0 (omega (arith, c.requires.room.0)) c.in_ok-open-in-Open.ensures.feeds c.requires.feeds;
       later = GoesOn-refl _;
+      broke = BreaksByFault-refl _ _;
       grows = Grows-refl _;
       names = c.open.ensures.names;
       shelf_faults = c.open.ensures.faults;
@@ -146,6 +152,7 @@ returns-in_err-open-in-Open g c =
       part = on_err _ (nothing c.args.working (Ok c.args.command) _ _ _ _ _ (ap (append_known (g.W.Sink.written c.args.out.now)) c.in_err-open-in-Open.ensures.err));
       feeds = search rules;
       later = GoesOn-refl _;
+      broke = BreaksByFault-refl _ _;
       grows = Grows-refl _;
       names = c.open.ensures.names;
       shelf_faults = c.open.ensures.faults;
@@ -168,6 +175,7 @@ returns-then-contains_key g c =
       lines = c.take.ensures.lines;
       part = err_as c.args.working c.args.command (Take c.in-Take.name c.in-Take.count) same c.take.result _ _ _ _ _ _ c.take.ensures.part;
       later = GoesOn-refl _;
+      broke = BreaksByFault-refl _ _;
       grows = c.take.ensures.grows;
       names = c.take.ensures.names;
       shelf_faults = c.take.ensures.shelf_faults;
@@ -191,6 +199,7 @@ returns-in-Take g c =
       lines = c.in_ok-work_on-in-Take.ensures.keeps.lines;
       part = search rules;
       later = c.work_on.ensures.later;
+      broke = c.work_on.ensures.broke;
       grows = Grows-refl _;
       names = refl;
       shelf_faults = omega arith;
@@ -215,6 +224,7 @@ returns-in_err-work_on-in-Take g c =
       part = on_err _ (feed_part c.args.working c.args.command _ same _ _ _ _ _ _ _ (ap (append_known (g.W.Sink.written c.args.out.now)) c.in_err-work_on-in-Take.ensures.err)
           (take_stopped c.args.working _ _ _ _ _ _ none c.in_err-work_on-in-Take.ensures.part));
       later = c.work_on.ensures.later;
+      broke = c.work_on.ensures.broke;
       grows = Grows-refl _;
       names = refl;
       shelf_faults = omega arith;
@@ -224,7 +234,7 @@ returns-in_err-work_on-in-Take g c =
       held = search rules;
       sink_cause = search rules;
       adds = search rules;
-      adds_front = front_same (g.W.Sink.written c.args.out.now) _ _ _ _ c.work_on.ensures.faults c.in_err-work_on-in-Take.ensures.err;
+      adds_front = front_same (g.W.Sink.written c.args.out.now) _ _ _ _ c.work_on.ensures.broke.later c.in_err-work_on-in-Take.ensures.err;
     }
 
 pub returns-in-Connect : goal.returns-in-Connect
@@ -237,6 +247,7 @@ returns-in-Connect g c =
       lines = c.in_ok-connect_feed-in-Connect.ensures.keeps.lines;
       part = search rules;
       later = c.connect_feed.ensures.later;
+      broke = c.connect_feed.ensures.broke;
       grows = Grows-refl _;
       names = refl;
       shelf_faults = omega arith;
@@ -259,6 +270,7 @@ returns-in_err-connect_feed-in-Connect g c =
       lines = search rules;
       part = on_err _ (feed_part c.args.working c.args.command _ same _ _ _ _ _ _ _ (ap (append_known (g.W.Sink.written c.args.out.now)) c.in_err-connect_feed-in-Connect.ensures.err) (c.in_err-connect_feed-in-Connect.ensures.part c.args.steps.now));
       later = c.connect_feed.ensures.later;
+      broke = c.connect_feed.ensures.broke;
       grows = Grows-refl _;
       names = refl;
       shelf_faults = omega arith;
@@ -268,7 +280,7 @@ returns-in_err-connect_feed-in-Connect g c =
       held = search rules;
       sink_cause = search rules;
       adds = search rules;
-      adds_front = front_same (g.W.Sink.written c.args.out.now) _ _ _ _ c.connect_feed.ensures.faults c.in_err-connect_feed-in-Connect.ensures.err;
+      adds_front = front_same (g.W.Sink.written c.args.out.now) _ _ _ _ c.connect_feed.ensures.broke.later c.in_err-connect_feed-in-Connect.ensures.err;
     }
 
 pub returns-in-OnFeed : goal.returns-in-OnFeed
@@ -281,6 +293,7 @@ returns-in-OnFeed g c =
       lines = c.in_ok-work_on-in-OnFeed.ensures.keeps.lines;
       part = search rules;
       later = c.work_on-in-OnFeed.ensures.later;
+      broke = c.work_on-in-OnFeed.ensures.broke;
       grows = Grows-refl _;
       names = refl;
       shelf_faults = omega arith;
@@ -303,6 +316,7 @@ returns-in_err-work_on-in-OnFeed g c =
       lines = search rules;
       part = on_err _ (feed_part c.args.working c.args.command _ same _ _ _ _ _ _ _ (ap (append_known (g.W.Sink.written c.args.out.now)) c.in_err-work_on-in-OnFeed.ensures.err) c.in_err-work_on-in-OnFeed.ensures.part);
       later = c.work_on-in-OnFeed.ensures.later;
+      broke = c.work_on-in-OnFeed.ensures.broke;
       grows = Grows-refl _;
       names = refl;
       shelf_faults = omega arith;
@@ -312,7 +326,7 @@ returns-in_err-work_on-in-OnFeed g c =
       held = search rules;
       sink_cause = search rules;
       adds = search rules;
-      adds_front = front_same (g.W.Sink.written c.args.out.now) _ _ _ _ c.work_on-in-OnFeed.ensures.faults c.in_err-work_on-in-OnFeed.ensures.err;
+      adds_front = front_same (g.W.Sink.written c.args.out.now) _ _ _ _ c.work_on-in-OnFeed.ensures.broke.later c.in_err-work_on-in-OnFeed.ensures.err;
     }
 
 pub returns-in-Report : goal.returns-in-Report
@@ -326,6 +340,7 @@ returns-in-Report g c =
       part = search rules;
       feeds = feeds_kept _ _ _ c.args.working c.args.working (omega (arith, c.requires.room.0)) refl c.requires.feeds;
       later = GoesOn-refl _;
+      broke = BreaksByFault-refl _ _;
       grows = c.put_rows.ensures.grows;
       names = refl;
       shelf_faults = omega arith;
@@ -347,6 +362,7 @@ returns-in_err-put_rows-in-Report g c =
       part = on_err _ (some_as c.args.working c.args.command Report (sym c.task_of.ensures ∙ c.in-Report.is) _ _ _ _ _ _ (reported_part c.args.working _ _ _ _ _ c.store.ensures c.put_rows.ensures.front));
       feeds = search rules;
       later = GoesOn-refl _;
+      broke = BreaksByFault-refl _ _;
       grows = c.put_rows.ensures.grows;
       names = refl;
       shelf_faults = omega arith;
@@ -370,6 +386,7 @@ returns g c =
       part = search rules;
       feeds = feeds_kept _ _ _ c.args.working c.mark.result (omega (arith, c.requires.room.0)) (ap (λ (w : Working). w.feeds) c.mark.ensures.left) c.requires.feeds;
       later = GoesOn-refl _;
+      broke = BreaksByFault-refl _ _;
       grows = c.put_changes.ensures.grows;
       names = refl;
       shelf_faults = omega arith;
@@ -391,6 +408,7 @@ returns-in_err-put_changes-in-Changes g c =
       part = on_err _ (some_as c.args.working c.args.command Changes (sym c.task_of.ensures ∙ c.in-Changes.is) _ _ _ _ _ _ (listed_part c.args.working _ _ _ _ _ c.store-in-Changes.ensures c.put_changes.ensures.front));
       feeds = search rules;
       later = GoesOn-refl _;
+      broke = BreaksByFault-refl _ _;
       grows = c.put_changes.ensures.grows;
       names = refl;
       shelf_faults = omega arith;

@@ -3,6 +3,7 @@ use Rattle.std.specs.Io.KnownBytes.{append_known}
 use Rattle.script_lines.specs.declared.command.Command.TheVariants.{Idle}
 use Rattle.script_lines.specs.declared.command.LineFault.TheVariants.{NoMemory}
 use Rattle.av_base.proofs.PouringLemmas.{Grows-refl}
+use Rattle.feed_lines.proofs.FaultsLemmas.{BreaksByFault-refl}
 use Rattle.aspa_top.proofs.PerformingLemmas.{IsWithinBounds-IsReading, on_err, part_by, part_read, refused}
 use Rattle.report_text.specs.Refusals.{of_line}
 use Rattle.report_text.proofs.ReportedLemmas.{adds_front}
@@ -40,6 +41,7 @@ returns-in_ok-refuse-in-Err g c =
       part = search rules;
       feeds = feeds_counted _ c.args.working c.in_ok-refuse-in-Err.field-0 lines (ap (λ (w : Working). w.feeds) c.in_ok-refuse-in-Err.ensures.next) c.requires.feeds;
       later = GoesOn-refl _;
+      broke = BreaksByFault-refl _ _;
       grows = Grows-refl _;
       names = refl;
       shelf_faults = omega arith;
@@ -67,6 +69,12 @@ returns-in_err-refuse-in-Err-clause-later g c = GoesOn-refl _
 pub returns-in-Err-NoMemory-clause-later : goal.returns-in-Err-NoMemory-clause-later
 returns-in-Err-NoMemory-clause-later g c = GoesOn-refl _
 
+pub returns-in_err-refuse-in-Err-clause-broke : goal.returns-in_err-refuse-in-Err-clause-broke
+returns-in_err-refuse-in-Err-clause-broke g c = BreaksByFault-refl _ _
+
+pub returns-in-Err-NoMemory-clause-broke : goal.returns-in-Err-NoMemory-clause-broke
+returns-in-Err-NoMemory-clause-broke g c = BreaksByFault-refl _ _
+
 pub returns-in_err-refuse-in-Err-clause-adds_front : goal.returns-in_err-refuse-in-Err-clause-adds_front
 returns-in_err-refuse-in-Err-clause-adds_front g c = front_same (g.W.Sink.written c.args.out.now) _ _ _ _ (omega arith) c.in_err-refuse-in-Err.ensures.err
 
@@ -89,6 +97,7 @@ returns-in-Ok-Idle g c =
       part = search rules;
       feeds = feeds_counted _ c.args.working counted refl refl c.requires.feeds;
       later = GoesOn-refl _;
+      broke = BreaksByFault-refl _ _;
       grows = Grows-refl _;
       names = refl;
       shelf_faults = omega arith;

@@ -1,6 +1,7 @@
 use Rattle.std.proofs.Common.{ℕ, List, subst, map}
 use Rattle.std.specs.declared.option.Option.{Option}
 use Rattle.std.specs.String.{string_bytes}
+use Rattle.feed_lines.proofs.FaultsLemmas.{BreaksByFault-refl}
 use Rattle.report_text.specs.Reported.{AddsFront}
 use Rattle.report_text.proofs.ReportedLemmas.{few_unreachable}
 use Rattle.aspa_top.specs.declared.words.Form.{Form}
@@ -18,3 +19,9 @@ returns-in-Demo-clause-demonstrated g c = λ seed demo.
 pub returns-in-Run-clause-few_unreachable : goal.returns-in-Run-clause-few_unreachable
 returns-in-Run-clause-few_unreachable g c = λ run before text old new.
     few_unreachable before text _ _ _ (subst (λ (o : Option (List ℕ)). AddsFront o (g.W.Sink.written c.run_script.new.out) (g.K.Links.faults c.args.links.now) (g.K.Links.faults c.run_script.new.links)) old c.run_script.ensures.reported) new
+
+pub returns-in-Demo-clause-unbroken : goal.returns-in-Demo-clause-unbroken
+returns-in-Demo-clause-unbroken g c = BreaksByFault-refl _ _
+
+pub returns-in-Other-clause-unbroken : goal.returns-in-Other-clause-unbroken
+returns-in-Other-clause-unbroken g c = BreaksByFault-refl _ _

@@ -1,6 +1,7 @@
 use Rattle.std.proofs.Common.{ℕ, List, inl, inr, Err, refl, arith, ap, sym, ◌∙◌}
 use Rattle.std.specs.Io.KnownBytes.{prepend_known}
 use Rattle.av_base.specs.Told.{Rose}
+use Rattle.feed_lines.proofs.FaultsLemmas.{BreaksByFault-refl}
 use Rattle.aspa_top.specs.declared.program.TheConstants.{SCRIPT_LIMIT}
 use Rattle.aspa_top.specs.World.{linked}
 use Rattle.aspa_top.proofs.ProgramLemmas.{Ran-start, Ran-told, Ran-told_more}
@@ -38,3 +39,9 @@ returns-in-Err-Source-clause-reported g c = front_none _ _ _ _ (omega arith) ref
 
 pub returns-clause-reported : goal.returns-clause-reported
 returns-clause-reported g c = front_none _ _ _ _ (omega arith) refl
+
+pub returns-in-Err-Source-clause-broke : goal.returns-in-Err-Source-clause-broke
+returns-in-Err-Source-clause-broke g c = BreaksByFault-refl _ _
+
+pub returns-clause-broke : goal.returns-clause-broke
+returns-clause-broke g c = BreaksByFault-refl _ _

@@ -1,5 +1,6 @@
-use Rattle.std.proofs.Common.{refl, ◌++◌, List, ℕ, sym, ap, ◌∙◌, arith}
+use Rattle.std.proofs.Common.{refl, ◌++◌, List, ℕ, sym, ap, ◌∙◌}
 use Rattle.feed_lines.proofs.ConnectionLemmas.{Spares-refl, Spares-trans, Now-got, KeepsSent-refl, KeepsSent-trans}
+use Rattle.feed_lines.proofs.FaultsLemmas.{BreaksByFault-refl, BreaksByFault-trans}
 use Rattle.feed_lines.proofs.asking.next_pdu.Goals as goal
 
 pub pieces-init : goal.pieces-init
@@ -9,7 +10,7 @@ pieces-init g c = record {
   usable = c.requires;
   only = Spares-refl _ _ _;
   attempts = refl;
-  faults = omega arith;
+  broke = BreaksByFault-refl _ _;
 }
 
 pub returns-in_err-more-in-Ok-None-clause-only : goal.returns-in_err-more-in-Ok-None-clause-only
@@ -25,7 +26,7 @@ pieces-preserved g c =
       usable = turn.usable;
       only = Spares-trans c.pieces.invariant.only turn.only;
       attempts = turn.attempts ∙ c.pieces.invariant.attempts;
-      faults = omega (arith, c.pieces.invariant.faults, turn.faults);
+      broke = BreaksByFault-trans c.pieces.invariant.broke turn.broke;
     }
 
 pub returns-in-End-clause-only : goal.returns-in-End-clause-only
@@ -43,3 +44,9 @@ returns-in-End-clause-keeps g c = KeepsSent-trans c.pieces.invariant.keeps c.rec
 
 pub returns-in-Err-clause-refused : goal.returns-in-Err-clause-refused
 returns-in-Err-clause-refused g c = (c.in-Err.fault, rw c.in-Err.ensures.next.1 c.in-Err.ensures.next.0, c.in_ok-refusal-in-Err.ensures)
+
+pub returns-in_err-more-in-Ok-None-clause-broke : goal.returns-in_err-more-in-Ok-None-clause-broke
+returns-in_err-more-in-Ok-None-clause-broke g c = BreaksByFault-trans c.pieces.invariant.broke c.receive.ensures.broke
+
+pub returns-in-End-clause-broke : goal.returns-in-End-clause-broke
+returns-in-End-clause-broke g c = BreaksByFault-trans c.pieces.invariant.broke c.receive.ensures.broke

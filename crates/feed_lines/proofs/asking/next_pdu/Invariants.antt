@@ -1,5 +1,6 @@
-use Rattle.std.proofs.Common.{◌≡◌, ◌≤◌, ◌-◌, length}
+use Rattle.std.proofs.Common.{◌≡◌, ◌-◌, length}
 use Rattle.av_base.specs.Connections.{IsUsable}
+use Rattle.feed_lines.specs.Faults.{BreaksByFault}
 use Rattle.feed_lines.specs.Moves.{Asking, Only, KeepsSent}
 use Rattle.feed_lines.proofs.asking.next_pdu.Given as goal
 
@@ -10,7 +11,7 @@ invariant-pieces g l = record {
   usable : IsUsable (g.K.Links.standings l.links) l.link;
   only : Only l.link (g.K.Links.wire l.fn.links) (g.K.Links.wire l.links) (g.K.Links.standings l.fn.links) (g.K.Links.standings l.links);
   attempts : g.K.Links.attempts l.links ≡ g.K.Links.attempts l.fn.links;
-  faults : g.K.Links.faults l.fn.links ≤ g.K.Links.faults l.links;
+  broke : BreaksByFault (g.K.Links.faults l.fn.links) (g.K.Links.faults l.links) (g.K.Links.standings l.fn.links) (g.K.Links.standings l.links);
 }
 
 abbrev pub decreases-pieces : goal.decreases-pieces

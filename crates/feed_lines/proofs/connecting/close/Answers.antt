@@ -1,5 +1,6 @@
 use Rattle.feed_lines.proofs.ConnectionLemmas.{Spares-refl, Only-loud}
 use Rattle.feed_lines.proofs.ConnectingLemmas.{closed_as}
+use Rattle.feed_lines.proofs.FaultsLemmas.{BreaksByFault-refl, breaks_closed}
 use Rattle.feed_lines.proofs.connecting.close.Goals as goal
 
 pub returns-in-Some-clause-closed : goal.returns-in-Some-clause-closed
@@ -10,3 +11,9 @@ returns-in-Some-clause-spares g c = rw c.in-Some.is (Only-loud _ _ c.close.ensur
 
 pub returns-in-None-clause-spares : goal.returns-in-None-clause-spares
 returns-in-None-clause-spares g c = Spares-refl _ _ _
+
+pub returns-in-Some-clause-broke : goal.returns-in-Some-clause-broke
+returns-in-Some-clause-broke g c = breaks_closed _ _ _ c.close.ensures.faults c.close.ensures.standings
+
+pub returns-in-None-clause-broke : goal.returns-in-None-clause-broke
+returns-in-None-clause-broke g c = BreaksByFault-refl _ _

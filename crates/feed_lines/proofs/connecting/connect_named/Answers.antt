@@ -2,6 +2,7 @@ use Rattle.std.proofs.Common.{◌^◌, None, refl}
 use Rattle.feed_lines.specs.Holding.{feed_in}
 use Rattle.feed_lines.proofs.ConnectionLemmas.{Spares-refl}
 use Rattle.feed_lines.proofs.ConnectingLemmas.{connected_named, connected_others, connected_sound, slot_fit}
+use Rattle.feed_lines.proofs.FaultsLemmas.{BreaksByFault-refl, BreaksByFault-trans}
 use Rattle.feed_lines.proofs.NamedLemmas.{there_some}
 use Rattle.feed_lines.proofs.connecting.connect_named.Goals as goal
 
@@ -40,3 +41,12 @@ returns-clause-others g c =
     (g.K.Links.standings c.args.links.now) (g.K.Links.standings c.close.new.links) (g.K.Links.standings c.start-slot.new.links) c.args.name.now c.args.place.now
     c.args.feeds.now c.hold.new.feeds c.give.new.feeds c.in_ok-old.old c.start-slot.result.0 (2 ^ 61) c.requires.sound c.in_ok-old.ensures.was
     c.close.ensures.spares c.start-slot.ensures.spares
+
+pub returns-in_err-query-clause-broke : goal.returns-in_err-query-clause-broke
+returns-in_err-query-clause-broke g c = BreaksByFault-refl _ _
+
+pub returns-in_err-old-clause-broke : goal.returns-in_err-old-clause-broke
+returns-in_err-old-clause-broke g c = BreaksByFault-refl _ _
+
+pub returns-clause-broke : goal.returns-clause-broke
+returns-clause-broke g c = BreaksByFault-trans c.close.ensures.broke c.start-slot.ensures.broke

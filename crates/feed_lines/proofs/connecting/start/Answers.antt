@@ -3,6 +3,7 @@ use Rattle.feed_lines.specs.Moves.{Only}
 use Rattle.feed_lines.specs.Steps.{SlotFits}
 use Rattle.feed_lines.proofs.ConnectionLemmas.{Spares-trans}
 use Rattle.feed_lines.proofs.ConnectingLemmas.{spares_connect, new_now, started_made, started_failed, usable_new, spares_same}
+use Rattle.feed_lines.proofs.FaultsLemmas.{BreaksByFault-trans, breaks_made, breaks_none}
 use Rattle.feed_lines.proofs.connecting.start.Goals as goal
 
 pub start_session-requires-clause-usable : goal.start_session-requires-clause-usable
@@ -29,3 +30,9 @@ returns-in-Err-clause-starts g c = started_failed _ _ _ _ c.args.place.now c.in-
 
 pub returns-in-Err-clause-spares : goal.returns-in-Err-clause-spares
 returns-in-Err-clause-spares g c = spares_same _ _ _ _ _ c.connect.ensures.later c.in-Err.ensures.err c.in-Err.ensures.err_standings
+
+pub returns-in-Ok-clause-broke : goal.returns-in-Ok-clause-broke
+returns-in-Ok-clause-broke g c = BreaksByFault-trans (breaks_made _ _ c.connect.ensures.cause.later c.in-Ok.ensures.ok_standings) c.start_session.ensures.broke
+
+pub returns-in-Err-clause-broke : goal.returns-in-Err-clause-broke
+returns-in-Err-clause-broke g c = breaks_none _ _ c.connect.ensures.cause.later c.in-Err.ensures.err_standings

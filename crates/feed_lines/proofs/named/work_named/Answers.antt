@@ -5,6 +5,7 @@ use Rattle.feed_lines.specs.declared.telling.Telling.TheVariants.{NoName, Stream
 use Rattle.feed_lines.specs.Holding.{feed_in}
 use Rattle.feed_lines.specs.Lines.{units_of}
 use Rattle.feed_lines.proofs.ConnectionLemmas.{Spares-refl, Spares-weaker}
+use Rattle.feed_lines.proofs.FaultsLemmas.{BreaksByFault-refl}
 use Rattle.feed_lines.proofs.TakingLemmas.{on_err}
 use Rattle.feed_lines.proofs.NamedLemmas.{works_named, began_named, refused_named, no_name, is_over, Puts-over, Puts-twice, IsSound-same, IsSound-put, on_its_own, SlotFits-more, there_some}
 use Rattle.feed_lines.proofs.named.work_named.Goals as goal
@@ -86,3 +87,9 @@ pub returns-in_ok-slot-in-Some-Some-clause-others : goal.returns-in_ok-slot-in-S
 returns-in_ok-slot-in-Some-Some-clause-others g c =
     Spares-weaker c.work_on.ensures.only
     (λ other free. free.apart c.args.name.now c.in-Some-Some.feed (sym c.lend.ensures.was ∙ c.in-Some-Some.is ∙ ap (λ (s : Option OpenFeed). Some s) c.in-Some-Some.field-0-is))
+
+pub returns-in-None-clause-broke : goal.returns-in-None-clause-broke
+returns-in-None-clause-broke g c = BreaksByFault-refl _ _
+
+pub returns-in-Some-None-clause-broke : goal.returns-in-Some-None-clause-broke
+returns-in-Some-None-clause-broke g c = BreaksByFault-refl _ _

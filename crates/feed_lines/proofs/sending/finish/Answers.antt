@@ -1,4 +1,5 @@
 use Rattle.feed_lines.proofs.ConnectionLemmas.{Spares-trans, Only-loud, finishes}
+use Rattle.feed_lines.proofs.FaultsLemmas.{BreaksByFault-trans, breaks_closed}
 use Rattle.feed_lines.proofs.sending.finish.Goals as goal
 
 pub returns-clause-finishes : goal.returns-clause-finishes
@@ -6,3 +7,6 @@ returns-clause-finishes g c = λ got gave now. finishes _ got gave c.args.bytes.
 
 pub returns-clause-only : goal.returns-clause-only
 returns-clause-only g c = Spares-trans c.send_all.ensures.only (Only-loud _ _ c.close.ensures.later c.close.ensures.closed c.close.ensures.standings)
+
+pub returns-clause-broke : goal.returns-clause-broke
+returns-clause-broke g c = BreaksByFault-trans c.send_all.ensures.broke (breaks_closed _ _ _ c.close.ensures.faults c.close.ensures.standings)

@@ -1,5 +1,6 @@
 use Rattle.std.proofs.Common.{◌∙◌}
 use Rattle.feed_lines.proofs.ConnectionLemmas.{Spares-trans, Only-loud, KeepsSent-trans}
+use Rattle.feed_lines.proofs.FaultsLemmas.{BreaksByFault-trans, breaks_closed}
 use Rattle.feed_lines.proofs.PduLemmas.{goes_on}
 use Rattle.feed_lines.proofs.TakingLemmas.{next_lost, next_refused, next_pdu, refused_now, on_err}
 use Rattle.feed_lines.proofs.taking.move_feed.Goals as goal
@@ -62,3 +63,24 @@ returns-in_err-session-in-Pdu-clause-halts g c = on_err c.from_residual-in_err-s
 
 pub returns-in_err-session-in-Pdu-clause-only : goal.returns-in_err-session-in-Pdu-clause-only
 returns-in_err-session-in-Pdu-clause-only g c = c.next_pdu.ensures.only
+
+pub returns-in-Lost-clause-broke : goal.returns-in-Lost-clause-broke
+returns-in-Lost-clause-broke g c = BreaksByFault-trans c.next_pdu.ensures.broke (breaks_closed _ _ _ c.close.ensures.faults c.close.ensures.standings)
+
+pub returns-in_ok-report-in-Refused-clause-broke : goal.returns-in_ok-report-in-Refused-clause-broke
+returns-in_ok-report-in-Refused-clause-broke g c = BreaksByFault-trans c.next_pdu.ensures.broke c.finish.ensures.broke
+
+pub returns-in_ok-outcome-in-Pdu-clause-broke : goal.returns-in_ok-outcome-in-Pdu-clause-broke
+returns-in_ok-outcome-in-Pdu-clause-broke g c = BreaksByFault-trans c.next_pdu.ensures.broke c.perform.ensures.broke
+
+pub returns-in_err-outcome-in-Pdu-clause-broke : goal.returns-in_err-outcome-in-Pdu-clause-broke
+returns-in_err-outcome-in-Pdu-clause-broke g c = BreaksByFault-trans c.next_pdu.ensures.broke c.perform.ensures.broke
+
+pub returns-in_err-framer-clause-broke : goal.returns-in_err-framer-clause-broke
+returns-in_err-framer-clause-broke g c = c.next_pdu.ensures.broke
+
+pub returns-in_err-report-in-Refused-clause-broke : goal.returns-in_err-report-in-Refused-clause-broke
+returns-in_err-report-in-Refused-clause-broke g c = c.next_pdu.ensures.broke
+
+pub returns-in_err-session-in-Pdu-clause-broke : goal.returns-in_err-session-in-Pdu-clause-broke
+returns-in_err-session-in-Pdu-clause-broke g c = c.next_pdu.ensures.broke

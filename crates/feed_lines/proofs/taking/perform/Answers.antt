@@ -1,5 +1,6 @@
 use Rattle.std.proofs.Common.{◌∙◌}
 use Rattle.feed_lines.proofs.ConnectionLemmas.{Spares-refl}
+use Rattle.feed_lines.proofs.FaultsLemmas.{BreaksByFault-refl}
 use Rattle.feed_lines.proofs.TakingLemmas.{moves_nothing, moves_apply, moves_sent, moves_lost, moves_end}
 use Rattle.feed_lines.proofs.taking.perform.Goals as goal
 
@@ -43,3 +44,21 @@ returns-in_err-change-in-End-clause-only g c = Spares-refl _ _ _
 
 pub returns-in_err-report-in-End-clause-only : goal.returns-in_err-report-in-End-clause-only
 returns-in_err-report-in-End-clause-only g c = Spares-refl _ _ _
+
+pub returns-in-Nothing-clause-broke : goal.returns-in-Nothing-clause-broke
+returns-in-Nothing-clause-broke g c = BreaksByFault-refl _ _
+
+pub returns-in_ok-change-in-Apply-clause-broke : goal.returns-in_ok-change-in-Apply-clause-broke
+returns-in_ok-change-in-Apply-clause-broke g c = BreaksByFault-refl _ _
+
+pub returns-in_err-change-in-Apply-clause-broke : goal.returns-in_err-change-in-Apply-clause-broke
+returns-in_err-change-in-Apply-clause-broke g c = BreaksByFault-refl _ _
+
+pub returns-in_err-bytes-in-Send-clause-broke : goal.returns-in_err-bytes-in-Send-clause-broke
+returns-in_err-bytes-in-Send-clause-broke g c = BreaksByFault-refl _ _
+
+pub returns-in_err-change-in-End-clause-broke : goal.returns-in_err-change-in-End-clause-broke
+returns-in_err-change-in-End-clause-broke g c = BreaksByFault-refl _ _
+
+pub returns-in_err-report-in-End-clause-broke : goal.returns-in_err-report-in-End-clause-broke
+returns-in_err-report-in-End-clause-broke g c = BreaksByFault-refl _ _

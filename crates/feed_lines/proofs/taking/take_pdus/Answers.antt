@@ -5,6 +5,7 @@ use Rattle.feed_lines.specs.Moves.{Only}
 use Rattle.feed_lines.specs.Holding.{AreWithin}
 use Rattle.feed_lines.specs.Steps.{OutcomeFits, going}
 use Rattle.feed_lines.proofs.ConnectionLemmas.{Spares-refl, Spares-trans}
+use Rattle.feed_lines.proofs.FaultsLemmas.{BreaksByFault-refl, BreaksByFault-trans}
 use Rattle.feed_lines.proofs.TakingLemmas.{pdus_start, pdus_next, pdus_ended, pdus_enough, pdus_halted, on_err}
 use Rattle.feed_lines.proofs.taking.take_pdus.Goals as goal
 
@@ -17,7 +18,7 @@ loop-turn-init g c = record {
   most = omega arith;
   only = Spares-refl _ _ _;
   attempts = refl;
-  faults = omega arith;
+  broke = BreaksByFault-refl _ _;
 }
 
 pub returns-then-is_enough-clause-took : goal.returns-then-is_enough-clause-took
@@ -66,7 +67,7 @@ loop-turn-preserved g c =
       only = Spares-trans c.loop-turn.invariant.only
           (subst (λ (k : ℕ). Only k (g.K.Links.wire c.loop-turn.links) (g.K.Links.wire c.take_pdu.new.links) (g.K.Links.standings c.loop-turn.links) (g.K.Links.standings c.take_pdu.new.links)) c.loop-turn.invariant.same c.take_pdu.ensures.only);
       attempts = c.take_pdu.ensures.attempts ∙ c.loop-turn.invariant.attempts;
-      faults = omega (arith, c.take_pdu.ensures.faults, c.loop-turn.invariant.faults);
+      broke = BreaksByFault-trans c.loop-turn.invariant.broke c.take_pdu.ensures.broke;
     }
 
 pub returns-clause-took : goal.returns-clause-took
@@ -76,3 +77,9 @@ returns-clause-took g c =
 
 pub returns-in-Ended-clause-fits : goal.returns-in-Ended-clause-fits
 returns-in-Ended-clause-fits g c = subst (λ (o : Outcome). OutcomeFits (g.K.Links.standings c.take_pdu.new.links) c.loop-turn.feed.link (c.loop-turn.feed.taken + 1) o) c.in-Ended.is c.in_ok-outcome.ensures.fits
+
+pub returns-in_err-outcome-clause-broke : goal.returns-in_err-outcome-clause-broke
+returns-in_err-outcome-clause-broke g c = BreaksByFault-trans c.loop-turn.invariant.broke c.take_pdu.ensures.broke
+
+pub returns-in-Ended-clause-broke : goal.returns-in-Ended-clause-broke
+returns-in-Ended-clause-broke g c = BreaksByFault-trans c.loop-turn.invariant.broke c.take_pdu.ensures.broke

@@ -1,5 +1,6 @@
 use Rattle.std.proofs.Common.{◌≡◌, ℕ, ◌+◌, ◌≤◌}
 use Rattle.feed_lines.specs.declared.taking.Outcome.TheVariants.{Open as GoesOn}
+use Rattle.feed_lines.specs.Faults.{BreaksByFault}
 use Rattle.feed_lines.specs.Moves.{Only}
 use Rattle.feed_lines.specs.Feeds.{Feed, TakesPdus}
 use Rattle.feed_lines.specs.Holding.{AreWithin, StandsFor}
@@ -16,5 +17,5 @@ invariant-loop-turn g l = record {
   most : l.feed.taken ≤ l.fn.feed.taken + l._turn;
   only : Only l.fn.feed.link (g.K.Links.wire l.fn.links) (g.K.Links.wire l.links) (g.K.Links.standings l.fn.links) (g.K.Links.standings l.links);
   attempts : g.K.Links.attempts l.links ≡ g.K.Links.attempts l.fn.links;
-  faults : g.K.Links.faults l.fn.links ≤ g.K.Links.faults l.links;
+  broke : BreaksByFault (g.K.Links.faults l.fn.links) (g.K.Links.faults l.links) (g.K.Links.standings l.fn.links) (g.K.Links.standings l.links);
 }

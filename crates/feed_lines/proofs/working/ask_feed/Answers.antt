@@ -1,5 +1,6 @@
 use Rattle.std.proofs.Common.{◌∙◌}
 use Rattle.feed_lines.proofs.ConnectionLemmas.{KeepsSent-refl, Spares-refl}
+use Rattle.feed_lines.proofs.FaultsLemmas.{BreaksByFault-refl}
 use Rattle.feed_lines.proofs.TakingLemmas.{on_err}
 use Rattle.feed_lines.proofs.WorkingLemmas.{asked_nothing, asked_whole, asked_lost}
 use Rattle.feed_lines.proofs.working.ask_feed.Goals as goal
@@ -26,3 +27,9 @@ pub returns-else-send_query-clause-asks : goal.returns-else-send_query-clause-as
 returns-else-send_query-clause-asks g c = λ state stands.
     asked_lost _ (g.K.Links.wire c.send_query.new.links) c.args.feed c.ask-session.result.0 c.ask-session.result.1 c.ask-session.ensures state stands
     c.in-Some.query _ c.send_query.result c.in-Some.is (c.as_slice.ensures.value ∙ c.in_ok-bytes-in-Some.ensures) c.send_query.ensures.asks c.if-send_query.false
+
+pub returns-in-None-clause-broke : goal.returns-in-None-clause-broke
+returns-in-None-clause-broke g c = BreaksByFault-refl _ _
+
+pub returns-in_err-bytes-in-Some-clause-broke : goal.returns-in_err-bytes-in-Some-clause-broke
+returns-in_err-bytes-in-Some-clause-broke g c = BreaksByFault-refl _ _
