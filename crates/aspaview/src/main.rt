@@ -63,7 +63,7 @@ fn main(rt: HostRuntime) -> ExitCode {
     ExitCode::from(status)
 }
 
-// Runs with a counter of steps that costs nothing. The clauses are those of `run`, whose counter is at 0 before it.
+// Runs with a counter of steps that costs nothing. The clauses are some of those of `run`, whose counter is at 0 before it.
 fn perform<S: Source, F: Shelf, K: Links, W: Sink, L: Ledger>(
     alloc: Global,
     words: &Vec<String>,
