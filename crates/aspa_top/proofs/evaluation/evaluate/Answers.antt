@@ -129,6 +129,23 @@ returns-in_err-pour-clause-reported g c = written_lines _ _ _ _ _ (Grows-trans c
 pub returns-clause-reported : goal.returns-clause-reported
 returns-clause-reported g c = written_lines _ _ _ _ _ (Grows-trans c.loop-line.invariant.grows c.pour-2.ensures.grows) (front_poured _ _ _ _ _ c.pour-2.ensures.same (adds_front _ _ _ _ c.loop-line.invariant.adds))
 
+-- what became of the links
+
+pub returns-in_err-pour-in-Err-Shelf-clause-later : goal.returns-in_err-pour-in-Err-Shelf-clause-later
+returns-in_err-pour-in-Err-Shelf-clause-later g c = GoesOn-trans c.loop-line.invariant.later c.perform_line.ensures.later
+
+pub returns-in-Err-Shelf-clause-later : goal.returns-in-Err-Shelf-clause-later
+returns-in-Err-Shelf-clause-later g c = GoesOn-trans c.loop-line.invariant.later c.perform_line.ensures.later
+
+pub returns-in-Err-Sink-clause-later : goal.returns-in-Err-Sink-clause-later
+returns-in-Err-Sink-clause-later g c = GoesOn-trans c.loop-line.invariant.later c.perform_line.ensures.later
+
+pub returns-in-Err-NoMemory-clause-later : goal.returns-in-Err-NoMemory-clause-later
+returns-in-Err-NoMemory-clause-later g c = GoesOn-trans c.loop-line.invariant.later c.perform_line.ensures.later
+
+pub returns-in_err-pour_piece-clause-later : goal.returns-in_err-pour_piece-clause-later
+returns-in_err-pour_piece-clause-later g c = GoesOn-trans c.loop-line.invariant.later c.perform_line.ensures.later
+
 -- where connections broke
 
 pub returns-in_err-pour-in-Err-Shelf-clause-broke : goal.returns-in_err-pour-in-Err-Shelf-clause-broke

@@ -7,6 +7,7 @@ use Rattle.report_text.proofs.ReportedLemmas.{few_unreachable}
 use Rattle.aspa_top.specs.declared.words.Form.{Form}
 use Rattle.aspa_top.specs.Program.{Demonstrates}
 use Rattle.aspa_top.specs.Words.{HasForm}
+use Rattle.aspa_top.proofs.RunLemmas.{GoesOn-refl}
 use Rattle.aspa_top.proofs.WordsLemmas.{one_seed}
 use Rattle.aspa_top.proofs.program.run.Goals as goal
 
@@ -25,3 +26,9 @@ returns-in-Demo-clause-unbroken g c = BreaksByFault-refl _ _
 
 pub returns-in-Other-clause-unbroken : goal.returns-in-Other-clause-unbroken
 returns-in-Other-clause-unbroken g c = BreaksByFault-refl _ _
+
+pub returns-in-Demo-clause-later : goal.returns-in-Demo-clause-later
+returns-in-Demo-clause-later g c = GoesOn-refl _
+
+pub returns-in-Other-clause-later : goal.returns-in-Other-clause-later
+returns-in-Other-clause-later g c = GoesOn-refl _
