@@ -298,6 +298,7 @@ module _ (world : World) (lines : List (List ℕ)) (old : Option (List ℕ)) (ti
         part = went.0;
         moved = went.1;
         begins = went.2 world.ends here;
+        sent = moved_here told before links_new world went.1 meets went.3;
         written = sym (append_known-nil new) ∙ ap (append_known new) (sym none) ∙ went.4 ∙ ap (λ (m : Option (List ℕ)). append_known m went.0) so_far.added ∙ append_known-append old so_far.text went.0;
       }
 
