@@ -344,4 +344,5 @@ pub record Performing (world : World) (lines left : List (List ℕ)) (files : Op
   pub evaluates : (ends : Ends) → ComesTo links ends → Evaluates (ending world ends) (start world) done text state
   pub added : all ≡ append_known old text
   pub stands : StandsFor files links working state
+  pub moved : FeedsMoved links.attempts links.wire (feeds_of state)
   pub ticked : ticks_now ≤ ticks_old + state.judgements

@@ -38,7 +38,8 @@ abbrev pub BeginsNext : World → State → List (List ℕ) → List ℕ → ℕ
 BeginsNext world state [] part ticks moved = (part ≡ []) × (ticks ≡ 0) × (moved ≡ state)
 BeginsNext world state (line ∷ more) part ticks moved = Begins world state line part ticks moved
 
--- as many attempts were made as in this state, and on the connections of the feeds that go on these bytes were sent
+-- as many attempts were made as in this state, and these bytes were sent on the connections of the feeds that go on, none of which is
+-- closed or broken
 abbrev pub HasMoved : World → State → Type 0
 HasMoved world state = Moved world.ends.attempts (Some world.ends.links) (feeds_of state)
 

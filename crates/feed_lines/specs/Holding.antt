@@ -14,7 +14,7 @@ use Rattle.feed_lines.specs.declared.feed.Feeds.{Feeds}
 use Rattle.feed_lines.specs.declared.lines.Progress.{Progress}
 use Rattle.feed_lines.specs.declared.telling.Telling.{Telling}
 use Rattle.feed_lines.specs.declared.telling.Telling.TheVariants.{End as FeedEnds}
-use Rattle.feed_lines.specs.Connection.{Now, Has}
+use Rattle.feed_lines.specs.Connection.{Now, Has, IsOpenWith}
 use Rattle.feed_lines.specs.Feeds.{Feed}
 use Rattle.feed_lines.specs.Lines.{World, State}
 
@@ -52,10 +52,11 @@ pub record Holds (attempts : Option (List Attempt)) (wire : Option (List Link)) 
   pub analysis : progress.analyser ≡ state.analysis
   pub refused : progress.refused ≡ state.refused
 
--- so many attempts were made, and these bytes were sent on the connections of the feeds that go on, as in this state
+-- so many attempts were made, and these bytes were sent on the connections of the feeds that go on, as in this state; none of those is
+-- closed or broken
 pub record HasMoved (attempts : Option (List Attempt)) (wire : Option (List Link)) (state : State) : Type 0 where
   pub made : (now : List Attempt) → attempts ≡ Some now → state.made ≡ length now
-  pub sent : (name : List ℕ) (feed : Feed) → state.feeds name ≡ Some (Some feed) → Now wire feed.link (λ t. t.sent ≡ feed.sent)
+  pub sent : (name : List ℕ) (feed : Feed) → state.feeds name ≡ Some (Some feed) → Now wire feed.link (IsOpenWith feed.sent)
 
 -- Whatever is told: each feed that goes on has a connection that may be used, and has taken at most so many PDUs; no two share one.
 pub record IsSound (stands : List Standing) (most : ℕ) (feeds : Feeds) : Type 0 where
