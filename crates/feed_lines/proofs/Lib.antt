@@ -5,6 +5,7 @@ pub mod FaultsLemmas
 pub mod GoingLemmas
 pub mod LawLemmas
 pub mod LineLemmas
+pub mod LostLemmas
 pub mod NamedLemmas
 pub mod PduLemmas
 pub mod StandingLemmas

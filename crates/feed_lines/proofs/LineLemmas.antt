@@ -74,7 +74,7 @@ module _ (attempts_old attempts_new : Option (List Attempt)) (wire_old wire_new 
       → Goes attempts_old attempts_new wire_old wire_new (Holds attempts_old wire_old feeds_old progress)
       (λ old new. HasMoved attempts_new wire_new new × (new.judgements ≡ old.judgements)) text_old text_new (λ world old added new. ConnectPart world asking place old new)
   connect_nothing place stands most agrees sound same_attempts same_wire same = record {
-    attempts = subst (λ (a : Option (List Attempt)). AddsAttempts attempts_old a) (sym same_attempts) (AddsAttempts-refl attempts_old);
+    attempts = subst (λ (a : Option (List Attempt)). AddsAttempts wire_old attempts_old a) (sym same_attempts) (AddsAttempts-refl wire_old attempts_old);
     links = subst (λ (w : Option (List Link)). ToldLater wire_old w) (sym same_wire) (ToldLater-refl wire_old);
     text = [];
     added = same ∙ sym (append-nil text_old);
@@ -91,8 +91,8 @@ module _ (attempts_old attempts_new : Option (List Attempt)) (wire_old wire_new 
   -- ---- works
 
   module _ (work : Work) (steps_old steps_new : ℕ) (same_attempts : attempts_new ≡ attempts_old) (later : ToldLater wire_old wire_new) where
-    adds_none : AddsAttempts attempts_old attempts_new
-    adds_none = subst (λ (a : Option (List Attempt)). AddsAttempts attempts_old a) (sym same_attempts) (AddsAttempts-refl attempts_old)
+    adds_none : AddsAttempts wire_old attempts_old attempts_new
+    adds_none = subst (λ (a : Option (List Attempt)). AddsAttempts wire_old attempts_old a) (sym same_attempts) (AddsAttempts-refl wire_old attempts_old)
 
     module _ (feeds_new : Feeds) (told : Option Telling) (after : Analysis) (worked : WorkedNamed attempts_old attempts_new wire_old wire_new asking.name work feeds_old feeds_new progress.analyser told after steps_old steps_new) where
       pub work_goes : (next : Progress) → text_new ≡ text_old ++ tells_text asking (option_to_list told)

@@ -1,10 +1,11 @@
 -- How the feeds that are held stand for those of the definitions.
 use Rattle.std.specs.Prelude.{◌≡◌, ◌≢◌, ℕ, ◌+◌, ◌<◌, ◌≤◌, nat_eq, List, ◌++◌, length, Some}
 use Rattle.std.specs.Cmp.Lexicographic.{pointwise}
+use Rattle.std.specs.List.{All}
 use Rattle.std.specs.declared.option.Option.{Option}
 use Rattle.std.specs.declared.option.Option.TheVariants.{None}
 use Rattle.indexmap.specs.IndexMap.{get}
-use Rattle.av_base.specs.Connections.{Link, Attempt, ToldLater, IsUsable}
+use Rattle.av_base.specs.Connections.{Attempt, Failed, IsUsable, Link, Made, ToldLater}
 use Rattle.av_base.specs.declared.standing.Standing.{Standing}
 use Rattle.av_base.specs.Told.{Rose}
 use Rattle.rtr_session.specs.declared.act.Phase.TheVariants.{Over}
@@ -71,13 +72,20 @@ pub record IsNoFeeds (stood : List Standing) (feeds : Feeds) (link : ℕ) : Type
 
 -- ---- what becomes of the attempts and the connections
 
--- attempts were added behind those that were made, where they are told
-pub record AddsAttempts (old new : Option (List Attempt)) : Type 0 where
+-- the connection that an attempt made has a number from so many on
+abbrev pub IsMadeFrom : ℕ → Attempt → Type 0
+IsMadeFrom count (Made link) = count ≤ link
+IsMadeFrom count (Failed place) = Unit {0}
+
+-- Attempts were added behind those that were made, where they are told. The connections that these made are none of those before, where
+-- these are told.
+pub record AddsAttempts (wire : Option (List Link)) (old new : Option (List Attempt)) : Type 0 where
   pub added : (after : List Attempt) → new ≡ Some after → (before : List Attempt) × (more : List Attempt) × (old ≡ Some before) × (after ≡ before ++ more)
+      × ((links : List Link) → wire ≡ Some links → All (IsMadeFrom (length links)) more)
 
 -- the attempts and connections that are told came to this
 pub record ComesTo (attempts : Option (List Attempt)) (wire : Option (List Link)) (world : World) : Type 0 where
-  pub adds : AddsAttempts attempts world.attempts
+  pub adds : AddsAttempts wire attempts world.attempts
   pub goes_on : ToldLater wire (Some world.links)
 
 -- no more steps were taken than judgements were counted
@@ -88,7 +96,7 @@ AreWithin steps_old steps_new counted_old counted_new = steps_new + counted_old 
 -- becomes of them later.
 pub record Goes (attempts_old attempts_new : Option (List Attempt)) (wire_old wire_new : Option (List Link)) (from : State → Type 0)
     (to : State → State → Type 0) (text_old text_new : List ℕ) (does : World → State → List ℕ → State → Type 0) : Type 0 where
-  pub attempts : AddsAttempts attempts_old attempts_new
+  pub attempts : AddsAttempts wire_old attempts_old attempts_new
   pub links : ToldLater wire_old wire_new
   pub text : List ℕ
   pub added : text_new ≡ text_old ++ text
