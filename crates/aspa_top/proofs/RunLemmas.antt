@@ -64,10 +64,10 @@ part_same working line files links_old links_new all_old all_mid all_new ticks_o
 -- ---- what becomes of the links
 
 pub GoesOn-refl : (links : Links) → GoesOn links links
-GoesOn-refl links = record { attempts = AddsAttempts-refl links.attempts; wire = ToldLater-refl links.wire }
+GoesOn-refl links = record { attempts = AddsAttempts-refl links.wire links.attempts; wire = ToldLater-refl links.wire }
 
 pub GoesOn-trans : {old mid new : Links} → GoesOn old mid → GoesOn mid new → GoesOn old new
-GoesOn-trans first second = record { attempts = AddsAttempts-trans first.attempts second.attempts; wire = ToldLater-trans first.wire second.wire }
+GoesOn-trans first second = record { attempts = AddsAttempts-trans first.wire first.attempts second.attempts; wire = ToldLater-trans first.wire second.wire }
 
 -- what comes of it later comes of what it was before
 earlier : {old new : Links} → GoesOn old new → (ends : Ends) → ComesTo new ends → ComesTo old ends

@@ -327,9 +327,9 @@ UsesBy working line files = ReadAs line (λ reading. Uses (counted_in working) r
 
 -- ---- What becomes of the links.
 
--- attempts were added, and the connections went on
+-- attempts were added, which made connections behind those before, and all connections went on
 pub record GoesOn (old new : Links) : Type 0 where
-  pub attempts : AddsAttempts old.attempts new.attempts
+  pub attempts : AddsAttempts old.wire old.attempts new.attempts
   pub wire : ToldLater old.wire new.wire
 
 -- ---- All lines.

@@ -3,7 +3,7 @@ ghost use Rattle.std.specs.Prelude.{◌≡◌, ◌≢◌, ◌+◌, ◌<◌, ◌�
 ghost use Rattle.std.specs.String.{string_bytes};
 ghost use Rattle.std.specs.Io.KnownBytes.{IsAtEnd};
 ghost use Rattle.av_base.specs.Told.{Rose};
-ghost use Rattle.feed_lines.specs.Faults.{BreaksByFault};
+ghost use Rattle.feed_lines.specs.Faults.{BreaksByFault, NewAreUnbroken};
 ghost use Rattle.report_text.specs.Reported.{AddsFront, IsWithinRise, unreachables_in};
 ghost use Rattle.aspa_top.specs.Performing.{GoesOn};
 ghost use Rattle.aspa_top.specs.Program.{AreOwn, Completes, Demonstrates, IsDemo, IsEnding, IsRun, IsStatus, Ran, RanIfTold};
@@ -83,13 +83,16 @@ pub fn run<S: Source, F: Shelf, K: Links, W: Sink, L: Ledger>(
         → W.written out.old ≡ Some before → W.written out.new ≡ Some (before ++ text)
         → IsWithinRise (unreachables_in text) (K.faults links.old) (K.faults links.new) }
 
-    // Whatever is told: attempts were added behind those before, each connection only went on, and those that were told are told still.
+    // Whatever is told: attempts were added behind those before, where they are told; the connections that these made are behind those
+    // before, and each connection only went on, where these are told; and they are told at the end where they were at the start.
     ensures later { GoesOn (linked (K.attempts links.old) (K.wire links.old))
         (linked (K.attempts links.new) (K.wire links.new)) }
 
     // Whatever is told: where a connection broke, the links' count of faults rose, or stands at its last value.
     ensures unbroken { BreaksByFault (K.faults links.old) (K.faults links.new)
         (K.standings links.old) (K.standings links.new) }
+    ensures new_unbroken { ¬ Rose (K.faults links.old) (K.faults links.new)
+        → NewAreUnbroken (K.wire links.old) (K.wire links.new) }
 
     // Counts of faults don't fall, and the names of the shelf stay as they are.
     ensures script_faults { S.faults script.old ≤ S.faults script.new }

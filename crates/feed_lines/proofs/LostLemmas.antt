@@ -12,12 +12,12 @@ use Rattle.rtr_session.specs.declared.act.Query.{Query}
 use Rattle.rtr_session.specs.declared.act.Query.TheVariants.{Reset}
 use Rattle.report_text.specs.declared.feed.FeedEnd.TheVariants.{Lost, Short, Unreachable}
 use Rattle.feed_lines.specs.declared.telling.Telling.{Telling}
-use Rattle.feed_lines.specs.declared.telling.Telling.TheVariants.{NoName, StreamOver, Pdu as PduRefused, End as FeedEnds}
+use Rattle.feed_lines.specs.declared.telling.Telling.TheVariants.{NoName, StreamOver, End as FeedEnds}
 use Rattle.feed_lines.specs.declared.working.Work.{Work}
 use Rattle.feed_lines.specs.declared.working.Work.TheVariants.{Ask, Take, Sync}
-use Rattle.feed_lines.specs.Feeds.{AsksBy, BadPdu, Coming, Feed, HasEnded, IsComing, Moves, NoMore, OnePdu, Queries, Syncs, TakesComing, TakesFrom, TakesPdus, Taking, asked_of, short_of}
+use Rattle.feed_lines.specs.Feeds.{AsksBy, BadPdu, Coming, Feed, HasEnded, IsComing, Moves, NoMore, OnePdu, Queries, TakesComing, TakesFrom, TakesPdus, Taking, asked_of, short_of}
 use Rattle.feed_lines.specs.Laws.{LostFeedsBrokeOrEnded}
-use Rattle.feed_lines.specs.Lines.{Connects, Does, InEnd, IsAttempt, StartsBy, State, World, WorksBy, starting, taking_of}
+use Rattle.feed_lines.specs.Lines.{Does, InEnd, IsAttempt, StartsBy, State, World, WorksBy, starting, taking_of}
 
 -- nothing more is to come on a connection that isn't broken
 abbrev IsAtEnd : Link → Type 0

@@ -84,14 +84,14 @@ returns-in_err-pour_piece-clause-went g c = λ world meets.
     Reached-went _ _ _ _ _ _ _ _ _ _ meets (Reached-between _ _ _ _ _ _ _ _ _ _ (Performing-same _ _ _ _ _ _ _ _ _ _ _
     (Performing-next _ _ _ _ _ _ _ _ _ _ _ _ _ _ _ _ _ (c.loop-line.invariant.so_far world meets.tells meets.begins) c.in-Some.ensures.first
     (Tells-names _ _ world c.loop-line.invariant.names meets.tells) c.perform_line.ensures.later c.in-Ok.ensures.goes
-      (g.K.Links.standings c.perform_line.new.links) (g.met.K.Links.agrees c.perform_line.new.links) c.in-Ok.ensures.feeds) c.pour_piece.ensures.same)) (Grows-trans c.loop-line.invariant.grows (Grows-trans c.perform_line.ensures.grows c.pour_piece.ensures.grows))
+    (g.K.Links.standings c.perform_line.new.links) (g.met.K.Links.agrees c.perform_line.new.links) c.in-Ok.ensures.feeds) c.pour_piece.ensures.same)) (Grows-trans c.loop-line.invariant.grows (Grows-trans c.perform_line.ensures.grows c.pour_piece.ensures.grows))
 
 pub returns-in_err-pour_piece-clause-cut : goal.returns-in_err-pour_piece-clause-cut
 returns-in_err-pour_piece-clause-cut g c = λ failed world meets told.
     Reached-cut _ _ _ _ _ _ _ _ _ _ meets told (Reached-between _ _ _ _ _ _ _ _ _ _ (Performing-same _ _ _ _ _ _ _ _ _ _ _
     (Performing-next _ _ _ _ _ _ _ _ _ _ _ _ _ _ _ _ _ (c.loop-line.invariant.so_far world meets.tells meets.begins) c.in-Some.ensures.first
     (Tells-names _ _ world c.loop-line.invariant.names meets.tells) c.perform_line.ensures.later c.in-Ok.ensures.goes
-      (g.K.Links.standings c.perform_line.new.links) (g.met.K.Links.agrees c.perform_line.new.links) c.in-Ok.ensures.feeds) c.pour_piece.ensures.same)) (Grows-trans c.loop-line.invariant.grows (Grows-trans c.perform_line.ensures.grows c.pour_piece.ensures.grows)) c.in_err-pour_piece.ensures.err
+    (g.K.Links.standings c.perform_line.new.links) (g.met.K.Links.agrees c.perform_line.new.links) c.in-Ok.ensures.feeds) c.pour_piece.ensures.same)) (Grows-trans c.loop-line.invariant.grows (Grows-trans c.perform_line.ensures.grows c.pour_piece.ensures.grows)) c.in_err-pour_piece.ensures.err
 
 pub returns-in_err-pour-clause-went : goal.returns-in_err-pour-clause-went
 returns-in_err-pour-clause-went g c = λ world meets.
