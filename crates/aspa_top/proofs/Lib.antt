@@ -1,3 +1,4 @@
+pub mod ConnectedLemmas
 pub mod DumpLemmas
 pub mod EvaluationLemmas
 pub mod FeedLemmas

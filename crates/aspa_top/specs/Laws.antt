@@ -6,7 +6,8 @@ use Rattle.std.specs.declared.result.Result.TheVariants.{Ok}
 use Rattle.script_lines.specs.declared.command.Command.TheVariants.{Feed}
 use Rattle.script_lines.specs.Grammar.{IsReading}
 use Rattle.stream_lines.specs.Counts.{refusals_in}
-use Rattle.aspa_top.specs.Tasks.{State, start}
+use Rattle.feed_lines.specs.Laws.{AreConnectedFrom}
+use Rattle.aspa_top.specs.Tasks.{State, feeds_of, start}
 use Rattle.aspa_top.specs.Evaluation.{Evaluates}
 use Rattle.aspa_top.specs.Program.{AreTold, WentThrough, WritesFront}
 use Rattle.aspa_top.specs.World.{World}
@@ -43,3 +44,8 @@ RunsWriteFronts = (world : World) → AreTold world → (lines : List (List ℕ)
 abbrev pub RefusalsAreCounted : Type 0
 RefusalsAreCounted = (world : World) (lines : List (List ℕ)) (text : List ℕ) (end : State)
     → Evaluates world (start world) lines text end → end.refused ≡ refusals_in text
+
+-- each feed that lines leave is on a connection that an attempt made behind those that were made before the run
+abbrev pub FeedsWereConnected : Type 0
+FeedsWereConnected = (world : World) (lines : List (List ℕ)) (text : List ℕ) (end : State)
+    → Evaluates world (start world) lines text end → AreConnectedFrom world.ends world.made (feeds_of end)

@@ -1,3 +1,4 @@
+pub mod ConnectedLemmas
 pub mod ConnectingLemmas
 pub mod ConnectionLemmas
 pub mod CountingLemmas

@@ -1,6 +1,6 @@
 -- Laws of the definitions, each the contract of a public function of the module `laws`.
 use Rattle.std.specs.List.{Contains}
-use Rattle.std.specs.Prelude.{◌≡◌, ℕ, List, [], ◌∷◌, ◌++◌, None, Some}
+use Rattle.std.specs.Prelude.{◌≡◌, ℕ, ◌≤◌, List, [], ◌∷◌, ◌++◌, None, Some}
 use Rattle.av_base.specs.Connections.{Attempt, Made}
 use Rattle.av_base.specs.declared.standing.Break.TheVariants.{BySend}
 use Rattle.av_text.specs.Spellings.{IsInLine}
@@ -41,3 +41,8 @@ pub record BrokeOrEnded (world : World) (old new : State) (name : List ℕ) (tel
 
 abbrev pub LostFeedsBrokeOrEnded : Type 0
 LostFeedsBrokeOrEnded = (world : World) (old new : State) (name : List ℕ) (tells : List Telling) → BrokeOrEnded world old new name tells
+
+-- each feed that goes on is on a connection that one of the attempts from this one on made
+pub record AreConnectedFrom (world : World) (first : ℕ) (state : State) : Type 0 where
+  pub later : first ≤ state.made
+  pub each : (name : List ℕ) (feed : Feed) → state.feeds name ≡ Some (Some feed) → (number : ℕ) × (first ≤ number) × IsAttempt world number (Made feed.link)
