@@ -5,6 +5,7 @@ pub mod FeedLemmas
 pub mod JudgedLemmas
 pub mod LawLemmas
 pub mod LoadingLemmas
+pub mod LostLemmas
 pub mod NamedLemmas
 pub mod OutcomeLemmas
 pub mod PerformingLemmas

@@ -19,9 +19,9 @@ use Rattle.aspa_top.specs.declared.working.Working.{Working}
 use Rattle.aspa_top.specs.Tasks.{State, feeds_of, start}
 use Rattle.aspa_top.specs.Evaluation.{Begins, counted, Performs, Evaluates}
 use Rattle.aspa_top.specs.Feeding.{AreSound}
-use Rattle.aspa_top.specs.Performing.{StandsFor, GoesBy, GoesOn, PartBy, UsesBy, Performing, most}
+use Rattle.aspa_top.specs.Performing.{StandsFor, GoesBy, PartBy, UsesBy, Performing, most}
 use Rattle.aspa_top.specs.Program.{AreTold, BeginsNext, HasMoved, WentThrough, StopsAtFile, Ended, WritesPart}
-use Rattle.aspa_top.specs.World.{ComesTo, Links, Meets, World, Tells, ending, names_of}
+use Rattle.aspa_top.specs.World.{ComesTo, GoesOn, Links, Meets, Tells, World, ending, names_of}
 use Rattle.aspa_top.proofs.EvaluationLemmas.{begins_none, goes_on_behind}
 use Rattle.aspa_top.proofs.StandsLemmas.{counted_stands}
 use Rattle.aspa_top.proofs.TextLemmas.{Evaluates-refused}

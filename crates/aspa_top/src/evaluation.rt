@@ -4,9 +4,8 @@ ghost use Rattle.av_base.specs.Told.{Rose};
 ghost use Rattle.av_text.specs.Lines.{lines_in};
 ghost use Rattle.feed_lines.specs.Faults.{BreaksByFault};
 ghost use Rattle.report_text.specs.Reported.{AddsFront};
-ghost use Rattle.aspa_top.specs.Performing.{GoesOn};
 ghost use Rattle.aspa_top.specs.Program.{AreTold, Ended, StopsAtFile, WentThrough, WritesPart};
-ghost use Rattle.aspa_top.specs.World.{Meets, World, linked, names_of};
+ghost use Rattle.aspa_top.specs.World.{GoesOn, Meets, World, linked, names_of};
 
 use crate::performing::perform_line;
 use crate::working::Working;

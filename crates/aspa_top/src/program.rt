@@ -5,9 +5,8 @@ ghost use Rattle.std.specs.Io.KnownBytes.{IsAtEnd};
 ghost use Rattle.av_base.specs.Told.{Rose};
 ghost use Rattle.feed_lines.specs.Faults.{BreaksByFault, NewAreUnbroken};
 ghost use Rattle.report_text.specs.Reported.{AddsFront, IsWithinRise, unreachables_in};
-ghost use Rattle.aspa_top.specs.Performing.{GoesOn};
 ghost use Rattle.aspa_top.specs.Program.{AreOwn, Completes, Demonstrates, IsDemo, IsEnding, IsRun, IsStatus, Ran, RanIfTold};
-ghost use Rattle.aspa_top.specs.World.{Meets, World, linked, names_of};
+ghost use Rattle.aspa_top.specs.World.{GoesOn, Meets, World, linked, names_of};
 
 use crate::demo::run_demo;
 use crate::evaluation::evaluate;
