@@ -81,13 +81,13 @@ pub marked_still : (is_marked : Bool) (old new : Slots) (before after : Numbered
 marked_still false old new before after notes k o updates stays kept = refl
 marked_still true old new before after notes k o updates stays kept = same_marks old new before after notes notes
     (λ q. ap (noted_or (lookup (is_at (key_cmp q)) notes)) (by q (is_at (key_cmp k) q) refl)) where
-  same : (q : Key) (b : Bool) → is_at (key_cmp k) q ≡ b → lookup (is_at (key_cmp q)) after ≡ lookup (is_at (key_cmp q)) before
-  same q true t = updates q ∙ ap (λ (b : Bool). cond b o (lookup (is_at (key_cmp q)) before)) t ∙ sym stays ∙ ap (λ (r : Key). lookup (is_at (key_cmp r)) before) (same_key k q t)
-  same q false t = updates q ∙ ap (λ (b : Bool). cond b o (lookup (is_at (key_cmp q)) before)) t
+      same : (q : Key) (b : Bool) → is_at (key_cmp k) q ≡ b → lookup (is_at (key_cmp q)) after ≡ lookup (is_at (key_cmp q)) before
+      same q true t = updates q ∙ ap (λ (b : Bool). cond b o (lookup (is_at (key_cmp q)) before)) t ∙ sym stays ∙ ap (λ (r : Key). lookup (is_at (key_cmp r)) before) (same_key k q t)
+      same q false t = updates q ∙ ap (λ (b : Bool). cond b o (lookup (is_at (key_cmp q)) before)) t
 
-  by : (q : Key) (b : Bool) → is_at (key_cmp k) q ≡ b → mark_at new after q ≡ mark_at old before q
-  by q b t = ap (option_map (λ j. marked_or (at new j))) (same q b t)
-      ∙ kept_part marked_or old new (lookup (is_at (key_cmp q)) before) (λ j here. kept q j (same q b t ∙ here) here)
+      by : (q : Key) (b : Bool) → is_at (key_cmp k) q ≡ b → mark_at new after q ≡ mark_at old before q
+      by q b t = ap (option_map (λ j. marked_or (at new j))) (same q b t)
+          ∙ kept_part marked_or old new (lookup (is_at (key_cmp q)) before) (λ j here. kept q j (same q b t ∙ here) here)
 
 -- either way
 pub marked_move : (is_marked : Bool) (old new : Slots) (before after : Numbered) (notes notes' : Noted) (k : Key) (o : Option ℕ)
