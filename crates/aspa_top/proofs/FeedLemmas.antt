@@ -23,8 +23,8 @@ use Rattle.aspa_top.specs.declared.working.Working.{Working}
 use Rattle.aspa_top.specs.Tasks.{State, ConnectsUnless, DoesTask, TakesNamed, asking_on, feeds_of, with_feeds}
 use Rattle.aspa_top.specs.Evaluation.{task_of}
 use Rattle.aspa_top.specs.Feeding.{AreSound, DoesOn, KeepsDumps, StopsOn}
-use Rattle.aspa_top.specs.Performing.{Goes, GoesOn, GoesPart, IsSound, MovesPart, StandsFor, counted_in, dump_in, has_source, most}
-use Rattle.aspa_top.specs.World.{Links, ending}
+use Rattle.aspa_top.specs.Performing.{Goes, GoesPart, IsSound, MovesPart, StandsFor, counted_in, dump_in, has_source, most}
+use Rattle.aspa_top.specs.World.{GoesOn, Links, ending}
 use Rattle.aspa_top.proofs.StandsLemmas.{HoldsOr-is_some, HoldsOr-none, IsSound-kept, added_text}
 
 -- ---- soundness

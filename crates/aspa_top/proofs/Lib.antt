@@ -1,9 +1,11 @@
+pub mod ConnectedLemmas
 pub mod DumpLemmas
 pub mod EvaluationLemmas
 pub mod FeedLemmas
 pub mod JudgedLemmas
 pub mod LawLemmas
 pub mod LoadingLemmas
+pub mod LostLemmas
 pub mod NamedLemmas
 pub mod OutcomeLemmas
 pub mod PerformingLemmas

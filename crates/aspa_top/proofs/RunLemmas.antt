@@ -1,8 +1,9 @@
 -- Line after line: what a run has done where it stops.
-use Rattle.std.proofs.Common.{◌≡◌, ℕ, ◌+◌, ◌-◌, ◌<◌, ◌≤◌, List, [], ◌∷◌, ◌++◌, length, None, Some, inl, inr, refl, sym, ap, subst, ◌∙◌, arith, zero-add, append_assoc, append-nil}
+use Rattle.std.proofs.Common.{◌≡◌, ℕ, ◌+◌, ◌-◌, ◌*◌, ◌<◌, ◌≤◌, List, [], ◌∷◌, ◌++◌, length, None, Some, inl, inr, refl, sym, ap, subst, ◌∙◌, arith, zero-add, append_assoc, append-nil}
 use Rattle.std.specs.declared.option.Option.{Option}
 use Rattle.std.specs.Io.KnownBytes.{append_known}
-use Rattle.av_base.specs.Connections.{Attempt, Link}
+use Rattle.av_base.specs.Connections.{Agrees, Attempt, Link}
+use Rattle.av_base.specs.declared.standing.Standing.{Standing}
 use Rattle.av_base.specs.Files.{Files}
 use Rattle.av_base.specs.Told.{Grows}
 use Rattle.av_base.proofs.LaterLemmas.{ToldLater-refl, ToldLater-trans}
@@ -17,9 +18,10 @@ use Rattle.stream_lines.specs.Counts.{refusals_in}
 use Rattle.aspa_top.specs.declared.working.Working.{Working}
 use Rattle.aspa_top.specs.Tasks.{State, feeds_of, start}
 use Rattle.aspa_top.specs.Evaluation.{Begins, counted, Performs, Evaluates}
-use Rattle.aspa_top.specs.Performing.{StandsFor, GoesBy, GoesOn, PartBy, UsesBy, Performing}
+use Rattle.aspa_top.specs.Feeding.{AreSound}
+use Rattle.aspa_top.specs.Performing.{StandsFor, GoesBy, PartBy, UsesBy, Performing, most}
 use Rattle.aspa_top.specs.Program.{AreTold, BeginsNext, HasMoved, WentThrough, StopsAtFile, Ended, WritesPart}
-use Rattle.aspa_top.specs.World.{ComesTo, Links, Meets, World, Tells, ending, names_of}
+use Rattle.aspa_top.specs.World.{ComesTo, GoesOn, Links, Meets, Tells, World, ending, names_of}
 use Rattle.aspa_top.proofs.EvaluationLemmas.{begins_none, goes_on_behind}
 use Rattle.aspa_top.proofs.StandsLemmas.{counted_stands}
 use Rattle.aspa_top.proofs.TextLemmas.{Evaluates-refused}
@@ -62,18 +64,20 @@ part_same working line files links_old links_new all_old all_mid all_new ticks_o
 -- ---- what becomes of the links
 
 pub GoesOn-refl : (links : Links) → GoesOn links links
-GoesOn-refl links = record { attempts = AddsAttempts-refl links.attempts; wire = ToldLater-refl links.wire }
+GoesOn-refl links = record { attempts = AddsAttempts-refl links.wire links.attempts; wire = ToldLater-refl links.wire }
 
 pub GoesOn-trans : {old mid new : Links} → GoesOn old mid → GoesOn mid new → GoesOn old new
-GoesOn-trans first second = record { attempts = AddsAttempts-trans first.attempts second.attempts; wire = ToldLater-trans first.wire second.wire }
+GoesOn-trans first second = record { attempts = AddsAttempts-trans first.wire first.attempts second.attempts; wire = ToldLater-trans first.wire second.wire }
 
 -- what comes of it later comes of what it was before
 earlier : {old new : Links} → GoesOn old new → (ends : Ends) → ComesTo new ends → ComesTo old ends
 earlier on ends comes = ComesTo-earlier on.attempts on.wire ends comes
 
 -- as many attempts were made as the state says, and such bytes sent
-pub stands_moved : (files : Option Files) (links : Links) (working : Working) (state : State) → StandsFor files links working state → FeedsMoved links.attempts links.wire (feeds_of state)
-stands_moved files links working state stands = holds_moved links.attempts links.wire working.feeds (feeds_of state) (record { made = stands.made; each = stands.feeds })
+stands_moved : (files : Option Files) (links : Links) (working : Working) (state : State) (standings : List Standing) → Agrees links.wire standings → AreSound standings working.lines working
+    → StandsFor files links working state → FeedsMoved links.attempts links.wire (feeds_of state)
+stands_moved files links working state standings agrees sound stands =
+    holds_moved links.wire standings agrees (working.lines * most) links.attempts working.feeds (feeds_of state) sound (record { made = stands.made; each = stands.feeds })
 
 -- where the run ends, its world's ends are what the links tell
 comes_here : (files : Option Files) (before after : Links) (world : World) → Meets files before after world → ComesTo after world.ends
@@ -90,16 +94,16 @@ moved_here files before after world state meets moved =
 
 -- how far a line went that was read
 begins_by : (world : World) (files : Option Files) (links_old links_new : Links) (working : Working) (state : State) (line : List ℕ) (all_old all_new : Option (List ℕ)) (ticks_old ticks_new ticks : ℕ)
-    → ticks ≤ ticks_new - ticks_old → Tells files world → StandsFor files links_old working state
+    → ticks ≤ ticks_new - ticks_old → Tells files world → StandsFor files links_old working state → FeedsMoved links_old.attempts links_old.wire (feeds_of state)
     → (by : PartBy working line files links_old links_new all_old all_new ticks_old ticks_new)
     → (part : List ℕ) × (moved : State) × ((ends : Ends) → ComesTo links_new ends → Begins (ending world ends) state line part ticks moved)
     × FeedsMoved links_new.attempts links_new.wire (feeds_of moved) × (all_new ≡ append_known all_old part)
-begins_by world files links_old links_new working state line all_old all_new ticks_old ticks_new ticks few tells stands by = elim by.holds [
+begins_by world files links_old links_new working state line all_old all_new ticks_old ticks_new ticks few tells stands moved by = elim by.holds [
   | inl nothing ↦ (
     [],
     state,
     (λ ends comes. inl (refl, omega (arith, few, nothing.2), refl)),
-    subst (λ (links : Links). FeedsMoved links.attempts links.wire (feeds_of state)) (sym nothing.0) (stands_moved files links_old working state stands),
+    subst (λ (links : Links). FeedsMoved links.attempts links.wire (feeds_of state)) (sym nothing.0) moved,
     nothing.1 ∙ sym (append_known-nil all_old),
   )
   | inr more ↦ elim more [
@@ -118,7 +122,7 @@ begins_by world files links_old links_new working state line all_old all_new tic
             },
             refl,
           ))),
-          subst (λ (links : Links). FeedsMoved links.attempts links.wire (feeds_of state)) (sym writes.0) (stands_moved files links_old working state stands),
+          subst (λ (links : Links). FeedsMoved links.attempts links.wire (feeds_of state)) (sym writes.0) moved,
           went.added,
         )
     | inr moves ↦
@@ -170,6 +174,7 @@ module _ (world : World) (lines : List (List ℕ)) (old : Option (List ℕ)) (ti
     evaluates = λ ends comes. (refl, refl);
     added = ap (append_known old) none;
     stands = stands;
+    moved = record { made = stands.made; sent = λ name feed is. let no_feed : ⊥ = cc in absurd no_feed };
     ticked = omega arith;
   }
 
@@ -178,8 +183,9 @@ module _ (world : World) (lines : List (List ℕ)) (old : Option (List ℕ)) (ti
       (all_mid all_new : Option (List ℕ)) (ticks_mid ticks_new : ℕ)
       → Performing world lines left files links working old all_mid ticks_old ticks_mid → left ≡ line ∷ more → Tells files world → GoesOn links links_mid
       → GoesBy working line files mid links links_mid all_mid all_new ticks_mid ticks_new next
+      → (standings : List Standing) → Agrees links_mid.wire standings → AreSound standings next.lines next
       → Performing world lines more mid links_mid next old all_new ticks_old ticks_new
-  Performing-next files mid links links_mid left more line working next all_mid all_new ticks_mid ticks_new so_far first tells on by =
+  Performing-next files mid links links_mid left more line working next all_mid all_new ticks_mid ticks_new so_far first tells on by standings agrees sound =
       let advances = by.holds world tells (counted so_far.state) (counted_stands files links working so_far.state so_far.stands) in
       record {
         done = so_far.done ++ line ∷ [];
@@ -190,6 +196,7 @@ module _ (world : World) (lines : List (List ℕ)) (old : Option (List ℕ)) (ti
             (so_far.evaluates ends (earlier on ends comes)) (record { reading = by.reading; reads = by.reads; does = advances.does ends comes });
         added = advances.added ∙ ap (λ (m : Option (List ℕ)). append_known m advances.text) so_far.added ∙ append_known-append old so_far.text advances.text;
         stands = advances.stands;
+        moved = stands_moved mid links_mid next advances.after standings agrees sound advances.stands;
         ticked = omega (arith, advances.ticked, so_far.ticked);
       }
 
@@ -213,7 +220,7 @@ module _ (world : World) (lines : List (List ℕ)) (old : Option (List ℕ)) (ti
     ticks = 0;
     moved = so_far.state;
     begins = λ ends comes. begins_none (ending world ends) so_far.state left;
-    sent = stands_moved files links working so_far.state so_far.stands;
+    sent = so_far.moved;
     added = so_far.added ∙ ap (append_known old) (sym (append-nil so_far.text));
     ticked = omega (arith, so_far.ticked);
   }
@@ -225,7 +232,7 @@ module _ (world : World) (lines : List (List ℕ)) (old : Option (List ℕ)) (ti
       → PartBy working line files links links_new all_mid all_new ticks_mid ticks_new
       → Reached world lines links_new old all_new ticks_old ticks_new
   Reached-within files links links_new left more line working all_mid all_new ticks_mid ticks_new so_far first tells on by =
-      let went = begins_by world files links links_new working so_far.state line all_mid all_new ticks_mid ticks_new (ticks_new - ticks_mid) (omega arith) tells so_far.stands by in
+      let went = begins_by world files links links_new working so_far.state line all_mid all_new ticks_mid ticks_new (ticks_new - ticks_mid) (omega arith) tells so_far.stands so_far.moved by in
       record {
         done = so_far.done;
         left = line ∷ more;
@@ -283,7 +290,7 @@ module _ (world : World) (lines : List (List ℕ)) (old : Option (List ℕ)) (ti
   Performing-stopped told before files links links_new left more line working all_mid new held ticks_mid ticks_new meets so_far first tells on by uses none =
       let stands = counted_stands files links working so_far.state so_far.stands in
       let here = comes_here told before links_new world meets in
-      let went = begins_by world files links links_new working so_far.state line all_mid (append_known new held) ticks_mid ticks_new 0 (omega arith) tells so_far.stands by in
+      let went = begins_by world files links links_new working so_far.state line all_mid (append_known new held) ticks_mid ticks_new 0 (omega arith) tells so_far.stands so_far.moved by in
       record {
         done = so_far.done;
         line = line;
@@ -298,6 +305,7 @@ module _ (world : World) (lines : List (List ℕ)) (old : Option (List ℕ)) (ti
         part = went.0;
         moved = went.1;
         begins = went.2 world.ends here;
+        sent = moved_here told before links_new world went.1 meets went.3;
         written = sym (append_known-nil new) ∙ ap (append_known new) (sym none) ∙ went.4 ∙ ap (λ (m : Option (List ℕ)). append_known m went.0) so_far.added ∙ append_known-append old so_far.text went.0;
       }
 
@@ -312,7 +320,7 @@ module _ (world : World) (lines : List (List ℕ)) (old : Option (List ℕ)) (ti
         text = so_far.text;
         state = so_far.state;
         evaluates = rw whole evaluates;
-        sent = moved_here told before links world so_far.state meets (stands_moved files links working so_far.state so_far.stands);
+        sent = moved_here told before links world so_far.state meets so_far.moved;
         written = sym (append_known-nil new) ∙ ap (append_known new) (sym all) ∙ so_far.added;
         ticked = so_far.ticked;
         counted = so_far.stands.refused ∙ Evaluates-refused world (start world) so_far.done so_far.text so_far.state evaluates ∙ zero-add (refusals_in so_far.text);

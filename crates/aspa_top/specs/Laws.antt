@@ -1,15 +1,25 @@
 -- Laws of the definitions, each the contract of a public function of the module `laws`.
-use Rattle.std.specs.Prelude.{◌≡◌, ℕ, List}
-use Rattle.std.specs.List.{All}
+use Rattle.std.specs.Prelude.{◌≡◌, ℕ, List, [], Some}
+use Rattle.std.specs.List.{All, Contains}
 use Rattle.std.specs.declared.option.Option.{Option}
 use Rattle.std.specs.declared.result.Result.TheVariants.{Ok}
 use Rattle.script_lines.specs.declared.command.Command.TheVariants.{Feed}
 use Rattle.script_lines.specs.Grammar.{IsReading}
 use Rattle.stream_lines.specs.Counts.{refusals_in}
-use Rattle.aspa_top.specs.Tasks.{State, start}
+use Rattle.av_base.specs.Files.{Files}
+use Rattle.report_text.specs.declared.feed.FeedEnd.TheVariants.{Lost}
+use Rattle.feed_lines.specs.declared.telling.Telling.{Telling}
+use Rattle.feed_lines.specs.declared.telling.Telling.TheVariants.{End as FeedEnds}
+use Rattle.feed_lines.specs.declared.working.Work.{Work}
+use Rattle.feed_lines.specs.Faults.{NewAreUnbroken}
+use Rattle.feed_lines.specs.Feeds.{Feed as OneFeed}
+use Rattle.feed_lines.specs.Laws.{AreConnectedFrom}
+use Rattle.feed_lines.specs.Lines.{Connects, InEnd, Works}
+use Rattle.feed_lines.specs.Lines.{State as FeedState, World as Ends}
+use Rattle.aspa_top.specs.Tasks.{State, feeds_of, start}
 use Rattle.aspa_top.specs.Evaluation.{Evaluates}
 use Rattle.aspa_top.specs.Program.{AreTold, WentThrough, WritesFront}
-use Rattle.aspa_top.specs.World.{World}
+use Rattle.aspa_top.specs.World.{GoesOn, Links, Meets, World}
 
 -- In a world whose attempts are told no lines have two texts, or leave two states.
 abbrev pub NoScriptHasTwoTexts : Type 0
@@ -43,3 +53,19 @@ RunsWriteFronts = (world : World) → AreTold world → (lines : List (List ℕ)
 abbrev pub RefusalsAreCounted : Type 0
 RefusalsAreCounted = (world : World) (lines : List (List ℕ)) (text : List ℕ) (end : State)
     → Evaluates world (start world) lines text end → end.refused ≡ refusals_in text
+
+-- each feed that lines leave is on a connection that an attempt made behind those that were made before the run
+abbrev pub FeedsWereConnected : Type 0
+FeedsWereConnected = (world : World) (lines : List (List ℕ)) (text : List ℕ) (end : State)
+    → Evaluates world (start world) lines text end → AreConnectedFrom world.ends world.made (feeds_of end)
+
+-- Where a line reports a feed as lost, nothing is to come on the feed's connection; and no `feed` line does.
+pub record LosesOnlyAtEnd (ends : Ends) (state : FeedState) : Type 0 where
+  pub connects : (name place : List ℕ) (tells : List Telling) (next : FeedState) → Connects ends state name place tells next → ¬ Contains tells (FeedEnds Lost)
+  pub works : (name : List ℕ) (work : Work) (tells : List Telling) (next : FeedState) → Works ends state name work tells next → Contains tells (FeedEnds Lost)
+      → (feed : OneFeed) × (state.feeds name ≡ Some (Some feed)) × InEnd ends feed.link (λ t. t.to_come ≡ [])
+
+-- So it is behind any first lines, where the attempts are told and no connection that was made in the run is broken.
+abbrev pub UnbrokenFeedsAreLostAtEnd : Type 0
+UnbrokenFeedsAreLostAtEnd = (files : Option Files) (before after : Links) (world : World) → Meets files before after world → AreTold world → GoesOn before after → NewAreUnbroken before.wire after.wire
+    → (lines : List (List ℕ)) (text : List ℕ) (state : State) → Evaluates world (start world) lines text state → LosesOnlyAtEnd world.ends (feeds_of state)

@@ -8,9 +8,9 @@ use Rattle.std.specs.declared.option.Option.TheVariants.{Some, None}
 use Rattle.std.specs.Io.KnownBytes.{append_known}
 use Rattle.indexmap.specs.IndexMap.{get}
 use Rattle.indexmap.specs.IndexSet.{contains}
-use Rattle.av_base.specs.Connections.{Attempt, ToldLater}
+use Rattle.av_base.specs.Connections.{Attempt}
 use Rattle.av_base.specs.Files.{Files}
-use Rattle.feed_lines.specs.Holding.{AddsAttempts, feed_in}
+use Rattle.feed_lines.specs.Holding.{feed_in}
 use Rattle.feed_lines.specs.Holding.{HasMoved as FeedsMoved}
 use Rattle.feed_lines.specs.Holding.{HoldsOr as HoldsFeed}
 use Rattle.feed_lines.specs.Lines.{World as Ends}
@@ -325,13 +325,6 @@ PartBy working line files links_old links_new all_old all_new ticks_old ticks_ne
 abbrev pub UsesBy : Working → List ℕ → Option Files → Type 0
 UsesBy working line files = ReadAs line (λ reading. Uses (counted_in working) reading files)
 
--- ---- What becomes of the links.
-
--- attempts were added, and the connections went on
-pub record GoesOn (old new : Links) : Type 0 where
-  pub attempts : AddsAttempts old.attempts new.attempts
-  pub wire : ToldLater old.wire new.wire
-
 -- ---- All lines.
 
 -- the lines so far were evaluated, and all their text is written or held
@@ -344,4 +337,5 @@ pub record Performing (world : World) (lines left : List (List ℕ)) (files : Op
   pub evaluates : (ends : Ends) → ComesTo links ends → Evaluates (ending world ends) (start world) done text state
   pub added : all ≡ append_known old text
   pub stands : StandsFor files links working state
+  pub moved : FeedsMoved links.attempts links.wire (feeds_of state)
   pub ticked : ticks_now ≤ ticks_old + state.judgements

@@ -38,7 +38,8 @@ abbrev pub BeginsNext : World → State → List (List ℕ) → List ℕ → ℕ
 BeginsNext world state [] part ticks moved = (part ≡ []) × (ticks ≡ 0) × (moved ≡ state)
 BeginsNext world state (line ∷ more) part ticks moved = Begins world state line part ticks moved
 
--- as many attempts were made as in this state, and on the connections of the feeds that go on these bytes were sent
+-- as many attempts were made as in this state, and these bytes were sent on the connections of the feeds that go on, none of which is
+-- closed or broken
 abbrev pub HasMoved : World → State → Type 0
 HasMoved world state = Moved world.ends.attempts (Some world.ends.links) (feeds_of state)
 
@@ -60,7 +61,7 @@ pub record WentThrough (world : World) (lines : List (List ℕ)) (old new : Opti
   pub ticked : ticks_new ≤ ticks_old + state.judgements + ticks
 
 -- What was written stops in the text of a line that opens or reads a file: it is the text of the lines before it, followed by a
--- front of its own text.
+-- front of its own text. As many attempts were made as there, and such bytes were sent.
 pub record StopsAtFile (world : World) (lines : List (List ℕ)) (old new : Option (List ℕ)) : Type 0 where
   pub done : List (List ℕ)
   pub line : List ℕ
@@ -75,6 +76,7 @@ pub record StopsAtFile (world : World) (lines : List (List ℕ)) (old new : Opti
   pub part : List ℕ
   pub moved : State
   pub begins : Begins world state line part 0 moved
+  pub sent : HasMoved world moved
   pub written : new ≡ append_known old (text ++ part)
 
 -- All lines were evaluated and all their text was written, in which so many lines begin with `! `; as many attempts were made, and such

@@ -2,9 +2,9 @@
 use Rattle.std.specs.Prelude.{◌≡◌, ℕ, List, Some, length}
 use Rattle.std.specs.Option.{option_map, unwrap_or}
 use Rattle.std.specs.declared.option.Option.{Option}
-use Rattle.av_base.specs.Connections.{Attempt, Link}
+use Rattle.av_base.specs.Connections.{Attempt, Link, ToldLater}
 use Rattle.av_base.specs.Files.{Files}
-use Rattle.feed_lines.specs.Holding.{ComesTo as Comes}
+use Rattle.feed_lines.specs.Holding.{AddsAttempts, ComesTo as Comes}
 use Rattle.feed_lines.specs.Lines.{World as Ends}
 pub use Rattle.stream_lines.specs.Frames.{names_of}
 
@@ -32,6 +32,11 @@ pub record Links : Type 0 where
 
 abbrev pub linked : Option (List Attempt) → Option (List Link) → Links
 linked attempts wire = record { attempts = attempts; wire = wire }
+
+-- attempts were added, which made connections behind those before, and all connections went on
+pub record GoesOn (old new : Links) : Type 0 where
+  pub attempts : AddsAttempts old.wire old.attempts new.attempts
+  pub wire : ToldLater old.wire new.wire
 
 -- how many attempts were made, where they are told
 abbrev pub count_of : Option (List Attempt) → ℕ

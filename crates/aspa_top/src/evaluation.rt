@@ -5,7 +5,7 @@ ghost use Rattle.av_text.specs.Lines.{lines_in};
 ghost use Rattle.feed_lines.specs.Faults.{BreaksByFault};
 ghost use Rattle.report_text.specs.Reported.{AddsFront};
 ghost use Rattle.aspa_top.specs.Program.{AreTold, Ended, StopsAtFile, WentThrough, WritesPart};
-ghost use Rattle.aspa_top.specs.World.{Meets, World, linked, names_of};
+ghost use Rattle.aspa_top.specs.World.{GoesOn, Meets, World, linked, names_of};
 
 use crate::performing::perform_line;
 use crate::working::Working;
@@ -44,6 +44,8 @@ pub(crate) fn evaluate<F: Shelf, K: Links, W: Sink, L: Ledger>(
         (linked (K.attempts links.old) (K.wire links.old)) (linked (K.attempts links.new) (K.wire links.new)) world
         → AreTold world → WritesPart world (lines_in whole script.now) (W.written out.old) (W.written out.new) }
     ensures reported { AddsFront (W.written out.old) (W.written out.new) (K.faults links.old) (K.faults links.new) }
+    ensures later { GoesOn (linked (K.attempts links.old) (K.wire links.old))
+        (linked (K.attempts links.new) (K.wire links.new)) }
     ensures broke { BreaksByFault (K.faults links.old) (K.faults links.new)
         (K.standings links.old) (K.standings links.new) }
     ensures shelf_cause { IsErrOf result Stop.Shelf → Rose (F.faults shelf.old) (F.faults shelf.new) }

@@ -4,9 +4,9 @@ ghost use Rattle.feed_lines.specs.Faults.{BreaksByFault};
 ghost use Rattle.feed_lines.specs.Lines.{units_of};
 ghost use Rattle.aspa_top.specs.declared.task.Task.TheVariants.{Connect, OnFeed};
 ghost use Rattle.aspa_top.specs.Feeding.{AreSound, DoesOn, KeepsDumps, StopsOn};
-ghost use Rattle.aspa_top.specs.Performing.{GoesOn, most};
+ghost use Rattle.aspa_top.specs.Performing.{most};
 ghost use Rattle.aspa_top.specs.Reporting.{AddsEnds};
-ghost use Rattle.aspa_top.specs.World.{linked};
+ghost use Rattle.aspa_top.specs.World.{GoesOn, linked};
 
 use crate::acting::refuse;
 use crate::working::Working;

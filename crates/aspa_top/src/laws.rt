@@ -1,5 +1,5 @@
 //! Laws of the definitions: the contract of each function is the law, and its body does nothing.
-ghost use Rattle.aspa_top.specs.Laws.{EachScriptWithoutFeedsHasAText, NoScriptHasTwoTexts, RefusalsAreCounted, RunsWriteFronts};
+ghost use Rattle.aspa_top.specs.Laws.{EachScriptWithoutFeedsHasAText, FeedsWereConnected, NoScriptHasTwoTexts, RefusalsAreCounted, RunsWriteFronts, UnbrokenFeedsAreLostAtEnd};
 
 /// In a world whose attempts to connect are told no script has two texts.
 pub fn no_script_has_two_texts()
@@ -19,4 +19,14 @@ pub fn runs_write_fronts()
 /// As many refusals are counted as the text of the lines has lines that begin with `! `: it is the number that `summary` shows.
 pub fn refusals_are_counted()
     ensures { RefusalsAreCounted }
+{}
+
+/// Each feed that lines leave is on a connection that one of the run's attempts made.
+pub fn feeds_were_connected()
+    ensures { FeedsWereConnected }
+{}
+
+/// Where no connection that was made in the run is broken, a feed is lost only where nothing more is to come on its connection.
+pub fn unbroken_feeds_are_lost_at_end()
+    ensures { UnbrokenFeedsAreLostAtEnd }
 {}

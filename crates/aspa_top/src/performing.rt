@@ -7,8 +7,8 @@ ghost use Rattle.report_text.specs.Refusals.{IsCause};
 ghost use Rattle.report_text.specs.Reported.{AddsFront, AddsLines};
 ghost use Rattle.aspa_top.specs.Evaluation.{line_cause as number_of};
 ghost use Rattle.aspa_top.specs.Feeding.{AreSound};
-ghost use Rattle.aspa_top.specs.Performing.{Goes, GoesBy, GoesOn, GoesPart, IsSound, IsWithinBounds, PartBy, Uses, UsesBy};
-ghost use Rattle.aspa_top.specs.World.{linked, names_of};
+ghost use Rattle.aspa_top.specs.Performing.{Goes, GoesBy, GoesPart, IsSound, IsWithinBounds, PartBy, Uses, UsesBy};
+ghost use Rattle.aspa_top.specs.World.{GoesOn, linked, names_of};
 
 use crate::acting::{mark, refuse};
 use crate::dumps::{open, take};

@@ -3,10 +3,10 @@ ghost use Rattle.std.specs.Prelude.{◌≡◌, ◌≢◌, ◌+◌, ◌<◌, ◌�
 ghost use Rattle.std.specs.String.{string_bytes};
 ghost use Rattle.std.specs.Io.KnownBytes.{IsAtEnd};
 ghost use Rattle.av_base.specs.Told.{Rose};
-ghost use Rattle.feed_lines.specs.Faults.{BreaksByFault};
+ghost use Rattle.feed_lines.specs.Faults.{BreaksByFault, NewAreUnbroken};
 ghost use Rattle.report_text.specs.Reported.{AddsFront, IsWithinRise, unreachables_in};
 ghost use Rattle.aspa_top.specs.Program.{AreOwn, Completes, Demonstrates, IsDemo, IsEnding, IsRun, IsStatus, Ran, RanIfTold};
-ghost use Rattle.aspa_top.specs.World.{Meets, World, linked, names_of};
+ghost use Rattle.aspa_top.specs.World.{GoesOn, Meets, World, linked, names_of};
 
 use crate::demo::run_demo;
 use crate::evaluation::evaluate;
@@ -82,9 +82,16 @@ pub fn run<S: Source, F: Shelf, K: Links, W: Sink, L: Ledger>(
         → W.written out.old ≡ Some before → W.written out.new ≡ Some (before ++ text)
         → IsWithinRise (unreachables_in text) (K.faults links.old) (K.faults links.new) }
 
+    // Whatever is told: attempts were added behind those before, where they are told; the connections that these made are behind those
+    // before, and each connection only went on, where these are told; and they are told at the end where they were at the start.
+    ensures later { GoesOn (linked (K.attempts links.old) (K.wire links.old))
+        (linked (K.attempts links.new) (K.wire links.new)) }
+
     // Whatever is told: where a connection broke, the links' count of faults rose, or stands at its last value.
     ensures unbroken { BreaksByFault (K.faults links.old) (K.faults links.new)
         (K.standings links.old) (K.standings links.new) }
+    ensures new_unbroken { ¬ Rose (K.faults links.old) (K.faults links.new)
+        → NewAreUnbroken (K.wire links.old) (K.wire links.new) }
 
     // Counts of faults don't fall, and the names of the shelf stay as they are.
     ensures script_faults { S.faults script.old ≤ S.faults script.new }
@@ -118,6 +125,8 @@ fn run_script<S: Source, F: Shelf, K: Links, W: Sink, L: Ledger>(
         × (shelf.new ≡ shelf.old) × (links.new ≡ links.old) × (steps.new ≡ steps.old))
         ⊎ Rose (F.faults shelf.old) (F.faults shelf.new) }
     ensures reported { AddsFront (W.written out.old) (W.written out.new) (K.faults links.old) (K.faults links.new) }
+    ensures later { GoesOn (linked (K.attempts links.old) (K.wire links.old))
+        (linked (K.attempts links.new) (K.wire links.new)) }
     ensures broke { BreaksByFault (K.faults links.old) (K.faults links.new)
         (K.standings links.old) (K.standings links.new) }
     ensures sink_cause { result ≡ 4 → Rose (W.faults out.old) (W.faults out.new) }
@@ -160,6 +169,8 @@ fn run_whole<F: Shelf, K: Links, W: Sink, L: Ledger>(
     ensures known { (result ≡ 0) ⊎ (result ≡ 1) ⊎ (result ≡ 3) ⊎ (result ≡ 4) ⊎ (result ≡ 5) }
     ensures shelf_cause { result ≡ 3 → Rose (F.faults shelf.old) (F.faults shelf.new) }
     ensures reported { AddsFront (W.written out.old) (W.written out.new) (K.faults links.old) (K.faults links.new) }
+    ensures later { GoesOn (linked (K.attempts links.old) (K.wire links.old))
+        (linked (K.attempts links.new) (K.wire links.new)) }
     ensures broke { BreaksByFault (K.faults links.old) (K.faults links.new)
         (K.standings links.old) (K.standings links.new) }
     ensures sink_cause { result ≡ 4 → Rose (W.faults out.old) (W.faults out.new) }
@@ -193,6 +204,8 @@ fn run_front<F: Shelf, K: Links, W: Sink, L: Ledger>(
     ensures known { (result ≡ 6) ⊎ (result ≡ 3) ⊎ (result ≡ 4) ⊎ (result ≡ 5) }
     ensures shelf_cause { result ≡ 3 → Rose (F.faults shelf.old) (F.faults shelf.new) }
     ensures reported { AddsFront (W.written out.old) (W.written out.new) (K.faults links.old) (K.faults links.new) }
+    ensures later { GoesOn (linked (K.attempts links.old) (K.wire links.old))
+        (linked (K.attempts links.new) (K.wire links.new)) }
     ensures broke { BreaksByFault (K.faults links.old) (K.faults links.new)
         (K.standings links.old) (K.standings links.new) }
     ensures sink_cause { result ≡ 4 → Rose (W.faults out.old) (W.faults out.new) }

@@ -1,5 +1,5 @@
 -- Starting a feed.
-use Rattle.std.proofs.Common.{◌≡◌, ◌≢◌, ℕ, zero, suc, ◌+◌, inl, inr, Bool, true, false, List, [], ◌∷◌, ◌++◌, length, None, Some, refl, sym, ◌∙◌, ap, subst, arith}
+use Rattle.std.proofs.Common.{◌≡◌, ◌≢◌, ℕ, zero, suc, ◌+◌, ◌≤◌, inl, inr, Bool, true, false, List, [], ◌∷◌, ◌++◌, length, None, Some, refl, sym, ◌∙◌, ap, subst, arith}
 use Rattle.std.specs.Prelude.{slice_get}
 use Rattle.std.specs.Option.{option_map}
 use Rattle.std.specs.declared.option.Option.{Option}
@@ -25,7 +25,7 @@ use Rattle.feed_lines.specs.Lines.{Closes, State, World, starting, with_feed}
 use Rattle.feed_lines.specs.Named.{ClosedAs, ConnectedNamed, IsApart, IsSlotFit, Puts, SessionStarts, StartedAs, WasHeld}
 use Rattle.feed_lines.specs.Steps.{SlotFits}
 use Rattle.feed_lines.proofs.ConnectionLemmas.{Now-change, Now-map, Ever-closed, Ever-later, Ever-now, Spares-trans, Spares-weaker}
-use Rattle.feed_lines.proofs.GoingLemmas.{AddsAttempts-one, Now-later, in_end, is_attempt, one_more}
+use Rattle.feed_lines.proofs.GoingLemmas.{AddsAttempts-one, AddsAttempts-refl, AddsAttempts-trans, Now-later, in_end, is_attempt, one_more}
 use Rattle.feed_lines.proofs.NamedLemmas.{IsSound-put, Puts-twice, SlotFits-more, put_holds}
 use Rattle.feed_lines.proofs.TakingLemmas.{query_whole, query_lost}
 
@@ -82,6 +82,12 @@ pub new_now : (old new : Option (List Link)) (stood : List Standing) (place : Li
 new_now old new stood place link made agrees number =
     subst (λ k. Now new k (λ t. (t.place ≡ place) × Has [] [] t)) (sym number) (record { told = now_new place made.to_come old new stood made.told agrees })
 
+-- its number is new
+pub new_number : (old : Option (List Link)) (stood : List Standing) (link : ℕ) → Agrees old stood → link ≡ length stood → (links : List Link) → old ≡ Some links → length links ≤ link
+new_number old stood link agrees number links told =
+    let here : Agrees (Some links) stood = subst (λ (w : Option (List Link)). Agrees w stood) told agrees in
+    omega (arith, length-told links stood here, number)
+
 -- ---- its session
 
 module _ (old new : Option (List Link)) (kept : OpenFeed) (bytes : List ℕ) (framer_is : kept.framer ≡ []) (session_is : kept.session ≡ (starting kept.link).session) (taken_is : kept.taken ≡ 0)
@@ -105,13 +111,13 @@ module _ (old new : Option (List Link)) (kept : OpenFeed) (bytes : List ℕ) (fr
 -- ---- the attempt
 
 pub started_made : (attempts_old attempts_mid attempts_new : Option (List Attempt)) (wire_mid wire_new : Option (List Link)) (place : List ℕ) (link : ℕ) (slot : Option OpenFeed) (told : Option Telling)
-    (wire_old : Option (List Link)) → AddsAttempt attempts_old attempts_mid (Made link) → attempts_new ≡ attempts_mid → Now wire_mid link (λ t. (t.place ≡ place) × Has [] [] t) → ToldLater wire_mid wire_new
+    (wire_old : Option (List Link)) → ((links : List Link) → wire_old ≡ Some links → length links ≤ link) → AddsAttempt attempts_old attempts_mid (Made link) → attempts_new ≡ attempts_mid → Now wire_mid link (λ t. (t.place ≡ place) × Has [] [] t) → ToldLater wire_mid wire_new
     → (Now wire_mid link (Has [] []) → SessionStarts wire_new link slot told) → StartedAs attempts_old attempts_new wire_old wire_new place slot told
-started_made attempts_old attempts_mid attempts_new wire_mid wire_new place link slot told wire_old adds same here later starts =
+started_made attempts_old attempts_mid attempts_new wire_mid wire_new place link slot told wire_old from adds same here later starts =
     let had = starts (Now-map (λ t h. h.1) here) in
     let one : AddsAttempt attempts_old attempts_new (Made link) = subst (λ (a : Option (List Attempt)). AddsAttempt attempts_old a (Made link)) (sym same) adds in
     record {
-      attempts = AddsAttempts-one (Made link) one;
+      attempts = AddsAttempts-one (Made link) from one;
       one_more = one_more (Made link) one;
       feed = had.feed;
       stands = had.stands;
@@ -126,7 +132,7 @@ started_made attempts_old attempts_mid attempts_new wire_mid wire_new place link
 pub started_failed : (attempts_old attempts_new : Option (List Attempt)) (wire_old wire_new : Option (List Link)) (place : List ℕ) → AddsAttempt attempts_old attempts_new (Failed place)
     → StartedAs attempts_old attempts_new wire_old wire_new place None (Some (FeedEnds Unreachable))
 started_failed attempts_old attempts_new wire_old wire_new place adds = record {
-  attempts = AddsAttempts-one (Failed place) adds;
+  attempts = AddsAttempts-one (Failed place) (λ links told. tt) adds;
   one_more = one_more (Failed place) adds;
   feed = None;
   stands = tt;
@@ -195,7 +201,7 @@ module _ (attempts_old attempts_mid attempts_new : Option (List Attempt)) (wire_
     pub connected_named : (told : Option Telling) → ClosedAs wire_old wire_mid was → attempts_mid ≡ attempts_old → StartedAs attempts_mid attempts_new wire_mid wire_new place slot told
         → ConnectedNamed attempts_old attempts_new wire_old wire_new name place feeds_old feeds_new told
     connected_named told closed same started = record {
-      attempts = subst (λ (a : Option (List Attempt)). AddsAttempts a attempts_new) same started.attempts;
+      attempts = AddsAttempts-trans spares_old.later (AddsAttempts-refl wire_old attempts_old) (subst (λ (a : Option (List Attempt)). AddsAttempts wire_mid a attempts_new) same started.attempts);
       links = spares_both.later;
       goes = λ old holds.
           let new : State = record old { feeds = with_feed name started.feed old.feeds; made = old.made + 1 } in (

@@ -4,7 +4,8 @@ use Rattle.std.specs.Prelude.{IfOk}
 use Rattle.std.specs.declared.option.Option.{Option}
 use Rattle.std.specs.declared.result.Result.{Result}
 use Rattle.std.specs.declared.result.Result.TheVariants.{Ok, Err}
-use Rattle.av_base.specs.Connections.{Link}
+use Rattle.av_base.specs.Connections.{Agrees, IsUsable, Link}
+use Rattle.av_base.specs.declared.standing.Standing.{Standing}
 use Rattle.vap_table.specs.declared.change.TableChange.{TableChange}
 use Rattle.rib_store.specs.State.{State as Analysis}
 use Rattle.analyser.specs.declared.event.Event.{Event}
@@ -20,8 +21,9 @@ use Rattle.feed_lines.specs.Connection.{Now}
 use Rattle.feed_lines.specs.Moves.{KeepsSent}
 use Rattle.feed_lines.specs.Feeds.{Feed, Taking, Counts, Stays, Follows}
 use Rattle.feed_lines.specs.Holding.{AreWithin, StandsFor}
-use Rattle.feed_lines.specs.Steps.{Before, Halted, MayDo, MovedAs, Passes, TookAs, going, over}
+use Rattle.feed_lines.specs.Steps.{Before, Halted, MayDo, MovedAs, OutcomeFits, Passes, TookAs, going, over}
 use Rattle.feed_lines.proofs.ConnectionLemmas.{Now-map}
+use Rattle.feed_lines.proofs.StandingLemmas.{still_open}
 use Rattle.feed_lines.proofs.TakingLemmas.{Ever-map}
 
 -- ---- events
@@ -74,17 +76,22 @@ module _ {E : Type 0} (wire : Option (List Link)) (link : ℕ) (change : Option 
 
   -- for want of memory at the event
   pub moved_halted : (result : Result Analysis E) (outcome : Outcome) → MovedAs wire link (λ t. Before change (takes t)) outcome → ((slot : Option Feed) → Passes result steps_old steps_new old (Follows change old) slot)
+      → (standings : List Standing) (most : ℕ) → Agrees wire standings → OutcomeFits standings link most outcome
       → Halted wire link (AreWithin steps_old steps_new old.judgements) (λ t. MayDo (takes t old) old)
-  moved_halted result (GoesOn kept) moved passes =
+  moved_halted result (GoesOn kept) moved passes standings most agrees fits =
       let had = passes (Some moved.0) in
       let stands : StandsFor wire kept moved.0 = moved.1 in
       record {
         end = going moved.0 had.state had.judgements;
         few = had.within;
         done = Ever-map (λ t before. inr ([], before old (going moved.0 had.state had.judgements) refl had.done)) moved.3;
-        sent = (moved.2, subst (λ k. Now wire k (λ t. t.sent ≡ moved.0.sent)) (stands.link ∙ moved.2) (Now-map (λ t has. has.gave) stands.now));
+        sent = (
+          moved.2,
+          still_open wire standings link moved.0.sent agrees (subst (λ k. IsUsable standings k) fits.1 fits.0.usable)
+              (subst (λ k. Now wire k (λ t. t.sent ≡ moved.0.sent)) (stands.link ∙ moved.2) (Now-map (λ t has. has.gave) stands.now)),
+        );
       }
-  moved_halted result (Ended telling) moved passes =
+  moved_halted result (Ended telling) moved passes standings most agrees fits =
       let had = passes None in
       record {
         end = over had.state had.judgements;
@@ -95,10 +102,11 @@ module _ {E : Type 0} (wire : Option (List Link)) (link : ℕ) (change : Option 
 
 -- nothing was done
 pub none_halted : (old new : Option (List Link)) (kept : OpenFeed) (takes : Link → List Telling → Taking → Type 0) (state : Analysis) (steps : ℕ) (feed : Feed) (judgements : ℕ) → StandsFor old kept feed → KeepsSent kept.link old new
+    → (standings : List Standing) → Agrees new standings → IsUsable standings kept.link
     → Halted new kept.link (AreWithin steps steps judgements) (λ t. MayDo (takes t) (going feed state judgements))
-none_halted old new kept takes state steps feed judgements stands keeps = record {
+none_halted old new kept takes state steps feed judgements stands keeps standings agrees usable = record {
   end = going feed state judgements;
   few = omega arith;
   done = λ links final told goes t there. inl refl;
-  sent = (sym stands.link, keeps.keeps feed.sent (Now-map (λ t had. had.gave) stands.now));
+  sent = (sym stands.link, still_open new standings kept.link feed.sent agrees usable (keeps.keeps feed.sent (Now-map (λ t had. had.gave) stands.now)));
 }

@@ -1,14 +1,16 @@
 -- Where connections break, over several calls.
-use Rattle.std.proofs.Common.{◌≡◌, ℕ, zero, suc, ◌≤◌, inl, inr, true, List, [], ◌∷◌, ◌++◌, Some, refl, sym, ap, ◌∙◌, arith}
-use Rattle.std.proofs.lemmas.Option.{slice_get-map}
+use Rattle.std.proofs.Common.{◌≡◌, ℕ, zero, suc, ◌<◌, ◌≤◌, inl, inr, true, List, [], ◌∷◌, ◌++◌, length, map, None, Some, IfSome, refl, sym, ap, subst, ◌∙◌, arith}
+use Rattle.std.proofs.lemmas.Option.{slice_get-map, slice_get_within}
+use Rattle.std.specs.Option.{option_map}
 use Rattle.std.specs.Prelude.{slice_get}
 use Rattle.std.specs.declared.option.Option.{Option}
-use Rattle.av_base.specs.Connections.{new_standing, stands_closed}
+use Rattle.av_base.specs.Connections.{Agrees, Link, new_standing, standing_of, stands_closed}
 use Rattle.av_base.specs.Told.{Rose}
 use Rattle.av_base.specs.declared.standing.Break.{Break}
 use Rattle.av_base.specs.declared.standing.Standing.{Standing}
+use Rattle.av_base.proofs.LinksLemmas.{length-told}
 use Rattle.av_base.proofs.PlacesLemmas.{map-change_unseen}
-use Rattle.feed_lines.specs.Faults.{BreaksByFault, broken_at}
+use Rattle.feed_lines.specs.Faults.{BreaksByFault, NewAreUnbroken, broken_at}
 
 -- ---- several calls in a row
 
@@ -62,3 +64,35 @@ broken_before (s ∷ stood) (suc link) call broken = broken_before stood link ca
 
 pub breaks_made : {before now : ℕ} (stood stands : List Standing) → before ≤ now → stands ≡ stood ++ new_standing ∷ [] → BreaksByFault before now stood stands
 breaks_made stood stands later is = record { later = later; cause = inl (λ link call broken. broken_before stood link call (ap (λ (l : List Standing). broken_at l link) (sym is) ∙ broken)) }
+
+-- ---- connections that were made meanwhile
+
+unbroken_if : (broken : Option Break) → ((call : Break) → ¬ (broken ≡ Some call)) → broken ≡ None
+unbroken_if None never = refl
+unbroken_if (Some call) never = absurd (never call refl)
+
+broken_within : (stood : List Standing) (link : ℕ) (call : Break) (found : Option Standing) → slice_get stood link ≡ found → option_map (λ standing. standing.broken) found ≡ Some (Some call) → link < length stood
+broken_within stood link call None is broken = let none : ⊥ = cc in absurd none
+broken_within stood link call (Some s) is broken = slice_get_within stood link s is
+
+broken_told : (new : Option (List Link)) (stands : List Standing) (after : List Link) (link : ℕ) (t : Link) → Agrees new stands → new ≡ Some after → slice_get after link ≡ Some t → broken_at stands link ≡ Some t.broken
+broken_told new stands after link t agrees told there =
+    let same : map standing_of after ≡ stands = subst (λ (w : Option (List Link)). IfSome w (λ l. map standing_of l ≡ stands)) told agrees in
+    ap (λ (l : List Standing). broken_at l link) (sym same) ∙ ap (option_map (λ (s : Standing). s.broken)) (slice_get-map standing_of after link)
+    ∙ ap (λ (o : Option Link). option_map (λ (s : Standing). s.broken) (option_map standing_of o)) there
+
+-- without a fault none of them is broken
+pub new_unbroken : {faults_old faults_new : ℕ} (old new : Option (List Link)) (stood stands : List Standing) → Agrees old stood → Agrees new stands → BreaksByFault faults_old faults_new stood stands
+    → ¬ Rose faults_old faults_new → NewAreUnbroken old new
+new_unbroken old new stood stands agrees_old agrees_new broke quiet = record {
+  each = λ before after told told_after link t behind there.
+      let size = length-told before stood (subst (λ (w : Option (List Link)). Agrees w stood) told agrees_old) in
+      elim broke.cause [
+        | inl none ↦
+            unbroken_if t.broken
+            (λ call is.
+            let within = broken_within stood link call (slice_get stood link) refl (none link call (broken_told new stands after link t agrees_new told_after there ∙ ap (λ (b : Option Break). Some b) is)) in
+            omega (arith, within, size, behind))
+        | inr rose ↦ absurd (quiet rose)
+      ];
+}

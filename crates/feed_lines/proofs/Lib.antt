@@ -1,3 +1,4 @@
+pub mod ConnectedLemmas
 pub mod ConnectingLemmas
 pub mod ConnectionLemmas
 pub mod CountingLemmas
@@ -5,6 +6,7 @@ pub mod FaultsLemmas
 pub mod GoingLemmas
 pub mod LawLemmas
 pub mod LineLemmas
+pub mod LostLemmas
 pub mod NamedLemmas
 pub mod PduLemmas
 pub mod StandingLemmas

@@ -2,14 +2,15 @@
 use Rattle.std.proofs.Common.{◌≡◌, inl, inr, ℕ, ◌+◌, List, [], ◌++◌, length, refl, sym, ◌∙◌, ap, subst, append-nil}
 use Rattle.std.specs.Option.{option_to_list}
 use Rattle.std.specs.declared.option.Option.{Option}
-use Rattle.av_base.specs.Connections.{Link, Attempt, ToldLater}
+use Rattle.av_base.specs.Connections.{Agrees, Attempt, Link, ToldLater}
+use Rattle.av_base.specs.declared.standing.Standing.{Standing}
 use Rattle.av_base.proofs.LaterLemmas.{ToldLater-refl}
 use Rattle.rib_store.specs.State.{State as Analysis}
 use Rattle.feed_lines.specs.declared.feed.Feeds.{Feeds}
 use Rattle.feed_lines.specs.declared.lines.Progress.{Progress}
 use Rattle.feed_lines.specs.declared.telling.Telling.{Telling}
 use Rattle.feed_lines.specs.declared.working.Work.{Work}
-use Rattle.feed_lines.specs.Holding.{AddsAttempts, AreWithin, Goes, HasMoved, Holds, HoldsFeeds}
+use Rattle.feed_lines.specs.Holding.{AddsAttempts, AreWithin, Goes, HasMoved, Holds, HoldsFeeds, IsSound}
 use Rattle.feed_lines.specs.Lines.{ConnectLine, ConnectPart, State, WorkLine, WorkPart}
 use Rattle.feed_lines.specs.Named.{BeganNamed, ConnectedNamed, WorkedNamed}
 use Rattle.feed_lines.specs.Tellings.{Asking, tells_text}
@@ -52,10 +53,10 @@ module _ (attempts_old attempts_new : Option (List Attempt)) (wire_old wire_new 
     }
 
     -- all but the text
-    pub connect_unwritten : text_new ≡ text_old
+    pub connect_unwritten : text_new ≡ text_old → (stands : List Standing) (most : ℕ) → Agrees wire_new stands → IsSound stands most feeds_new
         → Goes attempts_old attempts_new wire_old wire_new (Holds attempts_old wire_old feeds_old progress)
         (λ old new. HasMoved attempts_new wire_new new × (new.judgements ≡ old.judgements)) text_old text_new (λ world old added new. ConnectPart world asking place old new)
-    connect_unwritten same = record {
+    connect_unwritten same stands most agrees sound = record {
       attempts = connected.attempts;
       links = connected.links;
       text = [];
@@ -63,24 +64,24 @@ module _ (attempts_old attempts_new : Option (List Attempt)) (wire_old wire_new 
       goes = λ old holds.
           let had = connected.goes old holds.held in (
             counted had.0 told,
-            (holds_moved attempts_new wire_new feeds_new (counted had.0 told) (counted_holds attempts_new wire_new feeds_new had.0 told had.1), had.4),
+            (holds_moved wire_new stands agrees most attempts_new feeds_new (counted had.0 told) sound (counted_holds attempts_new wire_new feeds_new had.0 told had.1), had.4),
             λ world comes. inl (tells_text asking (option_to_list told), record { tells = option_to_list told; after = had.0; done = had.5 world comes; text_is = refl; left = refl }),
           );
     }
 
   -- nothing was done
-  pub connect_nothing : (place : List ℕ) → attempts_new ≡ attempts_old → wire_new ≡ wire_old → text_new ≡ text_old
+  pub connect_nothing : (place : List ℕ) (stands : List Standing) (most : ℕ) → Agrees wire_old stands → IsSound stands most feeds_old → attempts_new ≡ attempts_old → wire_new ≡ wire_old → text_new ≡ text_old
       → Goes attempts_old attempts_new wire_old wire_new (Holds attempts_old wire_old feeds_old progress)
       (λ old new. HasMoved attempts_new wire_new new × (new.judgements ≡ old.judgements)) text_old text_new (λ world old added new. ConnectPart world asking place old new)
-  connect_nothing place same_attempts same_wire same = record {
-    attempts = subst (λ (a : Option (List Attempt)). AddsAttempts attempts_old a) (sym same_attempts) (AddsAttempts-refl attempts_old);
+  connect_nothing place stands most agrees sound same_attempts same_wire same = record {
+    attempts = subst (λ (a : Option (List Attempt)). AddsAttempts wire_old attempts_old a) (sym same_attempts) (AddsAttempts-refl wire_old attempts_old);
     links = subst (λ (w : Option (List Link)). ToldLater wire_old w) (sym same_wire) (ToldLater-refl wire_old);
     text = [];
     added = same ∙ sym (append-nil text_old);
     goes = λ old holds. (
       old,
       (
-        subst (λ (a : Option (List Attempt)). HasMoved a wire_new old) (sym same_attempts) (subst (λ (w : Option (List Link)). HasMoved attempts_old w old) (sym same_wire) (holds_moved attempts_old wire_old feeds_old old holds.held)),
+        subst (λ (a : Option (List Attempt)). HasMoved a wire_new old) (sym same_attempts) (subst (λ (w : Option (List Link)). HasMoved attempts_old w old) (sym same_wire) (holds_moved wire_old stands agrees most attempts_old feeds_old old sound holds.held)),
         refl,
       ),
       λ world comes. inr refl,
@@ -90,8 +91,8 @@ module _ (attempts_old attempts_new : Option (List Attempt)) (wire_old wire_new 
   -- ---- works
 
   module _ (work : Work) (steps_old steps_new : ℕ) (same_attempts : attempts_new ≡ attempts_old) (later : ToldLater wire_old wire_new) where
-    adds_none : AddsAttempts attempts_old attempts_new
-    adds_none = subst (λ (a : Option (List Attempt)). AddsAttempts attempts_old a) (sym same_attempts) (AddsAttempts-refl attempts_old)
+    adds_none : AddsAttempts wire_old attempts_old attempts_new
+    adds_none = subst (λ (a : Option (List Attempt)). AddsAttempts wire_old attempts_old a) (sym same_attempts) (AddsAttempts-refl wire_old attempts_old)
 
     module _ (feeds_new : Feeds) (told : Option Telling) (after : Analysis) (worked : WorkedNamed attempts_old attempts_new wire_old wire_new asking.name work feeds_old feeds_new progress.analyser told after steps_old steps_new) where
       pub work_goes : (next : Progress) → text_new ≡ text_old ++ tells_text asking (option_to_list told)
@@ -119,10 +120,10 @@ module _ (attempts_old attempts_new : Option (List Attempt)) (wire_old wire_new 
       }
 
       -- all but the text
-      pub work_unwritten : text_new ≡ text_old
+      pub work_unwritten : text_new ≡ text_old → (stands : List Standing) (most : ℕ) → Agrees wire_new stands → IsSound stands most feeds_new
           → Goes attempts_old attempts_new wire_old wire_new (Holds attempts_old wire_old feeds_old progress)
           (λ old new. HasMoved attempts_new wire_new new × AreWithin steps_old steps_new old.judgements new.judgements) text_old text_new (λ world old added new. WorkPart world asking work old new)
-      work_unwritten same = record {
+      work_unwritten same stands most agrees sound = record {
         attempts = adds_none;
         links = later;
         text = [];
@@ -130,7 +131,7 @@ module _ (attempts_old attempts_new : Option (List Attempt)) (wire_old wire_new 
         goes = λ old holds.
             let had = worked.goes old holds.held holds.analysis in (
               counted had.0 told,
-              (holds_moved attempts_new wire_new feeds_new (counted had.0 told) (counted_holds attempts_new wire_new feeds_new had.0 told had.1), had.4),
+              (holds_moved wire_new stands agrees most attempts_new feeds_new (counted had.0 told) sound (counted_holds attempts_new wire_new feeds_new had.0 told had.1), had.4),
               λ world comes. inl (tells_text asking (option_to_list told), record { tells = option_to_list told; after = had.0; done = had.5 world comes; text_is = refl; left = refl }),
             );
       }

@@ -5,7 +5,7 @@ use Rattle.std.specs.Cmp.Lexicographic.{pointwise, nat_list_eq_equiv}
 use Rattle.std.specs.Option.{option_to_list}
 use Rattle.std.specs.declared.option.Option.{Option}
 use Rattle.std.proofs.lemmas.Map.Views.{exact_unsigned_eq}
-use Rattle.av_base.specs.Connections.{Link, Attempt}
+use Rattle.av_base.specs.Connections.{Agrees, Attempt, IsUsable, Link}
 use Rattle.av_base.specs.declared.standing.Standing.{Standing}
 use Rattle.rib_store.specs.State.{State as Analysis}
 use Rattle.feed_lines.specs.declared.feed.OpenFeed.{OpenFeed}
@@ -13,7 +13,7 @@ use Rattle.feed_lines.specs.declared.feed.Feeds.{Feeds}
 use Rattle.feed_lines.specs.declared.telling.Telling.{Telling}
 use Rattle.feed_lines.specs.declared.telling.Telling.TheVariants.{NoName, StreamOver}
 use Rattle.feed_lines.specs.declared.working.Work.{Work}
-use Rattle.feed_lines.specs.Connection.{Now, Spares, told_at}
+use Rattle.feed_lines.specs.Connection.{IsOpenWith, Now, Spares, told_at}
 use Rattle.feed_lines.specs.Moves.{Only}
 use Rattle.feed_lines.specs.Feeds.{Feed, Taking}
 use Rattle.feed_lines.specs.Holding.{AreWithin, HasMoved, HoldsFeeds, HoldsOr, IsSound, StandsFor, feed_in}
@@ -22,6 +22,7 @@ use Rattle.feed_lines.specs.Named.{BeganNamed, Puts, Same, WorkedNamed}
 use Rattle.feed_lines.specs.Steps.{Halted, HasSentAll, IsFit, SlotFits, StandsSlot, WorkedAs, going}
 use Rattle.feed_lines.proofs.ConnectionLemmas.{Now-map}
 use Rattle.feed_lines.proofs.GoingLemmas.{Now-later, in_end}
+use Rattle.feed_lines.proofs.StandingLemmas.{still_open}
 
 -- ---- names
 
@@ -123,17 +124,23 @@ Puts-over old new name over puts = record { same = λ q. puts.puts q ∙ put_ove
 
 -- ---- all feeds
 
-sent_at : (wire : Option (List Link)) (found : Option (Option OpenFeed)) (held : Option (Option Feed)) (feed : Feed) → held ≡ Some (Some feed) → HoldsOr wire found held → Now wire feed.link (λ t. t.sent ≡ feed.sent)
-sent_at wire found None feed is holds = let none : ⊥ = cc in absurd none
-sent_at wire found (Some None) feed is holds = let none : ⊥ = cc in absurd none
-sent_at wire None (Some (Some other)) feed is holds = absurd holds
-sent_at wire (Some None) (Some (Some other)) feed is holds = absurd holds
-sent_at wire (Some (Some kept)) (Some (Some other)) feed is holds =
-    let same : other ≡ feed = cc in
-    subst (λ (f : Feed). Now wire f.link (λ t. t.sent ≡ f.sent)) same (subst (λ k. Now wire k (λ t. t.sent ≡ other.sent)) holds.link (Now-map (λ t had. had.gave) holds.now))
+module _ (wire : Option (List Link)) (stands : List Standing) (agrees : Agrees wire stands) where
+  sent_at : (found : Option (Option OpenFeed)) (held : Option (Option Feed)) (feed : Feed) → ((kept : OpenFeed) → found ≡ Some (Some kept) → IsUsable stands kept.link) → held ≡ Some (Some feed) → HoldsOr wire found held
+      → Now wire feed.link (IsOpenWith feed.sent)
+  sent_at found None feed usable is holds = let none : ⊥ = cc in absurd none
+  sent_at found (Some None) feed usable is holds = let none : ⊥ = cc in absurd none
+  sent_at None (Some (Some other)) feed usable is holds = absurd holds
+  sent_at (Some None) (Some (Some other)) feed usable is holds = absurd holds
+  sent_at (Some (Some kept)) (Some (Some other)) feed usable is holds =
+      let same : other ≡ feed = cc in
+      subst (λ (f : Feed). Now wire f.link (IsOpenWith f.sent)) same
+      (subst (λ k. Now wire k (IsOpenWith other.sent)) holds.link (still_open wire stands kept.link other.sent agrees (usable kept refl) (Now-map (λ t had. had.gave) holds.now)))
 
-pub holds_moved : (attempts : Option (List Attempt)) (wire : Option (List Link)) (feeds : Feeds) (state : State) → HoldsFeeds attempts wire feeds state → HasMoved attempts wire state
-holds_moved attempts wire feeds state holds = record { made = holds.made; sent = λ name feed is. sent_at wire (feed_in feeds name) (state.feeds name) feed is (holds.each name) }
+  pub holds_moved : (most : ℕ) (attempts : Option (List Attempt)) (feeds : Feeds) (state : State) → IsSound stands most feeds → HoldsFeeds attempts wire feeds state → HasMoved attempts wire state
+  holds_moved most attempts feeds state sound holds = record {
+    made = holds.made;
+    sent = λ name feed is. sent_at (feed_in feeds name) (state.feeds name) feed (λ kept there. (sound.fit name kept there).0) is (holds.each name);
+  }
 
 module _ {P : ℕ → Type 0} (wire_old wire_new : Option (List Link)) {stood stands : List Standing} (name : List ℕ) (feeds_old feeds_new : Feeds) (slot : Option OpenFeed)
     (puts : Puts feeds_old feeds_new name slot) (spares : Spares P wire_old wire_new stood stands)
@@ -146,21 +153,23 @@ module _ {P : ℕ → Type 0} (wire_old wire_new : Option (List Link)) {stood st
       (HoldsOr-put (same_name name q) wire_new slot feed (feed_in feeds_old q) (held q) stands_slot
       (λ test. HoldsOr-spared spares (feed_in feeds_old q) (held q) (λ kept is. apart q kept (differ name q test) is) (holds q)))
 
-has_sent : (wire : Option (List Link)) (link : ℕ) (end : Option Feed) (feed : Feed) → Some end ≡ Some (Some feed) → HasSentAll wire link end → Now wire feed.link (λ t. t.sent ≡ feed.sent)
+has_sent : (wire : Option (List Link)) (link : ℕ) (end : Option Feed) (feed : Feed) → Some end ≡ Some (Some feed) → HasSentAll wire link end → Now wire feed.link (IsOpenWith feed.sent)
 has_sent wire link None feed is sent = let none : ⊥ = cc in absurd none
 has_sent wire link (Some end) feed is sent =
     let same : end ≡ feed = cc in
-    subst (λ (f : Feed). Now wire f.link (λ t. t.sent ≡ f.sent)) same (subst (λ k. Now wire k (λ t. t.sent ≡ end.sent)) (sym sent.0) sent.1)
+    subst (λ (f : Feed). Now wire f.link (IsOpenWith f.sent)) same (subst (λ k. Now wire k (IsOpenWith end.sent)) (sym sent.0) sent.1)
 
 -- for want of memory: what was sent on the others
 module _ {P : ℕ → Type 0} (wire_old wire_new : Option (List Link)) {stood stands : List Standing} (name : List ℕ) (feeds_old : Feeds) (spares : Spares P wire_old wire_new stood stands)
     (apart : (q : List ℕ) (kept : OpenFeed) → name ≢ q → feed_in feeds_old q ≡ Some (Some kept) → P kept.link) where
-  put_sent : (link : ℕ) (end : Option Feed) (held : List ℕ → Option (Option Feed)) → HasSentAll wire_new link end → ((q : List ℕ) → HoldsOr wire_old (feed_in feeds_old q) (held q))
-      → (q : List ℕ) (feed : Feed) → with_feed name end held q ≡ Some (Some feed) → Now wire_new feed.link (λ t. t.sent ≡ feed.sent)
-  put_sent link end held sent holds q feed is = elim (split (same_name name q)) [
+  put_sent : (link : ℕ) (end : Option Feed) (held : List ℕ → Option (Option Feed)) → Agrees wire_new stands → ((q : List ℕ) (kept : OpenFeed) → feed_in feeds_old q ≡ Some (Some kept) → IsUsable stood kept.link)
+      → HasSentAll wire_new link end → ((q : List ℕ) → HoldsOr wire_old (feed_in feeds_old q) (held q))
+      → (q : List ℕ) (feed : Feed) → with_feed name end held q ≡ Some (Some feed) → Now wire_new feed.link (IsOpenWith feed.sent)
+  put_sent link end held agrees usable sent holds q feed is = elim (split (same_name name q)) [
     | inl hit ↦ has_sent wire_new link end feed (rw hit at is) sent
     | inr miss ↦
-        sent_at wire_new (feed_in feeds_old q) (held q) feed (rw miss at is) (HoldsOr-spared spares (feed_in feeds_old q) (held q) (λ kept there. apart q kept (differ name q miss) there) (holds q))
+        sent_at wire_new stands agrees (feed_in feeds_old q) (held q) feed (λ kept there. spares.standing kept.link (apart q kept (differ name q miss) there) ∙ usable q kept there) (rw miss at is)
+        (HoldsOr-spared spares (feed_in feeds_old q) (held q) (λ kept there. apart q kept (differ name q miss) there) (holds q))
   ]
 
 -- ---- works
@@ -199,17 +208,17 @@ module _ (attempts_old attempts_new : Option (List Attempt)) (wire_old wire_new 
         );
   }
 
-  pub began_named : ((state : Feed) (judgements : ℕ) → StandsFor wire_old kept state
+  pub began_named : Agrees wire_new stands → ((state : Feed) (judgements : ℕ) → StandsFor wire_old kept state
       → Halted wire_new kept.link (AreWithin steps_old steps_new judgements) (λ t. Begins t name work (going state before judgements)))
       → BeganNamed attempts_old attempts_new wire_old wire_new name work feeds_old before steps_old steps_new
-  began_named halts = record {
+  began_named agrees halts = record {
     goes = λ old holds analysis.
         let owner = opened wire_old (feed_in feeds_old name) kept (old.feeds name) there (holds.each name) in
         let had = halts owner.0 old.judgements owner.2 in (
           with_taking name had.end old,
           record {
             made = λ now is. holds.made now (sym same ∙ is);
-            sent = put_sent wire_old wire_new name feeds_old only away kept.link had.end.feed old.feeds had.sent holds.each;
+            sent = put_sent wire_old wire_new name feeds_old only away kept.link had.end.feed old.feeds agrees (λ q other is. (sound.fit q other is).0) had.sent holds.each;
           },
           had.few,
           λ world comes. record {

@@ -8,7 +8,7 @@ use Rattle.av_base.specs.Connections.{Agrees, Attempt, IsUsable, Link, standing_
 use Rattle.av_base.specs.declared.standing.Standing.{Standing}
 use Rattle.feed_lines.specs.declared.feed.Feeds.{Feeds}
 use Rattle.feed_lines.specs.declared.feed.OpenFeed.{OpenFeed}
-use Rattle.feed_lines.specs.Connection.{Now}
+use Rattle.feed_lines.specs.Connection.{IsOpenWith, Now}
 use Rattle.feed_lines.specs.Feeds.{Feed}
 use Rattle.feed_lines.specs.Holding.{HoldsFeeds, HoldsOr, IsSound, feed_in}
 use Rattle.feed_lines.specs.Lines.{State}
@@ -57,13 +57,14 @@ standing_at (Some t) link usable is =
     subst (λ (l : Link). (l.closed ≡ false) × (l.broken ≡ None)) same (ap (λ (s : Standing). s.closed) stands, ap (λ (s : Standing). s.broken) stands)
 
 -- where the connections are told, its connection is neither closed nor broken
-pub still_open : (wire : Option (List Link)) (stands : List Standing) (link : ℕ) {is_now : Link → Type 0} → Agrees wire stands → IsUsable stands link → Now wire link is_now
-    → Now wire link (λ t. (t.closed ≡ false) × (t.broken ≡ None))
-still_open wire stands link agrees usable now = record {
+pub still_open : (wire : Option (List Link)) (stands : List Standing) (link : ℕ) (sent : List ℕ) → Agrees wire stands → IsUsable stands link → Now wire link (λ t. t.sent ≡ sent)
+    → Now wire link (IsOpenWith sent)
+still_open wire stands link sent agrees usable now = record {
   told = λ links is.
       let here = now.told links is in
       let same : map standing_of links ≡ stands = subst (λ (w : Option (List Link)). IfSome w (λ l. map standing_of l ≡ stands)) is agrees in
       let stood : option_map standing_of (slice_get links link) ≡ Some (record { closed = false; broken = None }) =
       sym (slice_get-map standing_of links link) ∙ ap (λ (l : List Standing). slice_get l link) same ∙ usable in
-      (here.0, here.1, standing_at (slice_get links link) here.0 stood here.1);
+      let open_still = standing_at (slice_get links link) here.0 stood here.1 in
+      (here.0, here.1, record { gave = here.2; unclosed = open_still.0; unbroken = open_still.1 });
 }

@@ -1,7 +1,8 @@
 -- What a line does with a feed that goes on.
 use Rattle.std.proofs.Common.{◌≡◌, ◌≢◌, ℕ, Bool, true, false, List, [], ◌∷◌, ◌++◌, None, Some, refl, sym, ◌∙◌, ap, subst, arith}
 use Rattle.std.specs.declared.option.Option.{Option}
-use Rattle.av_base.specs.Connections.{Link}
+use Rattle.av_base.specs.Connections.{Agrees, IsUsable, Link}
+use Rattle.av_base.specs.declared.standing.Standing.{Standing}
 use Rattle.rtr_session.specs.declared.act.Query.{Query}
 use Rattle.rtr_session.specs.State.{State as Session}
 use Rattle.rtr_session.specs.Client.{Asks as AsksSession}
@@ -19,6 +20,7 @@ use Rattle.feed_lines.specs.Holding.{AreWithin, StandsFor}
 use Rattle.feed_lines.specs.Lines.{Begins, Does}
 use Rattle.feed_lines.specs.Steps.{Halted, LeftAs, TookAs, WorkedAs, going}
 use Rattle.feed_lines.proofs.ConnectionLemmas.{Now-map}
+use Rattle.feed_lines.proofs.StandingLemmas.{still_open}
 use Rattle.feed_lines.proofs.TakingLemmas.{Ever-map, asked_feed, asked_none, query_whole, query_lost}
 
 module _ (wire : Option (List Link)) (link : ℕ) (few : ℕ → Type 0) (name : List ℕ) (count : ℕ) (feed : Feed) (old : Taking) (after : Analysis) where
@@ -98,12 +100,13 @@ module _ (new : Option (List Link)) (name : List ℕ) (kept : OpenFeed) (state :
   worked_ask slot told left = record { feed = left.feed; judgements = judgements; few = omega arith; stands = left.stands; done = Ever-map (λ t asks. (asks, refl)) left.done }
 
   -- nothing was done
-  pub asked_halted : (old : Option (List Link)) → StandsFor old kept feed → KeepsSent kept.link old new → Halted new kept.link (AreWithin steps steps judgements) (λ t. Begins t name Ask (going feed state judgements))
-  asked_halted old stands keeps = record {
+  pub asked_halted : (old : Option (List Link)) → StandsFor old kept feed → KeepsSent kept.link old new → (standings : List Standing) → Agrees new standings → IsUsable standings kept.link
+      → Halted new kept.link (AreWithin steps steps judgements) (λ t. Begins t name Ask (going feed state judgements))
+  asked_halted old stands keeps standings agrees usable = record {
     end = going feed state judgements;
     few = omega arith;
     done = λ links final told goes t there. refl;
-    sent = (sym stands.link, keeps.keeps feed.sent (Now-map (λ t had. had.gave) stands.now));
+    sent = (sym stands.link, still_open new standings kept.link feed.sent agrees usable (keeps.keeps feed.sent (Now-map (λ t had. had.gave) stands.now)));
   }
 
 -- the telling is of a connection that there was

@@ -1,10 +1,11 @@
 -- How the feeds that are held stand for those of the definitions.
 use Rattle.std.specs.Prelude.{◌≡◌, ◌≢◌, ℕ, ◌+◌, ◌<◌, ◌≤◌, nat_eq, List, ◌++◌, length, Some}
 use Rattle.std.specs.Cmp.Lexicographic.{pointwise}
+use Rattle.std.specs.List.{All}
 use Rattle.std.specs.declared.option.Option.{Option}
 use Rattle.std.specs.declared.option.Option.TheVariants.{None}
 use Rattle.indexmap.specs.IndexMap.{get}
-use Rattle.av_base.specs.Connections.{Link, Attempt, ToldLater, IsUsable}
+use Rattle.av_base.specs.Connections.{Attempt, Failed, IsUsable, Link, Made, ToldLater}
 use Rattle.av_base.specs.declared.standing.Standing.{Standing}
 use Rattle.av_base.specs.Told.{Rose}
 use Rattle.rtr_session.specs.declared.act.Phase.TheVariants.{Over}
@@ -14,7 +15,7 @@ use Rattle.feed_lines.specs.declared.feed.Feeds.{Feeds}
 use Rattle.feed_lines.specs.declared.lines.Progress.{Progress}
 use Rattle.feed_lines.specs.declared.telling.Telling.{Telling}
 use Rattle.feed_lines.specs.declared.telling.Telling.TheVariants.{End as FeedEnds}
-use Rattle.feed_lines.specs.Connection.{Now, Has}
+use Rattle.feed_lines.specs.Connection.{Now, Has, IsOpenWith}
 use Rattle.feed_lines.specs.Feeds.{Feed}
 use Rattle.feed_lines.specs.Lines.{World, State}
 
@@ -52,10 +53,11 @@ pub record Holds (attempts : Option (List Attempt)) (wire : Option (List Link)) 
   pub analysis : progress.analyser ≡ state.analysis
   pub refused : progress.refused ≡ state.refused
 
--- so many attempts were made, and these bytes were sent on the connections of the feeds that go on, as in this state
+-- so many attempts were made, and these bytes were sent on the connections of the feeds that go on, as in this state; none of those is
+-- closed or broken
 pub record HasMoved (attempts : Option (List Attempt)) (wire : Option (List Link)) (state : State) : Type 0 where
   pub made : (now : List Attempt) → attempts ≡ Some now → state.made ≡ length now
-  pub sent : (name : List ℕ) (feed : Feed) → state.feeds name ≡ Some (Some feed) → Now wire feed.link (λ t. t.sent ≡ feed.sent)
+  pub sent : (name : List ℕ) (feed : Feed) → state.feeds name ≡ Some (Some feed) → Now wire feed.link (IsOpenWith feed.sent)
 
 -- Whatever is told: each feed that goes on has a connection that may be used, and has taken at most so many PDUs; no two share one.
 pub record IsSound (stands : List Standing) (most : ℕ) (feeds : Feeds) : Type 0 where
@@ -70,13 +72,20 @@ pub record IsNoFeeds (stood : List Standing) (feeds : Feeds) (link : ℕ) : Type
 
 -- ---- what becomes of the attempts and the connections
 
--- attempts were added behind those that were made, where they are told
-pub record AddsAttempts (old new : Option (List Attempt)) : Type 0 where
+-- the connection that an attempt made has a number from so many on
+abbrev pub IsMadeFrom : ℕ → Attempt → Type 0
+IsMadeFrom count (Made link) = count ≤ link
+IsMadeFrom count (Failed place) = Unit {0}
+
+-- Attempts were added behind those that were made, where they are told. The connections that these made are none of those before, where
+-- these are told.
+pub record AddsAttempts (wire : Option (List Link)) (old new : Option (List Attempt)) : Type 0 where
   pub added : (after : List Attempt) → new ≡ Some after → (before : List Attempt) × (more : List Attempt) × (old ≡ Some before) × (after ≡ before ++ more)
+      × ((links : List Link) → wire ≡ Some links → All (IsMadeFrom (length links)) more)
 
 -- the attempts and connections that are told came to this
 pub record ComesTo (attempts : Option (List Attempt)) (wire : Option (List Link)) (world : World) : Type 0 where
-  pub adds : AddsAttempts attempts world.attempts
+  pub adds : AddsAttempts wire attempts world.attempts
   pub goes_on : ToldLater wire (Some world.links)
 
 -- no more steps were taken than judgements were counted
@@ -87,7 +96,7 @@ AreWithin steps_old steps_new counted_old counted_new = steps_new + counted_old 
 -- becomes of them later.
 pub record Goes (attempts_old attempts_new : Option (List Attempt)) (wire_old wire_new : Option (List Link)) (from : State → Type 0)
     (to : State → State → Type 0) (text_old text_new : List ℕ) (does : World → State → List ℕ → State → Type 0) : Type 0 where
-  pub attempts : AddsAttempts attempts_old attempts_new
+  pub attempts : AddsAttempts wire_old attempts_old attempts_new
   pub links : ToldLater wire_old wire_new
   pub text : List ℕ
   pub added : text_new ≡ text_old ++ text

@@ -72,7 +72,7 @@ pub record SessionStarts (wire : Option (List Link)) (link : ℕ) (slot : Option
 -- an attempt was made, and everything asked for where it made a connection
 pub record StartedAs (attempts_old attempts_new : Option (List Attempt)) (wire_old wire_new : Option (List Link)) (place : List ℕ)
     (slot : Option OpenFeed) (told : Option Telling) : Type 0 where
-  pub attempts : AddsAttempts attempts_old attempts_new
+  pub attempts : AddsAttempts wire_old attempts_old attempts_new
   pub one_more : (now : List Attempt) → attempts_new ≡ Some now → (before : List Attempt) × (attempts_old ≡ Some before) × (length now ≡ length before + 1)
   pub feed : Option Feed
   pub stands : StandsSlot wire_new slot feed
@@ -82,7 +82,7 @@ pub record StartedAs (attempts_old attempts_new : Option (List Attempt)) (wire_o
 -- the feed of a name was connected, from any state that was held
 pub record ConnectedNamed (attempts_old attempts_new : Option (List Attempt)) (wire_old wire_new : Option (List Link)) (name place : List ℕ)
     (feeds_old feeds_new : Feeds) (told : Option Telling) : Type 0 where
-  pub attempts : AddsAttempts attempts_old attempts_new
+  pub attempts : AddsAttempts wire_old attempts_old attempts_new
   pub links : ToldLater wire_old wire_new
   pub goes : (old : State) → HoldsFeeds attempts_old wire_old feeds_old old
       → (new : State) × HoldsFeeds attempts_new wire_new feeds_new new × (new.analysis ≡ old.analysis) × (new.refused ≡ old.refused)

@@ -17,7 +17,7 @@ use Rattle.feed_lines.specs.declared.taking.Outcome.TheVariants.{Open as GoesOn,
 use Rattle.feed_lines.specs.declared.telling.Telling.{Telling}
 use Rattle.feed_lines.specs.declared.telling.Telling.TheVariants.{End as FeedEnds}
 use Rattle.report_text.specs.declared.feed.FeedEnd.TheVariants.{Unreachable}
-use Rattle.feed_lines.specs.Connection.{Now}
+use Rattle.feed_lines.specs.Connection.{IsOpenWith, Now}
 use Rattle.feed_lines.specs.Moves.{Ever}
 use Rattle.feed_lines.specs.Feeds.{Feed, Taking, Follows}
 use Rattle.feed_lines.specs.Holding.{AreWithin, StandsFor}
@@ -98,10 +98,10 @@ pub record WorkedAs (wire : Option (List Link)) (link : ℕ) (within : ℕ → T
   pub stands : StandsSlot wire slot feed
   pub done : Ever wire link (λ t. does t (option_to_list told) (record { feed = feed; state = state; judgements = judgements }))
 
--- a feed that goes on has sent what its connection has
+-- a feed that goes on has sent what its connection has, which is neither closed nor broken
 abbrev pub HasSentAll : Option (List Link) → ℕ → Option Feed → Type 0
 HasSentAll wire link None = Unit {0}
-HasSentAll wire link (Some feed) = (feed.link ≡ link) × Now wire link (λ t. t.sent ≡ feed.sent)
+HasSentAll wire link (Some feed) = (feed.link ≡ link) × Now wire link (IsOpenWith feed.sent)
 
 -- there was no memory: some first moves were made, and the feed sent what they ask for
 pub record Halted (wire : Option (List Link)) (link : ℕ) (within : ℕ → Type 0) (begins : Link → Taking → Type 0) : Type 0 where

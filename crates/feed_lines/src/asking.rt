@@ -1,5 +1,5 @@
 //! Asking a connection for its next PDU.
-ghost use Rattle.std.specs.Prelude.{◌≡◌, ℕ, ◌<◌, List, ◌++◌, length, IfOk};
+ghost use Rattle.std.specs.Prelude.{◌≡◌, ℕ, ◌<◌, List, ◌++◌, length, IfOk, OnErr};
 ghost use Rattle.av_base.specs.Connections.{IsUsable};
 ghost use Rattle.feed_lines.specs.Connection.{Has, Now};
 ghost use Rattle.feed_lines.specs.Faults.{BreaksByFault};
@@ -36,6 +36,7 @@ pub(crate) fn next_pdu<K: Links>(
         → Answers (K.wire links.new) link used sent r.0 r.1) }
     ensures refused { IfOk result (λ r. RefusesNow r.0 r.1) }
     ensures usable { IfOk result (λ r. StaysUsable (K.standings links.new) link r.1) }
+    ensures err_usable { OnErr result (IsUsable (K.standings links.new) link) }
     ensures keeps { KeepsSent link (K.wire links.old) (K.wire links.new) }
     ensures only { Only link (K.wire links.old) (K.wire links.new)
         (K.standings links.old) (K.standings links.new) }
@@ -65,6 +66,7 @@ fn receive<K: Links>(framer: Framer, link: u32, links: &mut K) -> Result<Turn, N
         → AnswersTurn (K.wire links.new) link before sent framer turn) }
     ensures grows { IfOk result (λ turn. Grows framer turn) }
     ensures usable { IfOk result (λ turn. TurnsUsable (K.standings links.new) link turn) }
+    ensures err_usable { OnErr result (IsUsable (K.standings links.new) link) }
     ensures keeps { KeepsSent link (K.wire links.old) (K.wire links.new) }
     ensures only { Only link (K.wire links.old) (K.wire links.new)
         (K.standings links.old) (K.standings links.new) }

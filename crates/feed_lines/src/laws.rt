@@ -1,5 +1,5 @@
 //! Laws of the definitions: the contract of each function is the law, and its body does nothing.
-ghost use Rattle.feed_lines.specs.Laws.{EachTellingIsOneLine, FeedLinesHaveOneOutcome};
+ghost use Rattle.feed_lines.specs.Laws.{EachTellingIsOneLine, FeedLinesHaveOneOutcome, LostFeedsBrokeOrEnded};
 
 /// On the same connections, with attempts that are told, a line has no two texts, and leaves no two states.
 pub fn feed_lines_have_one_outcome()
@@ -9,4 +9,9 @@ pub fn feed_lines_have_one_outcome()
 /// Whatever is reported of a feed whose name has no line feed is one line of text that begins with `! `.
 pub fn each_telling_is_one_line()
     ensures { EachTellingIsOneLine }
+{}
+
+/// Where a line reports a feed as lost, its connection broke, or nothing more is to come on it.
+pub fn lost_feeds_broke_or_ended()
+    ensures { LostFeedsBrokeOrEnded }
 {}

@@ -5,12 +5,13 @@
 //! `specs/Lines.antt`, over what one PDU and several make of a feed (`specs/Feeds.antt`): begin reading there. Each relation reads the
 //! connection as it stands when the run ends, so what is proved of a line stays true whatever the later lines do; how the [`Feeds`] that
 //! are held stand for those of the definitions is said in `specs/Holding.antt`. What the events may cost in judgements is counted, and
-//! a line takes no more steps, whether it ends well or not. Two outcomes of a line on the same connections are the same one, and each
-//! thing that is reported is one line of text (`laws`).
+//! a line takes no more steps, whether it ends well or not. Two outcomes of a line on the same connections are the same one, each
+//! thing that is reported is one line of text, and a feed is lost only where its connection broke or nothing more is to come (`laws`).
 //!
 //! `asking` receives PDUs, `sending` sends queries and error reports, `taking` takes PDUs one after another, `working` performs what a
 //! line asks of a feed that goes on, `named` finds it by its name, `connecting` starts one, and `lines` writes what is reported.
-//! Lemmas for the proofs above are in `proofs/`: `GoingLemmas` for what becomes of the outside, `LawLemmas` for the laws.
+//! Lemmas for the proofs above are in `proofs/`: `GoingLemmas` for what becomes of the outside, `LawLemmas` and
+//! `LostLemmas` for the laws.
 #![tactic(auto)]
 
 mod asking;
@@ -25,7 +26,7 @@ mod telling;
 mod working;
 
 pub use feed::Feeds;
-pub use laws::{each_telling_is_one_line, feed_lines_have_one_outcome};
+pub use laws::{each_telling_is_one_line, feed_lines_have_one_outcome, lost_feeds_broke_or_ended};
 pub use lines::{Progress, connect, work};
 pub use telling::{Cause, Telling};
 pub use working::Work;

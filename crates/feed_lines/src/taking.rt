@@ -152,6 +152,7 @@ fn move_feed<K: Links>(
         → MovedAs (K.wire links.new) feed.link
         (λ t. Before r.1 (TakesNext t name.now state)) r.0) }
     ensures halts { OnErr result (KeepsSent feed.link (K.wire links.old) (K.wire links.new)) }
+    ensures err_usable { OnErr result (IsUsable (K.standings links.new) feed.link) }
     ensures only { Only feed.link (K.wire links.old) (K.wire links.new)
         (K.standings links.old) (K.standings links.new) }
     ensures fits { IfOk result (λ r.
@@ -206,6 +207,7 @@ fn perform<K: Links>(
         → MovedAs (K.wire links.new) feed.link (λ t. Moves t state act) r.0) }
     ensures due { IfOk result (λ r. r.1 ≡ change_due name.now act) }
     ensures halts { OnErr result (KeepsSent feed.link (K.wire links.old) (K.wire links.new)) }
+    ensures err_usable { OnErr result (IsUsable (K.standings links.new) feed.link) }
     ensures only { Only feed.link (K.wire links.old) (K.wire links.new)
         (K.standings links.old) (K.standings links.new) }
     ensures fits { IfOk result (λ r.

@@ -1,5 +1,6 @@
 //! What a line does with a feed that goes on.
 ghost use Rattle.std.specs.Prelude.{◌≡◌, ◌≢◌, ℕ, ◌+◌, ◌^◌, ◌<◌, Some, None, IfOk, OnErr};
+ghost use Rattle.av_base.specs.Connections.{IsUsable};
 ghost use Rattle.report_text.specs.declared.feed.FeedEnd.TheVariants.{Unreachable};
 ghost use Rattle.feed_lines.specs.declared.telling.Telling.TheVariants.{End as FeedEnds};
 ghost use Rattle.feed_lines.specs.declared.working.Work.TheVariants.{Sync as SyncWork, Take as TakeWork};
@@ -94,6 +95,7 @@ fn ask_feed<K: Links>(
     ensures asks { IfOk result (λ r. (state : Feed) → StandsFor (K.wire links.old) feed state
         → LeftAs (K.wire links.new) feed.link (λ t. AsksFeed t state) r.0 r.1) }
     ensures halts { OnErr result (KeepsSent feed.link (K.wire links.old) (K.wire links.new)) }
+    ensures err_usable { OnErr result (IsUsable (K.standings links.new) feed.link) }
     ensures only { Only feed.link (K.wire links.old) (K.wire links.new)
         (K.standings links.old) (K.standings links.new) }
     ensures fits { IfOk result (λ r.

@@ -1,5 +1,5 @@
 -- The marked verdicts, key by key.
-use Rattle.std.proofs.Common.{◌≡◌, ℕ, Bool, true, false, cond, [], ◌∷◌, None, Some, refl, ap, sym, ◌∙◌, true≢false}
+use Rattle.std.proofs.Common.{◌≡◌, ℕ, Bool, true, false, cond, [], ◌∷◌, None, Some, refl, ap, sym, ◌∙◌, ◌⊎◌, inl, inr, true≢false}
 use Rattle.std.specs.declared.option.Option.{Option}
 use Rattle.std.specs.BTreeMap.{is_at}
 use Rattle.std.specs.FinMap as fin
@@ -16,7 +16,7 @@ use Rattle.shared_cases.specs.Cases.{Slots, at, marked_or, IsSameCase, AreSameCa
 use Rattle.rib_store.specs.Cased.{Numbered, through, overridden_at, overridden, marked_by}
 use Rattle.rib_store.specs.Merge.{Noted, noted_or}
 use Rattle.rib_store.specs.State.{Marked}
-use Rattle.rib_store.specs.Steps.{or_noted, Notes}
+use Rattle.rib_store.specs.Steps.{or_noted, Notes, NotesMove}
 use Rattle.rib_store.proofs.CasedLemmas.{get_through, kept_part}
 use Rattle.rib_store.proofs.KeyLemmas.{same_key}
 
@@ -55,7 +55,7 @@ off_noted None now was other e = e
 off_noted (Some v) now was other e = refl
 
 -- a route changes at one key, whose mark is noted
-pub marked_route : (is_marked : Bool) (old new : Slots) (before after : Numbered) (notes notes' : Noted) (k : Key) (o : Option ℕ)
+marked_route : (is_marked : Bool) (old new : Slots) (before after : Numbered) (notes notes' : Noted) (k : Key) (o : Option ℕ)
     → ((q : Key) → lookup (is_at (key_cmp q)) after ≡ cond (is_at (key_cmp k) q) o (lookup (is_at (key_cmp q)) before))
     → Notes is_marked notes k (mark_at old before k) notes'
     → ((q : Key) (j : ℕ) → lookup (is_at (key_cmp q)) after ≡ Some j → lookup (is_at (key_cmp q)) before ≡ Some j → marked_or (at new j) ≡ marked_or (at old j))
@@ -71,6 +71,33 @@ marked_route true old new before after notes notes' k o updates noted kept = sam
       ap (λ (n : Option (Option Verdict)). noted_or n (mark_at new after q)) (noted q ∙ ap (λ (b : Bool). or_noted (lookup (is_at (key_cmp q)) notes) b (mark_at old before k)) t)
       ∙ off_noted (lookup (is_at (key_cmp q)) notes) (mark_at new after q) (mark_at old before k) (mark_at old before q)
       (ap (option_map (λ j. marked_or (at new j))) same ∙ kept_part marked_or old new (lookup (is_at (key_cmp q)) before) (λ j here. kept q j (same ∙ here) here))
+
+-- a route stays at one key, and none is noted
+pub marked_still : (is_marked : Bool) (old new : Slots) (before after : Numbered) (notes : Noted) (k : Key) (o : Option ℕ)
+    → ((q : Key) → lookup (is_at (key_cmp q)) after ≡ cond (is_at (key_cmp k) q) o (lookup (is_at (key_cmp q)) before))
+    → lookup (is_at (key_cmp k)) before ≡ o
+    → ((q : Key) (j : ℕ) → lookup (is_at (key_cmp q)) after ≡ Some j → lookup (is_at (key_cmp q)) before ≡ Some j → marked_or (at new j) ≡ marked_or (at old j))
+    → marked_by is_marked new after notes ≡ marked_by is_marked old before notes
+marked_still false old new before after notes k o updates stays kept = refl
+marked_still true old new before after notes k o updates stays kept = same_marks old new before after notes notes
+    (λ q. ap (noted_or (lookup (is_at (key_cmp q)) notes)) (by q (is_at (key_cmp k) q) refl)) where
+      same : (q : Key) (b : Bool) → is_at (key_cmp k) q ≡ b → lookup (is_at (key_cmp q)) after ≡ lookup (is_at (key_cmp q)) before
+      same q true t = updates q ∙ ap (λ (b : Bool). cond b o (lookup (is_at (key_cmp q)) before)) t ∙ sym stays ∙ ap (λ (r : Key). lookup (is_at (key_cmp r)) before) (same_key k q t)
+      same q false t = updates q ∙ ap (λ (b : Bool). cond b o (lookup (is_at (key_cmp q)) before)) t
+
+      by : (q : Key) (b : Bool) → is_at (key_cmp k) q ≡ b → mark_at new after q ≡ mark_at old before q
+      by q b t = ap (option_map (λ j. marked_or (at new j))) (same q b t)
+          ∙ kept_part marked_or old new (lookup (is_at (key_cmp q)) before) (λ j here. kept q j (same q b t ∙ here) here)
+
+-- either way
+pub marked_move : (is_marked : Bool) (old new : Slots) (before after : Numbered) (notes notes' : Noted) (k : Key) (o : Option ℕ)
+    → ((q : Key) → lookup (is_at (key_cmp q)) after ≡ cond (is_at (key_cmp k) q) o (lookup (is_at (key_cmp q)) before))
+    → NotesMove is_marked notes k (lookup (is_at (key_cmp k)) before) o (mark_at old before k) notes'
+    → ((q : Key) (j : ℕ) → lookup (is_at (key_cmp q)) after ≡ Some j → lookup (is_at (key_cmp q)) before ≡ Some j → marked_or (at new j) ≡ marked_or (at old j))
+    → marked_by is_marked new after notes' ≡ marked_by is_marked old before notes
+marked_move is_marked old new before after notes notes' k o updates (inl stays) kept =
+    ap (λ (n : Noted). marked_by is_marked new after n) stays.1 ∙ marked_still is_marked old new before after notes k o updates stays.0 kept
+marked_move is_marked old new before after notes notes' k o updates (inr noted) kept = marked_route is_marked old new before after notes notes' k o updates noted kept
 
 -- other judgements leave the marks
 same_mark : (c d : Option StoredCase) → IsSameCase c d → marked_or d ≡ marked_or c

@@ -17,12 +17,12 @@ use Rattle.shared_cases.specs.Taking.{raised, lowered, Takes}
 use Rattle.rib_store.specs.Cased.{Numbered, path_or, routes_by, marked_by, AreStored}
 use Rattle.rib_store.specs.Merge.{Noted}
 use Rattle.rib_store.specs.State.{State, Marked}
-use Rattle.rib_store.specs.Steps.{Leaves, Notes}
+use Rattle.rib_store.specs.Steps.{Leaves, NotesMove}
 use Rattle.path_model.specs.Routes.{Routes}
 use Rattle.rib_store.proofs.CasedLemmas.{through_inserted, through_removed, same_through, kept_part}
 use Rattle.rib_store.proofs.CountedLemmas.{users_positive}
 use Rattle.rib_store.proofs.KeyLemmas.{key_itself}
-use Rattle.rib_store.proofs.NotedLemmas.{mark_at, marked_route}
+use Rattle.rib_store.proofs.NotedLemmas.{mark_at, marked_move}
 use Rattle.rib_store.proofs.StoredLemmas.{ArePending, settled_part, inserted, removed, taken_part, taken_path}
 
 raised_path : (c : Option StoredCase) → path_or (raised c) ≡ path_or c
@@ -61,7 +61,7 @@ module _ (g : Grounds) (parts : Parts) (relations : Relations) (is_marked : Bool
   -- a route comes
   module _ (old mid new : Slots) (n : ℕ) (path : Path) (stored : AreStored g before old) (takes : Takes g k.peer.asn path old mid n) (sorted : IsStrictlySortedBy key_cmp (keys_of before))
       (is : after ≡ insert_entry key_cmp before k n) (updates : (q : Key) → lookup (is_at (key_cmp q)) after ≡ cond (is_at (key_cmp k) q) (Some n) (lookup (is_at (key_cmp q)) before))
-      (leaves : Leaves mid (lookup (is_at (key_cmp k)) before) new) (noted : Notes is_marked notes k (mark_at old before k) notes') where
+      (leaves : Leaves mid (lookup (is_at (key_cmp k)) before) new) (noted : NotesMove is_marked notes k (lookup (is_at (key_cmp k)) before) (Some n) (mark_at old before k) notes') where
     pending : ArePending g after mid (lookup (is_at (key_cmp k)) before)
     pending = inserted g before after old mid k n path stored takes sorted is updates
 
@@ -78,12 +78,12 @@ module _ (g : Grounds) (parts : Parts) (relations : Relations) (is_marked : Bool
     pub announced_state : state_by parts relations is_marked new after notes' ≡ record (state_by parts relations is_marked old before notes) { routes = fin.insert (routes_by old before) k path }
     announced_state = same_state parts relations _ _ _ _
         (through_inserted path_or old new before after k n path updates came (kept path_or raised_path lowered_path))
-        (marked_route is_marked old new before after notes notes' k (Some n) updates noted (kept marked_or raised_mark lowered_mark))
+        (marked_move is_marked old new before after notes notes' k (Some n) updates noted (kept marked_or raised_mark lowered_mark))
 
   -- a route goes
   module _ (old new : Slots) (stored : AreStored g before old)
       (is : after ≡ remove_entry (is_at (key_cmp k)) before) (updates : (q : Key) → lookup (is_at (key_cmp q)) after ≡ cond (is_at (key_cmp k) q) None (lookup (is_at (key_cmp q)) before))
-      (leaves : Leaves old (lookup (is_at (key_cmp k)) before) new) (noted : Notes is_marked notes k (mark_at old before k) notes') where
+      (leaves : Leaves old (lookup (is_at (key_cmp k)) before) new) (noted : NotesMove is_marked notes k (lookup (is_at (key_cmp k)) before) None (mark_at old before k) notes') where
     left_kept : {A : Type 0} (part : Option StoredCase → A) → ((c : Option StoredCase) → part (lowered c) ≡ part c)
         → (q : Key) (j : ℕ) → lookup (is_at (key_cmp q)) after ≡ Some j → lookup (is_at (key_cmp q)) before ≡ Some j → part (at new j) ≡ part (at old j)
     left_kept part down q j here was = settled_part part down g after old new (lookup (is_at (key_cmp k)) before) (removed g before after old k stored is updates) leaves j (users_positive after q j here)
@@ -91,7 +91,7 @@ module _ (g : Grounds) (parts : Parts) (relations : Relations) (is_marked : Bool
     pub withdrawn_state : state_by parts relations is_marked new after notes' ≡ record (state_by parts relations is_marked old before notes) { routes = fin.remove (routes_by old before) k }
     withdrawn_state = same_state parts relations _ _ _ _
         (through_removed path_or old new before after k updates (left_kept path_or lowered_path))
-        (marked_route is_marked old new before after notes notes' k None updates noted (left_kept marked_or lowered_mark))
+        (marked_move is_marked old new before after notes notes' k None updates noted (left_kept marked_or lowered_mark))
 
 same_path : (c d : Option StoredCase) → IsSameCase c d → path_or d ≡ path_or c
 same_path None None same = refl

@@ -1,5 +1,5 @@
 -- How changes of one route go. Private contracts alone cite it.
-use Rattle.std.specs.Prelude.{◌≡◌, ℕ, Bool, true, false, List, if◌then◌else◌, ⊤}
+use Rattle.std.specs.Prelude.{◌≡◌, ℕ, Bool, true, false, List, if◌then◌else◌, ⊤, ◌⊎◌}
 use Rattle.std.specs.declared.option.Option.{Option}
 use Rattle.std.specs.declared.option.Option.TheVariants.{Some, None}
 use Rattle.std.specs.BTreeMap.{is_at}
@@ -25,3 +25,7 @@ abbrev pub Notes : Bool → List (Key × Option Verdict) → Key → Option Verd
 Notes false old key marked new = ⊤
 Notes true old key marked new =
     (q : Key) → lookup (is_at (key_cmp q)) new ≡ or_noted (lookup (is_at (key_cmp q)) old) (is_at (key_cmp key) q) marked
+
+-- the same of a key whose case becomes another one, and nothing of one whose case stays
+abbrev pub NotesMove : Bool → List (Key × Option Verdict) → Key → Option ℕ → Option ℕ → Option Verdict → List (Key × Option Verdict) → Type 0
+NotesMove is_marked old key before after marked new = ((before ≡ after) × (new ≡ old)) ⊎ Notes is_marked old key marked new

@@ -61,7 +61,7 @@ impl RibStore {
         let (cases, number) = cases.take(asn, trail, hint, &table, &roles, steps)?;
         hint_at(&mut hints, asn, hint, number)?;
         let before = routes.insert(key, number)?;
-        note(&mut notes, is_marked, &cases, &key, before)?;
+        note(&mut notes, is_marked, &cases, &key, before, Some(number))?;
         let cases = leave(cases, before);
         Ok(RibStore {
             alloc,
@@ -93,7 +93,7 @@ impl RibStore {
         // it comes with the order of the keys
         let _length = routes.len();
         let before = routes.remove(key);
-        note(&mut notes, is_marked, &cases, key, before)?;
+        note(&mut notes, is_marked, &cases, key, before, None)?;
         let cases = leave(cases, before);
         Ok(RibStore {
             alloc,

@@ -11,7 +11,8 @@ use Rattle.hop_index.specs.Index.{Entries}
 use Rattle.shared_cases.specs.declared.case.StoredCase.{StoredCase}
 use Rattle.shared_cases.specs.declared.noted.Noted.{Noted}
 use Rattle.shared_cases.specs.Cases.{Slots, at, Rewrites, IsSettled, IsSameCase, AreSameCases, is_of_peer, marked_now}
-use Rattle.shared_cases.specs.Kept.{AreKept, IsNoted}
+use Rattle.shared_cases.specs.Kept.{AreKept}
+use Rattle.shared_cases.specs.Noting.{IsNoted}
 use Rattle.shared_cases.specs.Numbers.{has}
 use Rattle.shared_cases.specs.Peers.{Members}
 use Rattle.shared_cases.specs.Taking.{lowered, new_case, raised}
@@ -23,7 +24,7 @@ each_at : (P : ℕ → Option StoredCase → Type 0) (old new : Slots) (n m : �
 each_at P old new n m v writes here was (inl e) = subst (λ (k : ℕ). P k (at new k)) (sym e) (subst (P n) (sym writes.here) here)
 each_at P old new n m v writes here was (inr other) = subst (P m) (sym (writes.others m other)) was
 
-noted_settled : (noted : Noted) (n : ℕ) (c : Option StoredCase) → IsSettled c → IsNoted noted n c
+pub noted_settled : (noted : Noted) (n : ℕ) (c : Option StoredCase) → IsSettled c → IsNoted noted n c
 noted_settled noted n c settled = record { by_number = λ absent. settled; by_as = λ asn of_it absent. settled }
 
 -- a case that is settled stands or goes
@@ -135,27 +136,32 @@ same_case_name None (Some d) same = absurd same
 same_case_name (Some c) None same = absurd same
 same_case_name (Some c) (Some d) same = (same.0, same.1)
 
--- these cases are noted too, and others maybe
-pub record NotesCases (cases : Slots) (touched : List ℕ) (before after : Noted) : Type 0 where
-  pub numbers : (n : ℕ) → has after.numbers n ≡ (has before.numbers n || has touched n)
-  pub kept : (asn : ℕ) → contains nat_cmp before.ases asn ≡ true → contains nat_cmp after.ases asn ≡ true
-  pub ases : (n asn : ℕ) → has touched n ≡ true → is_of_peer (at cases n) asn ≡ true → contains nat_cmp after.ases asn ≡ true
+module _ (old new : Slots) (noted noted' : Noted) (touched : List ℕ) (same : AreSameCases old new) (here : (n : ℕ) → has touched n ≡ true → IsNoted noted' n (at new n))
+    (keeps : (n : ℕ) (c : Option StoredCase) → IsNoted noted n c → IsNoted noted' n c) (others : (n : ℕ) → has touched n ≡ false → at new n ≡ at old n) where
+  noted_now : (n : ℕ) → IsNoted noted n (at old n) → (b : Bool) → has touched n ≡ b → IsNoted noted' n (at new n)
+  noted_now n was true there = here n there
+  noted_now n was false there = keeps n (at new n) (subst (λ (o : Option StoredCase). IsNoted noted n o) (sym (others n there)) was)
 
-module _ (old new : Slots) (noted noted' : Noted) (touched : List ℕ) (same : AreSameCases old new) (notes : NotesCases old touched noted noted') (others : (n : ℕ) → has touched n ≡ false → at new n ≡ at old n) where
-  noted_number : (n : ℕ) → IsNoted noted n (at old n) → has noted'.numbers n ≡ false → IsSettled (at new n)
-  noted_number n was absent = let both = or_parts (has noted.numbers n) (has touched n) (sym (notes.numbers n) ∙ absent) in
-      subst (λ (o : Option StoredCase). IsSettled o) (sym (others n both.1)) (was.by_number both.0)
-
-  noted_as : (n asn : ℕ) → IsNoted noted n (at old n) → is_of_peer (at old n) asn ≡ true → contains nat_cmp noted'.ases asn ≡ false → (b : Bool) → has touched n ≡ b → IsSettled (at new n)
-  noted_as n asn was of_it absent true there = absurd (true≢false (sym (notes.ases n asn there of_it) ∙ absent))
-  noted_as n asn was of_it absent false there = subst (λ (o : Option StoredCase). IsSettled o) (sym (others n there))
-      (was.by_as asn of_it (false_from_ne_true (contains nat_cmp noted.ases asn) (λ is. true≢false (sym (notes.kept asn is) ∙ absent))))
-
+  -- the cases that were judged anew are noted, and the others stay so
   pub rejudged_kept : (names : Names) (index : Entries) (peers : Members) → AreKept old names index peers noted → AreKept new names index peers noted'
   rejudged_kept names index peers kept = record {
     indexed = same_names old new names index peers (λ n. same_case_name (at old n) (at new n) (same n)) kept.indexed;
-    are_noted = λ n. record {
-      by_number = noted_number n (kept.are_noted n);
-      by_as = λ asn of_it absent. noted_as n asn (kept.are_noted n) (same_peer (at old n) (at new n) asn (same_case_name (at old n) (at new n) (same n)) ∙ of_it) absent (has touched n) refl;
-    };
+    are_noted = λ n. noted_now n (kept.are_noted n) (has touched n) refl;
   }
+
+-- ---- noting
+
+-- more numbers and more ASes note what was noted
+pub noted_more : (before after : Noted) (n : ℕ) (c : Option StoredCase) → ((m : ℕ) → has before.numbers m ≡ true → has after.numbers m ≡ true)
+    → ((asn : ℕ) → contains nat_cmp before.ases asn ≡ true → contains nat_cmp after.ases asn ≡ true) → IsNoted before n c → IsNoted after n c
+noted_more before after n c numbers ases was = record {
+  by_number = λ absent. was.by_number (false_from_ne_true (has before.numbers n) (λ there. true≢false (sym (numbers n there) ∙ absent)));
+  by_as = λ asn of_it absent. was.by_as asn of_it (false_from_ne_true (contains nat_cmp before.ases asn) (λ there. true≢false (sym (ases asn there) ∙ absent)));
+}
+
+-- a case under its number and its AS is noted
+pub noted_there : (after : Noted) (n : ℕ) (c : Option StoredCase) → has after.numbers n ≡ true → ((asn : ℕ) → is_of_peer c asn ≡ true → contains nat_cmp after.ases asn ≡ true) → IsNoted after n c
+noted_there after n c number ases = record {
+  by_number = λ absent. absurd (true≢false (sym number ∙ absent));
+  by_as = λ asn of_it absent. absurd (true≢false (sym (ases asn of_it) ∙ absent));
+}

@@ -13,7 +13,7 @@ use Rattle.shared_cases.specs.declared.case_name.CaseName.{CaseName}
 use Rattle.shared_cases.specs.declared.noted.Noted.{Noted}
 use Rattle.shared_cases.specs.Cases.{Slots, at, IsStoredAs, IsIndexOf, is_of_peer, IsSettled}
 use Rattle.shared_cases.specs.Names.{name_of, name_cmp}
-use Rattle.shared_cases.specs.Numbers.{has}
+use Rattle.shared_cases.specs.Noting.{IsNoted}
 use Rattle.shared_cases.specs.Peers.{Members, is_member}
 
 -- the number that is found under a name
@@ -26,11 +26,6 @@ pub record AreIndexed (cases : Slots) (names : List (CaseName × ℕ)) (index : 
   pub stored : (n asn : ℕ) (path : Path) → numbered names asn path ≡ Some n → IsStoredAs (at cases n) asn path
   pub indexed : IsIndexOf cases index
   pub members : (asn n : ℕ) → is_member peers asn n ≡ is_of_peer (at cases n) asn
-
--- its verdict is the marked one, where its number isn't noted, and where its AS isn't
-pub record IsNoted (noted : Noted) (n : ℕ) (c : Option StoredCase) : Type 0 where
-  pub by_number : has noted.numbers n ≡ false → IsSettled c
-  pub by_as : (asn : ℕ) → is_of_peer c asn ≡ true → contains nat_cmp noted.ases asn ≡ false → IsSettled c
 
 -- and each case whose verdict isn't the marked one is noted
 pub record AreKept (cases : Slots) (names : List (CaseName × ℕ)) (index : Entries) (peers : Members) (noted : Noted) : Type 0 where

@@ -3,6 +3,7 @@ pub mod Codes
 pub mod Grounds
 pub mod Kept
 pub mod Names
+pub mod Noting
 pub mod Numbers
 pub mod Peers
 pub mod Taking

@@ -1,5 +1,5 @@
 -- How the touched cases are found. Private contracts alone cite it.
-use Rattle.std.specs.Prelude.{ℕ, nat_eq, Bool, true, false, not, ◌&&◌, List}
+use Rattle.std.specs.Prelude.{ℕ, nat_eq, Bool, true, false, not, ◌&&◌, ◌||◌, List}
 use Rattle.std.specs.List.{list_any}
 use Rattle.path_model.specs.declared.authority.Authority.{Authority}
 use Rattle.path_model.specs.declared.authority.Authority.TheVariants.{Silent, Refuses, Provides}
@@ -7,6 +7,13 @@ use Rattle.path_model.specs.Authority.{said_by}
 use Rattle.hop_index.specs.Index.{Entries, found}
 use Rattle.hop_index.specs.Through.{ends_of}
 use Rattle.vap_table.specs.declared.moves.RowMove.{RowMove}
+use Rattle.shared_cases.specs.declared.set_out.SetOut.{SetOut}
+use Rattle.shared_cases.specs.Numbers.{has as numbers_have}
+
+-- whether two answers differ
+abbrev pub are_other : Bool → Bool → Bool
+are_other true b = not b
+are_other false b = b
 
 abbrev pub same_authority : Authority → Authority → Bool
 same_authority Silent Silent = true
@@ -22,6 +29,10 @@ same_authority Provides Provides = true
 -- the customer attests another thing of y than before
 abbrev pub differs : RowMove → ℕ → Bool
 differs m y = not (same_authority (said_by m.before y) (said_by m.after y))
+
+-- the same by the rows set out: there is one row and not the other, or one has y and not the other
+abbrev pub differs_by : SetOut → ℕ → Bool
+differs_by rows y = are_other rows.was rows.is || are_other (numbers_have rows.before y) (numbers_have rows.after y)
 
 -- among these other ends of the customer's hops, one of the case n at which the customer attests another thing
 abbrev pub touches : RowMove → ℕ → List (ℕ × ℕ) → Bool

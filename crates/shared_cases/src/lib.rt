@@ -17,6 +17,7 @@ mod noted;
 mod numbers;
 mod peers;
 mod rejudging;
+mod set_out;
 mod slots;
 mod touched;
 

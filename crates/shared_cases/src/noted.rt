@@ -1,9 +1,11 @@
-//! The cases whose verdict may differ from the marked one.
-ghost use Rattle.std.specs.Prelude.{◌≡◌, ◌||◌, ℕ, true, OnOk};
-ghost use Rattle.std.specs.BTreeSet.{contains};
+//! The cases whose verdict isn't the marked one.
+ghost use Rattle.std.specs.Prelude.{◌≡◌, ℕ, true, OnOk};
+ghost use Rattle.shared_cases.specs.declared.case.StoredCase.{StoredCase as Stored};
+ghost use Rattle.std.specs.declared.option.Option.{Option as Maybe};
 ghost use Rattle.std.specs.List.Sorted.{IsStrictlySortedBy};
 ghost use Rattle.std.specs.Ordering.{nat_cmp};
-ghost use Rattle.shared_cases.specs.Cases.{at, is_of_peer};
+ghost use Rattle.shared_cases.specs.Cases.{at};
+ghost use Rattle.shared_cases.specs.Noting.{IsNoted};
 ghost use Rattle.shared_cases.specs.Numbers.{has};
 
 use crate::case::StoredCase;
@@ -13,7 +15,7 @@ use slab::Slab;
 use std::alloc::Global;
 use std::collections::BTreeSet;
 
-// Each case whose verdict isn't the marked one, and maybe others, under its number and under its AS.
+// Each case whose verdict isn't the marked one, and maybe others whose verdict wasn't, under its number and under its AS.
 #[derive(Drop)]
 pub(crate) struct Noted {
     pub(crate) numbers: Numbers,
@@ -29,42 +31,38 @@ impl Noted {
         }
     }
 
-    // These cases more, those that there are. It takes the time of two look-ups for each.
+    // Those of these cases more whose verdict isn't the marked one. It takes the time of three look-ups for each.
     pub(crate) fn note(
         &mut self,
         slab: &Slab<StoredCase>,
         touched: &Numbers,
     ) -> Result<(), NoMemory>
-        ensures numbers { OnOk result ((n : ℕ)
-            → has self.new.numbers n ≡ (has self.old.numbers n || has touched.now n)) }
-        ensures kept { OnOk result ((asn : ℕ) → contains nat_cmp self.old.ases asn ≡ true
-            → contains nat_cmp self.new.ases asn ≡ true) }
-        ensures ases { OnOk result ((n asn : ℕ) → has touched.now n ≡ true
-            → is_of_peer (at slab.now.slots n) asn ≡ true
-            → contains nat_cmp self.new.ases asn ≡ true) }
         ensures rising { IsStrictlySortedBy nat_cmp touched.now }
+        ensures noted { OnOk result ((n : ℕ) → has touched.now n ≡ true
+            → IsNoted self.new n (at slab.now.slots n)) }
+        ensures kept { OnOk result ((n : ℕ) (c : Maybe Stored)
+            → IsNoted self.old n c → IsNoted self.new n c) }
     {
-        self.numbers.insert_all(touched)?;
-        note_ases(&mut self.ases, slab, touched)
-    }
-}
-
-// The ASes of these cases more.
-fn note_ases(
-    ases: &mut BTreeSet<u32>,
-    slab: &Slab<StoredCase>,
-    touched: &Numbers,
-) -> Result<(), NoMemory>
-    ensures kept { OnOk result ((asn : ℕ) → contains nat_cmp ases.old asn ≡ true
-        → contains nat_cmp ases.new asn ≡ true) }
-    ensures ases { OnOk result ((n asn : ℕ) → has touched.now n ≡ true
-        → is_of_peer (at slab.now.slots n) asn ≡ true
-        → contains nat_cmp ases.new asn ≡ true) }
-{
-    for number in touched.iter() {
-        if let Some(case) = slab.get(*number) {
-            ases.insert(case.asn)?;
+        for number in touched.iter() {
+            self.note_one(slab, *number)?;
         }
+        Ok(())
     }
-    Ok(())
+
+    // One case more, if its verdict isn't the marked one.
+    fn note_one(&mut self, slab: &Slab<StoredCase>, number: usize) -> Result<(), NoMemory>
+        ensures noted { OnOk result (IsNoted self.new number (at slab.now.slots number)) }
+        ensures kept { OnOk result ((n : ℕ) (c : Maybe Stored)
+            → IsNoted self.old n c → IsNoted self.new n c) }
+    {
+        let Some(case) = slab.get(number) else {
+            return Ok(());
+        };
+        if case.judged.verdict() == case.marked {
+            return Ok(());
+        }
+        self.numbers.insert(number)?;
+        self.ases.insert(case.asn)?;
+        Ok(())
+    }
 }

@@ -62,6 +62,13 @@ impl Numbers {
         self.numbers.remove(&number);
     }
 
+    // Whether the number is one of these.
+    pub(crate) fn has(&self, number: usize) -> bool
+        ensures { result ≡ has self.now number }
+    {
+        self.numbers.contains(&number)
+    }
+
     // Whether there are none.
     pub(crate) fn is_empty(&self) -> bool
         ensures { IsTrue result ↔ (self.now ≡ []) }

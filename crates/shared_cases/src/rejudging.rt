@@ -115,8 +115,8 @@ impl SharedCases {
             peers,
             mut noted,
         } = self;
-        noted.note(&slab, touched)?;
         rejudge_all(&mut slab, touched, table, roles, steps);
+        noted.note(&slab, touched)?;
         Ok(SharedCases {
             alloc,
             slab,

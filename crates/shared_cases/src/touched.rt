@@ -1,17 +1,16 @@
 //! Which cases a change touches.
 ghost use Rattle.std.specs.Prelude.{◌≡◌, ◌↔◌, true, false, ℕ, ◌||◌, IfOk, IsTrue, OnOk};
-ghost use Rattle.std.specs.Option.{option_copied};
-ghost use Rattle.path_model.specs.Authority.{said_by};
 ghost use Rattle.path_model.specs.Roles.{role_of};
 ghost use Rattle.shared_cases.specs.Numbers.{has};
 ghost use Rattle.shared_cases.specs.Peers.{is_member, HasMovedMember, IsMovedMember};
-ghost use Rattle.shared_cases.specs.Touching.{differs, is_touched, is_touched_by, same_authority};
+ghost use Rattle.shared_cases.specs.Touching.{is_touched, is_touched_by};
 
 use crate::numbers::Numbers;
 use crate::peers::Peers;
+use crate::set_out::SetOut;
 use av_base::NoMemory;
 use hop_index::HopIndex;
-use path_model::{AsList, Authority, Role, Roles};
+use path_model::{Role, Roles};
 use std::alloc::Global;
 use vap_table::{Moves, RowMove};
 
@@ -26,7 +25,7 @@ pub(crate) fn touched_by_moves(
 {
     let mut touched = Numbers::new(alloc);
     for row_move in moves.as_slice() {
-        touch(index, row_move, &mut touched)?;
+        touch(alloc, index, row_move, &mut touched)?;
     }
     Ok(touched)
 }
@@ -85,54 +84,23 @@ fn touch_members(peers: &Peers, asn: u32, touched: &mut Numbers) -> Result<(), N
     }
 }
 
-// The cases that a move touches come to the others.
-fn touch(index: &HopIndex, row_move: &RowMove, touched: &mut Numbers) -> Result<(), NoMemory>
+// The cases that a move touches come to the others. Each row is set out once, and looked up in for each hop.
+fn touch(
+    alloc: Global,
+    index: &HopIndex,
+    row_move: &RowMove,
+    touched: &mut Numbers,
+) -> Result<(), NoMemory>
     ensures { OnOk result ((n : ℕ)
         → has touched.new n ≡ (has touched.old n || is_touched index.now row_move.now n)) }
 {
+    let rows = SetOut::new(alloc, row_move)?;
     for (provider, case) in index.through(row_move.customer) {
-        if is_moved(row_move, provider) {
+        if rows.is_moved(provider) {
             touched.insert(case)?;
         }
     }
     Ok(())
-}
-
-// Whether the customer attests another thing of an AS than before.
-fn is_moved(row_move: &RowMove, provider: u32) -> bool
-    ensures { result ≡ differs row_move.now provider }
-{
-    !is_same(
-        said(row_move.before.as_ref(), provider),
-        said(row_move.after.as_ref(), provider),
-    )
-}
-
-// What a row says of an AS.
-fn said(row: Option<&AsList>, provider: u32) -> Authority
-    ensures { result ≡ said_by (option_copied row.entry) provider }
-{
-    match row {
-        None => Authority::Silent,
-        Some(row) => {
-            if row.as_slice().contains(&provider) {
-                Authority::Provides
-            } else {
-                Authority::Refuses
-            }
-        }
-    }
-}
-
-fn is_same(one: Authority, other: Authority) -> bool
-    ensures { result ≡ same_authority one other }
-{
-    matches!(
-        (one, other),
-        (Authority::Silent, Authority::Silent)
-            | (Authority::Refuses, Authority::Refuses)
-            | (Authority::Provides, Authority::Provides)
-    )
 }
 
 fn is_same_role(one: Role, other: Role) -> bool

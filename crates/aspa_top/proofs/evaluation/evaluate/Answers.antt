@@ -29,7 +29,8 @@ pub loop-line-preserved : goal.loop-line-preserved
 loop-line-preserved g c = record {
   so_far = λ world tells begins. Performing-same _ _ _ _ _ _ _ _ _ _ _
       (Performing-next _ _ _ _ _ _ _ _ _ _ _ _ _ _ _ _ _ (c.loop-line.invariant.so_far world tells begins) c.in-Some.ensures.first
-      (Tells-names _ _ world c.loop-line.invariant.names tells) c.perform_line.ensures.later c.in-Ok.ensures.goes) c.pour_piece.ensures.same;
+      (Tells-names _ _ world c.loop-line.invariant.names tells) c.perform_line.ensures.later c.in-Ok.ensures.goes
+      (g.K.Links.standings c.perform_line.new.links) (g.met.K.Links.agrees c.perform_line.new.links) c.in-Ok.ensures.feeds) c.pour_piece.ensures.same;
   later = GoesOn-trans c.loop-line.invariant.later c.perform_line.ensures.later;
   names = c.perform_line.ensures.names ∙ c.loop-line.invariant.names;
   shelf_faults = omega (arith, c.loop-line.invariant.shelf_faults, c.perform_line.ensures.shelf_faults);
@@ -82,13 +83,15 @@ pub returns-in_err-pour_piece-clause-went : goal.returns-in_err-pour_piece-claus
 returns-in_err-pour_piece-clause-went g c = λ world meets.
     Reached-went _ _ _ _ _ _ _ _ _ _ meets (Reached-between _ _ _ _ _ _ _ _ _ _ (Performing-same _ _ _ _ _ _ _ _ _ _ _
     (Performing-next _ _ _ _ _ _ _ _ _ _ _ _ _ _ _ _ _ (c.loop-line.invariant.so_far world meets.tells meets.begins) c.in-Some.ensures.first
-    (Tells-names _ _ world c.loop-line.invariant.names meets.tells) c.perform_line.ensures.later c.in-Ok.ensures.goes) c.pour_piece.ensures.same)) (Grows-trans c.loop-line.invariant.grows (Grows-trans c.perform_line.ensures.grows c.pour_piece.ensures.grows))
+    (Tells-names _ _ world c.loop-line.invariant.names meets.tells) c.perform_line.ensures.later c.in-Ok.ensures.goes
+    (g.K.Links.standings c.perform_line.new.links) (g.met.K.Links.agrees c.perform_line.new.links) c.in-Ok.ensures.feeds) c.pour_piece.ensures.same)) (Grows-trans c.loop-line.invariant.grows (Grows-trans c.perform_line.ensures.grows c.pour_piece.ensures.grows))
 
 pub returns-in_err-pour_piece-clause-cut : goal.returns-in_err-pour_piece-clause-cut
 returns-in_err-pour_piece-clause-cut g c = λ failed world meets told.
     Reached-cut _ _ _ _ _ _ _ _ _ _ meets told (Reached-between _ _ _ _ _ _ _ _ _ _ (Performing-same _ _ _ _ _ _ _ _ _ _ _
     (Performing-next _ _ _ _ _ _ _ _ _ _ _ _ _ _ _ _ _ (c.loop-line.invariant.so_far world meets.tells meets.begins) c.in-Some.ensures.first
-    (Tells-names _ _ world c.loop-line.invariant.names meets.tells) c.perform_line.ensures.later c.in-Ok.ensures.goes) c.pour_piece.ensures.same)) (Grows-trans c.loop-line.invariant.grows (Grows-trans c.perform_line.ensures.grows c.pour_piece.ensures.grows)) c.in_err-pour_piece.ensures.err
+    (Tells-names _ _ world c.loop-line.invariant.names meets.tells) c.perform_line.ensures.later c.in-Ok.ensures.goes
+    (g.K.Links.standings c.perform_line.new.links) (g.met.K.Links.agrees c.perform_line.new.links) c.in-Ok.ensures.feeds) c.pour_piece.ensures.same)) (Grows-trans c.loop-line.invariant.grows (Grows-trans c.perform_line.ensures.grows c.pour_piece.ensures.grows)) c.in_err-pour_piece.ensures.err
 
 pub returns-in_err-pour-clause-went : goal.returns-in_err-pour-clause-went
 returns-in_err-pour-clause-went g c = λ world meets.
@@ -128,6 +131,23 @@ returns-in_err-pour-clause-reported g c = written_lines _ _ _ _ _ (Grows-trans c
 
 pub returns-clause-reported : goal.returns-clause-reported
 returns-clause-reported g c = written_lines _ _ _ _ _ (Grows-trans c.loop-line.invariant.grows c.pour-2.ensures.grows) (front_poured _ _ _ _ _ c.pour-2.ensures.same (adds_front _ _ _ _ c.loop-line.invariant.adds))
+
+-- what became of the links
+
+pub returns-in_err-pour-in-Err-Shelf-clause-later : goal.returns-in_err-pour-in-Err-Shelf-clause-later
+returns-in_err-pour-in-Err-Shelf-clause-later g c = GoesOn-trans c.loop-line.invariant.later c.perform_line.ensures.later
+
+pub returns-in-Err-Shelf-clause-later : goal.returns-in-Err-Shelf-clause-later
+returns-in-Err-Shelf-clause-later g c = GoesOn-trans c.loop-line.invariant.later c.perform_line.ensures.later
+
+pub returns-in-Err-Sink-clause-later : goal.returns-in-Err-Sink-clause-later
+returns-in-Err-Sink-clause-later g c = GoesOn-trans c.loop-line.invariant.later c.perform_line.ensures.later
+
+pub returns-in-Err-NoMemory-clause-later : goal.returns-in-Err-NoMemory-clause-later
+returns-in-Err-NoMemory-clause-later g c = GoesOn-trans c.loop-line.invariant.later c.perform_line.ensures.later
+
+pub returns-in_err-pour_piece-clause-later : goal.returns-in_err-pour_piece-clause-later
+returns-in_err-pour_piece-clause-later g c = GoesOn-trans c.loop-line.invariant.later c.perform_line.ensures.later
 
 -- where connections broke
 

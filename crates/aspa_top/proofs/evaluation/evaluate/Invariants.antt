@@ -5,8 +5,8 @@ use Rattle.av_text.specs.Lines.{lines_in}
 use Rattle.feed_lines.specs.Faults.{BreaksByFault}
 use Rattle.report_text.specs.Reported.{AddsLines}
 use Rattle.aspa_top.specs.Feeding.{AreSound}
-use Rattle.aspa_top.specs.Performing.{GoesOn, IsSound, Performing}
-use Rattle.aspa_top.specs.World.{BeginsAt, Tells, World, linked, names_of}
+use Rattle.aspa_top.specs.Performing.{IsSound, Performing}
+use Rattle.aspa_top.specs.World.{BeginsAt, GoesOn, Tells, World, linked, names_of}
 use Rattle.aspa_top.proofs.evaluation.evaluate.Given as goal
 
 abbrev pub invariant-loop-line : goal.invariant-loop-line

@@ -1,12 +1,13 @@
 use Rattle.std.proofs.Common.{ℕ, List, subst, map}
 use Rattle.std.specs.declared.option.Option.{Option}
 use Rattle.std.specs.String.{string_bytes}
-use Rattle.feed_lines.proofs.FaultsLemmas.{BreaksByFault-refl}
+use Rattle.feed_lines.proofs.FaultsLemmas.{BreaksByFault-refl, new_unbroken}
 use Rattle.report_text.specs.Reported.{AddsFront}
 use Rattle.report_text.proofs.ReportedLemmas.{few_unreachable}
 use Rattle.aspa_top.specs.declared.words.Form.{Form}
 use Rattle.aspa_top.specs.Program.{Demonstrates}
 use Rattle.aspa_top.specs.Words.{HasForm}
+use Rattle.aspa_top.proofs.RunLemmas.{GoesOn-refl}
 use Rattle.aspa_top.proofs.WordsLemmas.{one_seed}
 use Rattle.aspa_top.proofs.program.run.Goals as goal
 
@@ -25,3 +26,18 @@ returns-in-Demo-clause-unbroken g c = BreaksByFault-refl _ _
 
 pub returns-in-Other-clause-unbroken : goal.returns-in-Other-clause-unbroken
 returns-in-Other-clause-unbroken g c = BreaksByFault-refl _ _
+
+pub returns-in-Demo-clause-later : goal.returns-in-Demo-clause-later
+returns-in-Demo-clause-later g c = GoesOn-refl _
+
+pub returns-in-Other-clause-later : goal.returns-in-Other-clause-later
+returns-in-Other-clause-later g c = GoesOn-refl _
+
+pub returns-in-Run-clause-new_unbroken : goal.returns-in-Run-clause-new_unbroken
+returns-in-Run-clause-new_unbroken g c = new_unbroken _ _ _ _ (g.met.K.Links.agrees c.args.links.now) (g.met.K.Links.agrees c.run_script.new.links) c.run_script.ensures.broke
+
+pub returns-in-Demo-clause-new_unbroken : goal.returns-in-Demo-clause-new_unbroken
+returns-in-Demo-clause-new_unbroken g c = new_unbroken _ _ _ _ (g.met.K.Links.agrees c.args.links.now) (g.met.K.Links.agrees c.args.links.now) (BreaksByFault-refl _ _)
+
+pub returns-in-Other-clause-new_unbroken : goal.returns-in-Other-clause-new_unbroken
+returns-in-Other-clause-new_unbroken g c = new_unbroken _ _ _ _ (g.met.K.Links.agrees c.args.links.now) (g.met.K.Links.agrees c.args.links.now) (BreaksByFault-refl _ _)

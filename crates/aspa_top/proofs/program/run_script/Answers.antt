@@ -6,6 +6,7 @@ use Rattle.aspa_top.specs.declared.program.TheConstants.{SCRIPT_LIMIT}
 use Rattle.aspa_top.specs.World.{linked}
 use Rattle.aspa_top.proofs.ProgramLemmas.{Ran-start, Ran-told, Ran-told_more}
 use Rattle.aspa_top.proofs.ReportingLemmas.{front_none}
+use Rattle.aspa_top.proofs.RunLemmas.{GoesOn-refl}
 use Rattle.aspa_top.proofs.program.run_script.Goals as goal
 
 pub returns-then-text-le-SCRIPT_LIMIT-clause-ran : goal.returns-then-text-le-SCRIPT_LIMIT-clause-ran
@@ -45,3 +46,9 @@ returns-in-Err-Source-clause-broke g c = BreaksByFault-refl _ _
 
 pub returns-clause-broke : goal.returns-clause-broke
 returns-clause-broke g c = BreaksByFault-refl _ _
+
+pub returns-in-Err-Source-clause-later : goal.returns-in-Err-Source-clause-later
+returns-in-Err-Source-clause-later g c = GoesOn-refl _
+
+pub returns-clause-later : goal.returns-clause-later
+returns-clause-later g c = GoesOn-refl _

@@ -2,7 +2,7 @@ use Rattle.std.proofs.Common.{subst}
 use Rattle.feed_lines.specs.Moves.{Only}
 use Rattle.feed_lines.specs.Steps.{SlotFits}
 use Rattle.feed_lines.proofs.ConnectionLemmas.{Spares-trans}
-use Rattle.feed_lines.proofs.ConnectingLemmas.{spares_connect, new_now, started_made, started_failed, usable_new, spares_same}
+use Rattle.feed_lines.proofs.ConnectingLemmas.{spares_connect, new_now, new_number, started_made, started_failed, usable_new, spares_same}
 use Rattle.feed_lines.proofs.FaultsLemmas.{BreaksByFault-trans, breaks_made, breaks_none}
 use Rattle.feed_lines.proofs.connecting.start.Goals as goal
 
@@ -12,7 +12,8 @@ start_session-requires-clause-usable g c = usable_new (g.K.Links.standings c.arg
 pub returns-in-Ok-clause-starts : goal.returns-in-Ok-clause-starts
 returns-in-Ok-clause-starts g c =
     started_made (g.K.Links.attempts c.args.links.now) (g.K.Links.attempts c.connect.new.self) (g.K.Links.attempts c.start_session.new.links) (g.K.Links.wire c.connect.new.self) (g.K.Links.wire c.start_session.new.links)
-    c.args.place.now c.in-Ok.link c.start_session.result.0 c.start_session.result.1 (g.K.Links.wire c.args.links.now) c.in-Ok.ensures.made c.start_session.ensures.attempts
+    c.args.place.now c.in-Ok.link c.start_session.result.0 c.start_session.result.1 (g.K.Links.wire c.args.links.now)
+    (new_number _ _ c.in-Ok.link (g.met.K.Links.agrees c.args.links.now) c.in-Ok.ensures.number) c.in-Ok.ensures.made c.start_session.ensures.attempts
     (new_now _ _ (g.K.Links.standings c.args.links.now) c.args.place.now c.in-Ok.link c.in-Ok.ensures.ok (g.met.K.Links.agrees c.args.links.now) c.in-Ok.ensures.number)
     c.start_session.ensures.only.later c.start_session.ensures.starts
 

@@ -1,4 +1,5 @@
-use Rattle.std.proofs.Common.{refl}
+use Rattle.std.proofs.Common.{◌+◌, ◌^◌, refl}
+use Rattle.feed_lines.specs.Lines.{units_of}
 use Rattle.feed_lines.proofs.TakingLemmas.{on_err}
 use Rattle.feed_lines.proofs.LineLemmas.{work_goes, work_unwritten, work_began}
 use Rattle.feed_lines.proofs.lines.work.Goals as goal
@@ -15,7 +16,8 @@ returns-in_err-next-clause-part g c =
     on_err c.from_residual-in_err-next.result c.from_residual-in_err-next.ensures.0
     (work_unwritten (g.K.Links.attempts c.args.links.now) (g.K.Links.attempts c.work_named.new.links) (g.K.Links.wire c.args.links.now) (g.K.Links.wire c.work_named.new.links) c.args.feeds.now c.args.progress
     c.args.text.now.items c.report.new.text.items (record { line = c.args.line; name = c.args.name.now }) c.args.work c.args.steps.now c.work_named.new.steps c.work_named.ensures.attempts c.work_named.ensures.others.later
-    c.work_named.new.feeds c.in_ok-told.told c.in_ok-told.analyser c.in_ok-told.ensures.works c.in_err-next.ensures.err)
+    c.work_named.new.feeds c.in_ok-told.told c.in_ok-told.analyser c.in_ok-told.ensures.works c.in_err-next.ensures.err (g.K.Links.standings c.work_named.new.links) (2 ^ 61 + units_of c.args.work)
+    (g.met.K.Links.agrees c.work_named.new.links) (c.in_ok-told.ensures.sound (2 ^ 61) c.requires.sound))
 
 pub returns-clause-goes : goal.returns-clause-goes
 returns-clause-goes g c =

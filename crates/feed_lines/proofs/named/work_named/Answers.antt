@@ -57,7 +57,8 @@ returns-in_err-slot-in-Some-Some-clause-halts g c =
     on_err c.from_residual.result c.from_residual.ensures.0
     (began_named (g.K.Links.attempts c.args.links.now) (g.K.Links.attempts c.work_on.new.links) (g.K.Links.wire c.args.links.now) (g.K.Links.wire c.work_on.new.links)
     (g.K.Links.standings c.args.links.now) (g.K.Links.standings c.work_on.new.links) c.args.name.now c.args.work c.args.feeds.now c.in-Some-Some.feed c.args.analyser
-    c.args.steps.now c.work_on.new.steps c.work_on.ensures.attempts (2 ^ 61) c.requires.sound (sym c.lend.ensures.was ∙ c.in-Some-Some.is ∙ ap (λ (s : Option OpenFeed). Some s) c.in-Some-Some.field-0-is) c.work_on.ensures.only c.in_err-slot-in-Some-Some.ensures.halts)
+    c.args.steps.now c.work_on.new.steps c.work_on.ensures.attempts (2 ^ 61) c.requires.sound (sym c.lend.ensures.was ∙ c.in-Some-Some.is ∙ ap (λ (s : Option OpenFeed). Some s) c.in-Some-Some.field-0-is) c.work_on.ensures.only
+    (g.met.K.Links.agrees c.work_on.new.links) c.in_err-slot-in-Some-Some.ensures.halts)
 
 pub returns-in_err-slot-in-Some-Some-clause-others : goal.returns-in_err-slot-in-Some-Some-clause-others
 returns-in_err-slot-in-Some-Some-clause-others g c =

@@ -6,7 +6,8 @@ pub returns-in_err-slot-in-Ask-clause-halts : goal.returns-in_err-slot-in-Ask-cl
 returns-in_err-slot-in-Ask-clause-halts g c =
     on_err c.from_residual.result c.from_residual.ensures.0
     (λ state judgements stands.
-    rw c.in-Ask.is (asked_halted (g.K.Links.wire c.ask_feed.new.links) c.args.name.now c.args.feed c.args.analyser c.args.steps.now state judgements (g.K.Links.wire c.args.links.now) stands c.in_err-slot-in-Ask.ensures.halts))
+    rw c.in-Ask.is (asked_halted (g.K.Links.wire c.ask_feed.new.links) c.args.name.now c.args.feed c.args.analyser c.args.steps.now state judgements (g.K.Links.wire c.args.links.now) stands c.in_err-slot-in-Ask.ensures.halts
+    (g.K.Links.standings c.ask_feed.new.links) (g.met.K.Links.agrees c.ask_feed.new.links) c.in_err-slot-in-Ask.ensures.err_usable))
 
 pub returns-in-Take-clause-halts : goal.returns-in-Take-clause-halts
 returns-in-Take-clause-halts g c = rw c.in-Take.is c.take_some.ensures.halts
