@@ -8,6 +8,7 @@ pub mod Held
 pub mod Laws
 pub mod Merge
 pub mod OfPeer
+pub mod Routing
 pub mod Rows
 pub mod Sharing
 pub mod Shown

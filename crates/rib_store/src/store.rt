@@ -20,13 +20,13 @@ use crate::counts::{Counts, count};
 use crate::journal::{Journal, walk};
 use crate::merged::Merged;
 use crate::rib::{Rib, Shown};
+use crate::routing::Routing;
 use av_base::{NoMemory, Steps};
 use hop_index::HopIndex;
 use path_model::{Changes, Key, Role, Roles, Verdict};
 use route_map::RouteMap;
 use shared_cases::{Case, SharedCases};
 use std::alloc::Global;
-use std::collections::BTreeMap;
 use std::marker::Model;
 use std::sync::ledger::Ledger;
 use vap_table::{TableChange, Vaps};
@@ -45,8 +45,6 @@ pub struct RibStore {
     pub(crate) notes: RouteMap<Option<Verdict>>,
     // whether verdicts were ever marked; before, there are no notes
     pub(crate) is_marked: bool,
-    // the case of each peer AS's route that was announced last: the next path is often the same
-    pub(crate) hints: BTreeMap<u32, u32>,
 }
 
 /// A contract sees the state of the analysis, and the cases.
@@ -87,7 +85,6 @@ impl RibStore {
             cases: SharedCases::new(alloc),
             notes: RouteMap::new(alloc),
             is_marked: false,
-            hints: BTreeMap::new(alloc),
         }
     }
 
@@ -102,11 +99,37 @@ impl RibStore {
             s.state ≡ record self.state { routes = performed changes self.state.routes }) }
         ensures ticks { steps.new ≤ steps.old + announced changes }
     {
-        let mut store = self;
-        for change in changes.into_vec() {
-            store = store.perform(change, steps)?;
-        }
-        Ok(store)
+        let RibStore {
+            alloc,
+            table,
+            roles,
+            routes,
+            cases,
+            notes,
+            is_marked,
+        } = self;
+        let mut routing = Routing {
+            routes,
+            cases,
+            notes,
+            is_marked,
+        };
+        routing.perform_all(changes, &table, &roles, steps)?;
+        let Routing {
+            routes,
+            cases,
+            notes,
+            is_marked,
+        } = routing;
+        Ok(RibStore {
+            alloc,
+            table,
+            roles,
+            routes,
+            cases,
+            notes,
+            is_marked,
+        })
     }
 
     /// Changes what attests. It visits only the customers that the change names and the hops of those whose row moved, and judges anew,
@@ -129,7 +152,6 @@ impl RibStore {
             cases,
             notes,
             is_marked,
-            hints,
         } = self;
         // it comes with the order of the keys
         let _length = routes.len();
@@ -144,7 +166,6 @@ impl RibStore {
             cases,
             notes,
             is_marked,
-            hints,
         })
     }
 
@@ -169,7 +190,6 @@ impl RibStore {
             cases,
             notes,
             is_marked,
-            hints,
         } = self;
         // it comes with the order of the keys
         let _length = routes.len();
@@ -184,7 +204,6 @@ impl RibStore {
             cases,
             notes,
             is_marked,
-            hints,
         })
     }
 
@@ -209,7 +228,6 @@ impl RibStore {
             cases,
             notes,
             is_marked,
-            hints,
         } = self;
         // it comes with the order of the keys
         let _length = routes.len();
@@ -224,7 +242,6 @@ impl RibStore {
             cases,
             notes,
             is_marked,
-            hints,
         })
     }
 
@@ -292,7 +309,6 @@ impl RibStore {
             cases,
             notes: _before,
             is_marked: _ever,
-            hints,
         } = self;
         // it comes with the order of the keys
         let _length = routes.len();
@@ -305,7 +321,6 @@ impl RibStore {
             cases,
             notes: RouteMap::new(alloc),
             is_marked: true,
-            hints,
         }
     }
 

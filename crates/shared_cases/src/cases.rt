@@ -1,5 +1,5 @@
 //! The cases.
-ghost use Rattle.std.specs.Prelude.{◌≡◌, ◌≤◌, ◌+◌, ℕ, true, false, [], None, Some, IfOk, IfNone, IfSome};
+ghost use Rattle.std.specs.Prelude.{◌≡◌, ◌≤◌, ◌+◌, ℕ, true, false, [], None, Some, IfOk, IfNone, IfSome, OnOk};
 ghost use Rattle.shared_cases.specs.Cases.{at, verdict_or, marked_or, marked_now, Rewrites, IsAbsent, IsStoredAs, AreDistinct, AreSettledBut, IsIndexOf, IsShown};
 ghost use Rattle.shared_cases.specs.Grounds.{grounds};
 ghost use Rattle.shared_cases.specs.Names.{name_of};
@@ -8,6 +8,7 @@ ghost use Rattle.shared_cases.specs.Taking.{is_shared, left, lowered, raised, ne
 
 use crate::case::{Case, StoredCase};
 use crate::case_name::CaseName;
+use crate::hints::Hints;
 use crate::noted::Noted;
 use crate::numbers::Numbers;
 use crate::peers::Peers;
@@ -20,6 +21,7 @@ use slab::Slab;
 use std::alloc::Global;
 use std::collections::{BTreeMap, BTreeSet};
 use std::marker::Model;
+use std::mem;
 use std::sync::ledger::Ledger;
 use vap_table::Vaps;
 
@@ -34,6 +36,8 @@ pub struct SharedCases {
     pub(crate) index: HopIndex,
     pub(crate) peers: Peers,
     pub(crate) noted: Noted,
+    // where a case is looked for first
+    pub(crate) hints: Hints,
 }
 
 impl Model for SharedCases {
@@ -59,6 +63,7 @@ impl SharedCases {
             index: HopIndex::new(alloc),
             peers: Peers::new(alloc),
             noted: Noted::new(alloc),
+            hints: Hints::new(alloc),
         }
     }
 
@@ -118,42 +123,46 @@ impl SharedCases {
     }
 
     /// One route more has the case of this AS and path, and the number of the case, which stays until its last route leaves it. A new
-    /// case is judged, for one step, and its verdict is the marked one. The `hint` is tried first: where it is the right number, that
-    /// costs one comparison of paths, and else one look-up more.
+    /// case is judged, for one step, and its verdict is the marked one. Where there was no memory, nothing is promised of the cases but
+    /// that they fit together.
     pub fn take<L: Ledger>(
-        self,
+        &mut self,
         asn: u32,
         trail: Trail,
-        hint: Option<u32>,
         table: &Vaps,
         roles: &Roles,
         steps: &mut Steps<L>,
-    ) -> Result<(SharedCases, u32), NoMemory>
-        ensures taken { IfOk result (λ r. Takes (grounds table.now roles.now) asn trail self r.0 r.1) }
+    ) -> Result<u32, NoMemory>
+        ensures taken { IfOk result (λ n.
+            Takes (grounds table.now roles.now) asn trail self.old self.new n) }
         ensures ticks { steps.new ≤ steps.old + 1 }
     {
-        if let Some(number) = self.hinted(hint, asn, &trail) {
-            let cases = self.join(number)?;
-            return Ok((cases, number));
-        }
         let name = CaseName::new(asn, trail);
+        if let Some(number) = self.hinted(&name) {
+            self.join(number)?;
+            return Ok(number);
+        }
         if let Some(number) = self.find(&name) {
-            let cases = self.join(number)?;
-            return Ok((cases, number));
+            self.join(number)?;
+            self.hints.keep(name.word, number);
+            return Ok(number);
         }
         let judged = judge(table, roles.of(asn), asn, &name.trail, steps);
-        let (cases, number) = self.add(name, judged)?;
-        Ok((cases, number))
+        let held = mem::replace(self, SharedCases::new(self.alloc));
+        let (cases, number) = held.add(name, judged)?;
+        let _empty = mem::replace(self, cases);
+        Ok(number)
     }
 
     /// One route less has the case. The last one takes the case along. It takes no memory.
-    pub fn leave(self, number: u32) -> SharedCases
-        ensures { Rewrites self result number (left (at self number)) }
+    pub fn leave(&mut self, number: u32)
+        ensures { Rewrites self.old self.new number (left (at self.old number)) }
     {
         if slots::is_shared(&self.slab, number as usize) {
-            self.lower(number)
+            self.lower(number);
         } else {
-            self.remove(number)
+            let held = mem::replace(self, SharedCases::new(self.alloc));
+            *self = held.remove(number);
         }
     }
 
@@ -168,6 +177,7 @@ impl SharedCases {
             index,
             peers,
             noted,
+            hints,
         } = self;
         mark_all(&mut slab, &noted.numbers);
         SharedCases {
@@ -177,15 +187,16 @@ impl SharedCases {
             index,
             peers,
             noted: Noted::new(alloc),
+            hints,
         }
     }
 
-    // The hint, if it is the number of the case of this AS and path.
-    fn hinted(&self, hint: Option<u32>, asn: u32, trail: &Trail) -> Option<u32>
-        ensures { IfSome result (λ n. IsStoredAs (at self.now n) asn trail.now) }
+    // The hint, if it is the number of the case of this name.
+    fn hinted(&self, name: &CaseName) -> Option<u32>
+        ensures { IfSome result (λ n. IsStoredAs (at self.now n) name.now.asn name.now.trail) }
     {
-        let number = hint?;
-        if slots::is_stored_as(&self.slab, number as usize, asn, trail) {
+        let number = self.hints.of(name.word)?;
+        if slots::is_stored_as(&self.slab, number as usize, name.asn, &name.trail) {
             Some(number)
         } else {
             None
@@ -202,26 +213,11 @@ impl SharedCases {
     }
 
     // One user more.
-    fn join(self, number: u32) -> Result<SharedCases, NoMemory>
-        ensures { IfOk result (λ cases. Rewrites self cases number (raised (at self number))) }
+    fn join(&mut self, number: u32) -> Result<(), NoMemory>
+        ensures { OnOk result (Rewrites self.old self.new number (raised (at self.old number))) }
     {
-        let SharedCases {
-            alloc,
-            mut slab,
-            names,
-            index,
-            peers,
-            noted,
-        } = self;
-        slots::raise(&mut slab, number as usize)?;
-        Ok(SharedCases {
-            alloc,
-            slab,
-            names,
-            index,
-            peers,
-            noted,
-        })
+        slots::raise(&mut self.slab, number as usize)?;
+        Ok(())
     }
 
     // A new case.
@@ -239,6 +235,7 @@ impl SharedCases {
             index,
             peers,
             noted,
+            mut hints,
         } = self;
         let asn = name.asn;
         let case = StoredCase {
@@ -252,6 +249,8 @@ impl SharedCases {
         let short = u32::try_from(number).ok().ok_or(NoMemory)?;
         let index = index.add(number, name.trail.chain())?;
         let peers = peers.add(asn, number)?;
+        hints.fit(number)?;
+        hints.keep(name.word, short);
         names.insert(name, short)?;
         let cases = SharedCases {
             alloc,
@@ -260,31 +259,16 @@ impl SharedCases {
             index,
             peers,
             noted,
+            hints,
         };
         Ok((cases, short))
     }
 
     // One user less of a case that has more than one.
-    fn lower(self, number: u32) -> SharedCases
-        ensures { Rewrites self result number (lowered (at self number)) }
+    fn lower(&mut self, number: u32)
+        ensures { Rewrites self.old self.new number (lowered (at self.old number)) }
     {
-        let SharedCases {
-            alloc,
-            mut slab,
-            names,
-            index,
-            peers,
-            noted,
-        } = self;
-        slots::lower(&mut slab, number as usize);
-        SharedCases {
-            alloc,
-            slab,
-            names,
-            index,
-            peers,
-            noted,
-        }
+        slots::lower(&mut self.slab, number as usize);
     }
 
     // The case goes, if there is one, with its name and its hops.
@@ -298,6 +282,7 @@ impl SharedCases {
             index,
             peers,
             noted,
+            hints,
         } = self;
         let Some(case) = slab.try_remove(number as usize) else {
             return SharedCases {
@@ -307,6 +292,7 @@ impl SharedCases {
                 index,
                 peers,
                 noted,
+                hints,
             };
         };
         let index = index.remove(number as usize, case.trail.chain());
@@ -319,6 +305,7 @@ impl SharedCases {
             index,
             peers,
             noted,
+            hints,
         }
     }
 }

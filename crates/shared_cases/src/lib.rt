@@ -13,6 +13,7 @@
 mod case;
 mod case_name;
 mod cases;
+mod hints;
 mod noted;
 mod numbers;
 mod peers;

@@ -114,6 +114,7 @@ impl SharedCases {
             index,
             peers,
             mut noted,
+            hints,
         } = self;
         rejudge_all(&mut slab, touched, table, roles, steps);
         noted.note(&slab, touched)?;
@@ -124,6 +125,7 @@ impl SharedCases {
             index,
             peers,
             noted,
+            hints,
         })
     }
 }

@@ -1,5 +1,5 @@
 //! What is done to one case under its number.
-ghost use Rattle.std.specs.Prelude.{◌≡◌, ◌≢◌, ◌≤◌, ◌+◌, ◌↔◌, ℕ, IsTrue, OnOk};
+ghost use Rattle.std.specs.Prelude.{◌≡◌, ◌≢◌, ◌≤◌, ◌+◌, ◌↔◌, ℕ, IsTrue, OnOk, OnErr};
 ghost use Rattle.shared_cases.specs.Cases.{at, marked_now, Rewrites, IsSameCase, IsStoredAs};
 ghost use Rattle.shared_cases.specs.Grounds.{grounds, IsJudged};
 ghost use Rattle.shared_cases.specs.Taking.{is_shared, lowered, raised};
@@ -31,8 +31,9 @@ fn is_same_trail(one: &Trail, other: &Trail) -> bool
 
 // One user more.
 pub(crate) fn raise(slab: &mut Slab<StoredCase>, number: usize) -> Result<(), NoMemory>
-    ensures { OnOk result
+    ensures raised { OnOk result
         (Rewrites slab.old.slots slab.new.slots number (raised (at slab.old.slots number))) }
+    ensures same { OnErr result (slab.new.slots ≡ slab.old.slots) }
 {
     let Some(case) = slab.get_mut(number) else {
         return Ok(());

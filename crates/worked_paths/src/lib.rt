@@ -2,8 +2,8 @@
 //!
 //! Each table has its expected values worked out by hand. `judgements` judges paths in a small world, with their witnesses,
 //! `long_chains` the longest path there is, `confirming` puts claims to the checker, `hops` looks up hops, and `routes` asks a store of
-//! routes. `quiet` replays half a million events that each touch one route among 200,000, and the contracts of `ticks` say how many
-//! judgements each event of a row takes.
+//! routes. `quiet` replays half a million events that each touch one route among 200,000, `quiet_marks` asks after each of as many what
+//! changed, and the contracts of `ticks` say how many judgements each event of a row takes.
 #![tactic(auto)]
 
 #[cfg(test)]
@@ -18,6 +18,8 @@ mod ladder;
 mod long_chains;
 #[cfg(test)]
 mod quiet;
+#[cfg(test)]
+mod quiet_marks;
 #[cfg(test)]
 mod routes;
 #[cfg(test)]

@@ -32,7 +32,7 @@ fn source(alloc: Global) -> Result<Event, NoMemory> {
 }
 
 // Routes to as many networks of 24 bits from 11.0.0.0 on, each from an origin of its own.
-fn routes(alloc: Global) -> Result<Event, NoMemory> {
+pub(crate) fn routes(alloc: Global) -> Result<Event, NoMemory> {
     let mut changes = Changes::new(alloc);
     for i in 0..MANY {
         if let Some(prefix) = Prefix::new(Addr::V4(0x0B00_0000 + 256 * i), 24) {

@@ -1,5 +1,5 @@
 use Rattle.shared_cases.proofs.KeptLemmas.{lowered_kept}
 use Rattle.shared_cases.proofs.cases.SharedCases.lower.Goals as goal
 
-pub invariant_of-result : goal.invariant_of-result
-invariant_of-result c = lowered_kept c.self.inside.slab.slots c.lower.new.slab.slots c.args.number c.self.inside.names.entries c.self.inside.index c.self.inside.peers c.self.inside.noted c.self.invariant c.lower.ensures
+pub invariant_of-self : goal.invariant_of-self
+invariant_of-self c = lowered_kept c.self.inside.slab.slots c.lower.new.slab.slots c.args.number c.self.inside.names.entries c.self.inside.index c.self.inside.peers c.self.inside.noted c.self.invariant c.lower.ensures

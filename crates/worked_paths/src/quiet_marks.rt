@@ -1,0 +1,83 @@
+//! A quarter of a million events that each change one verdict, beside 200,000 routes of another AS whose verdicts stay as marked.
+ghost use Rattle.std.specs.Prelude.{◌≡◌};
+
+use crate::quiet::routes;
+use analyser::{Analyser, Event};
+use av_base::{NoMemory, Steps};
+use path_model::{Addr, AsList, Changes, Key, Peer, Prefix, Role, Trail};
+use rib_store::RibStore;
+use std::alloc::Global;
+use std::marker::Brand;
+use std::sync::ledger::{Blank, Ledger};
+use vap_table::TableChange;
+
+// 10.0.0.2 in AS 2.
+const OTHER_PEER: Peer = Peer {
+    addr: Addr::V4(0x0A00_0002),
+    asn: 2,
+};
+
+// The only route of that peer, to 11.0.0.0/24 from 2000.
+fn other_route(alloc: Global) -> Result<Event, NoMemory> {
+    let mut changes = Changes::new(alloc);
+    if let Some(prefix) = Prefix::new(Addr::V4(0x0B00_0000), 24) {
+        let key = Key {
+            peer: OTHER_PEER,
+            prefix,
+        };
+        changes.announce(key, Trail::new(alloc, false, &[2, 2000])?)?;
+    }
+    Ok(Event::Routes(changes))
+}
+
+// A customer attests one provider.
+fn assertion(alloc: Global, customer: u32, provider: u32) -> Result<Event, NoMemory> {
+    let providers = AsList::from_slice(alloc, &[provider])?;
+    Ok(Event::Table(TableChange::Assert(customer, providers)))
+}
+
+// How many keys differ from what was marked of them.
+fn changed(store: &RibStore) -> u32 {
+    let mut keys = 0u32;
+    for _ in store.changes() {
+        keys = keys.saturating_add(1);
+    }
+    keys
+}
+
+// How many changes are seen in all after 250,000 assertions, and after each was taken back. One route of AS 1 changes first, and is
+// marked so.
+fn replayed<L: Ledger>(alloc: Global, blank: Blank) -> Result<(u32, u32), NoMemory>
+    requires name { blank.name ≡ L.name }
+    requires parts { blank.parts ≡ L.parts }
+    requires one { L.parts ≡ 1 }
+{
+    let mut steps = Steps::<L>::new(blank);
+    let analyser = Analyser::new(alloc).mark();
+    let analyser = analyser.step(Event::DefaultRole(Role::Customer), &mut steps)?;
+    let analyser = analyser.step(routes(alloc)?, &mut steps)?;
+    let analyser = analyser.step(other_route(alloc)?, &mut steps)?;
+    let analyser = analyser.step(assertion(alloc, 1000, 1)?, &mut steps)?;
+    let mut analyser = analyser.mark();
+    let mut there = 0u32;
+    let mut gone = 0u32;
+    for _ in 0..250_000u32 {
+        analyser = analyser.step(assertion(alloc, 2000, 2)?, &mut steps)?;
+        there = there.saturating_add(changed(analyser.store()));
+        let unassertion = Event::Table(TableChange::Unassert(2000));
+        analyser = analyser.step(unassertion, &mut steps)?;
+        gone = gone.saturating_add(changed(analyser.store()));
+    }
+    Ok((there, gone))
+}
+
+// Replays them with a counter that is made here.
+fn replayed_once(alloc: Global) -> Result<(u32, u32), NoMemory> {
+    replayed::<Brand>(alloc, Blank::new(1))
+}
+
+#[test]
+fn quiet_marks(rt: HostRuntime) -> Result<(), NoMemory> {
+    assert_eq!(rt; replayed_once(rt.alloc())?, (250_000, 0));
+    Ok(())
+}
