@@ -17,7 +17,7 @@ const OTHER_PEER: Peer = Peer {
     asn: 2,
 };
 
-// The only route of that peer, to 11.0.0.0/24 from 2000.
+// The only route of that peer, to 11.0.0.0/24 from 300,000.
 fn other_route(alloc: Global) -> Result<Event, NoMemory> {
     let mut changes = Changes::new(alloc);
     if let Some(prefix) = Prefix::new(Addr::V4(0x0B00_0000), 24) {
@@ -25,7 +25,7 @@ fn other_route(alloc: Global) -> Result<Event, NoMemory> {
             peer: OTHER_PEER,
             prefix,
         };
-        changes.announce(key, Trail::new(alloc, false, &[2, 2000])?)?;
+        changes.announce(key, Trail::new(alloc, false, &[2, 300_000])?)?;
     }
     Ok(Event::Routes(changes))
 }
@@ -62,9 +62,9 @@ fn replayed<L: Ledger>(alloc: Global, blank: Blank) -> Result<(u32, u32), NoMemo
     let mut there = 0u32;
     let mut gone = 0u32;
     for _ in 0..250_000u32 {
-        analyser = analyser.step(assertion(alloc, 2000, 2)?, &mut steps)?;
+        analyser = analyser.step(assertion(alloc, 300_000, 2)?, &mut steps)?;
         there = there.saturating_add(changed(analyser.store()));
-        let unassertion = Event::Table(TableChange::Unassert(2000));
+        let unassertion = Event::Table(TableChange::Unassert(300_000));
         analyser = analyser.step(unassertion, &mut steps)?;
         gone = gone.saturating_add(changed(analyser.store()));
     }

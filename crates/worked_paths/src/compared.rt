@@ -1,0 +1,306 @@
+//! The store of routes beside a plain one: after each of many drawn events all routes are judged from scratch, and compared.
+ghost use Rattle.std.specs.Prelude.{◌≡◌};
+
+use analyser::{Analyser, Event};
+use av_base::{NoMemory, Steps};
+use path_model::{
+    Addr, AsList, Change, Changes, Key, Name, Peer, Prefix, Role, Roles, Rows, Trail, Verdict,
+};
+use ramps::judge;
+use std::alloc::Global;
+use std::collections::{BTreeMap, BTreeSet};
+use std::marker::Brand;
+use std::sync::ledger::{Blank, Ledger};
+use vap_table::{TableChange, Vaps};
+
+// How many events there are.
+const EVENTS: u32 = 2_000;
+
+// Numbers that look drawn: the upper half of a linear congruence.
+#[derive(Drop)]
+struct Draw {
+    state: u64,
+}
+
+impl Draw {
+    // One of 0, 1, 2 and 3.
+    fn four(&mut self) -> u32 {
+        self.state = self
+            .state
+            .wrapping_mul(6364136223846793005)
+            .wrapping_add(1442695040888963407);
+        (self.state >> 60) as u32 & 3
+    }
+
+    // An AS from 1 to 10.
+    fn asn(&mut self) -> u32 {
+        let sum = self.four().wrapping_add(self.four());
+        sum.wrapping_add(self.four()).wrapping_add(1)
+    }
+
+    fn role(&mut self) -> Role {
+        match (self.four(), self.four()) {
+            (0, 0 | 1) => Role::Peer,
+            (0, 2) => Role::Rs,
+            (0, _) => Role::RsClient,
+            (1, 0) => Role::Mutual,
+            (1 | 2, _) => Role::Provider,
+            (_, _) => Role::Customer,
+        }
+    }
+
+    // One of 16 peers in 10 ASes.
+    fn peer(&mut self) -> Peer {
+        Peer {
+            addr: Addr::V4(self.four()),
+            asn: self.asn(),
+        }
+    }
+
+    // A key to one of four prefixes.
+    fn key(&mut self) -> Option<Key> {
+        let prefix = Prefix::new(Addr::V4(self.four() << 24), 8)?;
+        let peer = self.peer();
+        Some(Key { peer, prefix })
+    }
+
+    // A list of one to four ASes, of which the first is this one most of the time.
+    fn ases(&mut self, alloc: Global, first: u32) -> Result<AsList, NoMemory> {
+        let mut ases = AsList::new(alloc);
+        let first = if self.four() == 0 { self.asn() } else { first };
+        ases.push(first)?;
+        for _ in 0..self.four() {
+            ases.push(self.asn())?;
+        }
+        Ok(ases)
+    }
+
+    // A few changes of the routes.
+    fn changes(&mut self, alloc: Global) -> Result<Changes, NoMemory> {
+        let mut changes = Changes::new(alloc);
+        for _ in 0..4 {
+            let Some(key) = self.key() else {
+                return Ok(changes);
+            };
+            match (self.four(), self.four()) {
+                (0, 0) => changes.remove_peer(key.peer)?,
+                (0 | 1, _) => changes.remove(key)?,
+                (_, set) => {
+                    let path = self.ases(alloc, key.peer.asn)?;
+                    if path.len() <= 65_535 {
+                        let trail = Trail::new(alloc, set == 0, path.as_slice())?;
+                        changes.announce(key, trail)?;
+                    }
+                }
+            }
+        }
+        Ok(changes)
+    }
+
+    // The rows of the one source.
+    fn rows(&mut self, alloc: Global) -> Result<Rows, NoMemory> {
+        let mut rows = Rows::new(alloc);
+        for _ in 0..4 {
+            let customer = self.asn();
+            rows.set(customer, self.ases(alloc, 2)?)?;
+        }
+        Ok(rows)
+    }
+}
+
+// What stands, as lists: the rows of the source, the filters and the assertions, the roles, and the routes.
+#[derive(Drop)]
+struct Plain {
+    alloc: Global,
+    source: Rows,
+    filtered: BTreeSet<u32>,
+    asserted: Rows,
+    roles: Roles,
+    routes: BTreeMap<Key, Trail>,
+}
+
+impl Plain {
+    fn new(alloc: Global) -> Plain {
+        Plain {
+            alloc,
+            source: Rows::new(alloc),
+            filtered: BTreeSet::new(alloc),
+            asserted: Rows::new(alloc),
+            roles: Roles::new(alloc),
+            routes: BTreeMap::new(alloc),
+        }
+    }
+
+    // Performs one change of the routes.
+    fn change(&mut self, change: &Change) -> Result<(), NoMemory> {
+        match change {
+            Change::Remove(key) => {
+                self.routes.remove(key);
+            }
+            Change::Announce(key, trail) => {
+                self.routes.insert(*key, trail.copy()?)?;
+            }
+            Change::RemovePeer(peer) => {
+                let mut left = BTreeMap::new(self.alloc);
+                for (key, trail) in &self.routes {
+                    if key.peer != *peer {
+                        left.insert(*key, trail.copy()?)?;
+                    }
+                }
+                self.routes = left;
+            }
+        }
+        Ok(())
+    }
+
+    // All that attests, as the rows of one source: the unfiltered ones and the asserted ones.
+    fn table(&self) -> Result<Vaps, NoMemory> {
+        let mut rows = Rows::new(self.alloc);
+        for (customer, providers) in self.source.entries() {
+            if !self.filtered.contains(&customer) {
+                rows.unite(customer, providers.as_slice())?;
+            }
+        }
+        for (customer, providers) in self.asserted.entries() {
+            rows.unite(customer, providers.as_slice())?;
+        }
+        let Some(name) = Name::new(self.alloc, b"all")? else {
+            return Err(NoMemory);
+        };
+        let (table, _moves) = Vaps::new(self.alloc).change(TableChange::Replace(name, rows))?;
+        Ok(table)
+    }
+}
+
+// Draws an event, and performs it on the plain lists.
+fn next_event(draw: &mut Draw, plain: &mut Plain) -> Result<Event, NoMemory> {
+    let alloc = plain.alloc;
+    let asn = draw.asn();
+    let event = match (draw.four(), draw.four()) {
+        (0 | 1, _) => {
+            let changes = draw.changes(alloc)?;
+            for change in changes.iter() {
+                plain.change(change)?;
+            }
+            Event::Routes(changes)
+        }
+        (2, 0) => {
+            plain.filtered.insert(asn)?;
+            Event::Table(TableChange::Filter(asn))
+        }
+        (2, 1) => {
+            plain.filtered.remove(&asn);
+            Event::Table(TableChange::Unfilter(asn))
+        }
+        (2, _) => {
+            let Some(name) = Name::new(alloc, b"s")? else {
+                return Err(NoMemory);
+            };
+            let rows = draw.rows(alloc)?;
+            plain.source = rows.copy()?;
+            Event::Table(TableChange::Replace(name, rows))
+        }
+        (_, 0) => {
+            let role = draw.role();
+            plain.roles.set(asn, role)?;
+            Event::Role(asn, role)
+        }
+        (_, 1) => {
+            let role = draw.role();
+            plain.roles.set_default(role);
+            Event::DefaultRole(role)
+        }
+        (_, 2) => {
+            let providers = draw.ases(alloc, 2)?;
+            plain.asserted.unite(asn, providers.as_slice())?;
+            Event::Table(TableChange::Assert(asn, providers))
+        }
+        (_, _) => {
+            plain.asserted.remove(asn);
+            Event::Table(TableChange::Unassert(asn))
+        }
+    };
+    Ok(event)
+}
+
+// How many events left the same routes with the same verdicts, and how many valid, unknown and invalid ones were compared.
+#[derive(Clone, Copy, Debug, PartialEq)]
+struct Compared {
+    same: u32,
+    valid: u32,
+    unknown: u32,
+    invalid: u32,
+}
+
+impl Compared {
+    fn count(&mut self, verdict: Verdict) {
+        match verdict {
+            Verdict::Valid => self.valid = self.valid.saturating_add(1),
+            Verdict::Unknown => self.unknown = self.unknown.saturating_add(1),
+            Verdict::Invalid => self.invalid = self.invalid.saturating_add(1),
+        }
+    }
+}
+
+// Whether the routes of the store are those of the lists, each with the verdict of its judgement from scratch.
+fn compare<L: Ledger>(
+    analyser: &Analyser,
+    plain: &Plain,
+    compared: &mut Compared,
+    steps: &mut Steps<L>,
+) -> Result<bool, NoMemory> {
+    let table = plain.table()?;
+    let mut rows = analyser.store().rows();
+    for (key, trail) in &plain.routes {
+        let Some((shown, verdict)) = rows.next() else {
+            return Ok(false);
+        };
+        let asn = key.peer.asn;
+        let judged = judge(&table, plain.roles.of(asn), asn, trail, steps);
+        if shown != *key || verdict != judged.verdict() {
+            return Ok(false);
+        }
+        compared.count(verdict);
+    }
+    Ok(rows.next().is_none())
+}
+
+fn replayed<L: Ledger>(alloc: Global, blank: Blank) -> Result<Compared, NoMemory>
+    requires name { blank.name ≡ L.name }
+    requires parts { blank.parts ≡ L.parts }
+    requires one { L.parts ≡ 1 }
+{
+    let mut steps = Steps::<L>::new(blank);
+    let mut plain = Plain::new(alloc);
+    let mut drawn = Draw { state: 1 };
+    let mut analyser = Analyser::new(alloc);
+    let mut compared = Compared {
+        same: 0,
+        valid: 0,
+        unknown: 0,
+        invalid: 0,
+    };
+    for _ in 0..EVENTS {
+        let event = next_event(&mut drawn, &mut plain)?;
+        analyser = analyser.step(event, &mut steps)?;
+        if compare(&analyser, &plain, &mut compared, &mut steps)? {
+            compared.same = compared.same.saturating_add(1);
+        }
+    }
+    Ok(compared)
+}
+
+// Replays them with a counter that is made here.
+fn replayed_once(alloc: Global) -> Result<Compared, NoMemory> {
+    replayed::<Brand>(alloc, Blank::new(1))
+}
+
+#[test]
+fn judged_from_scratch(rt: HostRuntime) -> Result<(), NoMemory> {
+    let compared = replayed_once(rt.alloc())?;
+    assert_eq!(rt; compared.same, EVENTS);
+    assert!(rt; compared.valid > 1_000);
+    assert!(rt; compared.unknown > 1_000);
+    assert!(rt; compared.invalid > 1_000);
+    Ok(())
+}
