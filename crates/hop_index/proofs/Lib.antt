@@ -1,4 +1,7 @@
+pub mod CaseLemmas
 pub mod HopLemmas
 pub mod IndexLemmas
-pub mod LegLemmas
+pub mod KeptLemmas
+pub mod NumberLemmas
+pub mod PairLemmas
 pub mod ThroughLemmas

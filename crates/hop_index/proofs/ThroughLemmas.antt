@@ -1,66 +1,132 @@
 -- What is given of one AS: what it has, in rising order.
-use Rattle.std.proofs.Common.{◌≡◌, ℕ, nat_eq, Bool, true, ◌||◌, ◌&&◌, List, [], ◌∷◌, None, Some, refl, ap, sym, ◌∙◌, true≢false, inl, inr}
-use Rattle.std.specs.Prelude.{map}
-use Rattle.std.specs.declared.cmp.Ordering.TheVariants.{Less}
+use Rattle.std.proofs.Common.{◌≡◌, ℕ, nat_eq, Bool, true, false, ◌||◌, ◌&&◌, List, [], ◌∷◌, ◌++◌, None, Some, refl, ap, sym, ◌∙◌, true≢false, inl, inr}
+use Rattle.std.specs.declared.cmp.Ordering.{Ordering}
+use Rattle.std.specs.declared.cmp.Ordering.TheVariants.{Less, Equal}
 use Rattle.std.specs.declared.option.Option.{Option}
-use Rattle.std.specs.Cmp.{nat_eq_equiv}
+use Rattle.std.specs.Cmp.{nat_eq_equiv, nat_cmp_is}
 use Rattle.std.specs.List.{list_any, AllByRecursion}
 use Rattle.std.specs.List.Sorted.{IsStrictlySortedBy}
+use Rattle.std.specs.Ordering.{nat_cmp, ordering_then}
 use Rattle.std.proofs.lemmas.Bool.{and_parts, and_from, or_cases, or_left, or_right}
+use Rattle.std.proofs.lemmas.List.Folds.{list_any-append}
 use Rattle.std.proofs.lemmas.Map.Views.{exact_unsigned_eq}
-use Rattle.hop_index.specs.declared.leg.Leg.{Leg}
-use Rattle.hop_index.specs.Index.{found_has}
-use Rattle.hop_index.specs.Legs.{is_leg, has_leg}
-use Rattle.hop_index.specs.Steps.{leg_cmp}
-use Rattle.hop_index.specs.Through.{end_cmp, has_end, ends_of}
+use Rattle.hop_index.specs.Index.{Entries, at, has}
+use Rattle.hop_index.specs.Kept.{Ends, are_beside, is_there, AreJoined, AreRising}
+use Rattle.hop_index.specs.Numbers.{has_number, numbers_or, found_has}
+use Rattle.hop_index.specs.Pairs.{pair_of}
+use Rattle.hop_index.specs.Through.{end_cmp, has_end, ends_at, ends_of}
 
--- what is given is what is there,
-pub ends_have : (y n : ℕ) (legs : List Leg) → has_end (map {B = ℕ × ℕ} (λ leg. (leg.to, leg.case)) legs) y n ≡ has_leg legs y n
-ends_have y n [] = refl
-ends_have y n (leg ∷ legs) = ap (λ (b : Bool). is_leg y n leg || b) (ends_have y n legs)
+-- ---- what is given is what is there
+either : (a b c : Bool) → ((a && b) || (a && c)) ≡ (a && (b || c))
+either true b c = refl
+either false b c = refl
 
--- and it rises
-ends_below : (leg : Leg) (legs : List Leg) → AllByRecursion (λ other. leg_cmp leg other ≡ Less) legs
-    → AllByRecursion (λ end. end_cmp (leg.to, leg.case) end ≡ Less) (map {B = ℕ × ℕ} (λ leg. (leg.to, leg.case)) legs)
-ends_below leg [] below = tt
-ends_below leg (other ∷ legs) below = (below.0, ends_below leg legs below.1)
+and_none : (b : Bool) → false ≡ (b && false)
+and_none true = refl
+and_none false = refl
 
-pub ends_rise : (legs : List Leg) → IsStrictlySortedBy leg_cmp legs → IsStrictlySortedBy end_cmp (map {B = ℕ × ℕ} (λ leg. (leg.to, leg.case)) legs)
+absorbed : (a b : Bool) → (b || (a && b)) ≡ b
+absorbed a true = refl
+absorbed true false = refl
+absorbed false false = refl
+
+end_at : (y n z : ℕ) (cases : List ℕ) → has_end (ends_at z cases) y n ≡ (nat_eq y z && has_number cases n)
+end_at y n z [] = and_none (nat_eq y z)
+end_at y n z (m ∷ ms) = ap (λ (b : Bool). (nat_eq y z && nat_eq n m) || b) (end_at y n z ms) ∙ either (nat_eq y z) (nat_eq n m) (has_number ms n)
+
+end_among : (y n : ℕ) (es fs : List (ℕ × ℕ)) → has_end (es ++ fs) y n ≡ (has_end es y n || has_end fs y n)
+end_among y n es fs = list_any-append (λ end. nat_eq y end.0 && nat_eq n end.1) es fs
+
+module _ (index : Entries) (x : ℕ) where
+  here_or_later : (y n z : ℕ) (later b : Bool) → nat_eq y z ≡ b → ((b && found_has (at index (pair_of x z)) n) || (later && has index x y n)) ≡ ((b || later) && has index x y n)
+  here_or_later y n z later true is =
+      let same : found_has (at index (pair_of x z)) n ≡ has index x y n = ap (λ (a : ℕ). has index x a n) (sym (exact_unsigned_eq y z is)) in
+      ap (λ (b : Bool). b || (later && has index x y n)) same ∙ absorbed later (has index x y n)
+  here_or_later y n z later false is = refl
+
+  pub ends_have : (y n : ℕ) (ys : List ℕ) → has_end (ends_of index x ys) y n ≡ (has_number ys y && has index x y n)
+  ends_have y n [] = refl
+  ends_have y n (z ∷ zs) =
+      end_among y n (ends_at z (numbers_or (at index (pair_of x z)))) (ends_of index x zs)
+      ∙ ap (λ (b : Bool). b || has_end (ends_of index x zs) y n) (end_at y n z (numbers_or (at index (pair_of x z))))
+      ∙ ap (λ (b : Bool). (nat_eq y z && found_has (at index (pair_of x z)) n) || b) (ends_have y n zs)
+      ∙ here_or_later y n z (has_number zs y) (nat_eq y z) refl
+
+found_there : (o : Option (List ℕ)) (n : ℕ) → (is_there o && found_has o n) ≡ found_has o n
+found_there None n = refl
+found_there (Some cases) n = refl
+
+pub ends_exact : (ends : Ends) (index : Entries) (x : ℕ) (ys : List ℕ) → AreJoined ends index → ((y : ℕ) → has_number ys y ≡ are_beside ends x y)
+    → (y n : ℕ) → has_end (ends_of index x ys) y n ≡ has index x y n
+ends_exact ends index x ys joined whole y n = ends_have index x y n ys
+    ∙ ap (λ (b : Bool). b && has index x y n) (whole y ∙ joined x y)
+    ∙ found_there (at index (pair_of x y)) n
+
+-- ---- and it rises
+abbrev IsBelow : ℕ × ℕ → List (ℕ × ℕ) → Type 0
+IsBelow end ends = AllByRecursion (λ other. end_cmp end other ≡ Less) ends
+
+below_both : (end : ℕ × ℕ) (es fs : List (ℕ × ℕ)) → IsBelow end es → IsBelow end fs → IsBelow end (es ++ fs)
+below_both end [] fs below rest = rest
+below_both end (e ∷ es) fs below rest = (below.0, below_both end es fs below.1 rest)
+
+below_other : (y n z : ℕ) (cases : List ℕ) → nat_cmp y z ≡ Less → IsBelow (y, n) (ends_at z cases)
+below_other y n z [] less = tt
+below_other y n z (m ∷ ms) less = (ap (λ (o : Ordering). ordering_then o (nat_cmp n m)) less, below_other y n z ms less)
+
+below_same : (y n : ℕ) (cases : List ℕ) → AllByRecursion (λ m. nat_cmp n m ≡ Less) cases → IsBelow (y, n) (ends_at y cases)
+below_same y n [] below = tt
+below_same y n (m ∷ ms) below = (ap (λ (o : Ordering). ordering_then o (nat_cmp n m)) (sym (nat_cmp_is y y Equal refl)) ∙ below.0, below_same y n ms below.1)
+
+one_rises : (y : ℕ) (cases : List ℕ) (rest : List (ℕ × ℕ)) → IsStrictlySortedBy nat_cmp cases → ((n : ℕ) → IsBelow (y, n) rest) → IsStrictlySortedBy end_cmp rest
+    → IsStrictlySortedBy end_cmp (ends_at y cases ++ rest)
 unfolding IsStrictlySortedBy
-ends_rise [] sorted = tt
-ends_rise (leg ∷ legs) sorted = (ends_below leg legs sorted.0, ends_rise legs sorted.1)
+one_rises y [] rest sorted below rises = rises
+one_rises y (n ∷ ns) rest sorted below rises = (below_both (y, n) (ends_at y ns) rest (below_same y n ns sorted.0) (below n), one_rises y ns rest sorted.1 below rises)
 
-pub no_ends_rise : IsStrictlySortedBy end_cmp []
-unfolding IsStrictlySortedBy
-no_ends_rise = tt
+module _ (index : Entries) (x : ℕ) where
+  below_others : (y n : ℕ) (zs : List ℕ) → AllByRecursion (λ z. nat_cmp y z ≡ Less) zs → IsBelow (y, n) (ends_of index x zs)
+  below_others y n [] below = tt
+  below_others y n (z ∷ zs) below =
+      below_both (y, n) (ends_at z (numbers_or (at index (pair_of x z)))) (ends_of index x zs)
+      (below_other y n z (numbers_or (at index (pair_of x z))) below.0) (below_others y n zs below.1)
 
--- with an AS of which p is so, as a test of what is given
-abbrev reaches : (p : ℕ → Bool) → ℕ → List (ℕ × ℕ) → Bool
-reaches p n ends = list_any (λ end. p end.0 && nat_eq n end.1) ends
+  pub ends_rise : (ys : List ℕ) → AreRising index → IsStrictlySortedBy nat_cmp ys → IsStrictlySortedBy end_cmp (ends_of index x ys)
+  unfolding IsStrictlySortedBy
+  ends_rise [] rising sorted = tt
+  ends_rise (y ∷ ys) rising sorted =
+      one_rises y (numbers_or (at index (pair_of x y))) (ends_of index x ys) (rising (pair_of x y)) (λ n. below_others y n ys sorted.0) (ends_rise ys rising sorted.1)
 
-reached : (p : ℕ → Bool) (n : ℕ) (legs : List Leg) → reaches p n (ends_of (Some legs)) ≡ true → (y : ℕ) × (has_leg legs y n ≡ true) × (p y ≡ true)
-reached p n [] h = absurd (true≢false (sym h))
-reached p n (leg ∷ legs) h =
-    elim (or_cases (p leg.to && nat_eq n leg.case) (reaches p n (ends_of (Some legs))) h) [
-      | inl here ↦
-          let parts = and_parts (p leg.to) (nat_eq n leg.case) here in
-          (leg.to, or_left (is_leg leg.to n leg) (has_leg legs leg.to n) (and_from (nat_eq leg.to leg.to) (nat_eq n leg.case) (nat_eq_equiv.refl leg.to) parts.1), parts.0)
-      | inr later ↦ let r = reached p n legs later in (r.0, or_right (is_leg r.0 n leg) (has_leg legs r.0 n) r.1, r.2)
-    ]
+-- ---- with an AS of which p is so, as a test of what is given
+module _ (p : ℕ → Bool) (n : ℕ) where
+  abbrev reaches : List (ℕ × ℕ) → Bool
+  reaches ends = list_any (λ end. p end.0 && nat_eq n end.1) ends
 
-reaching : (p : ℕ → Bool) (n y : ℕ) (legs : List Leg) → has_leg legs y n ≡ true → p y ≡ true → reaches p n (ends_of (Some legs)) ≡ true
-reaching p n y [] h passes = absurd (true≢false (sym h))
-reaching p n y (leg ∷ legs) h passes =
-    elim (or_cases (is_leg y n leg) (has_leg legs y n) h) [
-      | inl here ↦
-          let parts = and_parts (nat_eq y leg.to) (nat_eq n leg.case) here in
-          or_left (p leg.to && nat_eq n leg.case) (reaches p n (ends_of (Some legs)))
-          (and_from (p leg.to) (nat_eq n leg.case) (ap p (sym (exact_unsigned_eq y leg.to parts.0)) ∙ passes) parts.1)
-      | inr later ↦ or_right (p leg.to && nat_eq n leg.case) (reaches p n (ends_of (Some legs))) (reaching p n y legs later passes)
-    ]
+  pub reached : (ends : List (ℕ × ℕ)) → reaches ends ≡ true → (y : ℕ) × (has_end ends y n ≡ true) × (p y ≡ true)
+  reached [] h = absurd (true≢false (sym h))
+  reached (e ∷ es) h =
+      elim (or_cases (p e.0 && nat_eq n e.1) (reaches es) h) [
+        | inl here ↦
+            let parts = and_parts (p e.0) (nat_eq n e.1) here in
+            (e.0, or_left (nat_eq e.0 e.0 && nat_eq n e.1) (has_end es e.0 n) (and_from (nat_eq e.0 e.0) (nat_eq n e.1) (nat_eq_equiv.refl e.0) parts.1), parts.0)
+        | inr later ↦ let r = reached es later in (r.0, or_right (nat_eq r.0 e.0 && nat_eq n e.1) (has_end es r.0 n) r.1, r.2)
+      ]
+
+  pub reaching : (y : ℕ) (ends : List (ℕ × ℕ)) → has_end ends y n ≡ true → p y ≡ true → reaches ends ≡ true
+  reaching y [] h passes = absurd (true≢false (sym h))
+  reaching y (e ∷ es) h passes =
+      elim (or_cases (nat_eq y e.0 && nat_eq n e.1) (has_end es y n) h) [
+        | inl here ↦
+            let parts = and_parts (nat_eq y e.0) (nat_eq n e.1) here in
+            or_left (p e.0 && nat_eq n e.1) (reaches es) (and_from (p e.0) (nat_eq n e.1) (ap p (sym (exact_unsigned_eq y e.0 parts.0)) ∙ passes) parts.1)
+        | inr later ↦ or_right (p e.0 && nat_eq n e.1) (reaches es) (reaching y es later passes)
+      ]
 
 -- a case is reached exactly where it has such a hop
-pub ends_reach : (o : Option (List Leg)) (n : ℕ) (p : ℕ → Bool) → (list_any (λ end. p end.0 && nat_eq n end.1) (ends_of o) ≡ true → (y : ℕ) × (found_has o y n ≡ true) × (p y ≡ true))
-    × ((y : ℕ) × (found_has o y n ≡ true) × (p y ≡ true) → list_any (λ end. p end.0 && nat_eq n end.1) (ends_of o) ≡ true)
-ends_reach None n p = (λ h. absurd (true≢false (sym h)), λ h. absurd (true≢false (sym h.1)))
-ends_reach (Some legs) n p = (reached p n legs, λ h. reaching p n h.0 legs h.1 h.2)
+pub ends_reach : (index : Entries) (x n : ℕ) (p : ℕ → Bool) (ends : List (ℕ × ℕ)) → ((y : ℕ) → has_end ends y n ≡ has index x y n)
+    → (list_any (λ end. p end.0 && nat_eq n end.1) ends ≡ true → (y : ℕ) × (has index x y n ≡ true) × (p y ≡ true))
+    × ((y : ℕ) × (has index x y n ≡ true) × (p y ≡ true) → list_any (λ end. p end.0 && nat_eq n end.1) ends ≡ true)
+ends_reach index x n p ends exact = (
+  λ h. let r = reached p n ends h in (r.0, sym (exact r.0) ∙ r.1, r.2),
+  λ h. reaching p n h.0 ends (exact h.0 ∙ h.1) h.2,
+)

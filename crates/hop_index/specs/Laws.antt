@@ -2,8 +2,8 @@
 use Rattle.std.specs.Prelude.{◌≡◌, ◌↔◌, ℕ, nat_eq, Bool, true, ◌&&◌, List}
 use Rattle.std.specs.List.{list_any}
 use Rattle.hop_index.specs.Hops.{AreNeighbours, has_hop}
-use Rattle.hop_index.specs.Index.{Entries, found, has, HasNoneOf, Adds, Removes}
-use Rattle.hop_index.specs.Through.{ends_of}
+use Rattle.hop_index.specs.Index.{Entries, has, HasNoneOf, Adds, Removes}
+use Rattle.hop_index.specs.Through.{has_end}
 
 -- the test tells where two ASes stand beside each other
 abbrev pub HopsJoinNeighbours : Type 0
@@ -16,9 +16,11 @@ RemovalUndoesAddition =
     → Adds before case chain more → Removes more case chain after
     → (x y n : ℕ) → has after x y n ≡ has before x y n
 
--- a case is among what is given of x with an AS of which p is so exactly where it has a hop between x and such an AS
+-- where these are exactly the other ends and cases of x's hops, a case is among them with an AS of which p is so exactly where it has a hop
+-- between x and such an AS
 abbrev pub EndsReachCases : Type 0
 EndsReachCases =
-    (index : Entries) (x n : ℕ) (p : ℕ → Bool)
-    → (list_any (λ end. p end.0 && nat_eq n end.1) (ends_of (found index x)) ≡ true)
+    (index : Entries) (x n : ℕ) (p : ℕ → Bool) (ends : List (ℕ × ℕ))
+    → ((y : ℕ) → has_end ends y n ≡ has index x y n)
+    → (list_any (λ end. p end.0 && nat_eq n end.1) ends ≡ true)
     ↔ ((y : ℕ) × (has index x y n ≡ true) × (p y ≡ true))

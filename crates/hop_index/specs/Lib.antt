@@ -1,6 +1,7 @@
 pub mod Hops
 pub mod Index
+pub mod Kept
 pub mod Laws
-pub mod Legs
-pub mod Steps
+pub mod Numbers
+pub mod Pairs
 pub mod Through

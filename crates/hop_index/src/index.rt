@@ -1,37 +1,41 @@
 //! Hops by their ASes.
-ghost use Rattle.std.specs.Prelude.{◌≡◌, ◌≢◌, ◌↔◌, ℕ, [], Some, OnOk, IfOk, IsTrue};
+ghost use Rattle.std.specs.Prelude.{◌≡◌, ℕ, OnOk, IfOk};
 ghost use Rattle.std.specs.List.Sorted.{IsStrictlySortedBy};
-ghost use Rattle.hop_index.specs.Index.{found, has, HasNothing, HaveHops, Adds, Removes};
-ghost use Rattle.hop_index.specs.Steps.{AddsHop, RemovesHop};
-ghost use Rattle.hop_index.specs.Through.{end_cmp, has_end, ends_of, ends_left};
+ghost use Rattle.hop_index.specs.Index.{has, HasNothing, Adds, Removes};
+ghost use Rattle.hop_index.specs.Kept.{AddsHop, RemovesHop, AreKept};
+ghost use Rattle.hop_index.specs.Through.{end_cmp, has_end, ends_left};
 
-use crate::leg::Leg;
-use crate::legs::Legs;
+use crate::numbers::Numbers;
+use crate::pair::Pair;
 use crate::through::Through;
+use crate::{cases_of_hops, neighbours};
 use av_base::NoMemory;
 use path_model::AsList;
 use std::alloc::Global;
 use std::collections::BTreeMap;
 use std::marker::Model;
 
-/// Which cases have a hop between two ASes. Each hop of a case is held twice, once from each of its two ASes, and takes 32 bytes and its
-/// share of tree nodes: 35 to 85 bytes in all. An AS with at most 15 hops has one node of 248 bytes for them, whatever their number.
-/// Beside its hops an AS takes 30 to 75 bytes, and none once its last hop is removed.
+/// Which cases have a hop between two ASes, of cases under numbers below 2^32. Each hop of a case is held once, under its two ASes, and takes
+/// 4 to 9 bytes with its share of tree nodes. The first case of a hop takes 105 to 165: an entry of the two ASes, a node for their cases,
+/// and each of the two among the neighbours of the other. The first hop of an AS takes 95 to 140 more. What no case needs is given back.
 #[derive(Drop)]
 pub struct HopIndex {
     alloc: Global,
-    // an AS without hops has no entry, as the invariant says
-    hops: BTreeMap<u32, Legs>,
+    // the neighbours of each AS, as the hops have them: an AS without hops has no entry
+    ends: BTreeMap<u32, Numbers>,
+    // the cases of each hop, of which there is one at least
+    hops: BTreeMap<Pair, Numbers>,
 }
 
 impl Model for HopIndex {
-    ghost use Rattle.hop_index.specs.Index.{Entries, HaveHops};
+    ghost use Rattle.hop_index.specs.Index.{Entries};
+    ghost use Rattle.hop_index.specs.Kept.{AreKept};
 
     ghost Value = { Entries };
 
     ghost view = { λ a. a.hops.entries };
 
-    ghost invariant = { λ a. HaveHops a.hops.entries };
+    ghost invariant = { λ a. AreKept a.ends.entries a.hops.entries };
 }
 
 impl HopIndex {
@@ -41,98 +45,101 @@ impl HopIndex {
     {
         HopIndex {
             alloc,
+            ends: BTreeMap::new(alloc),
             hops: BTreeMap::new(alloc),
         }
     }
 
     /// The index with the hops of a case more: those between each two neighbours of its chain, in both orders. What it had before of this
-    /// case stays.
+    /// case stays. For a number of 2^32 or above there is no memory. Each hop takes one look-up, and three to five more where it is new.
     pub fn add(self, case: usize, chain: &AsList) -> Result<HopIndex, NoMemory>
         ensures { IfOk result (λ index. Adds self case chain.now index) }
     {
-        let HopIndex { alloc, mut hops } = self;
+        let HopIndex {
+            alloc,
+            mut ends,
+            mut hops,
+        } = self;
+        let Ok(number) = u32::try_from(case) else {
+            return Err(NoMemory);
+        };
         let chain = chain.as_slice();
         for k in 1..chain.len() {
-            let lower = chain[k - 1];
-            let upper = chain[k];
-            insert(&mut hops, alloc, lower, Leg { to: upper, case })?;
-            insert(&mut hops, alloc, upper, Leg { to: lower, case })?;
+            insert(&mut ends, &mut hops, alloc, chain[k - 1], chain[k], number)?;
         }
-        Ok(HopIndex { alloc, hops })
+        Ok(HopIndex { alloc, ends, hops })
     }
 
     /// The index without the hops of a case between each two neighbours of a chain, in either order. Hops that weren't there, and those
-    /// of other cases, make no difference. It takes no memory.
+    /// of other cases, make no difference. It takes no memory. Each hop takes one look-up, and up to five more with its last case.
     pub fn remove(self, case: usize, chain: &AsList) -> HopIndex
         ensures { Removes self case chain.now result }
     {
-        let HopIndex { alloc, mut hops } = self;
+        let HopIndex {
+            alloc,
+            mut ends,
+            mut hops,
+        } = self;
+        let Ok(number) = u32::try_from(case) else {
+            return HopIndex { alloc, ends, hops };
+        };
         let chain = chain.as_slice();
         for k in 1..chain.len() {
-            let lower = chain[k - 1];
-            let upper = chain[k];
-            remove(&mut hops, lower, Leg { to: upper, case });
-            remove(&mut hops, upper, Leg { to: lower, case });
+            remove(&mut ends, &mut hops, chain[k - 1], chain[k], number);
         }
-        HopIndex { alloc, hops }
+        HopIndex { alloc, ends, hops }
     }
 
     /// Each y and case with a hop between `x` and y, in either direction: by rising y and then by rising case, each pair once. It takes
-    /// no memory, and the time of one look-up and of what it gives.
+    /// no memory, and the time of a look-up, of another one for each y, and of what it gives.
     pub fn through(&self, x: u32) -> Through<'_>
-        ensures ends { ends_left result ≡ ends_of (found self.now x) }
         ensures exact { (y n : ℕ) → has_end (ends_left result) y n ≡ has self.now x y n }
         ensures rising { IsStrictlySortedBy end_cmp (ends_left result) }
     {
-        match self.hops.get(&x) {
-            None => Through { rest: None },
-            Some(legs) => Through {
-                rest: Some(legs.iter()),
-            },
+        Through {
+            hops: &self.hops,
+            x,
+            neighbours: neighbours::of(&self.ends, x),
+            y: 0,
+            cases: None,
         }
     }
 }
 
-// Adds a hop from one AS, where it isn't there yet.
+// One case more of the hop between two ASes. Where the hop is new, each of them is a neighbour of the other from now on.
 fn insert(
-    hops: &mut BTreeMap<u32, Legs>,
+    ends: &mut BTreeMap<u32, Numbers>,
+    hops: &mut BTreeMap<Pair, Numbers>,
     alloc: Global,
-    from: u32,
-    leg: Leg,
+    x: u32,
+    y: u32,
+    case: u32,
 ) -> Result<(), NoMemory>
-    ensures added { OnOk result (AddsHop hops.old.entries from leg hops.new.entries) }
-    ensures kept { OnOk result (HaveHops hops.old.entries → HaveHops hops.new.entries) }
+    ensures added { OnOk result (AddsHop hops.old.entries x y case hops.new.entries) }
+    ensures kept { OnOk result (AreKept ends.old.entries hops.old.entries
+        → AreKept ends.new.entries hops.new.entries) }
 {
-    if let Some(legs) = hops.get_mut(&from) {
-        return legs.insert(leg);
+    if cases_of_hops::insert(hops, alloc, Pair::of(x, y), case)? {
+        neighbours::insert(ends, alloc, x, y)?;
+        neighbours::insert(ends, alloc, y, x)?;
     }
-    let mut legs = Legs::new(alloc);
-    legs.insert(leg)?;
-    hops.insert(from, legs)?;
     Ok(())
 }
 
-// Takes a hop from one AS out, where it is there.
-fn remove(hops: &mut BTreeMap<u32, Legs>, from: u32, leg: Leg)
-    ensures removed { RemovesHop hops.old.entries from leg hops.new.entries }
-    ensures kept { HaveHops hops.old.entries → HaveHops hops.new.entries }
+// One case less of the hop between two ASes. Where it was the last one, neither of them is a neighbour of the other from now on.
+fn remove(
+    ends: &mut BTreeMap<u32, Numbers>,
+    hops: &mut BTreeMap<Pair, Numbers>,
+    x: u32,
+    y: u32,
+    case: u32,
+)
+    ensures removed { RemovesHop hops.old.entries x y case hops.new.entries }
+    ensures kept { AreKept ends.old.entries hops.old.entries
+        → AreKept ends.new.entries hops.new.entries }
 {
-    if take_out(hops, from, leg) {
-        hops.remove(&from);
-    }
-}
-
-// Takes a hop from one AS out, where it is there, and answers whether the AS stands there without hops.
-fn take_out(hops: &mut BTreeMap<u32, Legs>, from: u32, leg: Leg) -> bool
-    ensures removed { RemovesHop hops.old.entries from leg hops.new.entries }
-    ensures emptied { IsTrue result ↔ (found hops.new.entries from ≡ Some []) }
-    ensures others { (x : ℕ) → x ≢ from → found hops.new.entries x ≡ found hops.old.entries x }
-{
-    match hops.get_mut(&from) {
-        None => false,
-        Some(legs) => {
-            legs.remove(leg);
-            legs.is_empty()
-        }
+    if cases_of_hops::remove(hops, Pair::of(x, y), case) {
+        neighbours::remove(ends, x, y);
+        neighbours::remove(ends, y, x);
     }
 }

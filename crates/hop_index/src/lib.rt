@@ -2,14 +2,17 @@
 //!
 //! The layer above uses one contract: **[`HopIndex::through`] gives exactly the cases that were added and not removed with a hop between
 //! x and some y, by rising y and then by rising case.** `specs/Hops.antt` says what the hops of a chain are, and `specs/Index.antt` what
-//! it is that an index has a hop: begin there. Each hop is held in both orders, since what a change of x does to a hop doesn't depend on
-//! which of its two ASes is nearer to the origin.
+//! it is that an index has a hop: begin there. A hop is the same from either of its two ASes, since what a change of x does to a hop
+//! doesn't depend on which of the two is nearer to the origin: the cases of a hop are held once, under both, and beside them the neighbours
+//! of each AS.
 #![tactic(auto)]
 
+mod cases_of_hops;
 mod index;
 mod laws;
-mod leg;
-mod legs;
+mod neighbours;
+mod numbers;
+mod pair;
 mod through;
 
 pub use index::HopIndex;

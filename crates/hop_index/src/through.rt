@@ -2,14 +2,21 @@
 ghost use Rattle.std.specs.Iterator.{YieldsFirstBy, item_count};
 ghost use Rattle.hop_index.specs.Through.{ends_left};
 
-use crate::leg::Leg;
-use std::collections::btree_set;
+use crate::cases_of_hops;
+use crate::numbers::Numbers;
+use crate::pair::Pair;
+use std::collections::{BTreeMap, btree_set};
 
 /// The other ends of one AS's hops: each AS with a case that has a hop to it, by rising AS and then by rising case.
 #[derive(Drop)]
 pub struct Through<'a> {
-    // none where no case has a hop of the AS
-    pub(crate) rest: Option<btree_set::Iter<'a, Leg>>,
+    pub(crate) hops: &'a BTreeMap<Pair, Numbers>,
+    pub(crate) x: u32,
+    // the neighbours of x whose cases are still to come; none where no case has a hop of x
+    pub(crate) neighbours: Option<btree_set::Iter<'a, u32>>,
+    // the neighbour that is gone through, if one is, and what is left of its cases
+    pub(crate) y: u32,
+    pub(crate) cases: Option<btree_set::Iter<'a, u32>>,
 }
 
 impl<'a> Iterator for Through<'a> {
@@ -20,12 +27,22 @@ impl<'a> Iterator for Through<'a> {
     ghost remaining = { item_count ends_left };
 
     fn next(&mut self) -> Option<(u32, usize)> {
-        match &mut self.rest {
-            None => None,
-            Some(rest) => match rest.next() {
-                None => None,
-                Some(leg) => Some((leg.to, leg.case)),
-            },
+        loop {
+            if let Some(cases) = &mut self.cases {
+                if let Some(case) = cases.next() {
+                    return Some((self.y, *case as usize));
+                }
+            }
+            let Some(neighbours) = &mut self.neighbours else {
+                return None;
+            };
+            match neighbours.next() {
+                None => return None,
+                Some(y) => {
+                    self.y = *y;
+                    self.cases = cases_of_hops::of(self.hops, Pair::of(self.x, *y));
+                }
+            }
         }
     }
 }

@@ -26,7 +26,7 @@ use Rattle.rib_store.specs.declared.merged.Row.{Row}
 use Rattle.rib_store.specs.Cased.{Numbered, path_or, routes_by, marked_by, AreStored}
 use Rattle.rib_store.specs.Changes.{AreChanges}
 use Rattle.rib_store.specs.ChangesLeft.{case_of, case_or, change_of, change_at, change_between, changes_in, present_verdict}
-use Rattle.rib_store.specs.Held.{Held, RoutesAndMarks, held_in, paths_in, marks_in}
+use Rattle.rib_store.specs.Held.{Held, paths_in, marks_in}
 use Rattle.rib_store.specs.Held as held
 use Rattle.rib_store.specs.Merge.{Noted, merge, merge_one, noted_row, route_row, both_row, noted_or, marked_of, held_of}
 use Rattle.rib_store.proofs.CasedLemmas.{get_through}

@@ -1,5 +1,5 @@
 -- What is judged anew, and that it is enough.
-use Rattle.std.proofs.Common.{◌≡◌, ◌≢◌, ℕ, ◌≤◌, Bool, true, false, List, length, refl, ap, sym, subst, ◌∙◌, ◌⊎◌, inl, inr}
+use Rattle.std.proofs.Common.{◌≡◌, ◌≢◌, ◌↔◌, ℕ, ◌≤◌, Bool, true, false, List, length, refl, ap, sym, subst, ◌∙◌, ◌⊎◌, inl, inr, true≢false}
 use Rattle.std.specs.declared.option.Option.{Option}
 use Rattle.std.specs.List.Sorted.{IsStrictlySortedBy}
 use Rattle.std.specs.Ordering.{nat_cmp}
@@ -16,7 +16,7 @@ use Rattle.shared_cases.specs.Kept.{AreIndexed}
 use Rattle.shared_cases.specs.Numbers.{has}
 use Rattle.shared_cases.specs.Peers.{Members, is_member, HasMovedMember, IsMovedMember}
 use Rattle.shared_cases.specs.Touched.{AreWithinTouched, IsRoleMove}
-use Rattle.shared_cases.specs.Touching.{is_touched_by}
+use Rattle.shared_cases.specs.Touching.{IsTouchedBy}
 use Rattle.shared_cases.proofs.CaseLemmas.{Names, decide_eq, some_inj}
 use Rattle.shared_cases.proofs.MoveLemmas.{still_judged, moves_touch}
 use Rattle.shared_cases.proofs.RoleLemmas.{same_role_judged, other_role_touches}
@@ -35,15 +35,15 @@ followed_by old new before after n false judged others keeps right = subst (λ (
 
 module _ (cases after : Slots) (names : Names) (index : Entries) (peers : Members) (kept : AreIndexed cases names index peers) (touched : List ℕ) where
   -- ---- another table
-  module _ (old new : Table) (roles : Relations) (moves : List RowMove) (are : AreMoves old new moves) (found : (n : ℕ) → has touched n ≡ is_touched_by index moves n) where
+  module _ (old new : Table) (roles : Relations) (moves : List RowMove) (are : AreMoves old new moves) (found : (n : ℕ) → (has touched n ≡ true) ↔ IsTouchedBy index moves n) where
     pub table_followed : ((n : ℕ) → has touched n ≡ true → IsJudged (by_table new roles) (at after n)) → ((n : ℕ) → has touched n ≡ false → at after n ≡ at cases n)
         → (n : ℕ) → IsJudged (by_table old roles) (at cases n) → IsJudged (by_table new roles) (at after n)
     table_followed judged others n right = followed_by (by_table old roles) (by_table new roles) cases after n (has touched n) (judged n) (others n)
-        (λ absent was. still_judged old new index roles moves are n (at cases n) (λ x y. kept.indexed x y n) (sym (found n) ∙ absent) was) right
+        (λ absent was. still_judged old new index roles moves are n (at cases n) (λ x y. kept.indexed x y n) (λ t. true≢false (sym ((found n).1 t) ∙ absent)) was) right
 
     pub table_touches : (ticks : ℕ) → IsStrictlySortedBy nat_cmp touched → ticks ≤ length touched → AreWithinTouched (by_table old roles) (by_table new roles) cases ticks
     table_touches ticks rising few = within_touched (by_table old roles) (by_table new roles) cases (distinct_from cases names index peers kept) touched ticks rising
-        (λ n there. moves_touch old new index roles moves are n (at cases n) (λ x y. kept.indexed x y n) (sym (found n) ∙ there)) few
+        (λ n there. moves_touch old new index roles moves are n (at cases n) (λ x y. kept.indexed x y n) ((found n).0 there)) few
 
   -- ---- other roles
   module _ (table : Table) (old new : Relations) (others : (asn n : ℕ) → is_member peers asn n ≡ true → has touched n ≡ false → role_of old asn ≡ role_of new asn)

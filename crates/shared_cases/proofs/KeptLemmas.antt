@@ -1,9 +1,9 @@
 -- What is kept of the cases when one of them changes.
-use Rattle.std.proofs.Common.{◌≡◌, ◌≢◌, ℕ, Bool, true, false, List, ◌∷◌, None, Some, refl, ap, sym, subst, ◌∙◌, ◌⊎◌, inl, inr, true≢false, ◌||◌}
+use Rattle.std.proofs.Common.{◌≡◌, ◌≢◌, ℕ, Bool, true, false, List, ◌∷◌, None, Some, refl, ap, sym, subst, ◌∙◌, ◌⊎◌, inl, inr, true≢false}
 use Rattle.std.specs.declared.option.Option.{Option}
 use Rattle.std.specs.BTreeSet.{contains}
 use Rattle.std.specs.Ordering.{nat_cmp}
-use Rattle.std.proofs.lemmas.Bool.{false_from_ne_true, or_parts}
+use Rattle.std.proofs.lemmas.Bool.{false_from_ne_true}
 use Rattle.path_model.specs.declared.verdict.Verdict.{Verdict}
 use Rattle.path_model.specs.Trail.{Path}
 use Rattle.ramps.specs.Judgement.{Judgement}
@@ -16,7 +16,7 @@ use Rattle.shared_cases.specs.Noting.{IsNoted}
 use Rattle.shared_cases.specs.Numbers.{has}
 use Rattle.shared_cases.specs.Peers.{Members}
 use Rattle.shared_cases.specs.Taking.{lowered, new_case, raised}
-use Rattle.shared_cases.proofs.CaseLemmas.{IsSameName, Names, decide_eq, rewritten, same_names, same_peer}
+use Rattle.shared_cases.proofs.CaseLemmas.{IsSameName, Names, decide_eq, rewritten, same_names}
 use Rattle.shared_cases.proofs.NumberLemmas.{has_cases, has_first, has_later}
 
 -- what holds of each number

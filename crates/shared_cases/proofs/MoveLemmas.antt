@@ -1,8 +1,8 @@
 -- What the moves of a table touch, and what they don't.
-use Rattle.std.proofs.Common.{◌≡◌, ◌≢◌, ℕ, nat_eq, ◌+◌, Bool, true, false, not, List, [], ◌∷◌, None, Some, refl, ap, sym, subst, ◌∙◌, inl, inr, true≢false}
+use Rattle.std.proofs.Common.{◌≡◌, ◌≢◌, ◌↔◌, ◌⊎◌, ℕ, nat_eq, ◌+◌, Bool, true, false, not, ◌||◌, List, [], ◌∷◌, None, Some, refl, ap, sym, subst, ◌∙◌, inl, inr, true≢false}
 use Rattle.std.specs.Prelude.{slice_index, All}
 use Rattle.std.specs.declared.option.Option.{Option}
-use Rattle.std.proofs.lemmas.Bool.{false_from_ne_true, or_cases, or_parts}
+use Rattle.std.proofs.lemmas.Bool.{false_from_ne_true, or_cases, or_left, or_right}
 use Rattle.std.proofs.lemmas.List.Elements.{All-head, All-tail}
 use Rattle.std.proofs.lemmas.Map.Views.{exact_unsigned_eq}
 use Rattle.path_model.specs.declared.authority.Authority.{Authority}
@@ -12,8 +12,9 @@ use Rattle.path_model.specs.Laws.{SameOnHops}
 use Rattle.path_model.specs.Roles.{Relations, role_of}
 use Rattle.path_model.proofs.LawLemmas.{hops_decide_witnesses}
 use Rattle.hop_index.specs.Hops.{AreNeighbours}
-use Rattle.hop_index.specs.Index.{Entries, found}
+use Rattle.hop_index.specs.Index.{Entries}
 use Rattle.hop_index.specs.Index as hops
+use Rattle.hop_index.specs.Through.{has_end}
 use Rattle.hop_index.proofs.HopLemmas.{hops_are_told}
 use Rattle.hop_index.proofs.ThroughLemmas.{ends_reach}
 use Rattle.vap_table.specs.declared.moves.RowMove.{RowMove}
@@ -21,7 +22,7 @@ use Rattle.vap_table.specs.Moves.{customers_of, IsMove, AreMoves}
 use Rattle.shared_cases.specs.declared.case.StoredCase.{StoredCase}
 use Rattle.shared_cases.specs.Cases.{hops_of}
 use Rattle.shared_cases.specs.Grounds.{by_table, IsJudged}
-use Rattle.shared_cases.specs.Touching.{same_authority, differs, is_touched, is_touched_by}
+use Rattle.shared_cases.specs.Touching.{same_authority, differs, touches, IsTouchedAt, IsTouchedBy}
 use Rattle.shared_cases.proofs.TouchLemmas.{IsTouchedNumber}
 
 same_said : (a b : Authority) → not (same_authority a b) ≡ false → a ≡ b
@@ -46,59 +47,67 @@ said_otherwise Provides Silent e = λ same. cc
 said_otherwise Provides Refuses e = λ same. cc
 said_otherwise Provides Provides e = λ same. true≢false (sym e)
 
+-- a case comes to the others exactly where the customer of the move has such a hop of it
+pub touch_told : (index : Entries) (m : RowMove) (n : ℕ) (ends : List (ℕ × ℕ)) (before now : Bool) → ((y : ℕ) → has_end ends y n ≡ hops.has index m.customer y n)
+    → now ≡ (before || touches m n ends) → (now ≡ true) ↔ ((before ≡ true) ⊎ IsTouchedAt index m n)
+touch_told index m n ends before now exact told = (
+  λ h. elim (or_cases before (touches m n ends) (sym told ∙ h)) [
+    | inl was ↦ inl was
+    | inr found ↦ inr ((ends_reach index m.customer n (differs m) ends exact).0 found)
+  ],
+  λ h. told ∙ elim h [
+    | inl was ↦ or_left before (touches m n ends) was
+    | inr touched ↦ or_right before (touches m n ends) ((ends_reach index m.customer n (differs m) ends exact).1 touched)
+  ],
+)
+
 module _ (old new : Table) (index : Entries) where
   -- a move that doesn't touch a case changes nothing at its hops
-  kept_at : (m : RowMove) (x y n : ℕ) → IsMove old new m → is_touched index m n ≡ false → hops.has index x y n ≡ true → m.customer ≡ x → authority_of old x y ≡ authority_of new x y
+  kept_at : (m : RowMove) (x y n : ℕ) → IsMove old new m → (IsTouchedAt index m n → ⊥) → hops.has index x y n ≡ true → m.customer ≡ x → authority_of old x y ≡ authority_of new x y
   kept_at m x y n move untouched hop customer =
-      let same : differs m y ≡ false = false_from_ne_true (differs m y) (λ other. true≢false (sym ((ends_reach (found index m.customer) n (differs m)).1
-      (y, subst (λ (z : ℕ). hops.has index z y n ≡ true) (sym customer) hop, other)) ∙ untouched)) in
+      let same : differs m y ≡ false = false_from_ne_true (differs m y) (λ other. untouched (y, subst (λ (z : ℕ). hops.has index z y n ≡ true) (sym customer) hop, other)) in
       ap (λ (z : ℕ). said_by (old z) y) (sym customer) ∙ ap (λ (row : Option (List ℕ)). said_by row y) (sym move.before)
       ∙ same_said (said_by m.before y) (said_by m.after y) same
       ∙ ap (λ (row : Option (List ℕ)). said_by row y) move.after ∙ ap (λ (z : ℕ). said_by (new z) y) customer
 
-  kept_by : (moves : List RowMove) (x y n : ℕ) → All (IsMove old new) moves → is_touched_by index moves n ≡ false → hops.has index x y n ≡ true → has (customers_of moves) x ≡ true
+  kept_by : (moves : List RowMove) (x y n : ℕ) → All (IsMove old new) moves → (IsTouchedBy index moves n → ⊥) → hops.has index x y n ≡ true → has (customers_of moves) x ≡ true
       → authority_of old x y ≡ authority_of new x y
   kept_by [] x y n each untouched hop named = absurd (true≢false (sym named))
   kept_by (m ∷ ms) x y n each untouched hop named =
-      let apart = or_parts (is_touched index m n) (is_touched_by index ms n) untouched in
       elim (or_cases (nat_eq m.customer x) (has (customers_of ms) x) named) [
-        | inl here ↦ kept_at m x y n (All-head (IsMove old new) m ms each) apart.0 hop (exact_unsigned_eq m.customer x here)
-        | inr later ↦ kept_by ms x y n (All-tail (IsMove old new) m ms each) apart.1 hop later
+        | inl here ↦ kept_at m x y n (All-head (IsMove old new) m ms each) (λ t. untouched (inl t)) hop (exact_unsigned_eq m.customer x here)
+        | inr later ↦ kept_by ms x y n (All-tail (IsMove old new) m ms each) (λ t. untouched (inr t)) hop later
       ]
 
-  kept_named : (moves : List RowMove) (x y n : ℕ) → AreMoves old new moves → is_touched_by index moves n ≡ false → hops.has index x y n ≡ true → (b : Bool) → has (customers_of moves) x ≡ b
+  kept_named : (moves : List RowMove) (x y n : ℕ) → AreMoves old new moves → (IsTouchedBy index moves n → ⊥) → hops.has index x y n ≡ true → (b : Bool) → has (customers_of moves) x ≡ b
       → authority_of old x y ≡ authority_of new x y
   kept_named moves x y n are untouched hop true named = kept_by moves x y n are.each untouched hop named
   kept_named moves x y n are untouched hop false named = ap (λ (row : Option (List ℕ)). said_by row y) (sym (are.others x named))
 
   -- what moves don't touch says the same of its hops
-  kept_authority : (moves : List RowMove) (x y n : ℕ) → AreMoves old new moves → is_touched_by index moves n ≡ false → hops.has index x y n ≡ true → authority_of old x y ≡ authority_of new x y
+  kept_authority : (moves : List RowMove) (x y n : ℕ) → AreMoves old new moves → (IsTouchedBy index moves n → ⊥) → hops.has index x y n ≡ true → authority_of old x y ≡ authority_of new x y
   kept_authority moves x y n are untouched hop = kept_named moves x y n are untouched hop (has (customers_of moves) x) refl
 
   -- what a move touches has a hop of which something else is said
-  moved_at : (m : RowMove) (n : ℕ) → IsMove old new m → is_touched index m n ≡ true
+  moved_at : (m : RowMove) (n : ℕ) → IsMove old new m → IsTouchedAt index m n
       → (x : ℕ) × (y : ℕ) × (hops.has index x y n ≡ true) × (authority_of old x y ≢ authority_of new x y)
-  moved_at m n move touched =
-      let reached = (ends_reach (found index m.customer) n (differs m)).0 touched in (
-        m.customer,
-        reached.0,
-        reached.1,
-        λ same. said_otherwise (said_by m.before reached.0) (said_by m.after reached.0) reached.2
-            (ap (λ (row : Option (List ℕ)). said_by row reached.0) move.before ∙ same ∙ ap (λ (row : Option (List ℕ)). said_by row reached.0) (sym move.after)),
-      )
+  moved_at m n move touched = (
+    m.customer,
+    touched.0,
+    touched.1,
+    λ same. said_otherwise (said_by m.before touched.0) (said_by m.after touched.0) touched.2
+        (ap (λ (row : Option (List ℕ)). said_by row touched.0) move.before ∙ same ∙ ap (λ (row : Option (List ℕ)). said_by row touched.0) (sym move.after)),
+  )
 
-  moved_by : (moves : List RowMove) (n : ℕ) → All (IsMove old new) moves → is_touched_by index moves n ≡ true
+  moved_by : (moves : List RowMove) (n : ℕ) → All (IsMove old new) moves → IsTouchedBy index moves n
       → (x : ℕ) × (y : ℕ) × (hops.has index x y n ≡ true) × (authority_of old x y ≢ authority_of new x y)
-  moved_by [] n each touched = absurd (true≢false (sym touched))
-  moved_by (m ∷ ms) n each touched =
-      elim (or_cases (is_touched index m n) (is_touched_by index ms n) touched) [
-        | inl here ↦ moved_at m n (All-head (IsMove old new) m ms each) here
-        | inr later ↦ moved_by ms n (All-tail (IsMove old new) m ms each) later
-      ]
+  moved_by [] n each touched = absurd touched
+  moved_by (m ∷ ms) n each (inl here) = moved_at m n (All-head (IsMove old new) m ms each) here
+  moved_by (m ∷ ms) n each (inr later) = moved_by ms n (All-tail (IsMove old new) m ms each) later
 
   module _ (roles : Relations) (moves : List RowMove) (are : AreMoves old new moves) (n : ℕ) where
     -- a case that isn't touched keeps its right judgement
-    pub still_judged : (c : Option StoredCase) → ((x y : ℕ) → hops.has index x y n ≡ hops_of c x y) → is_touched_by index moves n ≡ false → IsJudged (by_table old roles) c → IsJudged (by_table new roles) c
+    pub still_judged : (c : Option StoredCase) → ((x y : ℕ) → hops.has index x y n ≡ hops_of c x y) → (IsTouchedBy index moves n → ⊥) → IsJudged (by_table old roles) c → IsJudged (by_table new roles) c
     still_judged None indexed untouched right = tt
     still_judged (Some c) indexed untouched right =
         let chain : List ℕ = c.trail.chain in
@@ -111,7 +120,7 @@ module _ (old new : Table) (index : Entries) where
         (hops_decide_witnesses old new (role_of roles c.asn) c.asn c.trail c.judged.verdict c.judged.witness on_hops).printed right
 
     -- and one that is touched is stored and touched indeed
-    pub moves_touch : (c : Option StoredCase) → ((x y : ℕ) → hops.has index x y n ≡ hops_of c x y) → is_touched_by index moves n ≡ true → IsTouchedNumber (by_table old roles) (by_table new roles) c
+    pub moves_touch : (c : Option StoredCase) → ((x y : ℕ) → hops.has index x y n ≡ hops_of c x y) → IsTouchedBy index moves n → IsTouchedNumber (by_table old roles) (by_table new roles) c
     moves_touch None indexed touched = let h = moved_by moves n are.each touched in true≢false (sym (sym (indexed h.0 h.1) ∙ h.2))
     moves_touch (Some c) indexed touched =
         let h = moved_by moves n are.each touched in

@@ -1,17 +1,14 @@
 -- What keeps the cases, their names and their indexes together. Private contracts alone cite it.
-use Rattle.std.specs.Prelude.{◌≡◌, ℕ, true, false, List}
+use Rattle.std.specs.Prelude.{◌≡◌, ℕ, List}
 use Rattle.std.specs.declared.option.Option.{Option}
 use Rattle.std.specs.declared.option.Option.TheVariants.{Some}
 use Rattle.std.specs.BTreeMap.{is_at}
-use Rattle.std.specs.BTreeSet.{contains}
 use Rattle.std.specs.Map.{lookup}
-use Rattle.std.specs.Ordering.{nat_cmp}
 use Rattle.path_model.specs.Trail.{Path}
 use Rattle.hop_index.specs.Index.{Entries}
-use Rattle.shared_cases.specs.declared.case.StoredCase.{StoredCase}
 use Rattle.shared_cases.specs.declared.case_name.CaseName.{CaseName}
 use Rattle.shared_cases.specs.declared.noted.Noted.{Noted}
-use Rattle.shared_cases.specs.Cases.{Slots, at, IsStoredAs, IsIndexOf, is_of_peer, IsSettled}
+use Rattle.shared_cases.specs.Cases.{Slots, at, IsStoredAs, IsIndexOf, is_of_peer}
 use Rattle.shared_cases.specs.Names.{name_of, name_cmp}
 use Rattle.shared_cases.specs.Noting.{IsNoted}
 use Rattle.shared_cases.specs.Peers.{Members, is_member}

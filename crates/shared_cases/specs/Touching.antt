@@ -1,11 +1,10 @@
 -- How the touched cases are found. Private contracts alone cite it.
-use Rattle.std.specs.Prelude.{ℕ, nat_eq, Bool, true, false, not, ◌&&◌, ◌||◌, List}
+use Rattle.std.specs.Prelude.{◌≡◌, ℕ, nat_eq, Bool, true, false, not, ◌&&◌, ◌||◌, List, [], ◌∷◌, ◌⊎◌}
 use Rattle.std.specs.List.{list_any}
 use Rattle.path_model.specs.declared.authority.Authority.{Authority}
 use Rattle.path_model.specs.declared.authority.Authority.TheVariants.{Silent, Refuses, Provides}
 use Rattle.path_model.specs.Authority.{said_by}
-use Rattle.hop_index.specs.Index.{Entries, found}
-use Rattle.hop_index.specs.Through.{ends_of}
+use Rattle.hop_index.specs.Index.{Entries, has as hops_have}
 use Rattle.vap_table.specs.declared.moves.RowMove.{RowMove}
 use Rattle.shared_cases.specs.declared.set_out.SetOut.{SetOut}
 use Rattle.shared_cases.specs.Numbers.{has as numbers_have}
@@ -38,10 +37,11 @@ differs_by rows y = are_other rows.was rows.is || are_other (numbers_have rows.b
 abbrev pub touches : RowMove → ℕ → List (ℕ × ℕ) → Bool
 touches m n ends = list_any (λ end. differs m end.0 && nat_eq n end.1) ends
 
--- the move touches the case n
-abbrev pub is_touched : Entries → RowMove → ℕ → Bool
-is_touched index m n = touches m n (ends_of (found index m.customer))
+-- the customer of the move has a hop of the case n to some y of which it attests another thing
+abbrev pub IsTouchedAt : Entries → RowMove → ℕ → Type 0
+IsTouchedAt index m n = (y : ℕ) × (hops_have index m.customer y n ≡ true) × (differs m y ≡ true)
 
--- one of the moves touches the case n
-abbrev pub is_touched_by : Entries → List RowMove → ℕ → Bool
-is_touched_by index moves n = list_any (λ m. is_touched index m n) moves
+-- so it is with one of the moves
+abbrev pub IsTouchedBy : Entries → List RowMove → ℕ → Type 0
+IsTouchedBy index [] n = ⊥
+IsTouchedBy index (m ∷ ms) n = IsTouchedAt index m n ⊎ IsTouchedBy index ms n

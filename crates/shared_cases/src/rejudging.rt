@@ -24,7 +24,7 @@ use vap_table::{Moves, Vaps};
 
 impl SharedCases {
     /// The table is another one from now on, by these moves. It judges anew, once each, the cases with a hop of which something else is
-    /// attested, and takes the time of a look-up for each move and of the hops of the customers that moved.
+    /// attested, and takes the time of a look-up for each move and each neighbour of its customer, and of the hops of these customers.
     pub fn follow_table<L: Ledger>(
         self,
         moves: &Moves,

@@ -1,9 +1,9 @@
 //! Which cases a change touches.
-ghost use Rattle.std.specs.Prelude.{◌≡◌, ◌↔◌, true, false, ℕ, ◌||◌, IfOk, IsTrue, OnOk};
+ghost use Rattle.std.specs.Prelude.{◌≡◌, ◌↔◌, true, false, ℕ, ◌||◌, ◌⊎◌, IfOk, IsTrue, OnOk};
 ghost use Rattle.path_model.specs.Roles.{role_of};
 ghost use Rattle.shared_cases.specs.Numbers.{has};
 ghost use Rattle.shared_cases.specs.Peers.{is_member, HasMovedMember, IsMovedMember};
-ghost use Rattle.shared_cases.specs.Touching.{is_touched, is_touched_by};
+ghost use Rattle.shared_cases.specs.Touching.{IsTouchedAt, IsTouchedBy};
 
 use crate::numbers::Numbers;
 use crate::peers::Peers;
@@ -14,14 +14,15 @@ use path_model::{Role, Roles};
 use std::alloc::Global;
 use vap_table::{Moves, RowMove};
 
-// The cases that some move touches. It takes the time of a look-up for each move, and of what is found.
+// The cases that some move touches. It takes the time of a look-up for each move and for each neighbour of its customer, and of what is
+// found.
 pub(crate) fn touched_by_moves(
     alloc: Global,
     index: &HopIndex,
     moves: &Moves,
 ) -> Result<Numbers, NoMemory>
     ensures { IfOk result (λ touched. (n : ℕ)
-        → has touched n ≡ is_touched_by index.now moves.now n) }
+        → (has touched n ≡ true) ↔ IsTouchedBy index.now moves.now n) }
 {
     let mut touched = Numbers::new(alloc);
     for row_move in moves.as_slice() {
@@ -91,8 +92,8 @@ fn touch(
     row_move: &RowMove,
     touched: &mut Numbers,
 ) -> Result<(), NoMemory>
-    ensures { OnOk result ((n : ℕ)
-        → has touched.new n ≡ (has touched.old n || is_touched index.now row_move.now n)) }
+    ensures { OnOk result ((n : ℕ) → (has touched.new n ≡ true)
+        ↔ ((has touched.old n ≡ true) ⊎ IsTouchedAt index.now row_move.now n)) }
 {
     let rows = SetOut::new(alloc, row_move)?;
     for (provider, case) in index.through(row_move.customer) {

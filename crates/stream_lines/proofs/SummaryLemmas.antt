@@ -9,7 +9,7 @@ use Rattle.std.proofs.lemmas.Map.Keys.{IsStrictlyIncreasing-from_sorted, sorted_
 use Rattle.std.proofs.lemmas.Map.Views.{any-filter_same, exact_unsigned_eq}
 use Rattle.path_model.specs.Authority.{Table, has}
 use Rattle.path_model.specs.ComputedTable.{onto, attested, unfiltered, sourced, given, row_made, ascending_of, table_of}
-use Rattle.path_model.specs.CurrentTable.{Parts, IsCurrentTable}
+use Rattle.path_model.specs.CurrentTable.{Parts}
 use Rattle.path_model.specs.Rows.{RowMap}
 use Rattle.path_model.proofs.AscendingLemmas.{ascending_sorted, has_ascending, same_members}
 use Rattle.path_model.proofs.MemberLemmas.{has-append}

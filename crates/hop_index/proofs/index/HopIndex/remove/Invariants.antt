@@ -1,11 +1,12 @@
 use Rattle.std.proofs.Common.{◌≡◌, ℕ, ◌-◌, ◌≤◌, length, not, ◌&&◌, nat_eq}
 use Rattle.hop_index.specs.Hops.{joins_within}
-use Rattle.hop_index.specs.Index.{has, HaveHops}
+use Rattle.hop_index.specs.Index.{has}
+use Rattle.hop_index.specs.Kept.{AreKept}
 use Rattle.hop_index.proofs.index.HopIndex.remove.Given as goal
 
 abbrev pub invariant-loop-k : goal.invariant-loop-k
 invariant-loop-k l = record {
   removed : (x y n : ℕ) → has l.hops.entries x y n ≡ (has l.fn.self x y n && not (nat_eq n l.case && joins_within (l.k - 1) l.chain x y));
-  kept : HaveHops l.hops.entries;
+  kept : AreKept l.ends.entries l.hops.entries;
   within : l.k - 1 ≤ length l.chain - 1;
 }
