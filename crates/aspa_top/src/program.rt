@@ -83,7 +83,8 @@ pub fn run<S: Source, F: Shelf, K: Links, W: Sink, L: Ledger>(
         → IsWithinRise (unreachables_in text) (K.faults links.old) (K.faults links.new) }
 
     // Whatever is told: attempts were added behind those before, where they are told; the connections that these made are behind those
-    // before, and each connection only went on, where these are told; and they are told at the end where they were at the start.
+    // before, and each connection only went on, where these are told; and connections are told at the end where they were at
+    // the start.
     ensures later { GoesOn (linked (K.attempts links.old) (K.wire links.old))
         (linked (K.attempts links.new) (K.wire links.new)) }
 

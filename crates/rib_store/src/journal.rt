@@ -53,7 +53,7 @@ impl<'a> Iterator for Journal<'a> {
 }
 
 // The routes in which a change is looked for, beside those of noted keys: all before the first mark, and else those of the peers of the
-// ASes of which a case was judged anew since.
+// ASes of which a case got another verdict since.
 pub(crate) fn walk<'a>(
     is_marked: bool,
     routes: &'a RouteMap<u32>,

@@ -8,7 +8,7 @@
 //! `specs/Cased.antt` says how the routes and the marked verdicts are read through the cases, and what holds of them. `routing` changes
 //! one route, `notes` keeps what was marked of the keys whose route changed since, `rib` lists the routes, `counts` counts the verdicts,
 //! and `journal` lists what changed since verdicts were marked, from `merged` notes and routes, and leaves out the routes of ASes of which no
-//! case was judged anew.
+//! case got another verdict.
 #![tactic(auto)]
 
 mod counts;

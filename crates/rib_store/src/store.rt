@@ -280,7 +280,7 @@ impl RibStore {
 
     /// Each key whose verdict or presence differs from the marked one, in key order. At the start nothing is marked. It takes no
     /// memory, and after a mark the time of a look-up for each peer and for each key whose route changed since, and of the routes of the
-    /// peers of those ASes of which a case was judged anew since; before the first mark that of all routes.
+    /// peers of those ASes of which a case got another verdict since; before the first mark that of all routes.
     pub fn changes(&self) -> Journal<'_>
         ensures changes { AreChanges self.now.state (changes_left result) }
         ensures few { length (changes_left result) < 2 ^ 64 }
@@ -296,8 +296,8 @@ impl RibStore {
         }
     }
 
-    /// The current verdicts are the marked ones from now on. It takes no memory, and the time of the cases judged anew and of the keys whose
-    /// route changed since the last mark.
+    /// The current verdicts are the marked ones from now on. It takes no memory, and the time of the cases that got another verdict and of
+    /// the keys whose route changed since the last mark.
     pub fn mark(self) -> RibStore
         ensures { IsMarked self.state result.state }
     {

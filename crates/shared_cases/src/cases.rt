@@ -26,8 +26,8 @@ use std::sync::ledger::Ledger;
 use vap_table::Vaps;
 
 /// The cases that routes share, each under a number below 2^32 for as long as some route has it. A case takes about 250 bytes, 8 for
-/// each AS of its path, and what its hops take in the index; one that was judged anew since the last mark, 8 to 18 bytes more, and its AS 4
-/// to 9.
+/// each AS of its path, and what its hops take in the index; one that got another verdict since the last mark, 8 to 18 bytes more, and its AS
+/// 4 to 9.
 #[derive(Drop)]
 pub struct SharedCases {
     pub(crate) alloc: Global,
@@ -114,7 +114,7 @@ impl SharedCases {
         let _names = &self.names;
     }
 
-    /// The ASes of the cases that were judged anew since the last mark: each case of another AS has its marked verdict. It takes no
+    /// The ASes of the cases that got another verdict since the last mark: each case of another AS has its marked verdict. It takes no
     /// memory.
     pub fn unsettled_ases(&self) -> &BTreeSet<u32>
         ensures { AreSettledBut result.now self.now }
@@ -166,7 +166,8 @@ impl SharedCases {
         }
     }
 
-    /// The present verdicts are the marked ones from now on. It takes no memory, and the time of the cases judged anew since the last mark.
+    /// The present verdicts are the marked ones from now on. It takes no memory, and the time of the cases that got another verdict since the
+    /// last one.
     pub fn mark(self) -> SharedCases
         ensures { (n : ℕ) → at result n ≡ marked_now (at self n) }
     {

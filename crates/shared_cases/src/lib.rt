@@ -6,8 +6,8 @@
 //! `specs/Taking.antt` and in `specs/Touched.antt`.
 //!
 //! A case has a number as long as some route has it. It is found by its name (`case_name`), by its hops (the crate `hop_index`) and by
-//! its AS (`peers`); each case that is judged anew is noted until the next mark (`noted`); `specs/Kept.antt` says what keeps these
-//! together.
+//! its AS (`peers`); each case that gets another verdict than the marked one is noted until the next mark (`noted`); `specs/Kept.antt` says
+//! what keeps these together.
 #![tactic(auto)]
 
 mod case;

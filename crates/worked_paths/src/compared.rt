@@ -1,4 +1,5 @@
-//! The store of routes beside a plain one: after each of many drawn events all routes are judged from scratch, and compared.
+//! The store of routes beside plain lists: after each of many drawn events all routes are judged from scratch, and compared with the
+//! store's rows; what changed since verdicts were marked is worked out from two such lists, and compared with the store's changes.
 ghost use Rattle.std.specs.Prelude.{◌≡◌};
 
 use analyser::{Analyser, Event};
@@ -16,7 +17,7 @@ use vap_table::{TableChange, Vaps};
 // How many events there are.
 const EVENTS: u32 = 2_000;
 
-// Numbers that look drawn: the upper half of a linear congruence.
+// Numbers that look drawn: two upper bits of a linear congruence.
 #[derive(Drop)]
 struct Draw {
     state: u64,
@@ -49,7 +50,7 @@ impl Draw {
         }
     }
 
-    // One of 16 peers in 10 ASes.
+    // One of four addresses, in one of ten ASes.
     fn peer(&mut self) -> Peer {
         Peer {
             addr: Addr::V4(self.four()),
@@ -117,6 +118,8 @@ struct Plain {
     asserted: Rows,
     roles: Roles,
     routes: BTreeMap<Key, Trail>,
+    // the verdicts at the last mark
+    marked: BTreeMap<Key, Verdict>,
 }
 
 impl Plain {
@@ -128,6 +131,7 @@ impl Plain {
             asserted: Rows::new(alloc),
             roles: Roles::new(alloc),
             routes: BTreeMap::new(alloc),
+            marked: BTreeMap::new(alloc),
         }
     }
 
@@ -170,6 +174,53 @@ impl Plain {
         let (table, _moves) = Vaps::new(self.alloc).change(TableChange::Replace(name, rows))?;
         Ok(table)
     }
+
+    // The verdict of each route, judged from scratch.
+    fn verdicts<L: Ledger>(
+        &self,
+        steps: &mut Steps<L>,
+    ) -> Result<BTreeMap<Key, Verdict>, NoMemory> {
+        let table = self.table()?;
+        let mut verdicts = BTreeMap::new(self.alloc);
+        for (key, trail) in &self.routes {
+            let asn = key.peer.asn;
+            let judged = judge(&table, self.roles.of(asn), asn, trail, steps);
+            verdicts.insert(*key, judged.verdict())?;
+        }
+        Ok(verdicts)
+    }
+
+    // What differs between the marked verdicts and these.
+    fn changes(&self, now: &BTreeMap<Key, Verdict>) -> Result<BTreeMap<Key, Sides>, NoMemory> {
+        let mut changes = BTreeMap::new(self.alloc);
+        for (key, verdict) in &self.marked {
+            let after = now.get(key).copied();
+            if after != Some(*verdict) {
+                let before = Some(*verdict);
+                changes.insert(*key, Sides { before, after })?;
+            }
+        }
+        for (key, verdict) in now {
+            if self.marked.get(key).is_none() {
+                let after = Some(*verdict);
+                changes.insert(
+                    *key,
+                    Sides {
+                        before: None,
+                        after,
+                    },
+                )?;
+            }
+        }
+        Ok(changes)
+    }
+}
+
+// A verdict as it was marked and as it is, or none.
+#[derive(Clone, Copy)]
+struct Sides {
+    before: Option<Verdict>,
+    after: Option<Verdict>,
 }
 
 // Draws an event, and performs it on the plain lists.
@@ -223,13 +274,15 @@ fn next_event(draw: &mut Draw, plain: &mut Plain) -> Result<Event, NoMemory> {
     Ok(event)
 }
 
-// How many events left the same routes with the same verdicts, and how many valid, unknown and invalid ones were compared.
+// How many events left the same routes with the same verdicts and the same changes, and how many valid, unknown and invalid routes and how
+// many changes were compared.
 #[derive(Clone, Copy, Debug, PartialEq)]
 struct Compared {
     same: u32,
     valid: u32,
     unknown: u32,
     invalid: u32,
+    changes: u32,
 }
 
 impl Compared {
@@ -242,27 +295,38 @@ impl Compared {
     }
 }
 
-// Whether the routes of the store are those of the lists, each with the verdict of its judgement from scratch.
-fn compare<L: Ledger>(
-    analyser: &Analyser,
-    plain: &Plain,
-    compared: &mut Compared,
-    steps: &mut Steps<L>,
-) -> Result<bool, NoMemory> {
-    let table = plain.table()?;
+// Whether the store has these rows and no others.
+fn has_rows(analyser: &Analyser, wanted: &BTreeMap<Key, Verdict>, compared: &mut Compared) -> bool {
     let mut rows = analyser.store().rows();
-    for (key, trail) in &plain.routes {
-        let Some((shown, verdict)) = rows.next() else {
-            return Ok(false);
+    for (key, verdict) in wanted {
+        let Some((shown, shown_verdict)) = rows.next() else {
+            return false;
         };
-        let asn = key.peer.asn;
-        let judged = judge(&table, plain.roles.of(asn), asn, trail, steps);
-        if shown != *key || verdict != judged.verdict() {
-            return Ok(false);
+        if shown != *key || shown_verdict != *verdict {
+            return false;
         }
-        compared.count(verdict);
+        compared.count(*verdict);
     }
-    Ok(rows.next().is_none())
+    rows.next().is_none()
+}
+
+// Whether the store lists these changes and no others.
+fn has_changes(
+    analyser: &Analyser,
+    wanted: &BTreeMap<Key, Sides>,
+    compared: &mut Compared,
+) -> bool {
+    let mut changes = analyser.store().changes();
+    for (key, sides) in wanted {
+        let Some(change) = changes.next() else {
+            return false;
+        };
+        if change.key != *key || change.before != sides.before || change.after != sides.after {
+            return false;
+        }
+        compared.changes = compared.changes.saturating_add(1);
+    }
+    changes.next().is_none()
 }
 
 fn replayed<L: Ledger>(alloc: Global, blank: Blank) -> Result<Compared, NoMemory>
@@ -279,12 +343,19 @@ fn replayed<L: Ledger>(alloc: Global, blank: Blank) -> Result<Compared, NoMemory
         valid: 0,
         unknown: 0,
         invalid: 0,
+        changes: 0,
     };
     for _ in 0..EVENTS {
         let event = next_event(&mut drawn, &mut plain)?;
         analyser = analyser.step(event, &mut steps)?;
-        if compare(&analyser, &plain, &mut compared, &mut steps)? {
+        let now = plain.verdicts(&mut steps)?;
+        let are_same = has_rows(&analyser, &now, &mut compared);
+        if are_same && has_changes(&analyser, &plain.changes(&now)?, &mut compared) {
             compared.same = compared.same.saturating_add(1);
+        }
+        if drawn.four() == 0 {
+            analyser = analyser.mark();
+            plain.marked = now;
         }
     }
     Ok(compared)
@@ -302,5 +373,6 @@ fn judged_from_scratch(rt: HostRuntime) -> Result<(), NoMemory> {
     assert!(rt; compared.valid > 1_000);
     assert!(rt; compared.unknown > 1_000);
     assert!(rt; compared.invalid > 1_000);
+    assert!(rt; compared.changes > 1_000);
     Ok(())
 }

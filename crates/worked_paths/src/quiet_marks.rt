@@ -1,4 +1,4 @@
-//! A quarter of a million events that each change one verdict, beside 200,000 routes of another AS whose verdicts stay as marked.
+//! Half a million events that each change one verdict, each listed and marked, beside 200,000 routes of another AS whose verdicts stay.
 ghost use Rattle.std.specs.Prelude.{◌≡◌};
 
 use crate::quiet::routes;
@@ -45,39 +45,42 @@ fn changed(store: &RibStore) -> u32 {
     keys
 }
 
-// How many changes are seen in all after 250,000 assertions, and after each was taken back. One route of AS 1 changes first, and is
-// marked so.
-fn replayed<L: Ledger>(alloc: Global, blank: Blank) -> Result<(u32, u32), NoMemory>
+// How many changes are seen in all after 250,000 assertions, and after each was taken back; each time they are marked. All routes change
+// first, by another role, and are marked so.
+fn replayed<L: Ledger>(alloc: Global, blank: Blank) -> Result<(u32, u32, u32), NoMemory>
     requires name { blank.name ≡ L.name }
     requires parts { blank.parts ≡ L.parts }
     requires one { L.parts ≡ 1 }
 {
     let mut steps = Steps::<L>::new(blank);
     let analyser = Analyser::new(alloc).mark();
-    let analyser = analyser.step(Event::DefaultRole(Role::Customer), &mut steps)?;
+    let analyser = analyser.step(Event::DefaultRole(Role::Provider), &mut steps)?;
     let analyser = analyser.step(routes(alloc)?, &mut steps)?;
-    let analyser = analyser.step(other_route(alloc)?, &mut steps)?;
-    let analyser = analyser.step(assertion(alloc, 1000, 1)?, &mut steps)?;
+    let analyser = analyser.step(other_route(alloc)?, &mut steps)?.mark();
+    let analyser = analyser.step(Event::DefaultRole(Role::Customer), &mut steps)?;
+    let first = changed(analyser.store());
     let mut analyser = analyser.mark();
     let mut there = 0u32;
     let mut gone = 0u32;
     for _ in 0..250_000u32 {
         analyser = analyser.step(assertion(alloc, 300_000, 2)?, &mut steps)?;
         there = there.saturating_add(changed(analyser.store()));
+        analyser = analyser.mark();
         let unassertion = Event::Table(TableChange::Unassert(300_000));
         analyser = analyser.step(unassertion, &mut steps)?;
         gone = gone.saturating_add(changed(analyser.store()));
+        analyser = analyser.mark();
     }
-    Ok((there, gone))
+    Ok((first, there, gone))
 }
 
 // Replays them with a counter that is made here.
-fn replayed_once(alloc: Global) -> Result<(u32, u32), NoMemory> {
+fn replayed_once(alloc: Global) -> Result<(u32, u32, u32), NoMemory> {
     replayed::<Brand>(alloc, Blank::new(1))
 }
 
 #[test]
 fn quiet_marks(rt: HostRuntime) -> Result<(), NoMemory> {
-    assert_eq!(rt; replayed_once(rt.alloc())?, (250_000, 0));
+    assert_eq!(rt; replayed_once(rt.alloc())?, (200_001, 250_000, 250_000));
     Ok(())
 }
