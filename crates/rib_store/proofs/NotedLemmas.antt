@@ -14,7 +14,7 @@ use Rattle.path_model.proofs.OrderLemmas.{key_exact}
 use Rattle.shared_cases.specs.declared.case.StoredCase.{StoredCase}
 use Rattle.shared_cases.specs.Cases.{Slots, at, marked_or, IsSameCase, AreSameCases}
 use Rattle.rib_store.specs.Cased.{Numbered, through, overridden_at, overridden, marked_by}
-use Rattle.rib_store.specs.Merge.{Noted, noted_or}
+use Rattle.rib_store.specs.Cased.{Noted, noted_or}
 use Rattle.rib_store.specs.State.{Marked}
 use Rattle.rib_store.specs.Steps.{or_noted, Notes, NotesMove}
 use Rattle.rib_store.proofs.CasedLemmas.{get_through, kept_part}
@@ -41,7 +41,7 @@ pub get_marked : (cases : Slots) (routes : Numbered) (notes : Noted) (q : Key) �
 get_marked cases routes notes q = get_overridden (fin.from_entries (through marked_or cases routes)) notes q
     ∙ ap (noted_or (lookup (is_at (key_cmp q)) notes)) (get_through marked_or cases routes q)
 
-same_marks : (old new : Slots) (before after : Numbered) (notes notes' : Noted)
+pub same_marks : (old new : Slots) (before after : Numbered) (notes notes' : Noted)
     → ((q : Key) → noted_or (lookup (is_at (key_cmp q)) notes') (mark_at new after q) ≡ noted_or (lookup (is_at (key_cmp q)) notes) (mark_at old before q))
     → marked_by true new after notes' ≡ marked_by true old before notes
 same_marks old new before after notes notes' same = fin.same_map key_total key_exact _ _ (λ q. get_marked new after notes' q ∙ same q ∙ sym (get_marked old before notes q))

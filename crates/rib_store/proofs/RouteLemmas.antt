@@ -11,17 +11,18 @@ use Rattle.path_model.specs.Key.{key_cmp}
 use Rattle.path_model.specs.Roles.{Relations}
 use Rattle.path_model.specs.Trail.{Path}
 use Rattle.shared_cases.specs.declared.case.StoredCase.{StoredCase}
-use Rattle.shared_cases.specs.Cases.{Slots, at, IsSameCase, AreSameCases, marked_or}
+use Rattle.shared_cases.specs.Cases.{Slots, at, IsSameCase, AreSameCases, has_differed, marked_or}
 use Rattle.shared_cases.specs.Grounds.{Grounds}
 use Rattle.shared_cases.specs.Taking.{raised, lowered, Takes}
-use Rattle.rib_store.specs.Cased.{Numbered, path_or, routes_by, marked_by, AreStored}
-use Rattle.rib_store.specs.Merge.{Noted}
+use Rattle.rib_store.specs.Cased.{Noted, Numbered, path_or, routes_by, marked_by, AreStored}
+use Rattle.rib_store.specs.Marks.{AreNoted}
 use Rattle.rib_store.specs.State.{State, Marked}
 use Rattle.rib_store.specs.Steps.{Leaves, NotesMove}
 use Rattle.path_model.specs.Routes.{Routes}
 use Rattle.rib_store.proofs.CasedLemmas.{through_inserted, through_removed, same_through, kept_part}
 use Rattle.rib_store.proofs.CountedLemmas.{users_positive}
 use Rattle.rib_store.proofs.KeyLemmas.{key_itself}
+use Rattle.rib_store.proofs.MarksLemmas.{raised_differed, lowered_differed, noted_move}
 use Rattle.rib_store.proofs.NotedLemmas.{mark_at, marked_move}
 use Rattle.rib_store.proofs.StoredLemmas.{ArePending, settled_part, inserted, removed, taken_part, taken_path}
 
@@ -80,6 +81,10 @@ module _ (g : Grounds) (parts : Parts) (relations : Relations) (is_marked : Bool
         (through_inserted path_or old new before after k n path updates came (kept path_or raised_path lowered_path))
         (marked_move is_marked old new before after notes notes' k (Some n) updates noted (kept marked_or raised_mark lowered_mark))
 
+    -- each key whose case differed still has a note
+    pub announced_noted : AreNoted is_marked before old notes → AreNoted is_marked after new notes'
+    announced_noted notes_are = noted_move old new before after notes notes' k (Some n) (mark_at old before k) updates (kept has_differed raised_differed lowered_differed) is_marked notes_are noted
+
   -- a route goes
   module _ (old new : Slots) (stored : AreStored g before old)
       (is : after ≡ remove_entry (is_at (key_cmp k)) before) (updates : (q : Key) → lookup (is_at (key_cmp q)) after ≡ cond (is_at (key_cmp k) q) None (lookup (is_at (key_cmp q)) before))
@@ -92,6 +97,9 @@ module _ (g : Grounds) (parts : Parts) (relations : Relations) (is_marked : Bool
     withdrawn_state = same_state parts relations _ _ _ _
         (through_removed path_or old new before after k updates (left_kept path_or lowered_path))
         (marked_move is_marked old new before after notes notes' k None updates noted (left_kept marked_or lowered_mark))
+
+    pub withdrawn_noted : AreNoted is_marked before old notes → AreNoted is_marked after new notes'
+    withdrawn_noted notes_are = noted_move old new before after notes notes' k None (mark_at old before k) updates (left_kept has_differed lowered_differed) is_marked notes_are noted
 
 same_path : (c d : Option StoredCase) → IsSameCase c d → path_or d ≡ path_or c
 same_path None None same = refl

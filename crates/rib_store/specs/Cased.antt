@@ -31,18 +31,27 @@ through {A} part cases routes = map {B = Key × A} (λ e. (e.0, part (at cases e
 abbrev pub routes_by : Slots → Numbered → Routes
 routes_by cases routes = fin.from_entries (through path_or cases routes)
 
+-- what was marked of some keys: none, where the key had no route then
+abbrev pub Noted : Type 0
+Noted = List (Key × Option Verdict)
+
+-- a note, or else this
+abbrev pub noted_or : Option (Option Verdict) → Option Verdict → Option Verdict
+noted_or None mark = mark
+noted_or (Some noted) mark = noted
+
 -- a key's mark is this one, or there is none
 abbrev pub overridden_at : Key → Option Verdict → Marked → Marked
 overridden_at key None marked = fin.remove marked key
 overridden_at key (Some verdict) marked = fin.insert marked key verdict
 
-abbrev pub overridden : Marked → List (Key × Option Verdict) → Marked
+abbrev pub overridden : Marked → Noted → Marked
 overridden marked [] = marked
 overridden marked (note ∷ notes) = overridden_at note.0 note.1 (overridden marked notes)
 
--- The marked verdicts are those of the cases, overridden by the notes of the keys whose route changed since the mark; before the first
--- mark there are none.
-abbrev pub marked_by : Bool → Slots → Numbered → List (Key × Option Verdict) → Marked
+-- The marked verdicts are those of the cases, overridden by the notes of the keys whose route changed since the mark or whose case got
+-- another verdict; before the first mark there are none.
+abbrev pub marked_by : Bool → Slots → Numbered → Noted → Marked
 marked_by false cases routes notes = fin.empty
 marked_by true cases routes notes = overridden (fin.from_entries (through marked_or cases routes)) notes
 

@@ -16,10 +16,10 @@ use Rattle.path_model.specs.Trail.{Path}
 use Rattle.shared_cases.specs.Cases.{Slots, at, verdict_or}
 use Rattle.rib_store.specs.declared.journal.ChangedKey.{ChangedKey}
 use Rattle.rib_store.specs.declared.journal.Journal.{Journal}
-use Rattle.rib_store.specs.declared.merged.Row.{Row}
+use Rattle.rib_store.specs.declared.journal.Left.{Left}
+use Rattle.rib_store.specs.declared.journal.Left.TheVariants.{OfRoutes, OfNotes}
 use Rattle.rib_store.specs.Cased.{Numbered}
 use Rattle.rib_store.specs.Held.{Held}
-use Rattle.rib_store.specs.Merge.{marked_of, merged_left}
 use Rattle.rib_store.specs.Rows.{current_verdict}
 
 -- the current verdict of a key with or without a path
@@ -45,19 +45,19 @@ change_at parts relations e = change_between e.0 e.1.marked (present_verdict par
 abbrev pub changes_in : Parts → Relations → List (Key × Held) → List ChangedKey
 changes_in parts relations es = filter_map (change_at parts relations) es
 
--- the row's own case, or that of its key where the row has a note: the route of a noted key may not be with its note
-abbrev pub case_or : Option (Option Verdict) → Option ℕ → Option ℕ → Option ℕ
-case_or None own of_key = own
-case_or (Some noted) own of_key = of_key
+-- before the first mark each route is a change: its key had none that was marked
+abbrev pub came : Slots → Key × ℕ → Option ChangedKey
+came cases e = change_between e.0 None (Some (verdict_or (at cases e.1)))
 
-abbrev pub case_of : Numbered → Key × Row → Option ℕ
-case_of routes e = case_or e.1.noted e.1.case (lookup (is_at (key_cmp e.0)) routes)
+-- the change of a noted key, by the case of its route if it has one
+abbrev pub changed : Numbered → Slots → Key × Option Verdict → Option ChangedKey
+changed routes cases e =
+    change_between e.0 e.1 (option_map (λ n. verdict_or (at cases n)) (lookup (is_at (key_cmp e.0)) routes))
 
--- the change of a row, by its case's verdict
-abbrev pub change_of : Bool → Numbered → Slots → Key × Row → Option ChangedKey
-change_of is_marked routes cases e =
-    change_between e.0 (marked_of is_marked cases e.1) (option_map (λ n. verdict_or (at cases n)) (case_of routes e))
+-- the changes among the routes or the notes that are left
+abbrev pub changes_of : Left → Numbered → Slots → List ChangedKey
+changes_of (OfRoutes es) routes cases = filter_map (came cases) es
+changes_of (OfNotes es) routes cases = filter_map (changed routes cases) es
 
 abbrev pub changes_left : Journal → List ChangedKey
-changes_left journal =
-    filter_map (change_of journal.is_marked journal.routes.now journal.cases.now) (merged_left journal.merged)
+changes_left journal = changes_of journal.left journal.routes.now journal.cases.now

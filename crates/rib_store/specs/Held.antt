@@ -5,23 +5,15 @@ use Rattle.std.specs.BTreeMap.{is_at}
 use Rattle.std.specs.List.{filter_map}
 use Rattle.std.specs.Map.{lookup}
 use Rattle.std.specs.Option.{option_map}
-use Rattle.std.specs.FinMap as fin
 use Rattle.path_model.specs.declared.key.Key.{Key}
 use Rattle.path_model.specs.declared.verdict.Verdict.{Verdict}
 use Rattle.path_model.specs.Key.{key_cmp}
-use Rattle.path_model.specs.Routes.{Routes}
 use Rattle.path_model.specs.Trail.{Path}
-use Rattle.rib_store.specs.State.{Marked}
 
 -- the path of a key where it has a route, and the verdict that was marked where it had one then
 pub record Held : Type 0 where
   pub trail : Option Path
   pub marked : Option Verdict
-
--- the routes, and the verdicts that were marked
-pub record RoutesAndMarks : Type 0 where
-  pub routes : Routes
-  pub marked : Marked
 
 -- what is known of a key
 abbrev pub at : Key → List (Key × Held) → Option Held
@@ -36,7 +28,3 @@ paths_in es = parts (λ h. h.trail) es
 
 abbrev pub marks_in : List (Key × Held) → List (Key × Verdict)
 marks_in es = parts (λ h. h.marked) es
-
--- what these entries hold
-abbrev pub held_in : List (Key × Held) → RoutesAndMarks
-held_in es = record { routes = fin.from_entries (paths_in es); marked = fin.from_entries (marks_in es) }

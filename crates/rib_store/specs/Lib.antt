@@ -6,7 +6,7 @@ pub mod Codes
 pub mod Counts
 pub mod Held
 pub mod Laws
-pub mod Merge
+pub mod Marks
 pub mod OfPeer
 pub mod Routing
 pub mod Rows
@@ -16,4 +16,3 @@ pub mod State
 pub mod Steps
 pub mod Stored
 pub mod Touched
-pub mod Walk

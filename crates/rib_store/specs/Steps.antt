@@ -1,5 +1,5 @@
 -- How changes of one route go. Private contracts alone cite it.
-use Rattle.std.specs.Prelude.{◌≡◌, ℕ, Bool, true, false, List, if◌then◌else◌, ⊤, ◌⊎◌}
+use Rattle.std.specs.Prelude.{◌≡◌, ℕ, Bool, true, false, if◌then◌else◌, ⊤, ◌⊎◌}
 use Rattle.std.specs.declared.option.Option.{Option}
 use Rattle.std.specs.declared.option.Option.TheVariants.{Some, None}
 use Rattle.std.specs.BTreeMap.{is_at}
@@ -9,6 +9,7 @@ use Rattle.path_model.specs.declared.verdict.Verdict.{Verdict}
 use Rattle.path_model.specs.Key.{key_cmp}
 use Rattle.shared_cases.specs.Cases.{Slots, at, Rewrites}
 use Rattle.shared_cases.specs.Taking.{left}
+use Rattle.rib_store.specs.Cased.{Noted}
 
 -- the case of a key that had one has one user less
 abbrev pub Leaves : Slots → Option ℕ → Slots → Type 0
@@ -21,11 +22,11 @@ or_noted None here marked = if here then Some marked else None
 or_noted (Some noted) here marked = Some noted
 
 -- what was marked of the key is noted, once verdicts were marked
-abbrev pub Notes : Bool → List (Key × Option Verdict) → Key → Option Verdict → List (Key × Option Verdict) → Type 0
+abbrev pub Notes : Bool → Noted → Key → Option Verdict → Noted → Type 0
 Notes false old key marked new = ⊤
 Notes true old key marked new =
     (q : Key) → lookup (is_at (key_cmp q)) new ≡ or_noted (lookup (is_at (key_cmp q)) old) (is_at (key_cmp key) q) marked
 
 -- the same of a key whose case becomes another one, and nothing of one whose case stays
-abbrev pub NotesMove : Bool → List (Key × Option Verdict) → Key → Option ℕ → Option ℕ → Option Verdict → List (Key × Option Verdict) → Type 0
+abbrev pub NotesMove : Bool → Noted → Key → Option ℕ → Option ℕ → Option Verdict → Noted → Type 0
 NotesMove is_marked old key before after marked new = ((before ≡ after) × (new ≡ old)) ⊎ Notes is_marked old key marked new

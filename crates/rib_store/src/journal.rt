@@ -1,13 +1,11 @@
 //! What changed since verdicts were marked.
 ghost use Rattle.std.specs.Prelude.{◌≡◌};
-ghost use Rattle.std.specs.Iterator.{YieldsFirstBy, item_count};
+ghost use Rattle.std.specs.Iterator.{YieldsFirst, YieldsFirstBy, item_count};
+ghost use Rattle.std.specs.List.{filter_map};
 ghost use Rattle.std.specs.Option.{option_map};
 ghost use Rattle.shared_cases.specs.Cases.{at, marked_or, verdict_or};
-ghost use Rattle.rib_store.specs.ChangesLeft.{case_of, change_of, changes_left};
-ghost use Rattle.rib_store.specs.Merge.{marked_of};
-ghost use Rattle.rib_store.specs.Walk.{IsWalk};
+ghost use Rattle.rib_store.specs.ChangesLeft.{came, change_between, changed, changes_left};
 
-use crate::merged::{Merged, Row};
 use path_model::{Key, Verdict};
 use route_map::{Iter, RouteMap};
 use shared_cases::SharedCases;
@@ -23,16 +21,22 @@ pub struct ChangedKey {
     pub after: Option<Verdict>,
 }
 
-/// The changed keys in key order. It judges nothing, and takes no memory. Each note takes a step and a look-up among the routes, and each
-/// route that is gone through a step.
+// What a list of changes has still to go over.
+#[derive(Drop)]
+pub(crate) enum Left<'a> {
+    // before the first mark all routes, each of which is a change
+    OfRoutes(Iter<'a, u32>),
+    // and else the notes: what was marked of the keys whose route changed since, or whose case got another verdict
+    OfNotes(Iter<'a, Option<Verdict>>),
+}
+
+/// The changed keys in key order. It judges nothing, and takes no memory. Before the first mark each route takes a step; after it each key
+/// whose route changed since, or whose case got another verdict, takes a step and a look-up among the routes.
 #[derive(Drop)]
 pub struct Journal<'a> {
-    // the keys that are left; the route of a noted key may not be with its note
-    pub(crate) merged: Merged<'a>,
+    pub(crate) left: Left<'a>,
     pub(crate) routes: &'a RouteMap<u32>,
     pub(crate) cases: &'a SharedCases,
-    // whether verdicts were ever marked
-    pub(crate) is_marked: bool,
 }
 
 impl<'a> Iterator for Journal<'a> {
@@ -43,70 +47,53 @@ impl<'a> Iterator for Journal<'a> {
     ghost remaining = { item_count changes_left };
 
     fn next(&mut self) -> Option<ChangedKey> {
-        while let Some((key, row)) = self.merged.next() {
-            if let Some(change) = change_of(self.is_marked, self.routes, self.cases, key, row) {
-                return Some(change);
-            }
+        match &mut self.left {
+            Left::OfRoutes(routes) => next_come(routes, self.cases),
+            Left::OfNotes(notes) => next_changed(notes, self.routes, self.cases),
         }
-        None
     }
 }
 
-// The routes in which a change is looked for, beside those of noted keys: all before the first mark, and else those of the peers of the
-// ASes of which a case got another verdict since.
-pub(crate) fn walk<'a>(
-    is_marked: bool,
-    routes: &'a RouteMap<u32>,
-    cases: &'a SharedCases,
-) -> Iter<'a, u32>
-    ensures { IsWalk is_marked cases.now routes.now result }
+// The first of the routes that are left, as a change.
+fn next_come(routes: &mut Iter<'_, u32>, cases: &SharedCases) -> Option<ChangedKey>
+    ensures { YieldsFirst (λ left. filter_map (came cases.now) left) routes.old result routes.new }
 {
-    if is_marked {
-        routes.of_ases(cases.unsettled_ases())
-    } else {
-        routes.iter()
+    match routes.next() {
+        None => None,
+        Some((key, number)) => Some(ChangedKey {
+            key,
+            before: None,
+            after: Some(cases.verdict(*number as usize)),
+        }),
     }
+}
+
+// The first change among the notes that are left.
+fn next_changed(
+    notes: &mut Iter<'_, Option<Verdict>>,
+    routes: &RouteMap<u32>,
+    cases: &SharedCases,
+) -> Option<ChangedKey>
+    ensures { YieldsFirst (λ left. filter_map (changed routes.now cases.now) left)
+        notes.old result notes.new }
+{
+    while let Some((key, noted)) = notes.next() {
+        let after = verdict_of(cases, routes.get(&key).copied());
+        if let Some(change) = change_between(key, *noted, after) {
+            return Some(change);
+        }
+    }
+    None
 }
 
 // The change of a key, if it has changed.
-fn change_of(
-    is_marked: bool,
-    routes: &RouteMap<u32>,
-    cases: &SharedCases,
-    key: Key,
-    row: Row,
-) -> Option<ChangedKey>
-    ensures { result ≡ change_of is_marked routes.now cases.now (key, row) }
+fn change_between(key: Key, before: Option<Verdict>, after: Option<Verdict>) -> Option<ChangedKey>
+    ensures { result ≡ change_between key before after }
 {
-    let before = marked_of(is_marked, cases, row);
-    let after = verdict_of(cases, case_of(routes, &key, row));
     if before == after {
         return None;
     }
     Some(ChangedKey { key, before, after })
-}
-
-// The number of the case of a key's route, if it has one.
-fn case_of(routes: &RouteMap<u32>, key: &Key, row: Row) -> Option<u32>
-    ensures { result ≡ case_of routes.now (key.now, row) }
-{
-    match row.noted {
-        None => row.case,
-        Some(_) => routes.get(key).copied(),
-    }
-}
-
-// What was marked of a key.
-fn marked_of(is_marked: bool, cases: &SharedCases, row: Row) -> Option<Verdict>
-    ensures { result ≡ marked_of is_marked cases.now row }
-{
-    if !is_marked {
-        return None;
-    }
-    match row.noted {
-        Some(noted) => noted,
-        None => mark_of(cases, row.case),
-    }
 }
 
 // The verdict of a case, if there is one.

@@ -6,16 +6,14 @@
 //!
 //! Each route has the number of a case that it shares with all routes of the same peer AS and path (the crate `shared_cases`);
 //! `specs/Cased.antt` says how the routes and the marked verdicts are read through the cases, and what holds of them. `routing` changes
-//! one route, `notes` keeps what was marked of the keys whose route changed since, `rib` lists the routes, `counts` counts the verdicts,
-//! and `journal` lists what changed since verdicts were marked, from `merged` notes and routes, and leaves out the routes of ASes of which no
-//! case got another verdict.
+//! one route, `marks` notes what was marked of the keys whose route changed since or whose case got another verdict (`specs/Marks.antt`),
+//! `rib` lists the routes, `counts` counts the verdicts, and `journal` lists what changed since verdicts were marked, from the notes.
 #![tactic(auto)]
 
 mod counts;
 mod journal;
 mod laws;
-mod merged;
-mod notes;
+mod marks;
 mod rib;
 mod routing;
 mod store;

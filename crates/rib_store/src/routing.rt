@@ -8,9 +8,9 @@ ghost use Rattle.rib_store.specs.Routing.{routed_state, AreRouted};
 ghost use Rattle.rib_store.specs.Steps.{Leaves};
 ghost use Rattle.rib_store.specs.Touched.{announces, announced};
 
-use crate::notes::note;
+use crate::marks::Marks;
 use av_base::{NoMemory, Steps};
-use path_model::{Change, Changes, Key, Peer, Roles, Trail, Verdict};
+use path_model::{Change, Changes, Key, Peer, Roles, Trail};
 use route_map::RouteMap;
 use shared_cases::SharedCases;
 use std::sync::ledger::Ledger;
@@ -21,8 +21,7 @@ use vap_table::Vaps;
 pub(crate) struct Routing {
     pub(crate) routes: RouteMap<u32>,
     pub(crate) cases: SharedCases,
-    pub(crate) notes: RouteMap<Option<Verdict>>,
-    pub(crate) is_marked: bool,
+    pub(crate) marks: Marks,
 }
 
 impl Routing {
@@ -93,14 +92,7 @@ impl Routing {
         let _length = self.routes.len();
         let number = self.cases.take(key.peer.asn, trail, table, roles, steps)?;
         let before = self.routes.insert(key, number)?;
-        note(
-            &mut self.notes,
-            self.is_marked,
-            &self.cases,
-            &key,
-            before,
-            Some(number),
-        )?;
+        self.marks.follow(&self.cases, &key, before, Some(number))?;
         leave(&mut self.cases, before);
         Ok(())
     }
@@ -117,14 +109,7 @@ impl Routing {
         // it comes with the order of the keys
         let _length = self.routes.len();
         let before = self.routes.remove(key);
-        note(
-            &mut self.notes,
-            self.is_marked,
-            &self.cases,
-            key,
-            before,
-            None,
-        )?;
+        self.marks.follow(&self.cases, key, before, None)?;
         leave(&mut self.cases, before);
         Ok(())
     }

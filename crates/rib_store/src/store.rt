@@ -17,13 +17,13 @@ ghost use Rattle.rib_store.specs.Counts.{AreCounts};
 ghost use Rattle.rib_store.specs.Touched.{announced, IsWithinTouched};
 
 use crate::counts::{Counts, count};
-use crate::journal::{Journal, walk};
-use crate::merged::Merged;
+use crate::journal::{Journal, Left};
+use crate::marks::Marks;
 use crate::rib::{Rib, Shown};
 use crate::routing::Routing;
 use av_base::{NoMemory, Steps};
 use hop_index::HopIndex;
-use path_model::{Changes, Key, Role, Roles, Verdict};
+use path_model::{Changes, Key, Role, Roles};
 use route_map::RouteMap;
 use shared_cases::{Case, SharedCases};
 use std::alloc::Global;
@@ -41,17 +41,15 @@ pub struct RibStore {
     // the number of each route's case
     pub(crate) routes: RouteMap<u32>,
     pub(crate) cases: SharedCases,
-    // what was marked of the keys whose route changed since the mark
-    pub(crate) notes: RouteMap<Option<Verdict>>,
-    // whether verdicts were ever marked; before, there are no notes
-    pub(crate) is_marked: bool,
+    pub(crate) marks: Marks,
 }
 
 /// A contract sees the state of the analysis, and the cases.
 impl Model for RibStore {
     ghost use Rattle.shared_cases.specs.Grounds.{grounds};
-    ghost use Rattle.rib_store.specs.Cased.{routes_by, marked_by, AreStored};
+    ghost use Rattle.rib_store.specs.Cased.{routes_by, marked_by};
     ghost use Rattle.rib_store.specs.Codes.{coded_stored};
+    ghost use Rattle.rib_store.specs.Marks.{AreSound};
     ghost use Rattle.rib_store.specs.Stored.{Stored};
 
     ghost Value = { Stored };
@@ -63,12 +61,12 @@ impl Model for RibStore {
         parts = s.table;
         roles = s.roles;
         routes = routes_by s.cases s.routes;
-        marked = marked_by s.is_marked s.cases s.routes s.notes;
+        marked = marked_by s.marks.is_marked s.cases s.routes s.marks.notes;
       };
       cases = s.cases;
     } };
 
-    ghost invariant = { λ s. AreStored (grounds s.table s.roles) s.routes s.cases };
+    ghost invariant = { λ s. AreSound (grounds s.table s.roles) s.routes s.cases s.marks };
 }
 
 impl RibStore {
@@ -83,8 +81,7 @@ impl RibStore {
             roles: Roles::new(alloc),
             routes: RouteMap::new(alloc),
             cases: SharedCases::new(alloc),
-            notes: RouteMap::new(alloc),
-            is_marked: false,
+            marks: Marks::new(alloc),
         }
     }
 
@@ -105,21 +102,18 @@ impl RibStore {
             roles,
             routes,
             cases,
-            notes,
-            is_marked,
+            marks,
         } = self;
         let mut routing = Routing {
             routes,
             cases,
-            notes,
-            is_marked,
+            marks,
         };
         routing.perform_all(changes, &table, &roles, steps)?;
         let Routing {
             routes,
             cases,
-            notes,
-            is_marked,
+            marks,
         } = routing;
         Ok(RibStore {
             alloc,
@@ -127,8 +121,7 @@ impl RibStore {
             roles,
             routes,
             cases,
-            notes,
-            is_marked,
+            marks,
         })
     }
 
@@ -150,22 +143,21 @@ impl RibStore {
             roles,
             routes,
             cases,
-            notes,
-            is_marked,
+            mut marks,
         } = self;
         // it comes with the order of the keys
         let _length = routes.len();
         cases.are_distinct();
         let (table, moves) = table.change(change)?;
-        let cases = cases.follow_table(&moves, &table, &roles, steps)?;
+        let (cases, differing) = cases.follow_table(&moves, &table, &roles, steps)?;
+        marks.note_cases(alloc, &routes, &cases, &differing)?;
         Ok(RibStore {
             alloc,
             table,
             roles,
             routes,
             cases,
-            notes,
-            is_marked,
+            marks,
         })
     }
 
@@ -188,22 +180,21 @@ impl RibStore {
             mut roles,
             routes,
             cases,
-            notes,
-            is_marked,
+            mut marks,
         } = self;
         // it comes with the order of the keys
         let _length = routes.len();
         let before = roles.of(asn);
         roles.set(asn, role)?;
-        let cases = cases.follow_role(asn, before, &table, &roles, steps)?;
+        let (cases, differing) = cases.follow_role(asn, before, &table, &roles, steps)?;
+        marks.note_cases(alloc, &routes, &cases, &differing)?;
         Ok(RibStore {
             alloc,
             table,
             roles,
             routes,
             cases,
-            notes,
-            is_marked,
+            marks,
         })
     }
 
@@ -226,22 +217,21 @@ impl RibStore {
             mut roles,
             routes,
             cases,
-            notes,
-            is_marked,
+            mut marks,
         } = self;
         // it comes with the order of the keys
         let _length = routes.len();
         let before = roles.copy()?;
         roles.set_default(role);
-        let cases = cases.follow_roles(&before, &table, &roles, steps)?;
+        let (cases, differing) = cases.follow_roles(&before, &table, &roles, steps)?;
+        marks.note_cases(alloc, &routes, &cases, &differing)?;
         Ok(RibStore {
             alloc,
             table,
             roles,
             routes,
             cases,
-            notes,
-            is_marked,
+            marks,
         })
     }
 
@@ -279,25 +269,31 @@ impl RibStore {
     }
 
     /// Each key whose verdict or presence differs from the marked one, in key order. At the start nothing is marked. It takes no
-    /// memory, and after a mark the time of a look-up for each peer and for each key whose route changed since, and of the routes of the
-    /// peers of those ASes of which a case got another verdict since; before the first mark that of all routes.
+    /// memory, and after a mark the time of a look-up for each key whose route changed since or whose case got another verdict; before the
+    /// first mark that of all routes.
     pub fn changes(&self) -> Journal<'_>
         ensures changes { AreChanges self.now.state (changes_left result) }
         ensures few { length (changes_left result) < 2 ^ 64 }
     {
         // it comes with the order of the keys
         let _length = self.routes.len();
-        let routes = walk(self.is_marked, &self.routes, &self.cases);
+        if !self.marks.is_marked {
+            return Journal {
+                left: Left::OfRoutes(self.routes.iter()),
+                routes: &self.routes,
+                cases: &self.cases,
+            };
+        }
+        self.cases.are_settled();
         Journal {
-            merged: Merged::new(self.notes.iter(), routes),
+            left: Left::OfNotes(self.marks.notes.iter()),
             routes: &self.routes,
             cases: &self.cases,
-            is_marked: self.is_marked,
         }
     }
 
     /// The current verdicts are the marked ones from now on. It takes no memory, and the time of the cases that got another verdict and of
-    /// the keys whose route changed since the last mark.
+    /// the keys whose route or whose case's verdict changed since the last mark.
     pub fn mark(self) -> RibStore
         ensures { IsMarked self.state result.state }
     {
@@ -307,20 +303,23 @@ impl RibStore {
             roles,
             routes,
             cases,
-            notes: _before,
-            is_marked: _ever,
+            marks,
         } = self;
         // it comes with the order of the keys
         let _length = routes.len();
         let cases = cases.mark();
+        let marks = Marks {
+            is_marked: true,
+            notes: RouteMap::new(alloc),
+            keys: marks.keys,
+        };
         RibStore {
             alloc,
             table,
             roles,
             routes,
             cases,
-            notes: RouteMap::new(alloc),
-            is_marked: true,
+            marks,
         }
     }
 

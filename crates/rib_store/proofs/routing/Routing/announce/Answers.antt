@@ -1,4 +1,4 @@
-use Rattle.std.proofs.Common.{Option, Some, ℕ, subst}
+use Rattle.std.proofs.Common.{Bool, Option, Some, ℕ, sym, subst, ◌∙◌, ap}
 use Rattle.std.specs.BTreeMap.{is_at}
 use Rattle.std.specs.Map.{lookup}
 use Rattle.std.specs.Option.{option_map}
@@ -6,25 +6,49 @@ use Rattle.path_model.specs.declared.verdict.Verdict.{Verdict}
 use Rattle.path_model.specs.Key.{key_cmp}
 use Rattle.shared_cases.specs.Cases.{at, marked_or}
 use Rattle.shared_cases.specs.Grounds.{grounds}
+use Rattle.rib_store.specs.Marks.{AreNoted, IsCaseAt}
 use Rattle.rib_store.specs.Steps.{Leaves, NotesMove}
-use Rattle.rib_store.proofs.RouteLemmas.{announced_state, mark_taken}
+use Rattle.rib_store.proofs.MarksLemmas.{case_at, keys_follow}
+use Rattle.rib_store.proofs.NotedLemmas.{mark_at}
+use Rattle.rib_store.proofs.RouteLemmas.{announced_noted, announced_state, mark_taken, state_by}
 use Rattle.rib_store.proofs.StoredLemmas.{inserted, settled}
 use Rattle.rib_store.proofs.routing.Routing.announce.Goals as goal
 
+pub follow-requires : goal.follow-requires
+follow-requires g c = subst (IsCaseAt c.args.self.now.marks.keys c.args.key) (sym c.in_ok-before.ensures.before) (case_at c.args.self.now.marks.keys c.args.self.now.routes c.args.key c.requires.marks.keys)
+
 pub returns-clause-routed : goal.returns-clause-routed
-returns-clause-routed g c = settled (grounds c.args.table.now c.args.roles.now) c.insert.new.self c.take.new.self c.leave.new.cases _
-    (inserted (grounds c.args.table.now c.args.roles.now) c.args.self.now.routes c.insert.new.self c.args.self.now.cases c.take.new.self c.args.key c.in_ok-number.number c.args.trail
-    c.requires c.in_ok-number.ensures.taken c.len-length.ensures.in_order c.in_ok-before.ensures.inserted c.in_ok-before.ensures.updates)
-    (subst (λ (o : Option ℕ). Leaves c.take.new.self o c.leave.new.cases) c.in_ok-before.ensures.before c.leave.ensures)
+returns-clause-routed g c =
+    let leaves : Leaves c.take.new.self (lookup (is_at (key_cmp c.args.key)) c.args.self.now.routes) c.leave.new.cases = subst (λ (o : Option ℕ). Leaves c.take.new.self o c.leave.new.cases) c.in_ok-before.ensures.before c.leave.ensures in
+    let moves : NotesMove c.args.self.now.marks.is_marked c.args.self.now.marks.notes c.args.key (lookup (is_at (key_cmp c.args.key)) c.args.self.now.routes) (Some c.in_ok-number.number) (mark_at c.args.self.now.cases c.args.self.now.routes c.args.key) c.follow.new.self.notes =
+    subst (λ (v : Option Verdict). NotesMove c.args.self.now.marks.is_marked c.args.self.now.marks.notes c.args.key (lookup (is_at (key_cmp c.args.key)) c.args.self.now.routes) (Some c.in_ok-number.number) v c.follow.new.self.notes)
+    (mark_taken (grounds c.args.table.now c.args.roles.now) c.args.table.now c.args.roles.now c.args.self.now.marks.is_marked c.args.self.now.routes c.insert.new.self c.args.self.now.marks.notes c.follow.new.self.notes c.args.key
+    c.args.self.now.cases c.take.new.self c.in_ok-number.number c.args.trail c.requires.stored c.in_ok-number.ensures.taken)
+    (subst (λ (o : Option ℕ). NotesMove c.args.self.now.marks.is_marked c.args.self.now.marks.notes c.args.key o (Some c.in_ok-number.number) (option_map (λ n. marked_or (at c.take.new.self n)) o) c.follow.new.self.notes)
+    c.in_ok-before.ensures.before c.in_ok-follow.ensures.noted) in
+    record {
+      stored = settled (grounds c.args.table.now c.args.roles.now) c.insert.new.self c.take.new.self c.leave.new.cases _
+          (inserted (grounds c.args.table.now c.args.roles.now) c.args.self.now.routes c.insert.new.self c.args.self.now.cases c.take.new.self c.args.key c.in_ok-number.number c.args.trail
+          c.requires.stored c.in_ok-number.ensures.taken c.len-length.ensures.in_order c.in_ok-before.ensures.inserted c.in_ok-before.ensures.updates)
+          leaves;
+      marks = record {
+        noted = subst (λ (b : Bool). AreNoted b c.insert.new.self c.leave.new.cases c.follow.new.self.notes) (sym c.follow.ensures.same)
+            (announced_noted (grounds c.args.table.now c.args.roles.now) c.args.table.now c.args.roles.now c.args.self.now.marks.is_marked c.args.self.now.routes c.insert.new.self c.args.self.now.marks.notes c.follow.new.self.notes c.args.key
+            c.args.self.now.cases c.take.new.self c.leave.new.cases c.in_ok-number.number c.args.trail
+            c.requires.stored c.in_ok-number.ensures.taken c.len-length.ensures.in_order c.in_ok-before.ensures.inserted c.in_ok-before.ensures.updates leaves moves c.requires.marks.noted);
+        keys = keys_follow c.args.self.now.marks.keys c.follow.new.self.keys c.args.self.now.routes c.insert.new.self c.args.key (Some c.in_ok-number.number) c.requires.marks.keys c.in_ok-before.ensures.updates c.in_ok-follow.ensures.keys;
+      };
+    }
 
 pub returns-clause-state : goal.returns-clause-state
 returns-clause-state g c =
-    announced_state (grounds c.args.table.now c.args.roles.now) c.args.table.now c.args.roles.now c.args.self.now.is_marked c.args.self.now.routes c.insert.new.self c.args.self.now.notes c.note.new.notes c.args.key
+    ap (λ (b : Bool). state_by c.args.table.now c.args.roles.now b c.leave.new.cases c.insert.new.self c.follow.new.self.notes) c.follow.ensures.same
+    ∙ announced_state (grounds c.args.table.now c.args.roles.now) c.args.table.now c.args.roles.now c.args.self.now.marks.is_marked c.args.self.now.routes c.insert.new.self c.args.self.now.marks.notes c.follow.new.self.notes c.args.key
     c.args.self.now.cases c.take.new.self c.leave.new.cases c.in_ok-number.number c.args.trail
-    c.requires c.in_ok-number.ensures.taken c.len-length.ensures.in_order c.in_ok-before.ensures.inserted c.in_ok-before.ensures.updates
+    c.requires.stored c.in_ok-number.ensures.taken c.len-length.ensures.in_order c.in_ok-before.ensures.inserted c.in_ok-before.ensures.updates
     (subst (λ (o : Option ℕ). Leaves c.take.new.self o c.leave.new.cases) c.in_ok-before.ensures.before c.leave.ensures)
-    (subst (λ (v : Option Verdict). NotesMove c.args.self.now.is_marked c.args.self.now.notes c.args.key (lookup (is_at (key_cmp c.args.key)) c.args.self.now.routes) (Some c.in_ok-number.number) v c.note.new.notes)
-    (mark_taken (grounds c.args.table.now c.args.roles.now) c.args.table.now c.args.roles.now c.args.self.now.is_marked c.args.self.now.routes c.insert.new.self c.args.self.now.notes c.note.new.notes c.args.key
-    c.args.self.now.cases c.take.new.self c.in_ok-number.number c.args.trail c.requires c.in_ok-number.ensures.taken)
-    (subst (λ (o : Option ℕ). NotesMove c.args.self.now.is_marked c.args.self.now.notes c.args.key o (Some c.in_ok-number.number) (option_map (λ n. marked_or (at c.take.new.self n)) o) c.note.new.notes)
-    c.in_ok-before.ensures.before c.in_ok-note.ensures))
+    (subst (λ (v : Option Verdict). NotesMove c.args.self.now.marks.is_marked c.args.self.now.marks.notes c.args.key (lookup (is_at (key_cmp c.args.key)) c.args.self.now.routes) (Some c.in_ok-number.number) v c.follow.new.self.notes)
+    (mark_taken (grounds c.args.table.now c.args.roles.now) c.args.table.now c.args.roles.now c.args.self.now.marks.is_marked c.args.self.now.routes c.insert.new.self c.args.self.now.marks.notes c.follow.new.self.notes c.args.key
+    c.args.self.now.cases c.take.new.self c.in_ok-number.number c.args.trail c.requires.stored c.in_ok-number.ensures.taken)
+    (subst (λ (o : Option ℕ). NotesMove c.args.self.now.marks.is_marked c.args.self.now.marks.notes c.args.key o (Some c.in_ok-number.number) (option_map (λ n. marked_or (at c.take.new.self n)) o) c.follow.new.self.notes)
+    c.in_ok-before.ensures.before c.in_ok-follow.ensures.noted))

@@ -6,7 +6,7 @@ use Rattle.path_model.specs.declared.key.Key.{Key}
 use Rattle.path_model.specs.Key.{key_cmp}
 use Rattle.rib_store.proofs.KeyLemmas.{same_key}
 use Rattle.rib_store.proofs.NotedLemmas.{note_new, none_of}
-use Rattle.rib_store.proofs.notes.note_first.Goals as goal
+use Rattle.rib_store.proofs.marks.note_first.Goals as goal
 
 pub returns : goal.returns
 returns c = λ q. c.in_ok-insert.ensures.updates q

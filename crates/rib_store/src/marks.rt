@@ -1,0 +1,189 @@
+//! What was marked, beside what the cases tell of it.
+ghost use Rattle.std.specs.Prelude.{◌≡◌, true, false, [], None, Some, IfOk, OnOk};
+ghost use Rattle.std.specs.BTreeMap.{is_at};
+ghost use Rattle.std.specs.Map.{lookup};
+ghost use Rattle.std.specs.Option.{option_map};
+ghost use Rattle.path_model.specs.declared.key.Key.{Key as AnyKey};
+ghost use Rattle.path_model.specs.Key.{key_cmp};
+ghost use Rattle.route_map.specs.Keys.{has_key, IsReverse};
+ghost use Rattle.shared_cases.specs.Cases.{at, marked_or};
+ghost use Rattle.rib_store.specs.Marks.{is_key_of, AreCovered, AreKeysOfRoutes, AreOfPeers, FollowsIn, IsCaseAt, NotesCases, TellsMarks};
+ghost use Rattle.rib_store.specs.Steps.{or_noted, Notes, NotesMove};
+
+use crate::journal::mark_of;
+use av_base::NoMemory;
+use path_model::{Key, Verdict};
+use route_map::{KeysByNumber, RouteMap};
+use shared_cases::{CaseNumbers, SharedCases};
+use std::alloc::Global;
+
+// Once verdicts were marked, a note of each key whose route changed since, or whose case got another verdict than the marked one: what
+// was marked of the key. Of each other key its case tells it.
+#[derive(Drop)]
+pub(crate) struct Marks {
+    // whether verdicts were ever marked; before, there are no notes
+    pub(crate) is_marked: bool,
+    // none, where the key had no route at the mark
+    pub(crate) notes: RouteMap<Option<Verdict>>,
+    // the keys of each case, from when a case first gets another verdict than the marked one
+    pub(crate) keys: Option<KeysByNumber>,
+}
+
+impl Marks {
+    // Nothing was marked yet. It takes no memory.
+    pub(crate) fn new(alloc: Global) -> Marks
+        ensures { result ≡ record { is_marked = false; notes = []; keys = None } }
+    {
+        Marks {
+            is_marked: false,
+            notes: RouteMap::new(alloc),
+            keys: None,
+        }
+    }
+
+    // A key that had the case `before`, if it had one, has `after` from now on. It takes up to four look-ups, and where these are the same
+    // none.
+    pub(crate) fn follow(
+        &mut self,
+        cases: &SharedCases,
+        key: &Key,
+        before: Option<u32>,
+        after: Option<u32>,
+    ) -> Result<(), NoMemory>
+        requires { IsCaseAt self.old.keys key.now before }
+        ensures noted { OnOk result (NotesMove self.old.is_marked self.old.notes key.now before after
+            (option_map (λ n. marked_or (at cases.now n)) before) self.new.notes) }
+        ensures keys { OnOk result (FollowsIn self.old.keys key.now after self.new.keys) }
+        ensures same { self.new.is_marked ≡ self.old.is_marked }
+    {
+        note(&mut self.notes, self.is_marked, cases, key, before, after)?;
+        match &mut self.keys {
+            None => Ok(()),
+            Some(keys) => keys.follow(key, before, after),
+        }
+    }
+
+    // These cases got another verdict than the marked one, each for the first time since the mark. It takes the time of their keys, and the
+    // first time that of all routes.
+    pub(crate) fn note_cases(
+        &mut self,
+        alloc: Global,
+        routes: &RouteMap<u32>,
+        cases: &SharedCases,
+        numbers: &CaseNumbers,
+    ) -> Result<(), NoMemory>
+        requires of_peers { AreOfPeers routes.now cases.now }
+        requires held { AreKeysOfRoutes self.old.keys routes.now }
+        ensures told { OnOk result (TellsMarks routes.now cases.now self.old.notes self.new.notes) }
+        ensures covered { OnOk result (self.old.is_marked ≡ true
+            → AreCovered routes.now cases.now numbers.now self.new.notes) }
+        ensures keys { OnOk result (AreKeysOfRoutes self.new.keys routes.now) }
+        ensures same { self.new.is_marked ≡ self.old.is_marked }
+    {
+        if !self.is_marked || numbers.is_empty() {
+            return Ok(());
+        }
+        let keys = take_keys(&mut self.keys, alloc, routes)?;
+        note_each(&mut self.notes, &keys, cases, numbers)?;
+        self.keys = Some(keys);
+        Ok(())
+    }
+}
+
+// The keys of the cases, which are held for as long as they follow the routes.
+fn take_keys(
+    keys: &mut Option<KeysByNumber>,
+    alloc: Global,
+    routes: &RouteMap<u32>,
+) -> Result<KeysByNumber, NoMemory>
+    requires { AreKeysOfRoutes keys.old routes.now }
+    ensures { IfOk result (λ held. IsReverse held routes.now) }
+{
+    match keys.take() {
+        None => KeysByNumber::of_routes(alloc, routes),
+        Some(held) => Ok(held),
+    }
+}
+
+// Notes what was marked of a key that had the case `before`, if it had one, and has `after` from now on. It doesn't where these are the
+// same, nor where the key has a note already or nothing was marked yet.
+fn note(
+    notes: &mut RouteMap<Option<Verdict>>,
+    is_marked: bool,
+    cases: &SharedCases,
+    key: &Key,
+    before: Option<u32>,
+    after: Option<u32>,
+) -> Result<(), NoMemory>
+    ensures { OnOk result (NotesMove is_marked notes.old key.now before after
+        (option_map (λ n. marked_or (at cases.now n)) before) notes.new) }
+{
+    if !is_marked || before == after {
+        return Ok(());
+    }
+    note_first(notes, *key, mark_of(cases, before))
+}
+
+// Notes what was marked of the keys of these cases.
+fn note_each(
+    notes: &mut RouteMap<Option<Verdict>>,
+    keys: &KeysByNumber,
+    cases: &SharedCases,
+    numbers: &CaseNumbers,
+) -> Result<(), NoMemory>
+    ensures { OnOk result (NotesCases keys.now cases.now numbers.now notes.old notes.new) }
+{
+    for number in numbers.iter() {
+        note_case(notes, keys, cases, *number)?;
+    }
+    Ok(())
+}
+
+// Notes what was marked of the keys of one case.
+fn note_case(
+    notes: &mut RouteMap<Option<Verdict>>,
+    keys: &KeysByNumber,
+    cases: &SharedCases,
+    number: usize,
+) -> Result<(), NoMemory>
+    ensures { OnOk result ((q : AnyKey) → lookup (is_at (key_cmp q)) notes.new
+        ≡ or_noted (lookup (is_at (key_cmp q)) notes.old)
+        (is_key_of (at cases.now number) keys.now number q) (Some (marked_or (at cases.now number)))) }
+{
+    let Some(case) = cases.get(number) else {
+        return Ok(());
+    };
+    let short = u32::try_from(number).ok().ok_or(NoMemory)?;
+    let of_case = keys.of(case.asn, short)?;
+    note_all(notes, &of_case, Some(case.marked))
+}
+
+// Notes of these keys that this was marked.
+fn note_all(
+    notes: &mut RouteMap<Option<Verdict>>,
+    keys: &[Key],
+    marked: Option<Verdict>,
+) -> Result<(), NoMemory>
+    ensures { OnOk result ((q : AnyKey) → lookup (is_at (key_cmp q)) notes.new
+        ≡ or_noted (lookup (is_at (key_cmp q)) notes.old) (has_key keys.now q) marked) }
+{
+    for key in keys {
+        note_first(notes, *key, marked)?;
+    }
+    Ok(())
+}
+
+// Notes what was marked of a key, unless that is noted already.
+fn note_first(
+    notes: &mut RouteMap<Option<Verdict>>,
+    key: Key,
+    marked: Option<Verdict>,
+) -> Result<(), NoMemory>
+    ensures { OnOk result (Notes true notes.old key marked notes.new) }
+{
+    if notes.get(&key).is_some() {
+        return Ok(());
+    }
+    notes.insert(key, marked)?;
+    Ok(())
+}
