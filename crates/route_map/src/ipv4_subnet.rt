@@ -5,6 +5,7 @@ ghost use Rattle.std.specs.Cmp.{eq_by_cmp_equiv, partial_equiv_from_equiv, parti
 ghost use Rattle.path_model.specs.Order.{subnet_total};
 ghost use Rattle.path_model.specs.Prefix.{subnet_cmp};
 ghost use Rattle.route_map.specs.Families.{four_of};
+ghost use Rattle.route_map.specs.Numbered.{least_subnet};
 
 use path_model::{Addr, Prefix};
 use std::cmp::Ordering;
@@ -31,6 +32,13 @@ impl Model for Ipv4Subnet {
 }
 
 impl Ipv4Subnet {
+    // The least of all prefixes, of either family.
+    pub(crate) fn least() -> Ipv4Subnet
+        ensures { result ≡ least_subnet }
+    {
+        Ipv4Subnet { bits: 0, len: 0 }
+    }
+
     // The prefix, if it is one of IPv4.
     pub(crate) fn of(prefix: &Prefix) -> Option<Ipv4Subnet>
         ensures { result ≡ four_of prefix.now }
