@@ -6,7 +6,7 @@ ghost use Rattle.std.specs.List.Sorted.{IsStrictlySortedBy};
 ghost use Rattle.std.specs.Map.{keys_of, lookup, remove_entry};
 ghost use Rattle.path_model.specs.Key.{key_cmp};
 ghost use Rattle.path_model.specs.Routes.{is_of_peer};
-ghost use Rattle.route_map.specs.Flat.{flat, is_among};
+ghost use Rattle.route_map.specs.Flat.{flat};
 ghost use Rattle.route_map.specs.Held.{found, value_at, without, HaveRoutes, Puts, TakesOut};
 ghost use Rattle.route_map.specs.OfPeer.{HasNoRouteOf, IsRouteOf, first_key};
 ghost use Rattle.route_map.specs.Updates.{Gets, Loses};
@@ -17,7 +17,7 @@ use crate::peer_routes::PeerRoutes;
 use av_base::NoMemory;
 use path_model::{Key, Peer};
 use std::alloc::Global;
-use std::collections::{BTreeMap, BTreeSet};
+use std::collections::BTreeMap;
 use std::marker::Model;
 
 // How many routes there may be: their number is that of a `Vec`'s elements at most.
@@ -86,18 +86,6 @@ impl<V> RouteMap<V> {
         ensures in_order { IsStrictlySortedBy key_cmp (keys_of self.now) }
     {
         Iter {
-            ases: None,
-            first: None,
-            others: self.peers.iter(),
-        }
-    }
-
-    /// The routes of all peers of these ASes, in key order. It costs a look-up among the ASes for each peer, and then what these routes cost.
-    pub fn of_ases<'a>(&'a self, ases: &'a BTreeSet<u32>) -> Iter<'a, V>
-        ensures { result ≡ filter (λ e. is_among ases.now e.0.peer) self.now }
-    {
-        Iter {
-            ases: Some(ases),
             first: None,
             others: self.peers.iter(),
         }
