@@ -1,18 +1,16 @@
 -- What is kept of the cases when one of them changes.
-use Rattle.std.proofs.Common.{◌≡◌, ◌≢◌, ℕ, Bool, true, false, List, ◌∷◌, None, Some, refl, ap, sym, subst, ◌∙◌, ◌⊎◌, inl, inr, true≢false}
+use Rattle.std.proofs.Common.{◌≡◌, ◌≢◌, ℕ, Bool, not, ◌||◌, ◌&&◌, true, false, List, ◌∷◌, None, Some, refl, ap, sym, subst, ◌∙◌, ◌⊎◌, inl, inr, true≢false}
 use Rattle.std.specs.declared.option.Option.{Option}
-use Rattle.std.specs.BTreeSet.{contains}
-use Rattle.std.specs.Ordering.{nat_cmp}
-use Rattle.std.proofs.lemmas.Bool.{false_from_ne_true}
+use Rattle.std.proofs.lemmas.Bool.{false_from_ne_true, or_left, or_right, or_parts}
 use Rattle.path_model.specs.declared.verdict.Verdict.{Verdict}
+use Rattle.path_model.specs.declared.verdict.Verdict.TheVariants.{Valid, Unknown, Invalid}
 use Rattle.path_model.specs.Trail.{Path}
 use Rattle.ramps.specs.Judgement.{Judgement}
 use Rattle.hop_index.specs.Index.{Entries}
 use Rattle.shared_cases.specs.declared.case.StoredCase.{StoredCase}
-use Rattle.shared_cases.specs.declared.noted.Noted.{Noted}
-use Rattle.shared_cases.specs.Cases.{Slots, at, Rewrites, IsSettled, IsSameCase, AreSameCases, is_of_peer, marked_now}
-use Rattle.shared_cases.specs.Kept.{AreKept}
-use Rattle.shared_cases.specs.Noting.{IsNoted}
+use Rattle.shared_cases.specs.Cases.{Slots, at, differs, has_differed, same_verdict, Rewrites, IsSettled, IsSameCase, AreSameCases, marked_now}
+use Rattle.shared_cases.specs.Differed.{AreNewlyDiffering, AreSettledOrDiffered, HasDiffered, HaveDiffered}
+use Rattle.shared_cases.specs.Kept.{AreIndexed, AreKept}
 use Rattle.shared_cases.specs.Numbers.{has}
 use Rattle.shared_cases.specs.Peers.{Members}
 use Rattle.shared_cases.specs.Taking.{lowered, new_case, raised}
@@ -24,60 +22,67 @@ each_at : (P : ℕ → Option StoredCase → Type 0) (old new : Slots) (n m : �
 each_at P old new n m v writes here was (inl e) = subst (λ (k : ℕ). P k (at new k)) (sym e) (subst (P n) (sym writes.here) here)
 each_at P old new n m v writes here was (inr other) = subst (P m) (sym (writes.others m other)) was
 
-pub noted_settled : (noted : Noted) (n : ℕ) (c : Option StoredCase) → IsSettled c → IsNoted noted n c
-noted_settled noted n c settled = record { by_number = λ absent. settled; by_as = λ asn of_it absent. settled }
+-- a case is settled or has differed, and where it has, it is among those
+abbrev pub IsListed : List ℕ → ℕ → Option StoredCase → Type 0
+IsListed differed n c = (has_differed c ≡ false → IsSettled c) × (has_differed c ≡ true → has differed n ≡ true)
 
--- a case that is settled stands or goes
-pub still_noted : (old new : Slots) (n : ℕ) (v : Option StoredCase) (noted : Noted) → Rewrites old new n v → IsSettled v
-    → ((m : ℕ) → IsNoted noted m (at old m)) → (m : ℕ) → IsNoted noted m (at new m)
-still_noted old new n v noted writes here was m = each_at (IsNoted noted) old new n m v writes (noted_settled noted n v here) (was m) (decide_eq m n)
+-- and so is one that changes
+each_listed : (old new : Slots) (n : ℕ) (v : Option StoredCase) (differed : List ℕ) → Rewrites old new n v → AreSettledOrDiffered old → ((m : ℕ) → has_differed (at old m) ≡ true → has differed m ≡ true)
+    → IsListed differed n v → (m : ℕ) → IsListed differed m (at new m)
+each_listed old new n v differed writes settled listed here m = each_at (IsListed differed) old new n m v writes here (settled m, listed m) (decide_eq m n)
 
 -- what is stored of a new case
 pub same_new : (slot : Option StoredCase) (asn : ℕ) (copy path : Path) (verdict : Verdict) (judgement : Judgement)
-    → slot ≡ Some (record { trail = copy; users = 1; judged = judgement; asn = asn; marked = verdict }) → copy ≡ path → verdict ≡ judgement.verdict → slot ≡ Some (new_case asn path judgement)
-same_new slot asn copy path verdict judgement here same_path same_verdict =
-    here ∙ (λ i. Some (record { trail = same_path i; users = 1; judged = judgement; asn = asn; marked = same_verdict i }))
+    → slot ≡ Some (record { trail = copy; users = 1; judged = judgement; asn = asn; marked = verdict; differed = false }) → copy ≡ path → verdict ≡ judgement.verdict → slot ≡ Some (new_case asn path judgement)
+same_new slot asn copy path verdict judgement here same_path same_marked =
+    here ∙ (λ i. Some (record { trail = same_path i; users = 1; judged = judgement; asn = asn; marked = same_marked i; differed = false }))
 
-module _ (old new : Slots) (n : ℕ) (names : Names) (index : Entries) (peers : Members) (noted : Noted) (kept : AreKept old names index peers noted) where
+-- a case that is settled and hasn't differed comes or goes
+pub rewritten_kept : (old new : Slots) (n : ℕ) (v : Option StoredCase) (names names' : Names) (index index' : Entries) (peers peers' : Members) (differed : List ℕ) → AreKept old names index peers differed
+    → Rewrites old new n v → has_differed v ≡ false → IsSettled v → AreIndexed new names' index' peers' → AreKept new names' index' peers' differed
+rewritten_kept old new n v names names' index index' peers peers' differed kept writes hasnt settled indexed =
+    let each = each_listed old new n v differed writes kept.settled kept.listed ((λ is. settled), λ has_it. absurd (true≢false (sym has_it ∙ hasnt))) in
+    record { indexed = indexed; settled = λ m. (each m).0; listed = λ m. (each m).1 }
+
+module _ (old new : Slots) (n : ℕ) (names : Names) (index : Entries) (peers : Members) (differed : List ℕ) (kept : AreKept old names index peers differed) where
   -- a case with another number of users
-  rewrite_kept : (v : Option StoredCase) → Rewrites old new n v → IsSameName (at old n) v → (IsNoted noted n (at old n) → IsNoted noted n v) → AreKept new names index peers noted
-  rewrite_kept v writes same keeps = record {
-    indexed = rewritten old new n v names index peers writes same kept.indexed;
-    are_noted = λ m. each_at (IsNoted noted) old new n m v writes (keeps (kept.are_noted n)) (kept.are_noted m) (decide_eq m n);
-  }
+  rewrite_kept : (v : Option StoredCase) → Rewrites old new n v → IsSameName (at old n) v → (IsListed differed n (at old n) → IsListed differed n v) → AreKept new names index peers differed
+  rewrite_kept v writes same keeps =
+      let each = each_listed old new n v differed writes kept.settled kept.listed (keeps (kept.settled n, kept.listed n)) in
+      record { indexed = rewritten old new n v names index peers writes same kept.indexed; settled = λ m. (each m).0; listed = λ m. (each m).1 }
 
-  pub raised_kept : Rewrites old new n (raised (at old n)) → AreKept new names index peers noted
+  pub raised_kept : Rewrites old new n (raised (at old n)) → AreKept new names index peers differed
   raised_kept writes = rewrite_kept (raised (at old n)) writes (same (at old n)) (keeps (at old n)) where
     same : (c : Option StoredCase) → IsSameName c (raised c)
     same None = tt
     same (Some c) = (refl, refl)
 
-    keeps : (c : Option StoredCase) → IsNoted noted n c → IsNoted noted n (raised c)
+    keeps : (c : Option StoredCase) → IsListed differed n c → IsListed differed n (raised c)
     keeps None is = is
-    keeps (Some c) is = record { by_number = is.by_number; by_as = is.by_as }
+    keeps (Some c) is = is
 
-  pub lowered_kept : Rewrites old new n (lowered (at old n)) → AreKept new names index peers noted
+  pub lowered_kept : Rewrites old new n (lowered (at old n)) → AreKept new names index peers differed
   lowered_kept writes = rewrite_kept (lowered (at old n)) writes (same (at old n)) (keeps (at old n)) where
     same : (c : Option StoredCase) → IsSameName c (lowered c)
     same None = tt
     same (Some c) = (refl, refl)
 
-    keeps : (c : Option StoredCase) → IsNoted noted n c → IsNoted noted n (lowered c)
+    keeps : (c : Option StoredCase) → IsListed differed n c → IsListed differed n (lowered c)
     keeps None is = is
-    keeps (Some c) is = record { by_number = is.by_number; by_as = is.by_as }
+    keeps (Some c) is = is
 
 -- ---- marking
-pub record IsMarking (noted : ℕ → Bool) (first now : Slots) (rest : List ℕ) : Type 0 where
-  pub marked : (n : ℕ) → noted n ≡ true → (has rest n ≡ true) ⊎ (at now n ≡ marked_now (at first n))
-  pub within : (n : ℕ) → has rest n ≡ true → noted n ≡ true
-  pub others : (n : ℕ) → noted n ≡ false → at now n ≡ at first n
+pub record IsMarking (chosen : ℕ → Bool) (first now : Slots) (rest : List ℕ) : Type 0 where
+  pub marked : (n : ℕ) → chosen n ≡ true → (has rest n ≡ true) ⊎ (at now n ≡ marked_now (at first n))
+  pub within : (n : ℕ) → has rest n ≡ true → chosen n ≡ true
+  pub others : (n : ℕ) → chosen n ≡ false → at now n ≡ at first n
   pub same : (n : ℕ) → marked_now (at now n) ≡ marked_now (at first n)
 
 marked_twice : (c : Option StoredCase) → marked_now (marked_now c) ≡ marked_now c
 marked_twice None = refl
 marked_twice (Some c) = refl
 
-module _ (noted : ℕ → Bool) (first now next : Slots) (x : ℕ) (rest : List ℕ) (so_far : IsMarking noted first now (x ∷ rest)) (writes : Rewrites now next x (marked_now (at now x))) where
+module _ (chosen : ℕ → Bool) (first now next : Slots) (x : ℕ) (rest : List ℕ) (so_far : IsMarking chosen first now (x ∷ rest)) (writes : Rewrites now next x (marked_now (at now x))) where
   marked_here : (n : ℕ) → n ≡ x → at next n ≡ marked_now (at first n)
   marked_here n e = ap (at next) e ∙ writes.here ∙ so_far.same x ∙ ap (λ (k : ℕ). marked_now (at first k)) (sym e)
 
@@ -93,7 +98,7 @@ module _ (noted : ℕ → Bool) (first now next : Slots) (x : ℕ) (rest : List 
   same_next n (inl e) = ap marked_now (ap (at next) e ∙ writes.here) ∙ marked_twice (at now x) ∙ so_far.same x ∙ ap (λ (k : ℕ). marked_now (at first k)) (sym e)
   same_next n (inr other) = ap marked_now (writes.others n other) ∙ so_far.same n
 
-  pub marking_next : IsMarking noted first next rest
+  pub marking_next : IsMarking chosen first next rest
   marking_next = record {
     marked = λ n is. marked_next n (so_far.marked n is);
     within = λ n later. so_far.within n (has_later n x rest later);
@@ -101,32 +106,35 @@ module _ (noted : ℕ → Bool) (first now next : Slots) (x : ℕ) (rest : List 
     same = λ n. same_next n (decide_eq n x);
   }
 
-settled_marked : (c : Option StoredCase) → IsSettled c → marked_now c ≡ c
-settled_marked None settled = refl
-settled_marked (Some c) settled = ap (λ (v : Verdict). Some (record c { marked = v })) (sym settled)
+settled_marked : (c : Option StoredCase) → has_differed c ≡ false → IsSettled c → marked_now c ≡ c
+settled_marked None hasnt settled = refl
+settled_marked (Some c) hasnt settled = λ i. Some (record c { marked = sym settled i; differed = sym hasnt i })
 
-pub settled_now : (c : Option StoredCase) → IsSettled (marked_now c)
-settled_now None = tt
-settled_now (Some c) = refl
+settled_now : (c : Option StoredCase) → (has_differed (marked_now c) ≡ false) × IsSettled (marked_now c)
+settled_now None = (refl, tt)
+settled_now (Some c) = (refl, refl)
 
-marked_by : (old new : Slots) (n : ℕ) (b : Bool) → (b ≡ true → at new n ≡ marked_now (at old n)) → (b ≡ false → at new n ≡ at old n) → (b ≡ false → IsSettled (at old n)) → at new n ≡ marked_now (at old n)
-marked_by old new n true marked others settled = marked refl
-marked_by old new n false marked others settled = others refl ∙ sym (settled_marked (at old n) (settled refl))
+marked_by : (c d : Option StoredCase) (b : Bool) → (b ≡ true → d ≡ marked_now c) → (b ≡ false → d ≡ c) → (has_differed c ≡ false → IsSettled c) → (has_differed c ≡ true → b ≡ true) → d ≡ marked_now c
+marked_by c d true marked others settled listed = marked refl
+marked_by c d false marked others settled listed =
+    let hasnt : has_differed c ≡ false = false_from_ne_true (has_differed c) (λ has_it. true≢false (sym (listed has_it))) in
+    others refl ∙ sym (settled_marked c hasnt (settled hasnt))
 
--- each case has its verdict as the marked one: the noted are marked, and the others were
-pub all_marked : (old new : Slots) (names : Names) (index : Entries) (peers : Members) (noted : Noted) → AreKept old names index peers noted
-    → ((n : ℕ) → has noted.numbers n ≡ true → at new n ≡ marked_now (at old n)) → ((n : ℕ) → has noted.numbers n ≡ false → at new n ≡ at old n) → (n : ℕ) → at new n ≡ marked_now (at old n)
-all_marked old new names index peers noted kept marked others n = marked_by old new n (has noted.numbers n) (marked n) (others n) (kept.are_noted n).by_number
+-- each case has its verdict as the marked one: those that have differed are marked, and the others had
+pub all_marked : (old new : Slots) (names : Names) (index : Entries) (peers : Members) (differed : List ℕ) → AreKept old names index peers differed
+    → ((n : ℕ) → has differed n ≡ true → at new n ≡ marked_now (at old n)) → ((n : ℕ) → has differed n ≡ false → at new n ≡ at old n) → (n : ℕ) → at new n ≡ marked_now (at old n)
+all_marked old new names index peers differed kept marked others n = marked_by (at old n) (at new n) (has differed n) (marked n) (others n) (kept.settled n) (kept.listed n)
 
 marked_same : (c : Option StoredCase) → IsSameName c (marked_now c)
 marked_same None = tt
 marked_same (Some c) = (refl, refl)
 
-pub marked_all_kept : (old new : Slots) (names : Names) (index : Entries) (peers : Members) (noted noted' : Noted) → AreKept old names index peers noted
-    → ((n : ℕ) → at new n ≡ marked_now (at old n)) → AreKept new names index peers noted'
-marked_all_kept old new names index peers noted noted' kept marked = record {
+pub marked_all_kept : (old new : Slots) (names : Names) (index : Entries) (peers : Members) (differed differed' : List ℕ) → AreKept old names index peers differed
+    → ((n : ℕ) → at new n ≡ marked_now (at old n)) → AreKept new names index peers differed'
+marked_all_kept old new names index peers differed differed' kept marked = record {
   indexed = same_names old new names index peers (λ n. subst (λ (o : Option StoredCase). IsSameName (at old n) o) (sym (marked n)) (marked_same (at old n))) kept.indexed;
-  are_noted = λ n. noted_settled noted' n (at new n) (subst (λ (o : Option StoredCase). IsSettled o) (sym (marked n)) (settled_now (at old n)));
+  settled = λ n hasnt. subst (λ (o : Option StoredCase). IsSettled o) (sym (marked n)) (settled_now (at old n)).1;
+  listed = λ n has_it. absurd (true≢false (sym has_it ∙ ap has_differed (marked n) ∙ (settled_now (at old n)).0));
 }
 
 -- ---- other judgements
@@ -136,32 +144,60 @@ same_case_name None (Some d) same = absurd same
 same_case_name (Some c) None same = absurd same
 same_case_name (Some c) (Some d) same = (same.0, same.1)
 
-module _ (old new : Slots) (noted noted' : Noted) (touched : List ℕ) (same : AreSameCases old new) (here : (n : ℕ) → has touched n ≡ true → IsNoted noted' n (at new n))
-    (keeps : (n : ℕ) (c : Option StoredCase) → IsNoted noted n c → IsNoted noted' n c) (others : (n : ℕ) → has touched n ≡ false → at new n ≡ at old n) where
-  noted_now : (n : ℕ) → IsNoted noted n (at old n) → (b : Bool) → has touched n ≡ b → IsNoted noted' n (at new n)
-  noted_now n was true there = here n there
-  noted_now n was false there = keeps n (at new n) (subst (λ (o : Option StoredCase). IsNoted noted n o) (sym (others n there)) was)
+same_settled : (a b : Verdict) → not (same_verdict a b) ≡ false → a ≡ b
+same_settled Valid Valid e = refl
+same_settled Valid Unknown e = absurd (true≢false e)
+same_settled Valid Invalid e = absurd (true≢false e)
+same_settled Unknown Valid e = absurd (true≢false e)
+same_settled Unknown Unknown e = refl
+same_settled Unknown Invalid e = absurd (true≢false e)
+same_settled Invalid Valid e = absurd (true≢false e)
+same_settled Invalid Unknown e = absurd (true≢false e)
+same_settled Invalid Invalid e = refl
 
-  -- the cases that were judged anew are noted, and the others stay so
-  pub rejudged_kept : (names : Names) (index : Entries) (peers : Members) → AreKept old names index peers noted → AreKept new names index peers noted'
-  rejudged_kept names index peers kept = record {
-    indexed = same_names old new names index peers (λ n. same_case_name (at old n) (at new n) (same n)) kept.indexed;
-    are_noted = λ n. noted_now n (kept.are_noted n) (has touched n) refl;
-  }
+settled_same : (a b : Verdict) → a ≡ b → not (same_verdict a b) ≡ false
+settled_same a b e = subst (λ (v : Verdict). not (same_verdict a v) ≡ false) e (itself a) where
+  itself : (a : Verdict) → not (same_verdict a a) ≡ false
+  itself Valid = refl
+  itself Unknown = refl
+  itself Invalid = refl
 
--- ---- noting
+-- a case is settled exactly where it doesn't differ
+settled_from : (c : Option StoredCase) → differs c ≡ false → IsSettled c
+settled_from None e = tt
+settled_from (Some c) e = same_settled c.marked c.judged.verdict e
 
--- more numbers and more ASes note what was noted
-pub noted_more : (before after : Noted) (n : ℕ) (c : Option StoredCase) → ((m : ℕ) → has before.numbers m ≡ true → has after.numbers m ≡ true)
-    → ((asn : ℕ) → contains nat_cmp before.ases asn ≡ true → contains nat_cmp after.ases asn ≡ true) → IsNoted before n c → IsNoted after n c
-noted_more before after n c numbers ases was = record {
-  by_number = λ absent. was.by_number (false_from_ne_true (has before.numbers n) (λ there. true≢false (sym (numbers n there) ∙ absent)));
-  by_as = λ asn of_it absent. was.by_as asn of_it (false_from_ne_true (contains nat_cmp before.ases asn) (λ there. true≢false (sym (ases asn there) ∙ absent)));
-}
+differs_not : (c : Option StoredCase) → IsSettled c → differs c ≡ false
+differs_not None settled = refl
+differs_not (Some c) settled = settled_same c.marked c.judged.verdict settled
 
--- a case under its number and its AS is noted
-pub noted_there : (after : Noted) (n : ℕ) (c : Option StoredCase) → has after.numbers n ≡ true → ((asn : ℕ) → is_of_peer c asn ≡ true → contains nat_cmp after.ases asn ≡ true) → IsNoted after n c
-noted_there after n c number ases = record {
-  by_number = λ absent. absurd (true≢false (sym number ∙ absent));
-  by_as = λ asn of_it absent. absurd (true≢false (sym (ases asn of_it) ∙ absent));
+-- a case that stays as it is has differed where it had
+same_differed : (c : Option StoredCase) (b : Bool) → has_differed c ≡ b → (b ≡ false → IsSettled c) → HasDiffered c c
+same_differed c true e settled = e ∙ sym (ap (λ (d : Bool). d || differs c) e)
+same_differed c false e settled = e ∙ sym (ap (λ (d : Bool). d || differs c) e ∙ differs_not c (settled refl))
+
+module _ (old new : Slots) (touched : List ℕ) (others : (n : ℕ) → has touched n ≡ false → at new n ≡ at old n) (settled : AreSettledOrDiffered old) where
+  differed_by : (n : ℕ) (b : Bool) → has touched n ≡ b → (has touched n ≡ true → HasDiffered (at old n) (at new n)) → HasDiffered (at old n) (at new n)
+  differed_by n true there here = here there
+  differed_by n false there here = subst (λ (o : Option StoredCase). HasDiffered (at old n) o) (sym (others n there)) (same_differed (at old n) (has_differed (at old n)) refl (settled n))
+
+  -- the cases that weren't judged anew have differed where they had
+  pub all_differed : ((n : ℕ) → has touched n ≡ true → HasDiffered (at old n) (at new n)) → HaveDiffered old new
+  all_differed here n = differed_by n (has touched n) refl (here n)
+
+settled_by : (c d : Option StoredCase) → HasDiffered c d → has_differed d ≡ false → IsSettled d
+settled_by c d had hasnt = settled_from d (or_parts (has_differed c) (differs d) (sym had ∙ hasnt)).1
+
+listed_by : (was now old_listed newly : Bool) → newly ≡ (now && not was) → (was ≡ true → old_listed ≡ true) → now ≡ true → (old_listed || newly) ≡ true
+listed_by true true old_listed newly told kept is = or_left old_listed newly (kept refl)
+listed_by false true old_listed newly told kept is = or_right old_listed newly told
+listed_by was false old_listed newly told kept is = absurd (true≢false (sym is))
+
+-- cases that were judged anew
+pub rejudged_kept : (old new : Slots) (names : Names) (index : Entries) (peers : Members) (differed differed' newly : List ℕ) → AreKept old names index peers differed
+    → AreSameCases old new → HaveDiffered old new → AreNewlyDiffering old new newly → ((n : ℕ) → has differed' n ≡ (has differed n || has newly n)) → AreKept new names index peers differed'
+rejudged_kept old new names index peers differed differed' newly kept same have told more = record {
+  indexed = same_names old new names index peers (λ n. same_case_name (at old n) (at new n) (same n)) kept.indexed;
+  settled = λ n hasnt. settled_by (at old n) (at new n) (have n) hasnt;
+  listed = λ n has_it. more n ∙ listed_by (has_differed (at old n)) (has_differed (at new n)) (has differed n) (has newly n) (told n) (kept.listed n) has_it;
 }

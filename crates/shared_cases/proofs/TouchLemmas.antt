@@ -27,7 +27,7 @@ abbrev pair_of : Option StoredCase → ℕ × Path
 pair_of None = (0, record { set = false; chain = [] })
 pair_of (Some c) = (c.asn, c.trail)
 
-not_below : (a b : ℕ) → a ≡ b → nat_cmp a b ≡ Less → ⊥
+pub not_below : (a b : ℕ) → a ≡ b → nat_cmp a b ≡ Less → ⊥
 not_below a b e less = true≢false (sym (nat_eq_equiv.refl b) ∙ sym (unsigned_tied b b) ∙ ap (λ (c : ℕ). is_eq (nat_cmp c b)) (sym e) ∙ ap is_eq less)
 
 touched_case : (old new : Grounds) (cases : Slots) (n : ℕ) (c : Option StoredCase) → at cases n ≡ c → IsTouchedNumber old new c → IsTouchedCase old new cases (pair_of c)

@@ -1,11 +1,9 @@
 -- The cases by number.
-use Rattle.std.specs.Prelude.{◌≡◌, ◌≢◌, ℕ, nat_eq, Bool, true, false, List, slice_index_or, ⊤}
+use Rattle.std.specs.Prelude.{◌≡◌, ◌≢◌, ℕ, nat_eq, Bool, true, false, not, List, slice_index_or, ⊤}
 use Rattle.std.specs.declared.option.Option.{Option}
 use Rattle.std.specs.declared.option.Option.TheVariants.{Some, None}
-use Rattle.std.specs.BTreeSet.{BTreeSet, contains}
-use Rattle.std.specs.Ordering.{nat_cmp}
 use Rattle.path_model.specs.declared.verdict.Verdict.{Verdict}
-use Rattle.path_model.specs.declared.verdict.Verdict.TheVariants.{Invalid}
+use Rattle.path_model.specs.declared.verdict.Verdict.TheVariants.{Valid, Unknown, Invalid}
 use Rattle.path_model.specs.Trail.{Path}
 use Rattle.hop_index.specs.Hops.{has_hop}
 use Rattle.hop_index.specs.Index.{Entries, has}
@@ -75,15 +73,32 @@ abbrev pub IsSettled : Option StoredCase → Type 0
 IsSettled None = ⊤
 IsSettled (Some c) = c.marked ≡ c.judged.verdict
 
--- each case of an AS other than these is settled
-abbrev pub AreSettledBut : BTreeSet ℕ → Slots → Type 0
-AreSettledBut ases cases =
-    (n asn : ℕ) → is_of_peer (at cases n) asn ≡ true → contains nat_cmp ases asn ≡ false → IsSettled (at cases n)
+-- whether two verdicts are the same
+abbrev pub same_verdict : Verdict → Verdict → Bool
+same_verdict Valid Valid = true
+same_verdict Valid Unknown = false
+same_verdict Valid Invalid = false
+same_verdict Unknown Valid = false
+same_verdict Unknown Unknown = true
+same_verdict Unknown Invalid = false
+same_verdict Invalid Valid = false
+same_verdict Invalid Unknown = false
+same_verdict Invalid Invalid = true
 
--- its verdict becomes the marked one
+-- whether its verdict is another one than the marked one
+abbrev pub differs : Option StoredCase → Bool
+differs None = false
+differs (Some c) = not (same_verdict c.marked c.judged.verdict)
+
+-- whether its verdict was another one than the marked one at some time since the last mark, or since it came
+abbrev pub has_differed : Option StoredCase → Bool
+has_differed None = false
+has_differed (Some c) = c.differed
+
+-- its verdict becomes the marked one, and from then on it hasn't differed
 abbrev pub marked_now : Option StoredCase → Option StoredCase
 marked_now None = None
-marked_now (Some c) = Some (record c { marked = c.judged.verdict })
+marked_now (Some c) = Some (record c { marked = c.judged.verdict; differed = false })
 
 -- the same case with another judgement at most
 abbrev pub IsSameCase : Option StoredCase → Option StoredCase → Type 0

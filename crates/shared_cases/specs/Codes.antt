@@ -71,10 +71,10 @@ coded_judgement = code_by (Verdict × Witness) (coded× coded_verdict coded_witn
     (λ p. record { verdict = p.0; witness = p.1 }) (λ _. refl)
 
 abbrev pub coded_case : Coded StoredCase
-coded_case = code_by (Path × (ℕ × (Judgement × (ℕ × Verdict))))
-    (coded× coded_path (coded× coded_ℕ (coded× coded_judgement (coded× coded_ℕ coded_verdict))))
-    (λ c. (c.trail, (c.users, (c.judged, (c.asn, c.marked)))))
-    (λ p. record { trail = p.0; users = p.1.0; judged = p.1.1.0; asn = p.1.1.1.0; marked = p.1.1.1.1 }) (λ _. refl)
+coded_case = code_by (Path × (ℕ × (Judgement × (ℕ × (Verdict × Bool)))))
+    (coded× coded_path (coded× coded_ℕ (coded× coded_judgement (coded× coded_ℕ (coded× coded_verdict coded_bool)))))
+    (λ c. (c.trail, (c.users, (c.judged, (c.asn, (c.marked, c.differed))))))
+    (λ p. record { trail = p.0; users = p.1.0; judged = p.1.1.0; asn = p.1.1.1.0; marked = p.1.1.1.1.0; differed = p.1.1.1.1.1 }) (λ _. refl)
 
 abbrev pub coded_slots : Coded Slots
 coded_slots = coded_list (coded_option coded_case)

@@ -1,9 +1,9 @@
 pub mod Cases
 pub mod Codes
+pub mod Differed
 pub mod Grounds
 pub mod Kept
 pub mod Names
-pub mod Noting
 pub mod Numbers
 pub mod Peers
 pub mod Taking

@@ -1,4 +1,4 @@
--- Sets of case numbers. Private contracts alone cite it.
+-- Sets of case numbers.
 use Rattle.std.specs.Prelude.{ℕ, nat_eq, Bool, List}
 use Rattle.std.specs.List.{list_any}
 

@@ -27,10 +27,10 @@ lowered (Some c) = Some (record c { users = c.users - 1 })
 abbrev pub left : Option StoredCase → Option StoredCase
 left c = if is_shared c then lowered c else None
 
--- a new case: it has one user, and its verdict is the marked one
+-- a new case: it has one user, its verdict is the marked one, and it hasn't differed
 abbrev pub new_case : ℕ → Path → Judgement → StoredCase
 new_case asn path judgement =
-    record { trail = path; users = 1; judged = judgement; asn = asn; marked = judgement.verdict }
+    record { trail = path; users = 1; judged = judgement; asn = asn; marked = judgement.verdict; differed = false }
 
 -- the case of this AS and path is there under n, and has one user more
 pub record Joins (asn : ℕ) (path : Path) (before after : Slots) (n : ℕ) : Type 0 where

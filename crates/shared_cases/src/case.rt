@@ -12,6 +12,8 @@ pub(crate) struct StoredCase {
     pub(crate) asn: u32,
     // its verdict at the last mark, or when it came
     pub(crate) marked: Verdict,
+    // whether its verdict was another one than that at some time since
+    pub(crate) differed: bool,
 }
 
 /// A case as it stands: a path from a peer AS, with its judgement.

@@ -1,6 +1,7 @@
 //! The cases.
 ghost use Rattle.std.specs.Prelude.{◌≡◌, ◌≤◌, ◌+◌, ℕ, true, false, [], None, Some, IfOk, IfNone, IfSome, OnOk};
-ghost use Rattle.shared_cases.specs.Cases.{at, verdict_or, marked_or, marked_now, Rewrites, IsAbsent, IsStoredAs, AreDistinct, AreSettledBut, IsIndexOf, IsShown};
+ghost use Rattle.shared_cases.specs.Cases.{at, verdict_or, marked_or, marked_now, Rewrites, IsAbsent, IsStoredAs, AreDistinct, IsIndexOf, IsShown};
+ghost use Rattle.shared_cases.specs.Differed.{AreSettledOrDiffered};
 ghost use Rattle.shared_cases.specs.Grounds.{grounds};
 ghost use Rattle.shared_cases.specs.Names.{name_of};
 ghost use Rattle.shared_cases.specs.Numbers.{has};
@@ -9,8 +10,7 @@ ghost use Rattle.shared_cases.specs.Taking.{is_shared, left, lowered, raised, ne
 use crate::case::{Case, StoredCase};
 use crate::case_name::CaseName;
 use crate::hints::Hints;
-use crate::noted::Noted;
-use crate::numbers::Numbers;
+use crate::numbers::CaseNumbers;
 use crate::peers::Peers;
 use crate::slots;
 use av_base::{NoMemory, Steps};
@@ -19,15 +19,14 @@ use path_model::{Roles, Trail, Verdict};
 use ramps::{Judged, judge};
 use slab::Slab;
 use std::alloc::Global;
-use std::collections::{BTreeMap, BTreeSet};
+use std::collections::BTreeMap;
 use std::marker::Model;
 use std::mem;
 use std::sync::ledger::Ledger;
 use vap_table::Vaps;
 
 /// The cases that routes share, each under a number below 2^32 for as long as some route has it. A case takes about 250 bytes, 8 for
-/// each AS of its path, and what its hops take in the index; one that got another verdict since the last mark, 8 to 18 bytes more, and its AS
-/// 4 to 9.
+/// each AS of its path, and what its hops take in the index; one that got another verdict since the last mark, 8 to 18 bytes more.
 #[derive(Drop)]
 pub struct SharedCases {
     pub(crate) alloc: Global,
@@ -35,7 +34,8 @@ pub struct SharedCases {
     pub(crate) names: BTreeMap<CaseName, u32>,
     pub(crate) index: HopIndex,
     pub(crate) peers: Peers,
-    pub(crate) noted: Noted,
+    // those that got another verdict since the last mark; some may be gone
+    pub(crate) differed: CaseNumbers,
     // where a case is looked for first
     pub(crate) hints: Hints,
 }
@@ -48,7 +48,7 @@ impl Model for SharedCases {
 
     ghost view = { λ a. a.slab.slots };
 
-    ghost invariant = { λ a. AreKept a.slab.slots a.names.entries a.index a.peers a.noted };
+    ghost invariant = { λ a. AreKept a.slab.slots a.names.entries a.index a.peers a.differed };
 }
 
 impl SharedCases {
@@ -62,7 +62,7 @@ impl SharedCases {
             names: BTreeMap::new(alloc),
             index: HopIndex::new(alloc),
             peers: Peers::new(alloc),
-            noted: Noted::new(alloc),
+            differed: CaseNumbers::new(alloc),
             hints: Hints::new(alloc),
         }
     }
@@ -114,12 +114,12 @@ impl SharedCases {
         let _names = &self.names;
     }
 
-    /// The ASes of the cases that got another verdict since the last mark: each case of another AS has its marked verdict. It takes no
-    /// memory.
-    pub fn unsettled_ases(&self) -> &BTreeSet<u32>
-        ensures { AreSettledBut result.now self.now }
+    /// Each case that hasn't got another verdict since the last mark, or since it came, has its marked verdict: a law, and the body does
+    /// nothing.
+    pub fn are_settled(&self)
+        ensures { AreSettledOrDiffered self.now }
     {
-        &self.noted.ases
+        let _differed = &self.differed;
     }
 
     /// One route more has the case of this AS and path, and the number of the case, which stays until its last route leaves it. A new
@@ -177,17 +177,17 @@ impl SharedCases {
             names,
             index,
             peers,
-            noted,
+            differed,
             hints,
         } = self;
-        mark_all(&mut slab, &noted.numbers);
+        mark_all(&mut slab, &differed);
         SharedCases {
             alloc,
             slab,
             names,
             index,
             peers,
-            noted: Noted::new(alloc),
+            differed: CaseNumbers::new(alloc),
             hints,
         }
     }
@@ -235,7 +235,7 @@ impl SharedCases {
             mut names,
             index,
             peers,
-            noted,
+            differed,
             mut hints,
         } = self;
         let asn = name.asn;
@@ -245,6 +245,7 @@ impl SharedCases {
             marked: judged.verdict(),
             judged,
             asn,
+            differed: false,
         };
         let number = slab.insert(case)?;
         let short = u32::try_from(number).ok().ok_or(NoMemory)?;
@@ -259,7 +260,7 @@ impl SharedCases {
             names,
             index,
             peers,
-            noted,
+            differed,
             hints,
         };
         Ok((cases, short))
@@ -282,7 +283,7 @@ impl SharedCases {
             mut names,
             index,
             peers,
-            noted,
+            differed,
             hints,
         } = self;
         let Some(case) = slab.try_remove(number as usize) else {
@@ -292,7 +293,7 @@ impl SharedCases {
                 names,
                 index,
                 peers,
-                noted,
+                differed,
                 hints,
             };
         };
@@ -305,20 +306,20 @@ impl SharedCases {
             names,
             index,
             peers,
-            noted,
+            differed,
             hints,
         }
     }
 }
 
 // The verdicts of these cases become the marked ones.
-fn mark_all(slab: &mut Slab<StoredCase>, noted: &Numbers)
-    ensures marked { (n : ℕ) → has noted.now n ≡ true
+fn mark_all(slab: &mut Slab<StoredCase>, differed: &CaseNumbers)
+    ensures marked { (n : ℕ) → has differed.now n ≡ true
         → at slab.new.slots n ≡ marked_now (at slab.old.slots n) }
-    ensures others { (n : ℕ) → has noted.now n ≡ false
+    ensures others { (n : ℕ) → has differed.now n ≡ false
         → at slab.new.slots n ≡ at slab.old.slots n }
 {
-    for number in noted.iter() {
+    for number in differed.iter() {
         slots::mark(slab, *number);
     }
 }

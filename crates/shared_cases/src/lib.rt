@@ -6,15 +6,14 @@
 //! `specs/Taking.antt` and in `specs/Touched.antt`.
 //!
 //! A case has a number as long as some route has it. It is found by its name (`case_name`), by its hops (the crate `hop_index`) and by
-//! its AS (`peers`); each case that gets another verdict than the marked one is noted until the next mark (`noted`); `specs/Kept.antt` says
-//! what keeps these together.
+//! its AS (`peers`); each case that gets another verdict than the marked one is told once to the caller (`specs/Differed.antt`), and kept
+//! among those until the next mark; `specs/Kept.antt` says what keeps these together.
 #![tactic(auto)]
 
 mod case;
 mod case_name;
 mod cases;
 mod hints;
-mod noted;
 mod numbers;
 mod peers;
 mod rejudging;
@@ -24,3 +23,4 @@ mod touched;
 
 pub use case::Case;
 pub use cases::SharedCases;
+pub use numbers::CaseNumbers;

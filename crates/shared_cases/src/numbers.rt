@@ -9,13 +9,13 @@ use std::alloc::Global;
 use std::collections::{BTreeSet, btree_set};
 use std::marker::Model;
 
-// A set of case numbers; a contract sees it as a rising list.
+/// A set of case numbers, of 8 to 18 bytes each; a contract sees it as a rising list.
 #[derive(Drop)]
-pub(crate) struct Numbers {
+pub struct CaseNumbers {
     numbers: BTreeSet<usize>,
 }
 
-impl Model for Numbers {
+impl Model for CaseNumbers {
     ghost use Rattle.std.specs.Prelude.{List, ℕ};
 
     ghost Value = { List ℕ };
@@ -23,12 +23,12 @@ impl Model for Numbers {
     ghost view = { λ a. a.numbers.keys };
 }
 
-impl Numbers {
+impl CaseNumbers {
     // None. It takes no memory.
-    pub(crate) fn new(alloc: Global) -> Numbers
+    pub(crate) fn new(alloc: Global) -> CaseNumbers
         ensures { result ≡ [] }
     {
-        Numbers {
+        CaseNumbers {
             numbers: BTreeSet::new(alloc),
         }
     }
@@ -44,7 +44,7 @@ impl Numbers {
     }
 
     // Those of another set more.
-    pub(crate) fn insert_all(&mut self, other: &Numbers) -> Result<(), NoMemory>
+    pub(crate) fn insert_all(&mut self, other: &CaseNumbers) -> Result<(), NoMemory>
         ensures members { OnOk result ((n : ℕ)
             → has self.new n ≡ (has self.old n || has other.now n)) }
         ensures rising { IsStrictlySortedBy nat_cmp other.now }
@@ -76,8 +76,8 @@ impl Numbers {
         self.numbers.is_empty()
     }
 
-    // The numbers, rising.
-    pub(crate) fn iter(&self) -> btree_set::Iter<'_, usize>
+    /// The numbers, rising.
+    pub fn iter(&self) -> btree_set::Iter<'_, usize>
         ensures whole { result ≡ self.now }
         ensures rising { IsStrictlySortedBy nat_cmp self.now }
     {

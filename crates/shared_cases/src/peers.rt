@@ -4,7 +4,7 @@ ghost use Rattle.std.specs.Option.{option_copied};
 ghost use Rattle.std.specs.Map.{keys_of};
 ghost use Rattle.shared_cases.specs.Peers.{found, AddsMember, RemovesMember, HaveMembers};
 
-use crate::numbers::Numbers;
+use crate::numbers::CaseNumbers;
 use av_base::NoMemory;
 use std::alloc::Global;
 use std::collections::{BTreeMap, btree_map};
@@ -15,7 +15,7 @@ use std::marker::Model;
 pub(crate) struct Peers {
     alloc: Global,
     // an AS without cases has no entry, as the invariant says
-    members: BTreeMap<u32, Numbers>,
+    members: BTreeMap<u32, CaseNumbers>,
 }
 
 impl Model for Peers {
@@ -60,14 +60,14 @@ impl Peers {
     }
 
     // The cases of one AS.
-    pub(crate) fn of(&self, asn: u32) -> Option<&Numbers>
+    pub(crate) fn of(&self, asn: u32) -> Option<&CaseNumbers>
         ensures { option_copied result ≡ found self.now asn }
     {
         self.members.get(&asn)
     }
 
     // The ASes that have cases, rising.
-    pub(crate) fn ases(&self) -> btree_map::Keys<'_, u32, Numbers>
+    pub(crate) fn ases(&self) -> btree_map::Keys<'_, u32, CaseNumbers>
         ensures { result ≡ keys_of self.now }
     {
         self.members.keys()
@@ -76,7 +76,7 @@ impl Peers {
 
 // Adds a case of an AS.
 fn insert(
-    members: &mut BTreeMap<u32, Numbers>,
+    members: &mut BTreeMap<u32, CaseNumbers>,
     alloc: Global,
     asn: u32,
     number: usize,
@@ -87,14 +87,14 @@ fn insert(
     if let Some(numbers) = members.get_mut(&asn) {
         return numbers.insert(number);
     }
-    let mut numbers = Numbers::new(alloc);
+    let mut numbers = CaseNumbers::new(alloc);
     numbers.insert(number)?;
     members.insert(asn, numbers)?;
     Ok(())
 }
 
 // Takes a case of an AS out, and answers whether the AS stands there without cases.
-fn take_out(members: &mut BTreeMap<u32, Numbers>, asn: u32, number: usize) -> bool
+fn take_out(members: &mut BTreeMap<u32, CaseNumbers>, asn: u32, number: usize) -> bool
     ensures removed { RemovesMember members.old.entries asn number members.new.entries }
     ensures emptied { IsTrue result ↔ (found members.new.entries asn ≡ Some []) }
     ensures others { (a : ℕ) → a ≢ asn

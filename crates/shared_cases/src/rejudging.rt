@@ -1,5 +1,5 @@
 //! Cases judged anew, where another table or other roles touch them.
-ghost use Rattle.std.specs.Prelude.{◌≡◌, ◌≤◌, ◌+◌, ◌-◌, ℕ, true, false, length, IfOk};
+ghost use Rattle.std.specs.Prelude.{◌≡◌, ◌≤◌, ◌+◌, ◌-◌, ℕ, true, false, length, IfOk, OnOk};
 ghost use Rattle.std.specs.List.Sorted.{IsStrictlySortedBy};
 ghost use Rattle.std.specs.Ordering.{nat_cmp};
 ghost use Rattle.path_model.specs.Authority.{Table};
@@ -7,47 +7,53 @@ ghost use Rattle.path_model.specs.ComputedTable.{table_of};
 ghost use Rattle.path_model.specs.Roles.{Relations};
 ghost use Rattle.vap_table.specs.Moves.{AreMoves};
 ghost use Rattle.shared_cases.specs.Cases.{at, AreSameCases};
+ghost use Rattle.shared_cases.specs.Differed.{HasDiffered, HaveDiffered, AreNewlyDiffering};
 ghost use Rattle.shared_cases.specs.Grounds.{by_table, grounds, IsJudged};
 ghost use Rattle.shared_cases.specs.Numbers.{has};
 ghost use Rattle.shared_cases.specs.Touched.{AreWithinTouched, IsRoleMove};
 
 use crate::SharedCases;
 use crate::case::StoredCase;
-use crate::numbers::Numbers;
+use crate::numbers::CaseNumbers;
 use crate::slots::judge_anew;
 use crate::touched::{touched_by_moves, touched_by_role, touched_by_roles};
 use av_base::{NoMemory, Steps};
 use path_model::{Role, Roles};
 use slab::Slab;
+use std::alloc::Global;
 use std::sync::ledger::Ledger;
 use vap_table::{Moves, Vaps};
 
 impl SharedCases {
     /// The table is another one from now on, by these moves. It judges anew, once each, the cases with a hop of which something else is
     /// attested, and takes the time of a look-up for each move and each neighbour of its customer, and of the hops of these customers.
+    /// Answered are the cases, and the numbers of those that get another verdict than the marked one for the first time since the last
+    /// mark, or since they came.
     pub fn follow_table<L: Ledger>(
         self,
         moves: &Moves,
         table: &Vaps,
         roles: &Roles,
         steps: &mut Steps<L>,
-    ) -> Result<SharedCases, NoMemory>
-        ensures same { IfOk result (λ cases. AreSameCases self cases) }
-        ensures judged { IfOk result (λ cases. (before : Table)
+    ) -> Result<(SharedCases, CaseNumbers), NoMemory>
+        ensures same { IfOk result (λ r. AreSameCases self r.0) }
+        ensures judged { IfOk result (λ r. (before : Table)
             → AreMoves before (table_of table.now) moves.now
             → (n : ℕ) → IsJudged (by_table before roles.now) (at self n)
-            → IsJudged (grounds table.now roles.now) (at cases n)) }
+            → IsJudged (grounds table.now roles.now) (at r.0 n)) }
+        ensures differed { IfOk result (λ r. HaveDiffered self r.0) }
+        ensures newly { IfOk result (λ r. AreNewlyDiffering self r.0 r.1) }
         ensures ticks { (before : Table) → AreMoves before (table_of table.now) moves.now
             → AreWithinTouched (by_table before roles.now) (grounds table.now roles.now) self
             (steps.new - steps.old) }
     {
         let touched = touched_by_moves(self.alloc, &self.index, moves)?;
-        let cases = self.rejudge(&touched, table, roles, steps)?;
-        Ok(cases)
+        let (cases, newly) = self.rejudge(&touched, table, roles, steps)?;
+        Ok((cases, newly))
     }
 
     /// The role of one AS, which was `before`, is that of `roles` from now on. Where these differ it judges anew, once each, the cases of
-    /// that AS. It takes the time of one look-up and of these cases.
+    /// that AS. It takes the time of one look-up and of these cases, and answers as [`SharedCases::follow_table`] does.
     pub fn follow_role<L: Ledger>(
         self,
         asn: u32,
@@ -55,55 +61,61 @@ impl SharedCases {
         table: &Vaps,
         roles: &Roles,
         steps: &mut Steps<L>,
-    ) -> Result<SharedCases, NoMemory>
-        ensures same { IfOk result (λ cases. AreSameCases self cases) }
-        ensures judged { IfOk result (λ cases. (old : Relations)
+    ) -> Result<(SharedCases, CaseNumbers), NoMemory>
+        ensures same { IfOk result (λ r. AreSameCases self r.0) }
+        ensures judged { IfOk result (λ r. (old : Relations)
             → IsRoleMove asn before old roles.now
             → (n : ℕ) → IsJudged (grounds table.now old) (at self n)
-            → IsJudged (grounds table.now roles.now) (at cases n)) }
+            → IsJudged (grounds table.now roles.now) (at r.0 n)) }
+        ensures differed { IfOk result (λ r. HaveDiffered self r.0) }
+        ensures newly { IfOk result (λ r. AreNewlyDiffering self r.0 r.1) }
         ensures ticks { (old : Relations) → IsRoleMove asn before old roles.now
             → AreWithinTouched (grounds table.now old) (grounds table.now roles.now) self
             (steps.new - steps.old) }
     {
         let touched = touched_by_role(self.alloc, &self.peers, asn, before, roles.of(asn))?;
-        let cases = self.rejudge(&touched, table, roles, steps)?;
-        Ok(cases)
+        let (cases, newly) = self.rejudge(&touched, table, roles, steps)?;
+        Ok((cases, newly))
     }
 
     /// The roles are other ones from now on. It judges anew, once each, the cases of the ASes whose role is another one, and takes the time
-    /// of two look-ups for each AS that has cases, and of the cases judged.
+    /// of two look-ups for each AS that has cases, and of the cases judged. It answers as [`SharedCases::follow_table`] does.
     pub fn follow_roles<L: Ledger>(
         self,
         before: &Roles,
         table: &Vaps,
         roles: &Roles,
         steps: &mut Steps<L>,
-    ) -> Result<SharedCases, NoMemory>
-        ensures same { IfOk result (λ cases. AreSameCases self cases) }
-        ensures judged { IfOk result (λ cases.
+    ) -> Result<(SharedCases, CaseNumbers), NoMemory>
+        ensures same { IfOk result (λ r. AreSameCases self r.0) }
+        ensures judged { IfOk result (λ r.
             (n : ℕ) → IsJudged (grounds table.now before.now) (at self n)
-            → IsJudged (grounds table.now roles.now) (at cases n)) }
+            → IsJudged (grounds table.now roles.now) (at r.0 n)) }
+        ensures differed { IfOk result (λ r. HaveDiffered self r.0) }
+        ensures newly { IfOk result (λ r. AreNewlyDiffering self r.0 r.1) }
         ensures ticks { AreWithinTouched (grounds table.now before.now)
             (grounds table.now roles.now) self (steps.new - steps.old) }
     {
         let touched = touched_by_roles(self.alloc, &self.peers, before, roles)?;
-        let cases = self.rejudge(&touched, table, roles, steps)?;
-        Ok(cases)
+        let (cases, newly) = self.rejudge(&touched, table, roles, steps)?;
+        Ok((cases, newly))
     }
 
     // These cases are judged anew, once each.
     fn rejudge<L: Ledger>(
         self,
-        touched: &Numbers,
+        touched: &CaseNumbers,
         table: &Vaps,
         roles: &Roles,
         steps: &mut Steps<L>,
-    ) -> Result<SharedCases, NoMemory>
-        ensures judged { IfOk result (λ cases. (n : ℕ) → has touched.now n ≡ true
-            → IsJudged (grounds table.now roles.now) (at cases n)) }
-        ensures others { IfOk result (λ cases. (n : ℕ) → has touched.now n ≡ false
-            → at cases n ≡ at self n) }
-        ensures same { IfOk result (λ cases. AreSameCases self cases) }
+    ) -> Result<(SharedCases, CaseNumbers), NoMemory>
+        ensures judged { IfOk result (λ r. (n : ℕ) → has touched.now n ≡ true
+            → IsJudged (grounds table.now roles.now) (at r.0 n)) }
+        ensures others { IfOk result (λ r. (n : ℕ) → has touched.now n ≡ false
+            → at r.0 n ≡ at self n) }
+        ensures same { IfOk result (λ r. AreSameCases self r.0) }
+        ensures differed { IfOk result (λ r. HaveDiffered self r.0) }
+        ensures newly { IfOk result (λ r. AreNewlyDiffering self r.0 r.1) }
         ensures rising { IsStrictlySortedBy nat_cmp touched.now }
         ensures ticks { steps.new ≤ steps.old + length touched.now }
     {
@@ -113,38 +125,50 @@ impl SharedCases {
             names,
             index,
             peers,
-            mut noted,
+            mut differed,
             hints,
         } = self;
-        rejudge_all(&mut slab, touched, table, roles, steps);
-        noted.note(&slab, touched)?;
-        Ok(SharedCases {
+        let newly = rejudge_all(alloc, &mut slab, touched, table, roles, steps)?;
+        differed.insert_all(&newly)?;
+        let cases = SharedCases {
             alloc,
             slab,
             names,
             index,
             peers,
-            noted,
+            differed,
             hints,
-        })
+        };
+        Ok((cases, newly))
     }
 }
 
+// These cases are judged anew, and the answer is which of them differ from now on and hadn't before.
 fn rejudge_all<L: Ledger>(
+    alloc: Global,
     slab: &mut Slab<StoredCase>,
-    touched: &Numbers,
+    touched: &CaseNumbers,
     table: &Vaps,
     roles: &Roles,
     steps: &mut Steps<L>,
-)
-    ensures judged { (n : ℕ) → has touched.now n ≡ true
-        → IsJudged (grounds table.now roles.now) (at slab.new.slots n) }
-    ensures others { (n : ℕ) → has touched.now n ≡ false
-        → at slab.new.slots n ≡ at slab.old.slots n }
-    ensures same { AreSameCases slab.old.slots slab.new.slots }
+) -> Result<CaseNumbers, NoMemory>
+    ensures judged { OnOk result ((n : ℕ) → has touched.now n ≡ true
+        → IsJudged (grounds table.now roles.now) (at slab.new.slots n)) }
+    ensures others { OnOk result ((n : ℕ) → has touched.now n ≡ false
+        → at slab.new.slots n ≡ at slab.old.slots n) }
+    ensures same { OnOk result (AreSameCases slab.old.slots slab.new.slots) }
+    ensures differed { OnOk result ((n : ℕ) → has touched.now n ≡ true
+        → HasDiffered (at slab.old.slots n) (at slab.new.slots n)) }
+    ensures newly { IfOk result (λ newly.
+        AreNewlyDiffering slab.old.slots slab.new.slots newly) }
+    ensures rising { IsStrictlySortedBy nat_cmp touched.now }
     ensures ticks { steps.new ≤ steps.old + length touched.now }
 {
+    let mut newly = CaseNumbers::new(alloc);
     for number in touched.iter() {
-        judge_anew(slab, *number, table, roles, steps);
+        if judge_anew(slab, *number, table, roles, steps) {
+            newly.insert(*number)?;
+        }
     }
+    Ok(newly)
 }

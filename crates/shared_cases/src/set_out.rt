@@ -4,7 +4,7 @@ ghost use Rattle.path_model.specs.Authority.{has as row_has};
 ghost use Rattle.shared_cases.specs.Numbers.{has};
 ghost use Rattle.shared_cases.specs.Touching.{differs, differs_by};
 
-use crate::numbers::Numbers;
+use crate::numbers::CaseNumbers;
 use av_base::NoMemory;
 use path_model::AsList;
 use std::alloc::Global;
@@ -17,8 +17,8 @@ pub(crate) struct SetOut {
     pub(crate) was: bool,
     pub(crate) is: bool,
     // the providers of both, where there are both
-    pub(crate) before: Numbers,
-    pub(crate) after: Numbers,
+    pub(crate) before: CaseNumbers,
+    pub(crate) after: CaseNumbers,
 }
 
 impl SetOut {
@@ -36,8 +36,8 @@ impl SetOut {
             (before, after) => Ok(SetOut {
                 was: before.is_some(),
                 is: after.is_some(),
-                before: Numbers::new(alloc),
-                after: Numbers::new(alloc),
+                before: CaseNumbers::new(alloc),
+                after: CaseNumbers::new(alloc),
             }),
         }
     }
@@ -55,10 +55,10 @@ impl SetOut {
 }
 
 // The ASes of a row.
-fn set_of(alloc: Global, row: &AsList) -> Result<Numbers, NoMemory>
+fn set_of(alloc: Global, row: &AsList) -> Result<CaseNumbers, NoMemory>
     ensures { IfOk result (λ set. (y : ℕ) → has set y ≡ row_has row.now y) }
 {
-    let mut set = Numbers::new(alloc);
+    let mut set = CaseNumbers::new(alloc);
     for asn in row.as_slice() {
         set.insert(*asn as usize)?;
     }

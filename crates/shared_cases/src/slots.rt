@@ -1,12 +1,13 @@
 //! What is done to one case under its number.
-ghost use Rattle.std.specs.Prelude.{◌≡◌, ◌≢◌, ◌≤◌, ◌+◌, ◌↔◌, ℕ, IsTrue, OnOk, OnErr};
-ghost use Rattle.shared_cases.specs.Cases.{at, marked_now, Rewrites, IsSameCase, IsStoredAs};
+ghost use Rattle.std.specs.Prelude.{◌≡◌, ◌≢◌, ◌≤◌, ◌+◌, ◌↔◌, ◌&&◌, not, ℕ, IsTrue, OnOk, OnErr};
+ghost use Rattle.shared_cases.specs.Cases.{at, has_differed, marked_now, same_verdict, Rewrites, IsSameCase, IsStoredAs};
+ghost use Rattle.shared_cases.specs.Differed.{HasDiffered};
 ghost use Rattle.shared_cases.specs.Grounds.{grounds, IsJudged};
 ghost use Rattle.shared_cases.specs.Taking.{is_shared, lowered, raised};
 
 use crate::case::StoredCase;
 use av_base::{NoMemory, Steps};
-use path_model::{Roles, Trail};
+use path_model::{Roles, Trail, Verdict};
 use ramps::judge;
 use slab::Slab;
 use std::sync::ledger::Ledger;
@@ -62,7 +63,7 @@ pub(crate) fn lower(slab: &mut Slab<StoredCase>, number: usize)
     case.users = case.users.saturating_sub(1);
 }
 
-// Its verdict becomes the marked one.
+// Its verdict becomes the marked one, and it hasn't differed.
 pub(crate) fn mark(slab: &mut Slab<StoredCase>, number: usize)
     ensures { Rewrites slab.old.slots slab.new.slots number (marked_now (at slab.old.slots number)) }
 {
@@ -70,23 +71,39 @@ pub(crate) fn mark(slab: &mut Slab<StoredCase>, number: usize)
         return;
     };
     case.marked = case.judged.verdict();
+    case.differed = false;
 }
 
-// It is judged anew.
+// It is judged anew, and the answer is whether it differs from now on and hadn't before.
 pub(crate) fn judge_anew<L: Ledger>(
     slab: &mut Slab<StoredCase>,
     number: usize,
     table: &Vaps,
     roles: &Roles,
     steps: &mut Steps<L>,
-)
+) -> bool
     ensures judged { IsJudged (grounds table.now roles.now) (at slab.new.slots number) }
     ensures same { IsSameCase (at slab.old.slots number) (at slab.new.slots number) }
+    ensures differed { HasDiffered (at slab.old.slots number) (at slab.new.slots number) }
+    ensures newly { result ≡ (has_differed (at slab.new.slots number)
+        && not (has_differed (at slab.old.slots number))) }
     ensures others { (n : ℕ) → n ≢ number → at slab.new.slots n ≡ at slab.old.slots n }
     ensures ticks { steps.new ≤ steps.old + 1 }
 {
     let Some(case) = slab.get_mut(number) else {
-        return;
+        return false;
     };
     case.judged = judge(table, roles.of(case.asn), case.asn, &case.trail, steps);
+    if case.differed {
+        return false;
+    }
+    case.differed = !is_same_verdict(case.marked, case.judged.verdict());
+    case.differed
+}
+
+// Whether two verdicts are the same.
+fn is_same_verdict(one: Verdict, other: Verdict) -> bool
+    ensures { result ≡ same_verdict one other }
+{
+    one == other
 }

@@ -5,7 +5,7 @@ ghost use Rattle.shared_cases.specs.Numbers.{has};
 ghost use Rattle.shared_cases.specs.Peers.{is_member, HasMovedMember, IsMovedMember};
 ghost use Rattle.shared_cases.specs.Touching.{IsTouchedAt, IsTouchedBy};
 
-use crate::numbers::Numbers;
+use crate::numbers::CaseNumbers;
 use crate::peers::Peers;
 use crate::set_out::SetOut;
 use av_base::NoMemory;
@@ -20,11 +20,11 @@ pub(crate) fn touched_by_moves(
     alloc: Global,
     index: &HopIndex,
     moves: &Moves,
-) -> Result<Numbers, NoMemory>
+) -> Result<CaseNumbers, NoMemory>
     ensures { IfOk result (λ touched. (n : ℕ)
         → (has touched n ≡ true) ↔ IsTouchedBy index.now moves.now n) }
 {
-    let mut touched = Numbers::new(alloc);
+    let mut touched = CaseNumbers::new(alloc);
     for row_move in moves.as_slice() {
         touch(alloc, index, row_move, &mut touched)?;
     }
@@ -37,13 +37,13 @@ pub(crate) fn touched_by_roles(
     peers: &Peers,
     before: &Roles,
     after: &Roles,
-) -> Result<Numbers, NoMemory>
+) -> Result<CaseNumbers, NoMemory>
     ensures others { IfOk result (λ touched. (asn n : ℕ) → is_member peers.now asn n ≡ true
         → has touched n ≡ false → role_of before.now asn ≡ role_of after.now asn) }
     ensures only { IfOk result (λ touched. (n : ℕ) → has touched n ≡ true
         → HasMovedMember peers.now before.now after.now n) }
 {
-    let mut touched = Numbers::new(alloc);
+    let mut touched = CaseNumbers::new(alloc);
     for asn in peers.ases() {
         if is_same_role(before.of(*asn), after.of(*asn)) {
             continue;
@@ -60,13 +60,13 @@ pub(crate) fn touched_by_role(
     asn: u32,
     before: Role,
     after: Role,
-) -> Result<Numbers, NoMemory>
+) -> Result<CaseNumbers, NoMemory>
     ensures others { IfOk result (λ touched. (n : ℕ) → is_member peers.now asn n ≡ true
         → has touched n ≡ false → before ≡ after) }
     ensures only { IfOk result (λ touched. (n : ℕ) → has touched n ≡ true
         → IsMovedMember peers.now asn before after n) }
 {
-    let mut touched = Numbers::new(alloc);
+    let mut touched = CaseNumbers::new(alloc);
     if is_same_role(before, after) {
         return Ok(touched);
     }
@@ -75,7 +75,7 @@ pub(crate) fn touched_by_role(
 }
 
 // The cases of an AS come to the others.
-fn touch_members(peers: &Peers, asn: u32, touched: &mut Numbers) -> Result<(), NoMemory>
+fn touch_members(peers: &Peers, asn: u32, touched: &mut CaseNumbers) -> Result<(), NoMemory>
     ensures { OnOk result ((n : ℕ)
         → has touched.new n ≡ (has touched.old n || is_member peers.now asn n)) }
 {
@@ -90,7 +90,7 @@ fn touch(
     alloc: Global,
     index: &HopIndex,
     row_move: &RowMove,
-    touched: &mut Numbers,
+    touched: &mut CaseNumbers,
 ) -> Result<(), NoMemory>
     ensures { OnOk result ((n : ℕ) → (has touched.new n ≡ true)
         ↔ ((has touched.old n ≡ true) ⊎ IsTouchedAt index.now row_move.now n)) }

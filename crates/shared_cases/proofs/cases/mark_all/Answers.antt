@@ -8,5 +8,5 @@ use Rattle.shared_cases.proofs.cases.mark_all.Goals as goal
 pub loop-number-preserved : goal.loop-number-preserved
 loop-number-preserved c =
     let e : c.loop-number.number-iterator ≡ c.in-Some.number.now ∷ c.next.new.self = rest_more deref c.loop-number.number-iterator c.next.new.self c.next.result c.in-Some.number c.in-Some.is c.next.ensures.steps in
-    marking_next (has c.args.noted.now) c.args.slab.now.slots c.loop-number.slab.slots c.mark.new.slab.slots c.in-Some.number.now c.next.new.self
-    (subst (λ (rest : List ℕ). IsMarking (has c.args.noted.now) c.args.slab.now.slots c.loop-number.slab.slots rest) e c.loop-number.invariant) c.mark.ensures
+    marking_next (has c.args.differed.now) c.args.slab.now.slots c.loop-number.slab.slots c.mark.new.slab.slots c.in-Some.number.now c.next.new.self
+    (subst (λ (rest : List ℕ). IsMarking (has c.args.differed.now) c.args.slab.now.slots c.loop-number.slab.slots rest) e c.loop-number.invariant) c.mark.ensures

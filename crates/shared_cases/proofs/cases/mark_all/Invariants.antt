@@ -3,4 +3,4 @@ use Rattle.shared_cases.proofs.KeptLemmas.{IsMarking}
 use Rattle.shared_cases.proofs.cases.mark_all.Given as goal
 
 abbrev pub invariant-loop-number : goal.invariant-loop-number
-invariant-loop-number l = IsMarking (has l.noted) l.fn.slab.slots l.slab.slots l.number-iterator
+invariant-loop-number l = IsMarking (has l.differed) l.fn.slab.slots l.slab.slots l.number-iterator

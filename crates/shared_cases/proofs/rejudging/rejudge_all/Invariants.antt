@@ -7,6 +7,6 @@ use Rattle.shared_cases.proofs.rejudging.rejudge_all.Given as goal
 -- each touched case is judged anew or among those to come
 abbrev pub invariant-loop-number : goal.invariant-loop-number
 invariant-loop-number g l = record {
-  so_far : IsRejudging (grounds l.table l.roles) (has l.touched) l.fn.slab.slots l.slab.slots l.number-iterator;
+  so_far : IsRejudging (grounds l.table l.roles) (has l.touched) l.fn.slab.slots l.slab.slots l.number-iterator l.newly;
   ticks : l.steps + length l.number-iterator ≤ l.fn.steps + length l.touched;
 }

@@ -1,8 +1,16 @@
-use Rattle.shared_cases.proofs.KeptLemmas.{rejudged_kept}
+use Rattle.std.proofs.Common.{subst}
+use Rattle.shared_cases.specs.Cases.{Slots}
+use Rattle.shared_cases.specs.Differed.{HaveDiffered}
+use Rattle.shared_cases.proofs.KeptLemmas.{all_differed, rejudged_kept}
 use Rattle.shared_cases.proofs.cases.SharedCases.rejudge.Goals as goal
 
-pub invariant_of-result : goal.invariant_of-result
-invariant_of-result g c =
-    rejudged_kept c.self.inside.slab.slots c.rejudge_all.new.slab.slots c.self.inside.noted c.note.new.self c.args.touched.now c.rejudge_all.ensures.same
-    c.in_ok-note.ensures.noted c.in_ok-note.ensures.kept
-    c.rejudge_all.ensures.others c.self.inside.names.entries c.self.inside.index c.self.inside.peers c.self.invariant
+pub invariant_of-cases : goal.invariant_of-cases
+invariant_of-cases g c =
+    rejudged_kept c.self.inside.slab.slots c.rejudge_all.new.slab.slots c.self.inside.names.entries c.self.inside.index c.self.inside.peers c.self.inside.differed c.insert_all.new.self c.in_ok-newly.newly
+    c.self.invariant c.in_ok-newly.ensures.same
+    (all_differed c.self.inside.slab.slots c.rejudge_all.new.slab.slots c.args.touched.now c.in_ok-newly.ensures.others c.self.invariant.settled c.in_ok-newly.ensures.differed)
+    c.in_ok-newly.ensures.newly c.in_ok-insert_all.ensures.members
+
+pub returns-clause-differed : goal.returns-clause-differed
+returns-clause-differed g c = subst (λ (cases : Slots). HaveDiffered cases c.rejudge_all.new.slab.slots) c.self.view_is
+    (all_differed c.self.inside.slab.slots c.rejudge_all.new.slab.slots c.args.touched.now c.in_ok-newly.ensures.others c.self.invariant.settled c.in_ok-newly.ensures.differed)
