@@ -10,22 +10,18 @@ use Rattle.hop_index.specs.Index.{Entries}
 use Rattle.vap_table.specs.declared.moves.RowMove.{RowMove}
 use Rattle.vap_table.specs.Moves.{AreMoves}
 use Rattle.shared_cases.specs.declared.case.StoredCase.{StoredCase}
-use Rattle.shared_cases.specs.Cases.{Slots, at, AreDistinct}
+use Rattle.shared_cases.specs.declared.names.Names.{Names}
+use Rattle.shared_cases.specs.Cases.{Slots, at}
 use Rattle.shared_cases.specs.Grounds.{Grounds, by_table, IsJudged}
 use Rattle.shared_cases.specs.Kept.{AreIndexed}
 use Rattle.shared_cases.specs.Numbers.{has}
 use Rattle.shared_cases.specs.Peers.{Members, is_member, HasMovedMember, IsMovedMember}
 use Rattle.shared_cases.specs.Touched.{AreWithinTouched, IsRoleMove}
 use Rattle.shared_cases.specs.Touching.{IsTouchedBy}
-use Rattle.shared_cases.proofs.CaseLemmas.{Names, decide_eq, some_inj}
 use Rattle.shared_cases.proofs.MoveLemmas.{still_judged, moves_touch}
+use Rattle.shared_cases.proofs.NumberLemmas.{decide_eq}
 use Rattle.shared_cases.proofs.RoleLemmas.{same_role_judged, other_role_touches}
 use Rattle.shared_cases.proofs.TouchLemmas.{within_touched}
-
--- the cases have distinct names
-pub distinct_from : (cases : Slots) (names : Names) (index : Entries) (peers : Members) → AreIndexed cases names index peers → AreDistinct cases
-distinct_from cases names index peers kept m n asn path one other =
-    some_inj m n (sym (kept.named m asn path one) ∙ kept.named n asn path other)
 
 -- a case is judged anew, or keeps its right judgement
 followed_by : (old new : Grounds) (before after : Slots) (n : ℕ) (b : Bool) → (b ≡ true → IsJudged new (at after n)) → (b ≡ false → at after n ≡ at before n)
@@ -42,7 +38,7 @@ module _ (cases after : Slots) (names : Names) (index : Entries) (peers : Member
         (λ absent was. still_judged old new index roles moves are n (at cases n) (λ x y. kept.indexed x y n) (λ t. true≢false (sym ((found n).1 t) ∙ absent)) was) right
 
     pub table_touches : (ticks : ℕ) → IsStrictlySortedBy nat_cmp touched → ticks ≤ length touched → AreWithinTouched (by_table old roles) (by_table new roles) cases ticks
-    table_touches ticks rising few = within_touched (by_table old roles) (by_table new roles) cases (distinct_from cases names index peers kept) touched ticks rising
+    table_touches ticks rising few = within_touched (by_table old roles) (by_table new roles) cases kept.named.distinct touched ticks rising
         (λ n there. moves_touch old new index roles moves are n (at cases n) (λ x y. kept.indexed x y n) ((found n).0 there)) few
 
   -- ---- other roles
@@ -54,7 +50,7 @@ module _ (cases after : Slots) (names : Names) (index : Entries) (peers : Member
         (λ absent was. same_role_judged table old new (at cases n) (λ asn of_peer. others asn n (kept.members asn n ∙ of_peer) absent) was) right
 
     pub roles_touch : (ticks : ℕ) → IsStrictlySortedBy nat_cmp touched → ticks ≤ length touched → AreWithinTouched (by_table table old) (by_table table new) cases ticks
-    roles_touch ticks rising few = within_touched (by_table table old) (by_table table new) cases (distinct_from cases names index peers kept) touched ticks rising
+    roles_touch ticks rising few = within_touched (by_table table old) (by_table table new) cases kept.named.distinct touched ticks rising
         (λ n there. let moved = only n there in other_role_touches table old new (at cases n) moved.0 (sym (kept.members moved.0 n) ∙ moved.1.0) moved.1.1) few
 
 -- ---- the cases of one AS

@@ -8,14 +8,16 @@ use Rattle.path_model.specs.Trail.{Path}
 use Rattle.ramps.specs.Judgement.{Judgement}
 use Rattle.hop_index.specs.Index.{Entries}
 use Rattle.shared_cases.specs.declared.case.StoredCase.{StoredCase}
+use Rattle.shared_cases.specs.declared.names.Names.{Names}
 use Rattle.shared_cases.specs.Cases.{Slots, at, differs, has_differed, same_verdict, Rewrites, IsSettled, IsSameCase, AreSameCases, marked_now}
 use Rattle.shared_cases.specs.Differed.{AreNewlyDiffering, AreSettledOrDiffered, HasDiffered, HaveDiffered}
 use Rattle.shared_cases.specs.Kept.{AreIndexed, AreKept}
 use Rattle.shared_cases.specs.Numbers.{has}
 use Rattle.shared_cases.specs.Peers.{Members}
 use Rattle.shared_cases.specs.Taking.{lowered, new_case, raised}
-use Rattle.shared_cases.proofs.CaseLemmas.{IsSameName, Names, decide_eq, rewritten, same_names}
-use Rattle.shared_cases.proofs.NumberLemmas.{has_cases, has_first, has_later}
+use Rattle.shared_cases.proofs.CaseLemmas.{rewritten, same_names}
+use Rattle.shared_cases.proofs.NamingLemmas.{IsSameName}
+use Rattle.shared_cases.proofs.NumberLemmas.{decide_eq, has_cases, has_first, has_later}
 
 -- what holds of each number
 each_at : (P : ℕ → Option StoredCase → Type 0) (old new : Slots) (n m : ℕ) (v : Option StoredCase) → Rewrites old new n v → P n v → P m (at old m) → (m ≡ n) ⊎ (m ≢ n) → P m (at new m)

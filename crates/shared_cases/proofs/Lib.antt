@@ -3,6 +3,7 @@ pub mod FollowLemmas
 pub mod KeptLemmas
 pub mod MoveLemmas
 pub mod NameLemmas
+pub mod NamingLemmas
 pub mod NumberLemmas
 pub mod PeerLemmas
 pub mod RejudgingLemmas

@@ -1,5 +1,5 @@
 -- Names of cases as lists of numbers.
-use Rattle.std.proofs.Common.{◌≡◌, ℕ, Bool, true, false, List, [], ◌∷◌, refl, ap, sym, ◌∙◌, cond, nat_eq}
+use Rattle.std.proofs.Common.{◌≡◌, ◌≢◌, ◌⊎◌, inl, inr, true≢false, ℕ, Bool, true, false, List, [], ◌∷◌, refl, ap, sym, ◌∙◌, cond, nat_eq}
 use Rattle.std.specs.BTreeMap.{is_at}
 use Rattle.std.specs.Cmp.{IsTotalOrder, on_total, eq_by_cmp_equiv, Equal-is}
 use Rattle.std.specs.Cmp.Lexicographic.{nat_list_cmp_total}
@@ -48,6 +48,12 @@ same_name q k e = exact_names q k ((Equal-is (name_cmp q k)).0 e)
 
 pub apart_names : (q k : CaseName) → (q ≡ k → ⊥) → is_at (name_cmp q) k ≡ false
 apart_names q k differ = false_from_ne_true (is_at (name_cmp q) k) (λ e. differ (same_name q k e))
+
+pub decide_name : (q k : CaseName) → (q ≡ k) ⊎ (q ≢ k)
+decide_name q k = decided (is_at (name_cmp q) k) refl where
+  decided : (b : Bool) → is_at (name_cmp q) k ≡ b → (q ≡ k) ⊎ (q ≢ k)
+  decided true e = inl (same_name q k e)
+  decided false e = inr (λ same. true≢false (sym (at_itself q) ∙ ap (is_at (name_cmp q)) same ∙ e))
 
 pub equal_names : (a b : ℕ) (p q : Path) → a ≡ b → p ≡ q → name_of a p ≡ name_of b q
 equal_names a b p q e f = λ i. name_of (e i) (f i)

@@ -8,7 +8,7 @@ use Rattle.std.proofs.lemmas.Bool.{or_cases, or_left, or_right, or_parts}
 use Rattle.path_model.specs.Roles.{Relations, role_of}
 use Rattle.shared_cases.specs.Numbers.{has}
 use Rattle.shared_cases.specs.Peers.{Members, found_has, is_member, HasMovedMember}
-use Rattle.shared_cases.proofs.CaseLemmas.{decide_eq, nat_eq-other}
+use Rattle.shared_cases.proofs.NumberLemmas.{decide_eq, nat_eq-other}
 
 key_by : (m : ℕ × List ℕ) (ms : Members) (asn n : ℕ) → (found_has (lookup (is_at (nat_cmp asn)) ms) n ≡ true → has (keys_of ms) asn ≡ true)
     → (b : Bool) → is_at (nat_cmp asn) m.0 ≡ b → found_has (cond b (Some m.1) (lookup (is_at (nat_cmp asn)) ms)) n ≡ true → has (keys_of (m ∷ ms)) asn ≡ true

@@ -12,8 +12,8 @@ use Rattle.shared_cases.specs.Cases.{Slots, at, differs, has_differed, IsSameCas
 use Rattle.shared_cases.specs.Differed.{AreNewlyDiffering, HasDiffered}
 use Rattle.shared_cases.specs.Grounds.{Grounds, IsJudged}
 use Rattle.shared_cases.specs.Numbers.{has}
-use Rattle.shared_cases.proofs.CaseLemmas.{decide_eq, nat_eq-other, written_here}
-use Rattle.shared_cases.proofs.NumberLemmas.{has_cases, has_first, has_later}
+use Rattle.shared_cases.proofs.CaseLemmas.{written_here}
+use Rattle.shared_cases.proofs.NumberLemmas.{decide_eq, has_cases, has_first, has_later, nat_eq-other}
 use Rattle.shared_cases.proofs.TouchLemmas.{not_below}
 
 same_case-trans : (b c d : Option StoredCase) → IsSameCase b c → IsSameCase c d → IsSameCase b d

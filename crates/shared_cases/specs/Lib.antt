@@ -4,6 +4,7 @@ pub mod Differed
 pub mod Grounds
 pub mod Kept
 pub mod Names
+pub mod Naming
 pub mod Numbers
 pub mod Peers
 pub mod Taking

@@ -31,7 +31,7 @@ differs m y = not (same_authority (said_by m.before y) (said_by m.after y))
 
 -- the same by the rows set out: there is one row and not the other, or one has y and not the other
 abbrev pub differs_by : SetOut → ℕ → Bool
-differs_by rows y = are_other rows.was rows.is || are_other (numbers_have rows.before y) (numbers_have rows.after y)
+differs_by rows y = are_other rows.was rows.is || are_other (numbers_have rows.before.keys y) (numbers_have rows.after.keys y)
 
 -- among these other ends of the customer's hops, one of the case n at which the customer attests another thing
 abbrev pub touches : RowMove → ℕ → List (ℕ × ℕ) → Bool

@@ -10,8 +10,8 @@ use std::cmp::Ordering;
 // Odd, and near 2^64 divided by the golden ratio.
 const FACTOR: u64 = 11400714819323198485;
 
-// A peer AS and a path, with a word that is mixed from them. The order is by the word first, so that most comparisons are of one word;
-// who makes words alike gains no more than a comparison of paths.
+// A peer AS and a path, with a word that is mixed from them. The order is by the word first, so that most comparisons are of one word,
+// and then by the rest, so that who makes words alike gains no more than comparisons of paths.
 #[derive(Drop)]
 pub(crate) struct CaseName {
     pub(crate) word: u64,

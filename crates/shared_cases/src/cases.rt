@@ -10,6 +10,7 @@ ghost use Rattle.shared_cases.specs.Taking.{is_shared, left, lowered, raised, ne
 use crate::case::{Case, StoredCase};
 use crate::case_name::CaseName;
 use crate::hints::Hints;
+use crate::names::Names;
 use crate::numbers::CaseNumbers;
 use crate::peers::Peers;
 use crate::slots;
@@ -19,19 +20,18 @@ use path_model::{Roles, Trail, Verdict};
 use ramps::{Judged, judge};
 use slab::Slab;
 use std::alloc::Global;
-use std::collections::BTreeMap;
 use std::marker::Model;
 use std::mem;
 use std::sync::ledger::Ledger;
 use vap_table::Vaps;
 
-/// The cases that routes share, each under a number below 2^32 for as long as some route has it. A case takes about 250 bytes, 8 for
+/// The cases that routes share, each under a number below 2^32 for as long as some route has it. A case takes about 150 bytes, 4 for
 /// each AS of its path, and what its hops take in the index; one that got another verdict since the last mark, 8 to 18 bytes more.
 #[derive(Drop)]
 pub struct SharedCases {
     pub(crate) alloc: Global,
     pub(crate) slab: Slab<StoredCase>,
-    pub(crate) names: BTreeMap<CaseName, u32>,
+    pub(crate) names: Names,
     pub(crate) index: HopIndex,
     pub(crate) peers: Peers,
     // those that got another verdict since the last mark; some may be gone
@@ -48,7 +48,7 @@ impl Model for SharedCases {
 
     ghost view = { λ a. a.slab.slots };
 
-    ghost invariant = { λ a. AreKept a.slab.slots a.names.entries a.index a.peers a.differed };
+    ghost invariant = { λ a. AreKept a.slab.slots a.names a.index a.peers a.differed };
 }
 
 impl SharedCases {
@@ -59,7 +59,7 @@ impl SharedCases {
         SharedCases {
             alloc,
             slab: Slab::new(alloc),
-            names: BTreeMap::new(alloc),
+            names: Names::new(alloc),
             index: HopIndex::new(alloc),
             peers: Peers::new(alloc),
             differed: CaseNumbers::new(alloc),
@@ -210,7 +210,7 @@ impl SharedCases {
         ensures some { IfSome result (λ n. IsStoredAs (at self.now n) name.now.asn name.now.trail) }
         ensures none { IfNone result (IsAbsent self.now name.now.asn name.now.trail) }
     {
-        self.names.get(name).copied()
+        self.names.find(&self.slab, name)
     }
 
     // One user more.
@@ -253,7 +253,7 @@ impl SharedCases {
         let peers = peers.add(asn, number)?;
         hints.fit(number)?;
         hints.keep(name.word, short);
-        names.insert(name, short)?;
+        names.add(name, short)?;
         let cases = SharedCases {
             alloc,
             slab,
@@ -299,7 +299,7 @@ impl SharedCases {
         };
         let index = index.remove(number as usize, case.trail.chain());
         let peers = peers.remove(case.asn, number as usize);
-        names.remove(&CaseName::new(case.asn, case.trail));
+        names.remove(&CaseName::new(case.asn, case.trail), number);
         SharedCases {
             alloc,
             slab,

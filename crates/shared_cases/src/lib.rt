@@ -5,8 +5,8 @@
 //! other roles touch, so that **every case that had its right judgement has it again**. Begin reading in `specs/Cases.antt`, then in
 //! `specs/Taking.antt` and in `specs/Touched.antt`.
 //!
-//! A case has a number as long as some route has it. It is found by its name (`case_name`), by its hops (the crate `hop_index`) and by
-//! its AS (`peers`); each case that gets another verdict than the marked one is told once to the caller (`specs/Differed.antt`), and kept
+//! A case has a number as long as some route has it. It is found by its name (`case_name`, `names`), by its hops (the crate `hop_index`)
+//! and by its AS (`peers`); each case that gets another verdict than the marked one is told once to the caller (`specs/Differed.antt`), and kept
 //! among those until the next mark; `specs/Kept.antt` says what keeps these together.
 #![tactic(auto)]
 
@@ -14,6 +14,7 @@ mod case;
 mod case_name;
 mod cases;
 mod hints;
+mod names;
 mod numbers;
 mod peers;
 mod rejudging;

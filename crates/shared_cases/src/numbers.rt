@@ -62,13 +62,6 @@ impl CaseNumbers {
         self.numbers.remove(&number);
     }
 
-    // Whether the number is one of these.
-    pub(crate) fn has(&self, number: usize) -> bool
-        ensures { result ≡ has self.now number }
-    {
-        self.numbers.contains(&number)
-    }
-
     /// Whether there are none.
     pub fn is_empty(&self) -> bool
         ensures { IsTrue result ↔ (self.now ≡ []) }

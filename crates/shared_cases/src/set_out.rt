@@ -1,13 +1,13 @@
 //! A customer's rows before and after a move, set out so that an AS is looked up in them.
-ghost use Rattle.std.specs.Prelude.{◌≡◌, ℕ, IfOk};
+ghost use Rattle.std.specs.Prelude.{◌≡◌, ◌||◌, ℕ, nat_eq, IfOk, OnOk};
 ghost use Rattle.path_model.specs.Authority.{has as row_has};
 ghost use Rattle.shared_cases.specs.Numbers.{has};
 ghost use Rattle.shared_cases.specs.Touching.{differs, differs_by};
 
-use crate::numbers::CaseNumbers;
 use av_base::NoMemory;
 use path_model::AsList;
 use std::alloc::Global;
+use std::collections::BTreeSet;
 use vap_table::RowMove;
 
 // What the rows say of an AS: nothing where there is no row.
@@ -17,8 +17,8 @@ pub(crate) struct SetOut {
     pub(crate) was: bool,
     pub(crate) is: bool,
     // the providers of both, where there are both
-    pub(crate) before: CaseNumbers,
-    pub(crate) after: CaseNumbers,
+    pub(crate) before: BTreeSet<u32>,
+    pub(crate) after: BTreeSet<u32>,
 }
 
 impl SetOut {
@@ -36,8 +36,8 @@ impl SetOut {
             (before, after) => Ok(SetOut {
                 was: before.is_some(),
                 is: after.is_some(),
-                before: CaseNumbers::new(alloc),
-                after: CaseNumbers::new(alloc),
+                before: BTreeSet::new(alloc),
+                after: BTreeSet::new(alloc),
             }),
         }
     }
@@ -49,18 +49,25 @@ impl SetOut {
         if self.was != self.is {
             return true;
         }
-        let number = provider as usize;
-        self.before.has(number) != self.after.has(number)
+        self.before.contains(&provider) != self.after.contains(&provider)
     }
 }
 
 // The ASes of a row.
-fn set_of(alloc: Global, row: &AsList) -> Result<CaseNumbers, NoMemory>
-    ensures { IfOk result (λ set. (y : ℕ) → has set y ≡ row_has row.now y) }
+fn set_of(alloc: Global, row: &AsList) -> Result<BTreeSet<u32>, NoMemory>
+    ensures { IfOk result (λ set. (y : ℕ) → has set.keys y ≡ row_has row.now y) }
 {
-    let mut set = CaseNumbers::new(alloc);
+    let mut set = BTreeSet::new(alloc);
     for asn in row.as_slice() {
-        set.insert(*asn as usize)?;
+        insert(&mut set, *asn)?;
     }
     Ok(set)
+}
+
+// One AS more.
+fn insert(set: &mut BTreeSet<u32>, asn: u32) -> Result<(), NoMemory>
+    ensures { OnOk result ((y : ℕ) → has set.new.keys y ≡ (has set.old.keys y || nat_eq y asn)) }
+{
+    set.insert(asn)?;
+    Ok(())
 }

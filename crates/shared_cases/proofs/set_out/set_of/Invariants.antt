@@ -5,4 +5,4 @@ use Rattle.shared_cases.proofs.set_out.set_of.Given as goal
 
 -- the set has the ASes that aren't to come
 abbrev pub invariant-loop-asn : goal.invariant-loop-asn
-invariant-loop-asn l = (y : ℕ) → (has l.set y || row_has (drop l.asn-index l.asn-items) y) ≡ row_has l.row y
+invariant-loop-asn l = (y : ℕ) → (has l.set.keys y || row_has (drop l.asn-index l.asn-items) y) ≡ row_has l.row y

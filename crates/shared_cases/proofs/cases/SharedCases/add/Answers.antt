@@ -1,9 +1,9 @@
 use Rattle.std.proofs.Common.{◌≡◌, ℕ, List, Some, refl, sym, subst, rules}
 use Rattle.hop_index.specs.Index.{Adds}
-use Rattle.shared_cases.specs.declared.case_name.CaseName.{CaseName}
 use Rattle.shared_cases.specs.Cases.{Slots, Rewrites, IsAbsent}
 use Rattle.shared_cases.specs.Taking.{new_case}
-use Rattle.shared_cases.proofs.CaseLemmas.{HasAt, case_come}
+use Rattle.shared_cases.specs.Naming.{AddsName}
+use Rattle.shared_cases.proofs.CaseLemmas.{case_come}
 use Rattle.shared_cases.proofs.KeptLemmas.{rewritten_kept, same_new}
 use Rattle.shared_cases.proofs.cases.SharedCases.add.Goals as goal
 
@@ -15,12 +15,11 @@ invariant_of-cases c =
       here = same_new _ c.args.name.asn c.in_ok-copy.field-0 c.args.name.trail c.verdict.result c.args.judged c.in_ok-number.ensures.updates.changed c.in_ok-copy.ensures c.verdict.ensures;
       others = c.in_ok-number.ensures.updates.others;
     } in
-    rewritten_kept c.self.inside.slab.slots c.insert.new.self.slots n (Some (new_case c.args.name.asn c.args.name.trail c.args.judged)) c.self.inside.names.entries c.insert-2.new.self.entries
+    rewritten_kept c.self.inside.slab.slots c.insert.new.self.slots n (Some (new_case c.args.name.asn c.args.name.trail c.args.judged)) c.self.inside.names c.add-3.new.self
     c.self.inside.index c.in_ok-index.index c.self.inside.peers c.in_ok-peers.peers c.self.inside.differed c.self.invariant writes refl refl
-    (case_come c.self.inside.slab.slots c.insert.new.self.slots c.self.inside.names.entries c.insert-2.new.self.entries c.self.inside.index c.in_ok-index.index
+    (case_come c.self.inside.slab.slots c.insert.new.self.slots c.self.inside.names c.add-3.new.self c.self.inside.index c.in_ok-index.index
     c.self.inside.peers c.in_ok-peers.peers n (new_case c.args.name.asn c.args.name.trail c.args.judged) c.self.invariant.indexed c.in_ok-number.ensures.was_vacant writes
-    (subst (λ (key : CaseName). HasAt c.self.inside.names.entries key (Some n) c.insert-2.new.self.entries) c.requires.named
-    (subst (λ (m : ℕ). HasAt c.self.inside.names.entries c.args.name (Some m) c.insert-2.new.self.entries) short_is c.in_ok-insert.ensures.updates.0))
+    (subst (λ (m : ℕ). AddsName c.self.inside.names c.args.name.asn c.args.name.trail m c.add-3.new.self) short_is c.in_ok-add.ensures)
     (subst (λ (cases : Slots). IsAbsent cases c.args.name.asn c.args.name.trail) (sym c.self.view_is) c.requires.absent)
     (subst (λ (chain : List ℕ). Adds c.self.inside.index n chain c.in_ok-index.index) c.chain.ensures.chain c.in_ok-index.ensures)
     c.in_ok-peers.ensures)

@@ -1,18 +1,19 @@
 use Rattle.std.proofs.Common.{ℕ, List, None, refl, sym, subst, ◌∙◌}
 use Rattle.hop_index.specs.Index.{Removes}
 use Rattle.shared_cases.specs.declared.case_name.CaseName.{CaseName}
-use Rattle.shared_cases.proofs.CaseLemmas.{HasAt, case_gone}
+use Rattle.shared_cases.specs.Naming.{RemovesName}
+use Rattle.shared_cases.proofs.CaseLemmas.{case_gone}
 use Rattle.shared_cases.proofs.KeptLemmas.{rewritten_kept}
 use Rattle.shared_cases.proofs.cases.SharedCases.remove.Goals as goal
 
 pub invariant_of-result-2 : goal.invariant_of-result-2
 invariant_of-result-2 c =
-    rewritten_kept c.self.inside.slab.slots c.try_remove.new.self.slots c.args.number None c.self.inside.names.entries c.remove.new.self.entries c.self.inside.index c.remove-index.result
+    rewritten_kept c.self.inside.slab.slots c.try_remove.new.self.slots c.args.number None c.self.inside.names c.remove.new.self c.self.inside.index c.remove-index.result
     c.self.inside.peers c.remove-peers.result c.self.inside.differed c.self.invariant
     (record { here = c.in-Some.ensures.updates.changed; others = c.in-Some.ensures.updates.others }) refl tt
-    (case_gone c.self.inside.slab.slots c.try_remove.new.self.slots c.self.inside.names.entries c.remove.new.self.entries c.self.inside.index c.remove-index.result
+    (case_gone c.self.inside.slab.slots c.try_remove.new.self.slots c.self.inside.names c.remove.new.self c.self.inside.index c.remove-index.result
     c.self.inside.peers c.remove-peers.result c.args.number c.in-Some.case c.self.invariant.indexed (sym c.try_remove.ensures.value ∙ c.in-Some.is)
     (record { here = c.in-Some.ensures.updates.changed; others = c.in-Some.ensures.updates.others })
-    (subst (λ (key : CaseName). HasAt c.self.inside.names.entries key None c.remove.new.self.entries) c.new.ensures c.remove.ensures.updates.0)
+    (subst (λ (name : CaseName). RemovesName c.self.inside.names name.asn name.trail c.args.number c.remove.new.self) c.new.ensures c.remove.ensures)
     (subst (λ (chain : List ℕ). Removes c.self.inside.index c.args.number chain c.remove-index.result) c.chain.ensures.chain c.remove-index.ensures)
     c.remove-peers.ensures)
