@@ -18,7 +18,7 @@ use Rattle.shared_cases.specs.declared.case.StoredCase.{StoredCase}
 use Rattle.shared_cases.specs.Cases.{Slots, at, Rewrites, IsStoredAs}
 use Rattle.shared_cases.specs.Grounds.{Grounds, IsRightJudgement}
 use Rattle.shared_cases.specs.Taking.{raised, lowered, left, new_case, Takes}
-use Rattle.shared_cases.proofs.CaseLemmas.{decide_eq, nat_eq-other}
+use Rattle.shared_cases.proofs.NumberLemmas.{decide_eq, nat_eq-other}
 use Rattle.rib_store.specs.Cased.{Numbered, one, users_of, IsCounted}
 use Rattle.rib_store.specs.Steps.{Leaves}
 

@@ -21,7 +21,7 @@ use Rattle.shared_cases.specs.declared.case.StoredCase.{StoredCase}
 use Rattle.shared_cases.specs.Cases.{Slots, at, IsStoredAs}
 use Rattle.shared_cases.specs.Grounds.{Grounds}
 use Rattle.shared_cases.specs.Touched.{IsTouchedCase, AreWithinTouched, IsRoleMove}
-use Rattle.shared_cases.proofs.CaseLemmas.{decide_eq, nat_eq-other}
+use Rattle.shared_cases.proofs.NumberLemmas.{decide_eq, nat_eq-other}
 use Rattle.rib_store.specs.Cased.{Numbered, path_or, routes_by, one, users_of, IsCounted, IsOfAs, AreStored}
 use Rattle.rib_store.specs.State.{State}
 use Rattle.rib_store.specs.Touched.{grounds_of, IsTouchedRoute, IsWithinTouched, IsTouchedNumber}

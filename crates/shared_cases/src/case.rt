@@ -7,7 +7,7 @@ use ramps::Judged;
 pub(crate) struct StoredCase {
     pub(crate) trail: Trail,
     // how many routes have it
-    pub(crate) users: usize,
+    pub(crate) users: u32,
     pub(crate) judged: Judged,
     pub(crate) asn: u32,
     // its verdict at the last mark, or when it came

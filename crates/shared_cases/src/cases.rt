@@ -25,7 +25,7 @@ use std::mem;
 use std::sync::ledger::Ledger;
 use vap_table::Vaps;
 
-/// The cases that routes share, each under a number below 2^32 for as long as some route has it. A case takes about 150 bytes, 4 for
+/// The cases that routes share, each under a number below 2^32 for as long as some route has it. A case takes about 140 bytes, 4 for
 /// each AS of its path, and what its hops take in the index; one that got another verdict since the last mark, 8 to 18 bytes more.
 #[derive(Drop)]
 pub struct SharedCases {

@@ -10,7 +10,7 @@ const FIRST_LEN: usize = 1024;
 const FACTOR: u64 = 11400714819323198485;
 
 // A number for each word, which is the case's that was found last among those whose words share a place, or any other: who takes a hint
-// looks whether that is the case. It takes 8 to 16 bytes for each case.
+// looks whether that is the case. It takes 4 to 8 bytes for each case.
 #[derive(Drop)]
 pub(crate) struct Hints {
     numbers: Vec<u32>,
@@ -40,7 +40,7 @@ impl Hints {
     // There is room for hints to so many cases. Where there were fewer, all are forgotten.
     pub(crate) fn fit(&mut self, cases: usize) -> Result<(), NoMemory> {
         let len = self.numbers.len();
-        if cases > len / 2 {
+        if cases >= len {
             self.numbers.clear();
             self.numbers.resize(larger(len), 0)?;
         }

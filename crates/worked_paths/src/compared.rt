@@ -52,15 +52,27 @@ impl Draw {
 
     // One of four addresses, in one of ten ASes.
     fn peer(&mut self) -> Peer {
+        let bits = self.four();
+        let addr = if bits == 0 {
+            Addr::V6(1)
+        } else {
+            Addr::V4(bits)
+        };
         Peer {
-            addr: Addr::V4(self.four()),
+            addr,
             asn: self.asn(),
         }
     }
 
     // A key to one of four prefixes.
     fn key(&mut self) -> Option<Key> {
-        let prefix = Prefix::new(Addr::V4(self.four() << 24), 8)?;
+        let bits = self.four();
+        let addr = if bits == 0 {
+            Addr::V6(0)
+        } else {
+            Addr::V4(bits << 24)
+        };
+        let prefix = Prefix::new(addr, 8)?;
         let peer = self.peer();
         Some(Key { peer, prefix })
     }

@@ -1,4 +1,4 @@
-//! Half a million events that each change one verdict, each listed and marked, beside 200,000 routes of another AS whose verdicts stay.
+//! Half a million events that each change one verdict, each listed and marked, beside 200,000 routes of the same AS whose verdicts stay.
 ghost use Rattle.std.specs.Prelude.{◌≡◌};
 
 use crate::quiet::routes;
@@ -11,10 +11,10 @@ use std::marker::Brand;
 use std::sync::ledger::{Blank, Ledger};
 use vap_table::TableChange;
 
-// 10.0.0.2 in AS 2.
+// 10.0.0.2 in AS 1, as the peer of the other routes.
 const OTHER_PEER: Peer = Peer {
     addr: Addr::V4(0x0A00_0002),
-    asn: 2,
+    asn: 1,
 };
 
 // The only route of that peer, to 11.0.0.0/24 from 300,000.
@@ -25,7 +25,7 @@ fn other_route(alloc: Global) -> Result<Event, NoMemory> {
             peer: OTHER_PEER,
             prefix,
         };
-        changes.announce(key, Trail::new(alloc, false, &[2, 300_000])?)?;
+        changes.announce(key, Trail::new(alloc, false, &[1, 300_000])?)?;
     }
     Ok(Event::Routes(changes))
 }
@@ -63,7 +63,7 @@ fn replayed<L: Ledger>(alloc: Global, blank: Blank) -> Result<(u32, u32, u32), N
     let mut there = 0u32;
     let mut gone = 0u32;
     for _ in 0..250_000u32 {
-        analyser = analyser.step(assertion(alloc, 300_000, 2)?, &mut steps)?;
+        analyser = analyser.step(assertion(alloc, 300_000, 1)?, &mut steps)?;
         there = there.saturating_add(changed(analyser.store()));
         analyser = analyser.mark();
         let unassertion = Event::Table(TableChange::Unassert(300_000));
