@@ -20,7 +20,7 @@ use Rattle.stream_lines.proofs.FrameLemmas.{Leaves-refl, Leaves-opens}
 use Rattle.stream_lines.proofs.LawLemmas.{some_units}
 use Rattle.stream_lines.proofs.UnitsLemmas.{TakesUnits-join}
 use Rattle.aspa_top.specs.declared.working.Working.{Working}
-use Rattle.aspa_top.specs.Tasks.{State, OpensNamed, Takes, TakesNamed, TakesOpen, is_stream, new_dump, with_dump, same_name, asking_of, taking_of, after_taking}
+use Rattle.aspa_top.specs.Tasks.{State, OpensNamed, Takes, TakesNamed, TakesOpen, is_stream, new_dump, with_dump, same_name, taking_of, after_taking}
 use Rattle.aspa_top.specs.Evaluation.{Does}
 use Rattle.aspa_top.specs.Performing.{IsSound, StandsFor, Goes, GoesSome, Steps, dump_in, has_source, has_stream}
 use Rattle.aspa_top.specs.World.{Links, World, ending, names_of}
