@@ -20,7 +20,7 @@ use Rattle.stream_lines.proofs.FrameLemmas.{Leaves-refl, Leaves-opens}
 use Rattle.stream_lines.proofs.LawLemmas.{some_units}
 use Rattle.stream_lines.proofs.UnitsLemmas.{TakesUnits-join}
 use Rattle.aspa_top.specs.declared.working.Working.{Working}
-use Rattle.aspa_top.specs.Tasks.{State, OpensNamed, TakesNamed, TakesOpen, is_stream, new_dump, with_dump, same_name, asking_of, taking_of, after_taking}
+use Rattle.aspa_top.specs.Tasks.{State, OpensNamed, Takes, TakesNamed, TakesOpen, is_stream, new_dump, with_dump, same_name, taking_of, after_taking}
 use Rattle.aspa_top.specs.Evaluation.{Does}
 use Rattle.aspa_top.specs.Performing.{IsSound, StandsFor, Goes, GoesSome, Steps, dump_in, has_source, has_stream}
 use Rattle.aspa_top.specs.World.{Links, World, ending, names_of}
@@ -133,10 +133,16 @@ module _ (working : Working) (name : List ℕ) (count opened lines : ℕ) (old n
     refused = ap (λ (p : Progress). p.refused) starts ∙ stands.refused;
   }
 
-  taken_for : (links : Links) (state : State) (dump : Dump) (text : List ℕ) (end : Taking) → StandsFor old links working state
-      → TakesUnits asking count (taking_of state dump) text end → TakesUnits (asking_of state name) count (taking_of state dump) text end
-  taken_for links state dump text end stands takes =
-      subst (λ (a : Asking). TakesUnits a count (taking_of state dump) text end) (asks ∙ (λ i. record { line = stands.lines i; name = name })) takes
+  -- so many units of the open dump are what the line with so many takes
+  takes_units : (world : World) (links : Links) (state : State) (dump : Dump) (units : ℕ) (text : List ℕ) (end : Taking) → StandsFor old links working state
+      → state.dumps name ≡ Some dump → dump.over ≡ false → TakesUnits asking units (taking_of state dump) text end → Takes world state name units text (after_taking state name end)
+  takes_units world links state dump units text end stands is yet takes =
+      subst (λ (d : Option Dump). TakesNamed d world state name units text (after_taking state name end)) (sym is)
+      (subst (λ (b : Bool). TakesOpen b state name units dump text (after_taking state name end)) (sym yet) (record {
+        end = end;
+        takes = subst (λ (a : Asking). TakesUnits a units (taking_of state dump) text end) (asks ∙ (λ i. record { line = stands.lines i; name = name })) takes;
+        next_is = refl;
+      }))
 
   -- the units were taken
   pub take_goes : (next : Working) (last : Progress) → TookUnits asking count before after first old new all_old all_new last
@@ -147,13 +153,10 @@ module _ (working : Working) (name : List ℕ) (count opened lines : ℕ) (old n
       let held = HoldsOr-some old (dump_in working name) (state.dumps name) before (stands.dumps name) here in
       let at = begins_at links state held.0 stands held.2 in
       let done = took (taking_of state held.0) at in
-      let units = taken_for links state held.0 done.2.text done.0 stands done.2.takes in
-      let yet : held.0.over ≡ false = sym held.2.over ∙ open_yet in
       record {
         text = done.2.text;
         after = after_taking state name done.0;
-        does = λ ends comes. subst (λ (d : Option Dump). TakesNamed d (ending world ends) state name count done.2.text (after_taking state name done.0)) (sym held.1)
-            (subst (λ (b : Bool). TakesOpen b state name count held.0 done.2.text (after_taking state name done.0)) (sym yet) (record { end = done.0; takes = units; next_is = refl }));
+        does = λ ends comes. takes_units (ending world ends) links state held.0 count done.2.text done.0 stands held.1 (sym held.2.over ∙ open_yet) done.2.takes;
         added = done.2.added;
         stands = record {
           analysis = ap (λ (w : Working). w.analyser) is ∙ done.1.state;
@@ -170,13 +173,13 @@ module _ (working : Working) (name : List ℕ) (count opened lines : ℕ) (old n
       }
 
   -- some of the units were taken: the rest of the text is that of the units that are left
-  pub take_part : TookSome asking count before first old all_old all_new → GoesSome working (Ok (Take name count)) old all_old all_new ticks_old ticks_new
+  pub take_part : TookSome asking count before first old all_old all_new ticks_old ticks_new → GoesSome working (Ok (Take name count)) old all_old all_new ticks_old ticks_new
   take_part some = λ links world tells state stands.
       let held = HoldsOr-some old (dump_in working name) (state.dumps name) before (stands.dumps name) here in
       let at = begins_at links state held.0 stands held.2 in
       let done = some (taking_of state held.0) at in
       let more = some_units asking (count - done.first) done.new in
-      let all : done.first + (count - done.first) ≡ count = omega (arith, done.within) in
+      let all : done.first + (count - done.first) ≡ count = omega (arith, done.taken, done.within) in
       let units : TakesUnits asking count (taking_of state held.0) (done.took.text ++ more.0) more.1 =
       subst (λ (k : ℕ). TakesUnits asking k (taking_of state held.0) (done.took.text ++ more.0) more.1) all
       (TakesUnits-join asking done.first (count - done.first) (taking_of state held.0) done.new more.1 done.took.text more.0 done.took.takes more.2) in
@@ -185,9 +188,20 @@ module _ (working : Working) (name : List ℕ) (count opened lines : ℕ) (old n
         part = done.took.text;
         rest = more.0;
         after = after_taking state name more.1;
-        does = λ ends. subst (λ (d : Option Dump). TakesNamed d (ending world ends) state name count (done.took.text ++ more.0) (after_taking state name more.1)) (sym held.1)
-            (subst (λ (b : Bool). TakesOpen b state name count held.0 (done.took.text ++ more.0) (after_taking state name more.1)) (sym yet)
-            (record { end = more.1; takes = taken_for links state held.0 (done.took.text ++ more.0) more.1 stands units; next_is = refl }));
+        does = λ ends. takes_units (ending world ends) links state held.0 count (done.took.text ++ more.0) more.1 stands held.1 yet units;
         added = done.took.added;
         ticked = omega (arith, ticks.within (taking_of state held.0) more.1 (done.took.text ++ more.0) at units);
+        came_to = λ ends dump is. record {
+          first = done.first;
+          mid = after_taking state name done.new;
+          does = takes_units (ending world ends) links state held.0 done.first done.took.text done.new stands held.1 yet done.took.takes;
+          reached = done.reached;
+          taken = done.taken;
+          one_more = done.one_more;
+          within = done.within;
+          text = done.text;
+          next = after_taking state name done.end;
+          comes = takes_units (ending world ends) links state held.0 done.reached done.text done.end stands held.1 yet done.comes;
+          judged = omega (arith, done.ticked);
+        };
       }

@@ -1,5 +1,5 @@
 -- One line performed.
-use Rattle.std.proofs.Common.{◌≡◌, ℕ, ◌+◌, ◌≤◌, List, [], ◌++◌, Ok, Err, IfOk, OnErr, inl, inr, refl, sym, ap, subst, ◌∙◌, arith}
+use Rattle.std.proofs.Common.{◌≡◌, ℕ, ◌+◌, ◌-◌, ◌≤◌, List, [], ◌++◌, Ok, Err, IfOk, OnErr, inl, inr, refl, sym, ap, subst, ◌∙◌, arith}
 use Rattle.std.specs.declared.option.Option.{Option}
 use Rattle.std.specs.declared.result.Result.{Result}
 use Rattle.av_base.specs.Files.{Files}
@@ -27,7 +27,7 @@ use Rattle.aspa_top.specs.declared.task.Task.{Task}
 use Rattle.aspa_top.specs.declared.task.Short.{Short as ShortTask}
 use Rattle.aspa_top.specs.declared.task.Task.TheVariants.{Short, Load}
 use Rattle.aspa_top.specs.declared.working.Working.{Working}
-use Rattle.aspa_top.specs.Tasks.{DoesTask, TaskUsesFile}
+use Rattle.aspa_top.specs.Tasks.{DoesTask, TaskCostsWhatItCameTo, TaskUsesFile}
 use Rattle.aspa_top.specs.Evaluation.{line_cause, task_of}
 use Rattle.aspa_top.specs.Performing.{IsWithinBounds, IsWithinTask, IsSound, HoldsOr, Marked, Goes, GoesPart, GoesSome, MovesPart, Steps, PartBy, TickedLoad, TickedShort, Uses, counted_in, dump_in, has_source}
 use Rattle.aspa_top.specs.World.{Links, ending}
@@ -93,6 +93,7 @@ module _ (working : Working) (command other : Command) (same : task_of command �
         does = λ ends. subst (λ (task : Task). DoesTask (ending world ends) state task (went.part ++ went.rest) went.after) (sym same) (went.does ends);
         added = went.added;
         ticked = went.ticked;
+        came_to = λ ends. subst (λ (task : Task). TaskCostsWhatItCameTo (ending world ends) state task went.part (ticks_new - ticks_old)) (sym same) (went.came_to ends);
       }
 
   pub some_as : (files : Option Files) (links : Links) (all_old all_new : Option (List ℕ)) (ticks_old ticks_new : ℕ)
@@ -172,6 +173,7 @@ module _ (working : Working) where
     does = λ ends. record { rows = reports.rows; are = subst (λ (a : Analysis). AreRows a reports.rows) (is ∙ stands.analysis) reports.are; text_is = sym reports.front.before.whole; left = refl };
     added = reports.front.before.told;
     ticked = omega arith;
+    came_to = λ ends. tt;
   }
 
   -- what changed was listed, and all was marked
@@ -223,6 +225,7 @@ module _ (working : Working) where
         };
         added = lists.front.before.told;
         ticked = omega arith;
+        came_to = λ ends. tt;
       }
 
   -- to mark leaves the dumps and the counts
@@ -254,6 +257,7 @@ module _ (working : Working) where
         does = λ ends. subst (λ (task : Task). DoesTask (ending world ends) state task did.text did.after) (sym is) did.does;
         added = same ∙ sym (append_known-nil all_old);
         ticked = did.ticked;
+        came_to = λ ends. subst (λ (task : Task). TaskCostsWhatItCameTo (ending world ends) state task [] (ticks_new - ticks_old)) (sym is) tt;
       }
 
   -- a file that wasn't loaded
@@ -269,6 +273,7 @@ module _ (working : Working) where
         does = λ ends. subst (λ (task : Task). DoesTask (ending world ends) state task did.text did.after) (sym is) (Loads-ending world ends state kind file did.text did.after did.loads);
         added = same ∙ sym (append_known-nil all_old);
         ticked = did.ticked;
+        came_to = λ ends. subst (λ (task : Task). TaskCostsWhatItCameTo (ending world ends) state task [] (ticks_new - ticks_old)) (sym is) tt;
       }
 
 -- nothing of it, however the line reads

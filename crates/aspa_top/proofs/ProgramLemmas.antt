@@ -37,7 +37,7 @@ module _ (limit : ℕ) (world : World) (script : List ℕ) (script_failed shelf_
   -- a run that ended early
   pub Ran-early : (status : ℕ) → 1 < status → status < 6
       → WentThrough world (performed limit script) old new ticks_old ticks_new
-      → (status ≡ 3 → (script_failed × (new ≡ old)) ⊎ (shelf_failed × StopsAtFile world (performed limit script) old new))
+      → (status ≡ 3 → (script_failed × (new ≡ old)) ⊎ (shelf_failed × StopsAtFile world (performed limit script) old new ticks_old ticks_new))
       → (status ≡ 4 → AreTold world → WritesPart world (performed limit script) old new)
       → Ran limit world script script_failed shelf_failed old new ticks_old ticks_new status
   Ran-early status above below went stopped cut = record {

@@ -93,16 +93,16 @@ moved_here files before after world state meets moved =
 -- ---- one line
 
 -- how far a line went that was read
-begins_by : (world : World) (files : Option Files) (links_old links_new : Links) (working : Working) (state : State) (line : List ℕ) (all_old all_new : Option (List ℕ)) (ticks_old ticks_new ticks : ℕ)
-    → ticks ≤ ticks_new - ticks_old → Tells files world → StandsFor files links_old working state → FeedsMoved links_old.attempts links_old.wire (feeds_of state)
+begins_by : (world : World) (files : Option Files) (links_old links_new : Links) (working : Working) (state : State) (line : List ℕ) (all_old all_new : Option (List ℕ)) (ticks_old ticks_new : ℕ)
+    → Tells files world → StandsFor files links_old working state → FeedsMoved links_old.attempts links_old.wire (feeds_of state)
     → (by : PartBy working line files links_old links_new all_old all_new ticks_old ticks_new)
-    → (part : List ℕ) × (moved : State) × ((ends : Ends) → ComesTo links_new ends → Begins (ending world ends) state line part ticks moved)
+    → (part : List ℕ) × (moved : State) × ((ends : Ends) → ComesTo links_new ends → Begins (ending world ends) state line part (ticks_new - ticks_old) moved)
     × FeedsMoved links_new.attempts links_new.wire (feeds_of moved) × (all_new ≡ append_known all_old part)
-begins_by world files links_old links_new working state line all_old all_new ticks_old ticks_new ticks few tells stands moved by = elim by.holds [
+begins_by world files links_old links_new working state line all_old all_new ticks_old ticks_new tells stands moved by = elim by.holds [
   | inl nothing ↦ (
     [],
     state,
-    (λ ends comes. inl (refl, omega (arith, few, nothing.2), refl)),
+    (λ ends comes. inl (refl, omega (arith, nothing.2), refl)),
     subst (λ (links : Links). FeedsMoved links.attempts links.wire (feeds_of state)) (sym nothing.0) moved,
     nothing.1 ∙ sym (append_known-nil all_old),
   )
@@ -118,7 +118,8 @@ begins_by world files links_old links_new working state line all_old all_new tic
               performs = record { reading = by.reading; reads = by.reads; does = went.does ends };
               rest = went.rest;
               whole = refl;
-              judged = omega (arith, few, went.ticked);
+              judged = went.ticked;
+              came_to = went.came_to ends;
             },
             refl,
           ))),
@@ -135,7 +136,7 @@ begins_by world files links_old links_new working state line all_old all_new tic
               command = moves.1.0;
               reads = subst (λ r. IsReading line r) moves.1.1 by.reads;
               moves = went.moves ends comes;
-              judged = omega (arith, few, went.ticked);
+              judged = went.ticked;
             },
           ))),
           went.sent,
@@ -232,7 +233,7 @@ module _ (world : World) (lines : List (List ℕ)) (old : Option (List ℕ)) (ti
       → PartBy working line files links links_new all_mid all_new ticks_mid ticks_new
       → Reached world lines links_new old all_new ticks_old ticks_new
   Reached-within files links links_new left more line working all_mid all_new ticks_mid ticks_new so_far first tells on by =
-      let went = begins_by world files links links_new working so_far.state line all_mid all_new ticks_mid ticks_new (ticks_new - ticks_mid) (omega arith) tells so_far.stands so_far.moved by in
+      let went = begins_by world files links links_new working so_far.state line all_mid all_new ticks_mid ticks_new tells so_far.stands so_far.moved by in
       record {
         done = so_far.done;
         left = line ∷ more;
@@ -286,11 +287,11 @@ module _ (world : World) (lines : List (List ℕ)) (old : Option (List ℕ)) (ti
       (all_mid new : Option (List ℕ)) (held : List ℕ) (ticks_mid ticks_new : ℕ) → Meets told before links_new world
       → Performing world lines left files links working old all_mid ticks_old ticks_mid → left ≡ line ∷ more → Tells files world → GoesOn links links_new
       → PartBy working line files links links_new all_mid (append_known new held) ticks_mid ticks_new → UsesBy working line files → held ≡ []
-      → StopsAtFile world lines old new
+      → StopsAtFile world lines old new ticks_old ticks_new
   Performing-stopped told before files links links_new left more line working all_mid new held ticks_mid ticks_new meets so_far first tells on by uses none =
       let stands = counted_stands files links working so_far.state so_far.stands in
       let here = comes_here told before links_new world meets in
-      let went = begins_by world files links links_new working so_far.state line all_mid (append_known new held) ticks_mid ticks_new 0 (omega arith) tells so_far.stands so_far.moved by in
+      let went = begins_by world files links links_new working so_far.state line all_mid (append_known new held) ticks_mid ticks_new tells so_far.stands so_far.moved by in
       record {
         done = so_far.done;
         line = line;
@@ -303,10 +304,12 @@ module _ (world : World) (lines : List (List ℕ)) (old : Option (List ℕ)) (ti
         reads = uses.reads;
         uses = uses.holds links (counted so_far.state) stands;
         part = went.0;
+        ticks = ticks_new - ticks_mid;
         moved = went.1;
         begins = went.2 world.ends here;
         sent = moved_here told before links_new world went.1 meets went.3;
         written = sym (append_known-nil new) ∙ ap (append_known new) (sym none) ∙ went.4 ∙ ap (λ (m : Option (List ℕ)). append_known m went.0) so_far.added ∙ append_known-append old so_far.text went.0;
+        ticked = omega (arith, so_far.ticked);
       }
 
   -- a run that performed all lines and wrote all text

@@ -16,7 +16,7 @@ use Rattle.aspa_top.specs.declared.loading.FileKind.TheVariants.{Payloads, Paylo
 use Rattle.aspa_top.specs.declared.task.Short.TheVariants.{Idle as Nothing, Happen, Judge as JudgePath, Summary as SumUp, Why as WhyRoute}
 use Rattle.aspa_top.specs.declared.task.Task.{Task}
 use Rattle.aspa_top.specs.declared.task.Task.TheVariants.{Short, Load, Open as OpenDump, Take as TakeUnits, Connect, OnFeed, Report as ReportRows, Changes as ListChanges}
-use Rattle.aspa_top.specs.Tasks.{State, Refuses, DoesTask, Moves, TaskUsesFile}
+use Rattle.aspa_top.specs.Tasks.{State, Refuses, DoesTask, Moves, TaskCostsWhatItCameTo, TaskUsesFile}
 use Rattle.aspa_top.specs.World.{World}
 
 -- the number of the cause for which a line is refused; want of memory is none
@@ -83,7 +83,12 @@ abbrev pub Evaluates : World → State → List (List ℕ) → List ℕ → Stat
 Evaluates world before [] text end = (text ≡ []) × (end ≡ before)
 Evaluates world before (line ∷ more) text end = PerformsFirst world before line text (λ next rest. Evaluates world next more rest end)
 
--- a line wrote a front of its own text, and cost at most what the whole line does
+-- a line that was read so, and wrote this part of its text, ticked no more often than what it came to may
+abbrev pub CostsWhatItCameTo : World → State → Result Command LineFault → List ℕ → ℕ → Type 0
+CostsWhatItCameTo world state (Ok command) part ticks = TaskCostsWhatItCameTo world state (task_of command) part ticks
+CostsWhatItCameTo world state (Err fault) part ticks = Unit {0}
+
+-- a line wrote a front of its own text, and ticked no more often than the whole line may, nor than what it came to may
 pub record WritesSome (world : World) (before : State) (line part : List ℕ) (ticks : ℕ) : Type 0 where
   pub own : List ℕ
   pub next : State
@@ -91,6 +96,7 @@ pub record WritesSome (world : World) (before : State) (line part : List ℕ) (t
   pub rest : List ℕ
   pub whole : own ≡ part ++ rest
   pub judged : ticks ≤ next.judgements - before.judgements
+  pub came_to : CostsWhatItCameTo world (counted before) performs.reading part ticks
 
 -- a line on a feed made some of its moves, perhaps all, and wrote nothing
 pub record MovesSome (world : World) (before : State) (line : List ℕ) (ticks : ℕ) (moved : State) : Type 0 where

@@ -43,7 +43,7 @@ use Rattle.aspa_top.specs.declared.task.Task.TheVariants.{Short, Load, Open, Tak
 use Rattle.aspa_top.specs.declared.working.Working.{Working}
 use Rattle.aspa_top.specs.World.{ComesTo, Links, World, Tells, ending}
 use Rattle.aspa_top.specs.Tasks.{State, start, same_name, feeds_of, IsJudged, Loads, DoesShort, Moves}
-use Rattle.aspa_top.specs.Evaluation.{Does, Evaluates, UsesFile, task_of}
+use Rattle.aspa_top.specs.Evaluation.{CostsWhatItCameTo, Does, Evaluates, UsesFile, task_of}
 
 -- the most units that a line takes
 abbrev pub most : ℕ
@@ -268,7 +268,7 @@ TickedLoad working kind file files ticks_old ticks_new =
     (links : Links) (world : World) → Tells files world → (state : State) → StandsFor files links working state
     → LoadTicked world state kind file ticks_old ticks_new
 
--- a line that was read so added a front of its own text, and the counter ticked at most as often as it may judge
+-- a line that was read so added a front of its own text, and the counter ticked at most as often as it may judge, and as what it came to may
 pub record Went (world : World) (state : State) (reading : Result Command LineFault) (all_old all_new : Option (List ℕ))
     (ticks_old ticks_new : ℕ) : Type 0 where
   pub part : List ℕ
@@ -277,6 +277,7 @@ pub record Went (world : World) (state : State) (reading : Result Command LineFa
   pub does : (ends : Ends) → Does (ending world ends) state reading (part ++ rest) after
   pub added : all_new ≡ append_known all_old part
   pub ticked : ticks_new - ticks_old ≤ after.judgements - state.judgements
+  pub came_to : (ends : Ends) → CostsWhatItCameTo (ending world ends) state reading part (ticks_new - ticks_old)
 
 abbrev pub GoesSome : Working → Result Command LineFault → Option Files → Option (List ℕ) → Option (List ℕ) → ℕ → ℕ → Type 0
 GoesSome working reading files all_old all_new ticks_old ticks_new =

@@ -61,8 +61,9 @@ pub record WentThrough (world : World) (lines : List (List ℕ)) (old new : Opti
   pub ticked : ticks_new ≤ ticks_old + state.judgements + ticks
 
 -- What was written stops in the text of a line that opens or reads a file: it is the text of the lines before it, followed by a
--- front of its own text. As many attempts were made as there, and such bytes were sent.
-pub record StopsAtFile (world : World) (lines : List (List ℕ)) (old new : Option (List ℕ)) : Type 0 where
+-- front of its own text. As many attempts were made as there, and such bytes were sent. The counter ticked at most as often as the lines
+-- before it may judge, and this one on its way.
+pub record StopsAtFile (world : World) (lines : List (List ℕ)) (old new : Option (List ℕ)) (ticks_old ticks_new : ℕ) : Type 0 where
   pub done : List (List ℕ)
   pub line : List ℕ
   pub more : List (List ℕ)
@@ -74,10 +75,12 @@ pub record StopsAtFile (world : World) (lines : List (List ℕ)) (old new : Opti
   pub reads : IsReading line reading
   pub uses : UsesFile (counted state) reading
   pub part : List ℕ
+  pub ticks : ℕ
   pub moved : State
-  pub begins : Begins world state line part 0 moved
+  pub begins : Begins world state line part ticks moved
   pub sent : HasMoved world moved
   pub written : new ≡ append_known old (text ++ part)
+  pub ticked : ticks_new ≤ ticks_old + state.judgements + ticks
 
 -- All lines were evaluated and all their text was written, in which so many lines begin with `! `; as many attempts were made, and such
 -- bytes were sent. The counter ticked at most as often as the lines may judge.
@@ -131,7 +134,7 @@ pub record Ran (limit : ℕ) (world : World) (script : List ℕ) (script_failed 
   pub refused : status ≡ 1 → (0 < refusals) × (length script ≤ limit)
   pub over : status ≡ 6 → limit < length script
   -- 3: the script failed before anything was written, or the shelf did at a line that opens or reads a file
-  pub stopped : status ≡ 3 → (script_failed × (new ≡ old)) ⊎ (shelf_failed × StopsAtFile world (performed limit script) old new)
+  pub stopped : status ≡ 3 → (script_failed × (new ≡ old)) ⊎ (shelf_failed × StopsAtFile world (performed limit script) old new ticks_old ticks_new)
   -- 4: not all of the text was written
   pub cut : status ≡ 4 → AreTold world → WritesPart world (performed limit script) old new
 

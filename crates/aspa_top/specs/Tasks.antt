@@ -1,5 +1,5 @@
 -- What a line asks for, and what comes of it: from the world, and what the lines before have left.
-use Rattle.std.specs.Prelude.{◌≡◌, ℕ, ◌+◌, nat_eq, Bool, true, false, ◌||◌, is_some, cond, List, [], ◌∷◌, ◌++◌}
+use Rattle.std.specs.Prelude.{◌≡◌, ℕ, ◌+◌, ◌-◌, ◌≤◌, nat_eq, Bool, true, false, ◌||◌, is_some, cond, List, [], ◌∷◌, ◌++◌}
 use Rattle.std.specs.Cmp.Lexicographic.{pointwise}
 use Rattle.std.specs.FinMap as fin
 use Rattle.std.specs.declared.option.Option.{Option}
@@ -348,3 +348,27 @@ Moves world state (Take name count) next = (state.dumps name ≡ None) × WorksP
 Moves world state (Connect name place) next = OnFeeds state (ConnectPart world.ends (asking_on state name) place (feeds_of state)) next
 Moves world state (OnFeed name work) next = WorksPart world state name work next
 Moves world state task next = ⊥
+
+-- ---- lines on dumps that ended early
+
+-- A `take` from a dump wrote this part of its text: all that the line with some first of its units writes. It came to these units, or to one
+-- more, and ticked no more often than the line with so many may.
+pub record CameTo (world : World) (state : State) (name : List ℕ) (count : ℕ) (part : List ℕ) (ticks : ℕ) : Type 0 where
+  pub first : ℕ
+  pub mid : State
+  pub does : DoesTask world state (Take name first) part mid
+  pub reached : ℕ
+  pub taken : first ≤ reached
+  pub one_more : reached ≤ first + 1
+  pub within : reached ≤ count
+  pub text : List ℕ
+  pub next : State
+  pub comes : DoesTask world state (Take name reached) text next
+  pub judged : ticks ≤ next.judgements - state.judgements
+
+-- A task that wrote this part of its text ticked no more often than what it came to may; that is less than all of it where it takes from a
+-- dump.
+abbrev pub TaskCostsWhatItCameTo : World → State → Task → List ℕ → ℕ → Type 0
+TaskCostsWhatItCameTo world state (Take name count) part ticks =
+    (dump : Dump) → state.dumps name ≡ Some dump → CameTo world state name count part ticks
+TaskCostsWhatItCameTo world state task part ticks = Unit {0}

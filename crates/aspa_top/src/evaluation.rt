@@ -39,7 +39,8 @@ pub(crate) fn evaluate<F: Shelf, K: Links, W: Sink, L: Ledger>(
         steps.old steps.new }
     ensures stopped { IsErrOf result Stop.Shelf → (world : World) → Meets (F.files shelf.old)
         (linked (K.attempts links.old) (K.wire links.old)) (linked (K.attempts links.new) (K.wire links.new)) world
-        → StopsAtFile world (lines_in whole script.now) (W.written out.old) (W.written out.new) }
+        → StopsAtFile world (lines_in whole script.now) (W.written out.old) (W.written out.new)
+        steps.old steps.new }
     ensures cut { IsErrOf result Stop.Sink → (world : World) → Meets (F.files shelf.old)
         (linked (K.attempts links.old) (K.wire links.old)) (linked (K.attempts links.new) (K.wire links.new)) world
         → AreTold world → WritesPart world (lines_in whole script.now) (W.written out.old) (W.written out.new) }

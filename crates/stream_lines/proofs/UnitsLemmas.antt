@@ -7,8 +7,9 @@ use Rattle.av_base.proofs.ToldLemmas.{append_known-nil, append_known-append}
 use Rattle.stream_lines.specs.declared.taking.Progress.{Progress}
 use Rattle.stream_lines.specs.Held.{HeldDump}
 use Rattle.stream_lines.specs.Streams.{Asking, Taking, TakesUnless, TakesUnit, TakesUnits}
-use Rattle.stream_lines.specs.Taking.{TookUnits, TookSome}
+use Rattle.stream_lines.specs.Taking.{TicksWithinUnits, TookUnits, TookSome}
 use Rattle.stream_lines.specs.TakingSteps.{TookUnit}
+use Rattle.stream_lines.proofs.LawLemmas.{some_units}
 
 -- units are taken, and then more
 pub TakesUnits-join : (asking : Asking) (first more : ℕ) (old mid new : Taking) (text rest : List ℕ) → TakesUnits asking first old text mid
@@ -86,9 +87,23 @@ module _ (asking : Asking) (old : HeldDump) (progress : Progress) (files : Optio
         },
       )
 
-  -- what was taken is some first of more
-  pub TookUnits-some : (count more : ℕ) (new : HeldDump) (after : Progress) (files_new : Option Files) (all_new all_end : Option (List ℕ)) → count ≤ more
-      → TookUnits asking count old new progress files files_new all all_new after → all_end ≡ all_new → TookSome asking more old progress files all all_end
-  TookUnits-some count more new after files_new all_new all_end within so_far same = λ start stands.
+  -- what was taken is some first of more, and it came to these, or to one more
+  pub TookUnits-some : (count reached more : ℕ) (new : HeldDump) (next : Progress) (files_new : Option Files) (all_new all_end : Option (List ℕ)) (before after : ℕ)
+      → count ≤ reached → reached ≤ count + 1 → reached ≤ more → TookUnits asking count old new progress files files_new all all_new next → all_end ≡ all_new
+      → TicksWithinUnits asking reached old progress files before after → TookSome asking more old progress files all all_end before after
+  TookUnits-some count reached more new next files_new all_new all_end before after taken one_more within so_far same few = λ start stands.
       let done = so_far start stands in
-      record { first = count; within = within; new = done.0; took = record { text = done.2.text; takes = done.2.takes; added = same ∙ done.2.added } }
+      let came = some_units asking reached start in
+      record {
+        first = count;
+        new = done.0;
+        took = record { text = done.2.text; takes = done.2.takes; added = same ∙ done.2.added };
+        reached = reached;
+        taken = taken;
+        one_more = one_more;
+        within = within;
+        text = came.0;
+        end = came.1;
+        comes = came.2;
+        ticked = few.within start came.1 came.0 stands came.2;
+      }

@@ -34,16 +34,24 @@ TookUnits asking count dump_old dump_new progress files_old files_new all_old al
     (old : Taking) → StandsAt files_old dump_old progress old
     → (new : Taking) × StandsAt files_new dump_new next new × TookMany asking count old new all_old all_new
 
--- Some first of these units were taken, perhaps none and perhaps all, and their text was added.
-pub record TookFirst (asking : Asking) (count : ℕ) (old : Taking) (all_old all_new : Option (List ℕ)) : Type 0 where
+-- Some first of these units were taken, perhaps none and perhaps all, and their text was added. It came to these, or to one more, and took no
+-- more steps than the units that it came to may cost.
+pub record TookFirst (asking : Asking) (count : ℕ) (old : Taking) (all_old all_new : Option (List ℕ)) (before after : ℕ) : Type 0 where
   pub first : ℕ
-  pub within : first ≤ count
   pub new : Taking
   pub took : TookMany asking first old new all_old all_new
+  pub reached : ℕ
+  pub taken : first ≤ reached
+  pub one_more : reached ≤ first + 1
+  pub within : reached ≤ count
+  pub text : List ℕ
+  pub end : Taking
+  pub comes : TakesUnits asking reached old text end
+  pub ticked : after + old.judgements ≤ before + end.judgements
 
-abbrev pub TookSome : Asking → ℕ → HeldDump → Progress → Option Files → Option (List ℕ) → Option (List ℕ) → Type 0
-TookSome asking count dump progress files all_old all_new =
-    (old : Taking) → StandsAt files dump progress old → TookFirst asking count old all_old all_new
+abbrev pub TookSome : Asking → ℕ → HeldDump → Progress → Option Files → Option (List ℕ) → Option (List ℕ) → ℕ → ℕ → Type 0
+TookSome asking count dump progress files all_old all_new before after =
+    (old : Taking) → StandsAt files dump progress old → TookFirst asking count old all_old all_new before after
 
 -- no more steps were taken than so many units may cost, or all that come until the dump is over
 pub record TicksWithinUnits (asking : Asking) (count : ℕ) (dump : HeldDump) (progress : Progress) (files : Option Files) (before after : ℕ) : Type 0 where

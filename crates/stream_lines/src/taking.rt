@@ -63,11 +63,12 @@ pub fn take_units<F: Shelf, W: Sink, L: Ledger>(
         (append_known (W.written out.old) text.old.items)
         (append_known (W.written out.new) text.new.items)) }
 
-    // Whether it ended early or not.
+    // Whether it ended early or not: the text of some first units was added, and no more steps were taken than these and perhaps one
+    // unit more may cost.
     ensures some { TookSome (asking_of asking.entry) asking.entry.count
         dump.old progress (F.files shelf.old)
         (append_known (W.written out.old) text.old.items)
-        (append_known (W.written out.new) text.new.items) }
+        (append_known (W.written out.new) text.new.items) steps.old steps.new }
     ensures ticks { TicksWithinUnits (asking_of asking.entry) asking.entry.count
         dump.old progress (F.files shelf.old) steps.old steps.new }
     ensures file { dump.new.file ≡ dump.old.file }

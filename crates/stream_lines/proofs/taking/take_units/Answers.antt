@@ -30,18 +30,21 @@ returns-then-is_over-clause-took g c =
     TookUnits-over _ _ _ _ _ c.loop-turn._turn _ _ _ _ _ c.loop-turn.invariant.within c.loop-turn.invariant.took over
 
 pub returns-then-is_over-clause-some : goal.returns-then-is_over-clause-some
-returns-then-is_over-clause-some g c = TookUnits-some _ _ _ _ _ c.loop-turn._turn _ _ _ _ _ _ c.loop-turn.invariant.within c.loop-turn.invariant.took refl
+returns-then-is_over-clause-some g c =
+    TookUnits-some _ _ _ _ _ c.loop-turn._turn c.loop-turn._turn _ _ _ _ _ _ _ _ (omega arith) (omega arith) c.loop-turn.invariant.within c.loop-turn.invariant.took refl c.loop-turn.invariant.ticks
 
 pub returns-in_err-progress-clause-some : goal.returns-in_err-progress-clause-some
 returns-in_err-progress-clause-some g c =
-    TookUnits-some _ _ _ _ _ c.loop-turn._turn _ _ _ _ _ _ c.loop-turn.invariant.within c.loop-turn.invariant.took
+    TookUnits-some _ _ _ _ _ c.loop-turn._turn (c.loop-turn._turn + 1) _ _ _ _ _ _ _ _ (omega arith) (omega arith) (omega arith) c.loop-turn.invariant.took
     (ap (append_known (g.W.Sink.written c.loop-turn.out)) c.in_err-progress.ensures.err)
+    (ticks_next _ c.loop-turn._turn _ _ _ _ _ _ _ _ _ _ _ c.loop-turn.invariant.took c.loop-turn.invariant.ticks (sym c.is_over.ensures ∙ c.if-is_over.false) c.take_unit.ensures.ticks)
 
 pub returns-in_err-pour_piece-clause-some : goal.returns-in_err-pour_piece-clause-some
 returns-in_err-pour_piece-clause-some g c =
-    TookUnits-some _ _ _ _ _ _ _ _ _ _ (append_known (g.W.Sink.written c.loop-turn.out) c.take_unit.new.text.items) _ (omega arith)
+    TookUnits-some _ _ _ _ _ (c.loop-turn._turn + 1) (c.loop-turn._turn + 1) _ _ _ _ (append_known (g.W.Sink.written c.loop-turn.out) c.take_unit.new.text.items) _ _ _ (omega arith) (omega arith) (omega arith)
     (TookUnits-next _ _ _ _ _ c.loop-turn._turn _ _ _ _ _ _ _ _ (g.W.Sink.written c.loop-turn.out) _ _ c.loop-turn.invariant.took (sym c.is_over.ensures ∙ c.if-is_over.false) c.in_ok-progress.ensures.took refl refl)
     c.pour_piece.ensures.same
+    (ticks_next _ c.loop-turn._turn _ _ _ _ _ _ _ _ _ _ _ c.loop-turn.invariant.took c.loop-turn.invariant.ticks (sym c.is_over.ensures ∙ c.if-is_over.false) c.take_unit.ensures.ticks)
 
 pub returns-in_err-pour_piece-clause-others : goal.returns-in_err-pour_piece-clause-others
 returns-in_err-pour_piece-clause-others g c =
@@ -78,7 +81,8 @@ returns-clause-took g c =
     rw e at c.loop-turn.invariant.took
 
 pub returns-clause-some : goal.returns-clause-some
-returns-clause-some g c = TookUnits-some _ _ _ _ _ c.loop-turn._turn _ _ _ _ _ _ c.loop-turn.invariant.within c.loop-turn.invariant.took refl
+returns-clause-some g c =
+    TookUnits-some _ _ _ _ _ c.loop-turn._turn c.loop-turn._turn _ _ _ _ _ _ _ _ (omega arith) (omega arith) c.loop-turn.invariant.within c.loop-turn.invariant.took refl c.loop-turn.invariant.ticks
 
 -- the steps
 
