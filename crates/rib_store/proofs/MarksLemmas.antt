@@ -17,9 +17,9 @@ use Rattle.shared_cases.specs.Numbers.{has as numbers_have}
 use Rattle.shared_cases.specs.Taking.{raised, lowered}
 use Rattle.rib_store.specs.Cased.{Noted, Numbered, noted_or, marked_by, IsOfAs}
 use Rattle.rib_store.specs.Marks.{AreNoted, AreKeysOfRoutes, IsCaseAt, FollowsIn, AreOfPeers, is_key_of, or_else, note_by, NotesCases, TellsMark, TellsMarks, AreCovered}
-use Rattle.rib_store.specs.Steps.{or_noted, Notes, NotesMove}
+use Rattle.rib_store.specs.Steps.{kept_note, or_noted, NotesChange, NotesMove}
 use Rattle.rib_store.proofs.KeyLemmas.{same_key}
-use Rattle.rib_store.proofs.NotedLemmas.{mark_at, same_marks}
+use Rattle.rib_store.proofs.NotedLemmas.{kept_off, kept_on, mark_at, same_marks}
 
 pub raised_differed : (c : Option StoredCase) → has_differed (raised c) ≡ has_differed c
 raised_differed None = refl
@@ -61,13 +61,17 @@ module _ (old new : Slots) (before after : Numbered) (notes notes' : Noted) (k :
       let was : lookup (is_at (key_cmp q)) before ≡ Some n = sym (unmoved q stays (is_at (key_cmp k) q) refl) ∙ here in
       noted refl q n was (sym (kept q n here was) ∙ differed)
 
-  noted_anew : AreNoted true before old notes → Notes true notes k was notes' → AreNoted true after new notes'
+  noted_anew : AreNoted true before old notes → NotesChange true notes k o was notes' → AreNoted true after new notes'
   noted_anew noted notes_it t q n here differed = by (is_at (key_cmp k) q) refl where
     by : (b : Bool) → is_at (key_cmp k) q ≡ b → is_some (lookup (is_at (key_cmp q)) notes') ≡ true
-    by true e = ap is_some (notes_it q ∙ ap (λ (b : Bool). or_noted (lookup (is_at (key_cmp q)) notes) b was) e) ∙ or_noted_some (lookup (is_at (key_cmp q)) notes) was
+    by true e =
+        let is : o ≡ Some n = sym (ap (λ (b : Bool). cond b o (lookup (is_at (key_cmp q)) before)) e) ∙ sym (updates q) ∙ here in
+        ap is_some (notes_it q ∙ (λ i. kept_note (is i) (e i) (or_noted (lookup (is_at (key_cmp q)) notes) (e i) was)) ∙ kept_on n true (or_noted (lookup (is_at (key_cmp q)) notes) true was))
+        ∙ or_noted_some (lookup (is_at (key_cmp q)) notes) was
     by false e =
         let had : lookup (is_at (key_cmp q)) before ≡ Some n = sym (ap (λ (b : Bool). cond b o (lookup (is_at (key_cmp q)) before)) e) ∙ sym (updates q) ∙ here in
-        ap is_some (notes_it q ∙ ap (λ (b : Bool). or_noted (lookup (is_at (key_cmp q)) notes) b was) e ∙ or_noted_off (lookup (is_at (key_cmp q)) notes) was)
+        ap is_some (notes_it q ∙ ap (λ (b : Bool). kept_note o b (or_noted (lookup (is_at (key_cmp q)) notes) b was)) e
+        ∙ kept_off o (or_noted (lookup (is_at (key_cmp q)) notes) false was) ∙ or_noted_off (lookup (is_at (key_cmp q)) notes) was)
         ∙ noted refl q n had (sym (kept q n here had) ∙ differed)
 
   pub noted_move : (is_marked : Bool) → AreNoted is_marked before old notes → NotesMove is_marked notes k (lookup (is_at (key_cmp k)) before) o was notes' → AreNoted is_marked after new notes'

@@ -16,7 +16,7 @@ use Rattle.shared_cases.specs.Cases.{Slots, at, marked_or, IsSameCase, AreSameCa
 use Rattle.rib_store.specs.Cased.{Numbered, through, overridden_at, overridden, marked_by}
 use Rattle.rib_store.specs.Cased.{Noted, noted_or}
 use Rattle.rib_store.specs.State.{Marked}
-use Rattle.rib_store.specs.Steps.{or_noted, Notes, NotesMove}
+use Rattle.rib_store.specs.Steps.{kept_note, or_noted, NotesChange, NotesMove}
 use Rattle.rib_store.proofs.CasedLemmas.{get_through, kept_part}
 use Rattle.rib_store.proofs.KeyLemmas.{same_key}
 
@@ -46,29 +46,49 @@ pub same_marks : (old new : Slots) (before after : Numbered) (notes notes' : Not
     → marked_by true new after notes' ≡ marked_by true old before notes
 same_marks old new before after notes notes' same = fin.same_map key_total key_exact _ _ (λ q. get_marked new after notes' q ∙ same q ∙ sym (get_marked old before notes q))
 
-at_noted : (noted : Option (Option Verdict)) (now was : Option Verdict) → noted_or (or_noted noted true was) now ≡ noted_or noted was
-at_noted None now was = refl
-at_noted (Some v) now was = refl
-
 off_noted : (noted : Option (Option Verdict)) (now was other : Option Verdict) → now ≡ other → noted_or (or_noted noted false was) now ≡ noted_or noted other
 off_noted None now was other e = e
 off_noted (Some v) now was other e = refl
 
+-- the mark of a key that changes is its note, or there is none where it has no route again
+at_kept : (o : Option ℕ) (noted : Option (Option Verdict)) (now was : Option Verdict) → (o ≡ None → now ≡ None) → noted_or (kept_note o true (or_noted noted true was)) now ≡ noted_or noted was
+at_kept None None now None gone = gone refl
+at_kept None None now (Some v) gone = refl
+at_kept None (Some None) now was gone = gone refl
+at_kept None (Some (Some v)) now was gone = refl
+at_kept (Some n) None now None gone = refl
+at_kept (Some n) None now (Some v) gone = refl
+at_kept (Some n) (Some None) now was gone = refl
+at_kept (Some n) (Some (Some v)) now was gone = refl
+
+pub kept_off : (o : Option ℕ) (noted : Option (Option Verdict)) → kept_note o false noted ≡ noted
+kept_off o None = refl
+kept_off None (Some None) = refl
+kept_off (Some n) (Some None) = refl
+kept_off o (Some (Some v)) = refl
+
+pub kept_on : (n : ℕ) (here : Bool) (noted : Option (Option Verdict)) → kept_note (Some n) here noted ≡ noted
+kept_on n here None = refl
+kept_on n here (Some None) = refl
+kept_on n here (Some (Some v)) = refl
+
 -- a route changes at one key, whose mark is noted
 marked_route : (is_marked : Bool) (old new : Slots) (before after : Numbered) (notes notes' : Noted) (k : Key) (o : Option ℕ)
     → ((q : Key) → lookup (is_at (key_cmp q)) after ≡ cond (is_at (key_cmp k) q) o (lookup (is_at (key_cmp q)) before))
-    → Notes is_marked notes k (mark_at old before k) notes'
+    → NotesChange is_marked notes k o (mark_at old before k) notes'
     → ((q : Key) (j : ℕ) → lookup (is_at (key_cmp q)) after ≡ Some j → lookup (is_at (key_cmp q)) before ≡ Some j → marked_or (at new j) ≡ marked_or (at old j))
     → marked_by is_marked new after notes' ≡ marked_by is_marked old before notes
 marked_route false old new before after notes notes' k o updates noted kept = refl
 marked_route true old new before after notes notes' k o updates noted kept = same_marks old new before after notes notes' (λ q. by q (is_at (key_cmp k) q) refl) where
   by : (q : Key) (b : Bool) → is_at (key_cmp k) q ≡ b → noted_or (lookup (is_at (key_cmp q)) notes') (mark_at new after q) ≡ noted_or (lookup (is_at (key_cmp q)) notes) (mark_at old before q)
-  by q true t = ap (λ (n : Option (Option Verdict)). noted_or n (mark_at new after q)) (noted q ∙ ap (λ (b : Bool). or_noted (lookup (is_at (key_cmp q)) notes) b (mark_at old before k)) t)
-      ∙ at_noted (lookup (is_at (key_cmp q)) notes) (mark_at new after q) (mark_at old before k)
+  by q true t = ap (λ (n : Option (Option Verdict)). noted_or n (mark_at new after q)) (noted q ∙ ap (λ (b : Bool). kept_note o b (or_noted (lookup (is_at (key_cmp q)) notes) b (mark_at old before k))) t)
+      ∙ at_kept o (lookup (is_at (key_cmp q)) notes) (mark_at new after q) (mark_at old before k)
+      (λ gone. ap (option_map (λ j. marked_or (at new j))) (updates q ∙ ap (λ (b : Bool). cond b o (lookup (is_at (key_cmp q)) before)) t ∙ gone))
       ∙ ap (λ (r : Key). noted_or (lookup (is_at (key_cmp q)) notes) (mark_at old before r)) (same_key k q t)
   by q false t =
       let same : lookup (is_at (key_cmp q)) after ≡ lookup (is_at (key_cmp q)) before = updates q ∙ ap (λ (b : Bool). cond b o (lookup (is_at (key_cmp q)) before)) t in
-      ap (λ (n : Option (Option Verdict)). noted_or n (mark_at new after q)) (noted q ∙ ap (λ (b : Bool). or_noted (lookup (is_at (key_cmp q)) notes) b (mark_at old before k)) t)
+      ap (λ (n : Option (Option Verdict)). noted_or n (mark_at new after q)) (noted q ∙ ap (λ (b : Bool). kept_note o b (or_noted (lookup (is_at (key_cmp q)) notes) b (mark_at old before k))) t
+      ∙ kept_off o (or_noted (lookup (is_at (key_cmp q)) notes) false (mark_at old before k)))
       ∙ off_noted (lookup (is_at (key_cmp q)) notes) (mark_at new after q) (mark_at old before k) (mark_at old before q)
       (ap (option_map (λ j. marked_or (at new j))) same ∙ kept_part marked_or old new (lookup (is_at (key_cmp q)) before) (λ j here. kept q j (same ∙ here) here))
 
@@ -121,3 +141,11 @@ note_new (Some v) false was none = refl
 pub none_of : {A : Type 0} (o : Option A) → is_some o ≡ false → o ≡ None
 none_of None e = refl
 none_of (Some v) e = absurd (true≢false e)
+
+-- a note that its key had no route is let go
+pub forgets : (k : Key) (notes notes' : Noted) → ((q : Key) → lookup (is_at (key_cmp q)) notes' ≡ cond (is_at (key_cmp k) q) None (lookup (is_at (key_cmp q)) notes)) → lookup (is_at (key_cmp k)) notes ≡ Some None
+    → (q : Key) → lookup (is_at (key_cmp q)) notes' ≡ kept_note None (is_at (key_cmp k) q) (lookup (is_at (key_cmp q)) notes)
+forgets k notes notes' updates here q = updates q ∙ by (is_at (key_cmp k) q) refl where
+  by : (b : Bool) → is_at (key_cmp k) q ≡ b → cond b None (lookup (is_at (key_cmp q)) notes) ≡ kept_note None b (lookup (is_at (key_cmp q)) notes)
+  by true t = sym (ap (kept_note None true) (ap (λ (r : Key). lookup (is_at (key_cmp r)) notes) (sym (same_key k q t)) ∙ here))
+  by false t = sym (kept_off None (lookup (is_at (key_cmp q)) notes))

@@ -27,6 +27,19 @@ Notes false old key marked new = ⊤
 Notes true old key marked new =
     (q : Key) → lookup (is_at (key_cmp q)) new ≡ or_noted (lookup (is_at (key_cmp q)) old) (is_at (key_cmp key) q) marked
 
+-- a note that the key had no route is let go where the key has none again
+abbrev pub kept_note : Option ℕ → Bool → Option (Option Verdict) → Option (Option Verdict)
+kept_note after here None = None
+kept_note after here (Some (Some verdict)) = Some (Some verdict)
+kept_note None here (Some None) = if here then None else Some None
+kept_note (Some n) here (Some None) = Some None
+
+-- what was marked of the key is noted, once verdicts were marked, where its case becomes this one
+abbrev pub NotesChange : Bool → Noted → Key → Option ℕ → Option Verdict → Noted → Type 0
+NotesChange false old key after marked new = ⊤
+NotesChange true old key after marked new = (q : Key) → lookup (is_at (key_cmp q)) new
+    ≡ kept_note after (is_at (key_cmp key) q) (or_noted (lookup (is_at (key_cmp q)) old) (is_at (key_cmp key) q) marked)
+
 -- the same of a key whose case becomes another one, and nothing of one whose case stays
 abbrev pub NotesMove : Bool → Noted → Key → Option ℕ → Option ℕ → Option Verdict → Noted → Type 0
-NotesMove is_marked old key before after marked new = ((before ≡ after) × (new ≡ old)) ⊎ Notes is_marked old key marked new
+NotesMove is_marked old key before after marked new = ((before ≡ after) × (new ≡ old)) ⊎ NotesChange is_marked old key after marked new

@@ -8,7 +8,7 @@ ghost use Rattle.path_model.specs.Key.{key_cmp};
 ghost use Rattle.route_map.specs.Keys.{has_key, IsReverse};
 ghost use Rattle.shared_cases.specs.Cases.{at, marked_or};
 ghost use Rattle.rib_store.specs.Marks.{is_key_of, AreCovered, AreKeysOfRoutes, AreOfPeers, FollowsIn, IsCaseAt, NotesCases, TellsMarks};
-ghost use Rattle.rib_store.specs.Steps.{or_noted, Notes, NotesMove};
+ghost use Rattle.rib_store.specs.Steps.{kept_note, or_noted, Notes, NotesMove};
 
 use crate::journal::mark_of;
 use av_base::NoMemory;
@@ -106,7 +106,7 @@ fn take_keys(
 }
 
 // Notes what was marked of a key that had the case `before`, if it had one, and has `after` from now on. It doesn't where these are the
-// same, nor where the key has a note already or nothing was marked yet.
+// same, nor where the key has a note already or nothing was marked yet; and a key that came since the mark and goes has no note.
 fn note(
     notes: &mut RouteMap<Option<Verdict>>,
     is_marked: bool,
@@ -121,7 +121,21 @@ fn note(
     if !is_marked || before == after {
         return Ok(());
     }
-    note_first(notes, *key, mark_of(cases, before))
+    note_first(notes, *key, mark_of(cases, before))?;
+    if after.is_none() {
+        forget_none(notes, key);
+    }
+    Ok(())
+}
+
+// Lets the note of a key go that says that it had no route: it has none again. It takes no memory.
+fn forget_none(notes: &mut RouteMap<Option<Verdict>>, key: &Key)
+    ensures { (q : AnyKey) → lookup (is_at (key_cmp q)) notes.new
+        ≡ kept_note None (is_at (key_cmp key.now) q) (lookup (is_at (key_cmp q)) notes.old) }
+{
+    if let Some(None) = notes.get(key) {
+        notes.remove(key);
+    }
 }
 
 // Notes what was marked of the keys of these cases.
