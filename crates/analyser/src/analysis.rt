@@ -72,6 +72,16 @@ impl Analyser {
         }
     }
 
+    /// The analysis as it is, with what its store gathers so that a list of changes goes over the changed keys alone
+    /// ([`RibStore::gather`]).
+    pub fn gather(self) -> Result<Analyser, NoMemory>
+        ensures { IfOk result (λ a. a ≡ self) }
+    {
+        let Analyser { store } = self;
+        let store = store.gather()?;
+        Ok(Analyser { store })
+    }
+
     /// The store, for what is read of it.
     pub fn store(&self) -> &RibStore
         ensures { result.now.state ≡ self.now }

@@ -48,6 +48,17 @@ pub(crate) fn happen<L: Ledger>(
     })
 }
 
+/// Gathers what changed since verdicts were marked, so that it can be listed in the time of that.
+pub(crate) fn gather(working: Working) -> Result<Working, NoMemory>
+    ensures { IfOk result (λ next. next ≡ working) }
+{
+    let analyser = working.analyser.gather()?;
+    Ok(Working {
+        analyser,
+        ..working
+    })
+}
+
 /// Marks all verdicts as they stand. It takes no memory.
 pub(crate) fn mark(working: Working) -> Working
     ensures { Marked working result }

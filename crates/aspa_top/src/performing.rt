@@ -10,7 +10,7 @@ ghost use Rattle.aspa_top.specs.Feeding.{AreSound};
 ghost use Rattle.aspa_top.specs.Performing.{Goes, GoesBy, GoesPart, IsSound, IsWithinBounds, PartBy, Uses, UsesBy};
 ghost use Rattle.aspa_top.specs.World.{GoesOn, linked, names_of};
 
-use crate::acting::{mark, refuse};
+use crate::acting::{gather, mark, refuse};
 use crate::dumps::{open, take};
 use crate::feeding::{connect_feed, work_on};
 use crate::short::perform_short;
@@ -164,6 +164,7 @@ fn perform_command<F: Shelf, K: Links, W: Sink, L: Ledger>(
             Ok(working)
         }
         Task::Changes => {
+            let working = gather(working)?;
             put_changes(working.analyser.store(), out, text)?;
             Ok(mark(working))
         }

@@ -1,5 +1,6 @@
 -- What another table or other roles make of the state, and how many judgements they cost.
-use Rattle.std.proofs.Common.{◌≡◌, ℕ, Bool, true, List, refl, ap, sym, subst, ◌∙◌}
+use Rattle.std.proofs.Common.{◌≡◌, ℕ, Bool, true, List, refl, ap, sym, subst, ◌∙◌, []}
+use Rattle.std.specs.declared.option.Option.{Option}
 use Rattle.std.specs.List.Sorted.{IsStrictlySortedBy}
 use Rattle.std.specs.Map.{keys_of}
 use Rattle.path_model.specs.CurrentTable.{Parts}
@@ -12,11 +13,12 @@ use Rattle.shared_cases.specs.Cases.{Slots, AreSameCases}
 use Rattle.shared_cases.specs.Differed.{AreNewlyDiffering}
 use Rattle.shared_cases.specs.Grounds.{Grounds, grounds}
 use Rattle.shared_cases.specs.Touched.{AreWithinTouched}
+use Rattle.route_map.specs.Keys.{Entries}
 use Rattle.rib_store.specs.Cased.{Noted, Numbered, AreStored}
-use Rattle.rib_store.specs.Marks.{AreCovered, AreKeysOfRoutes, AreMarks, AreNoted, AreSound, TellsMarks}
+use Rattle.rib_store.specs.Marks.{AreCovered, AreKeysOfRoutes, AreMarks, AreNoted, AreSound, TellsMarks, Defers}
 use Rattle.rib_store.specs.declared.marks.Marks.{Marks}
 use Rattle.rib_store.specs.Touched.{IsWithinTouched}
-use Rattle.rib_store.proofs.MarksLemmas.{marked_told, noted_event}
+use Rattle.rib_store.proofs.MarksLemmas.{marked_told, noted_event, noted_gathered}
 use Rattle.rib_store.proofs.NotedLemmas.{marked_rejudged}
 use Rattle.rib_store.proofs.RouteLemmas.{state_by, same_state, routes_rejudged}
 use Rattle.rib_store.proofs.TouchedLemmas.{within_routes}
@@ -37,20 +39,39 @@ module _ (parts parts' : Parts) (relations relations' : Relations) (is_marked : 
 pub same_outcome : (parts one other : Parts) (change : TableChange) → Alters parts change one → Alters parts change other → one ≡ other
 same_outcome parts one other change a b = let outcome = one_outcome parts change in outcome.only one a ∙ sym (outcome.only other b)
 
+-- the marks are the same but for the pending cases
+pub deferred_state : (parts : Parts) (relations : Relations) (was is : Bool) (routes : Numbered) (cases : Slots) (notes notes' : Noted) → notes' ≡ notes → is ≡ was
+    → state_by parts relations is cases routes notes' ≡ state_by parts relations was cases routes notes
+deferred_state parts relations was is routes cases notes notes' noted same = λ i. state_by parts relations (same i) cases routes (noted i)
+
 -- new notes of what is marked leave the state
 pub noted_state : (parts : Parts) (relations : Relations) (was is : Bool) (routes : Numbered) (cases : Slots) (notes notes' : Noted) → TellsMarks routes cases notes notes' → is ≡ was
     → state_by parts relations is cases routes notes' ≡ state_by parts relations was cases routes notes
 noted_state parts relations was is routes cases notes notes' told same = ap (λ (b : Bool). state_by parts relations b cases routes notes') same
     ∙ same_state parts relations _ _ _ _ refl (marked_told was routes cases notes notes' told)
 
--- the marks belong to the cases once those that differ are noted
+-- the marks belong to the cases once those that newly differ are pending
 pub event_sound : (g : Grounds) (routes : Numbered) (old new : Slots) (marks marks' : Marks) (numbers : List ℕ) → AreMarks routes old marks → AreStored g routes new → AreNewlyDiffering old new numbers
-    → TellsMarks routes new marks.notes marks'.notes → (marks.is_marked ≡ true → AreCovered routes new numbers marks'.notes) → AreKeysOfRoutes marks'.keys routes → marks'.is_marked ≡ marks.is_marked
-    → AreSound g routes new marks'
-event_sound g routes old new marks marks' numbers are stored newly told covered keys same = record {
+    → Defers marks.is_marked marks.pending.keys numbers marks'.pending.keys → marks'.is_marked ≡ marks.is_marked → marks'.notes ≡ marks.notes → marks'.keys ≡ marks.keys → AreSound g routes new marks'
+event_sound g routes old new marks marks' numbers are stored newly defers same notes keys = record {
   stored = stored;
   marks = record {
-    noted = subst (λ (b : Bool). AreNoted b routes new marks'.notes) (sym same) (noted_event marks.is_marked routes old new marks.notes marks'.notes numbers are.noted newly told covered);
+    noted = subst (λ (b : Bool). AreNoted b routes new marks'.notes marks'.pending.keys) (sym same)
+        (subst (λ (es : Noted). AreNoted marks.is_marked routes new es marks'.pending.keys) (sym notes)
+        (noted_event marks.is_marked routes old new marks.notes marks.pending.keys marks'.pending.keys numbers are.noted newly defers));
+    keys = subst (λ (index : Option Entries). AreKeysOfRoutes index routes) (sym keys) are.keys;
+  };
+}
+
+-- and once the keys of the pending cases are noted
+pub gathered_sound : (g : Grounds) (routes : Numbered) (cases : Slots) (marks marks' : Marks) → AreSound g routes cases marks → TellsMarks routes cases marks.notes marks'.notes
+    → AreCovered routes cases marks.pending.keys marks'.notes → AreKeysOfRoutes marks'.keys routes → marks'.pending.keys ≡ [] → marks'.is_marked ≡ marks.is_marked → AreSound g routes cases marks'
+gathered_sound g routes cases marks marks' sound told covered keys none same = record {
+  stored = sound.stored;
+  marks = record {
+    noted = subst (λ (b : Bool). AreNoted b routes cases marks'.notes marks'.pending.keys) (sym same)
+        (subst (λ (ps : List ℕ). AreNoted marks.is_marked routes cases marks'.notes ps) (sym none)
+        (noted_gathered marks.is_marked routes cases marks.notes marks'.notes marks.pending.keys sound.marks.noted told covered));
     keys = keys;
   };
 }

@@ -10,6 +10,7 @@ pub mod JournalLemmas
 pub mod KeyLemmas
 pub mod MarkLemmas
 pub mod MarksLemmas
+pub mod MergeLemmas
 pub mod NotedLemmas
 pub mod NumberLemmas
 pub mod OfPeerLemmas

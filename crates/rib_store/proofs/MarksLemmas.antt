@@ -16,7 +16,7 @@ use Rattle.shared_cases.specs.Differed.{AreNewlyDiffering, AreSettledOrDiffered}
 use Rattle.shared_cases.specs.Numbers.{has as numbers_have}
 use Rattle.shared_cases.specs.Taking.{raised, lowered}
 use Rattle.rib_store.specs.Cased.{Noted, Numbered, noted_or, marked_by, IsOfAs}
-use Rattle.rib_store.specs.Marks.{AreNoted, AreKeysOfRoutes, IsCaseAt, FollowsIn, AreOfPeers, is_key_of, or_else, note_by, NotesCases, TellsMark, TellsMarks, AreCovered}
+use Rattle.rib_store.specs.Marks.{is_noted, AreNoted, AreKeysOfRoutes, Defers, IsCaseAt, FollowsIn, AreOfPeers, is_key_of, or_else, note_by, NotesCases, TellsMark, TellsMarks, AreCovered}
 use Rattle.rib_store.specs.Steps.{kept_note, or_noted, NotesChange, NotesMove}
 use Rattle.rib_store.proofs.KeyLemmas.{same_key}
 use Rattle.rib_store.proofs.NotedLemmas.{kept_off, kept_on, mark_at, same_marks}
@@ -30,11 +30,11 @@ lowered_differed None = refl
 lowered_differed (Some c) = refl
 
 -- a key without a note has a settled case
-pub unnoted_settled : (routes : Numbered) (cases : Slots) (notes : Noted) → AreNoted true routes cases notes → AreSettledOrDiffered cases
+pub unnoted_settled : (routes : Numbered) (cases : Slots) (notes : Noted) → AreNoted true routes cases notes [] → AreSettledOrDiffered cases
     → (q : Key) (n : ℕ) → lookup (is_at (key_cmp q)) routes ≡ Some n → lookup (is_at (key_cmp q)) notes ≡ None → IsSettled (at cases n)
 unnoted_settled routes cases notes noted settled q n here none = by (has_differed (at cases n)) refl where
   by : (b : Bool) → has_differed (at cases n) ≡ b → IsSettled (at cases n)
-  by true t = absurd (true≢false (sym (noted refl q n here t) ∙ ap is_some none))
+  by true t = absurd (true≢false (sym (noted refl q n here t) ∙ ap (λ (o : Option (Option Verdict)). is_some o || false) none))
   by false t = settled n t
 
 -- ---- one route changes
@@ -50,33 +50,34 @@ or_noted_off : (noted : Option (Option Verdict)) (was : Option Verdict) → or_n
 or_noted_off None was = refl
 or_noted_off (Some v) was = refl
 
-module _ (old new : Slots) (before after : Numbered) (notes notes' : Noted) (k : Key) (o : Option ℕ) (was : Option Verdict) (updates : Updates k o before after)
+module _ (old new : Slots) (before after : Numbered) (notes notes' : Noted) (pending : List ℕ) (k : Key) (o : Option ℕ) (was : Option Verdict) (updates : Updates k o before after)
     (kept : (q : Key) (j : ℕ) → lookup (is_at (key_cmp q)) after ≡ Some j → lookup (is_at (key_cmp q)) before ≡ Some j → has_differed (at new j) ≡ has_differed (at old j)) where
   unmoved : (q : Key) → lookup (is_at (key_cmp k)) before ≡ o → (b : Bool) → is_at (key_cmp k) q ≡ b → lookup (is_at (key_cmp q)) after ≡ lookup (is_at (key_cmp q)) before
   unmoved q stays true t = updates q ∙ ap (λ (b : Bool). cond b o (lookup (is_at (key_cmp q)) before)) t ∙ sym stays ∙ ap (λ (r : Key). lookup (is_at (key_cmp r)) before) (same_key k q t)
   unmoved q stays false t = updates q ∙ ap (λ (b : Bool). cond b o (lookup (is_at (key_cmp q)) before)) t
 
-  noted_still : AreNoted true before old notes → lookup (is_at (key_cmp k)) before ≡ o → AreNoted true after new notes
+  noted_still : AreNoted true before old notes pending → lookup (is_at (key_cmp k)) before ≡ o → AreNoted true after new notes pending
   noted_still noted stays t q n here differed =
       let was : lookup (is_at (key_cmp q)) before ≡ Some n = sym (unmoved q stays (is_at (key_cmp k) q) refl) ∙ here in
       noted refl q n was (sym (kept q n here was) ∙ differed)
 
-  noted_anew : AreNoted true before old notes → NotesChange true notes k o was notes' → AreNoted true after new notes'
+  noted_anew : AreNoted true before old notes pending → NotesChange true notes k o was notes' → AreNoted true after new notes' pending
   noted_anew noted notes_it t q n here differed = by (is_at (key_cmp k) q) refl where
-    by : (b : Bool) → is_at (key_cmp k) q ≡ b → is_some (lookup (is_at (key_cmp q)) notes') ≡ true
+    by : (b : Bool) → is_at (key_cmp k) q ≡ b → is_noted notes' pending q n ≡ true
     by true e =
         let is : o ≡ Some n = sym (ap (λ (b : Bool). cond b o (lookup (is_at (key_cmp q)) before)) e) ∙ sym (updates q) ∙ here in
-        ap is_some (notes_it q ∙ (λ i. kept_note (is i) (e i) (or_noted (lookup (is_at (key_cmp q)) notes) (e i) was)) ∙ kept_on n true (or_noted (lookup (is_at (key_cmp q)) notes) true was))
-        ∙ or_noted_some (lookup (is_at (key_cmp q)) notes) was
+        ap (λ (b : Bool). b || numbers_have pending n)
+        (ap is_some (notes_it q ∙ (λ i. kept_note (is i) (e i) (or_noted (lookup (is_at (key_cmp q)) notes) (e i) was)) ∙ kept_on n true (or_noted (lookup (is_at (key_cmp q)) notes) true was))
+        ∙ or_noted_some (lookup (is_at (key_cmp q)) notes) was)
     by false e =
         let had : lookup (is_at (key_cmp q)) before ≡ Some n = sym (ap (λ (b : Bool). cond b o (lookup (is_at (key_cmp q)) before)) e) ∙ sym (updates q) ∙ here in
-        ap is_some (notes_it q ∙ ap (λ (b : Bool). kept_note o b (or_noted (lookup (is_at (key_cmp q)) notes) b was)) e
+        ap (λ (x : Option (Option Verdict)). is_some x || numbers_have pending n) (notes_it q ∙ ap (λ (b : Bool). kept_note o b (or_noted (lookup (is_at (key_cmp q)) notes) b was)) e
         ∙ kept_off o (or_noted (lookup (is_at (key_cmp q)) notes) false was) ∙ or_noted_off (lookup (is_at (key_cmp q)) notes) was)
         ∙ noted refl q n had (sym (kept q n here had) ∙ differed)
 
-  pub noted_move : (is_marked : Bool) → AreNoted is_marked before old notes → NotesMove is_marked notes k (lookup (is_at (key_cmp k)) before) o was notes' → AreNoted is_marked after new notes'
+  pub noted_move : (is_marked : Bool) → AreNoted is_marked before old notes pending → NotesMove is_marked notes k (lookup (is_at (key_cmp k)) before) o was notes' → AreNoted is_marked after new notes' pending
   noted_move false noted moves = λ t q n here differed. absurd (true≢false (sym t))
-  noted_move true noted (inl stays) = subst (AreNoted true after new) (sym stays.1) (noted_still noted stays.0)
+  noted_move true noted (inl stays) = subst (λ (m : Noted). AreNoted true after new m pending) (sym stays.1) (noted_still noted stays.0)
   noted_move true noted (inr notes_it) = noted_anew noted notes_it
 
 -- the keys of the cases follow
@@ -94,16 +95,38 @@ keys_follow (Some index) (Some index') before after k o held updates follows = �
 
 -- ---- cases differ
 
+either : (a b c : Bool) → (a || b) ≡ true → (a || (b || c)) ≡ true
+either true b c e = refl
+either false true c e = refl
+either false false c e = absurd (true≢false (sym e))
+
+last : (a b c : Bool) → c ≡ true → (a || (b || c)) ≡ true
+last true b c e = refl
+last false true c e = refl
+last false false c e = e
+
+-- the cases that newly differ are pending
+pub noted_event : (is_marked : Bool) (routes : Numbered) (old new : Slots) (notes : Noted) (pending pending' numbers : List ℕ) → AreNoted is_marked routes old notes pending → AreNewlyDiffering old new numbers
+    → Defers is_marked pending numbers pending' → AreNoted is_marked routes new notes pending'
+noted_event false routes old new notes pending pending' numbers noted newly defers t q n here differed = absurd (true≢false (sym t))
+noted_event true routes old new notes pending pending' numbers noted newly defers t q n here differed =
+    ap (λ (b : Bool). is_some (lookup (is_at (key_cmp q)) notes) || b) (defers n) ∙ by (has_differed (at old n)) refl where
+      by : (b : Bool) → has_differed (at old n) ≡ b → (is_some (lookup (is_at (key_cmp q)) notes) || (numbers_have pending n || numbers_have numbers n)) ≡ true
+      by true e = either (is_some (lookup (is_at (key_cmp q)) notes)) (numbers_have pending n) (numbers_have numbers n) (noted t q n here e)
+      by false e = last (is_some (lookup (is_at (key_cmp q)) notes)) (numbers_have pending n) (numbers_have numbers n) (newly n ∙ (λ i. differed i && not (e i)))
+
 told_some : (routes : Numbered) (cases : Slots) (q : Key) (old new : Option (Option Verdict)) → (new ≡ old) ⊎ TellsMark routes cases q old new → is_some old ≡ true → is_some new ≡ true
 told_some routes cases q old new (inl same) some = ap is_some same ∙ some
 told_some routes cases q old new (inr tells) some = ap is_some tells.told
 
-pub noted_event : (is_marked : Bool) (routes : Numbered) (old new : Slots) (notes notes' : Noted) (numbers : List ℕ) → AreNoted is_marked routes old notes → AreNewlyDiffering old new numbers
-    → TellsMarks routes new notes notes' → (is_marked ≡ true → AreCovered routes new numbers notes') → AreNoted is_marked routes new notes'
-noted_event is_marked routes old new notes notes' numbers noted newly tells covered t q n here differed = by (has_differed (at old n)) refl where
-  by : (b : Bool) → has_differed (at old n) ≡ b → is_some (lookup (is_at (key_cmp q)) notes') ≡ true
-  by true e = told_some routes new q _ _ (tells q) (noted t q n here e)
-  by false e = covered t q n here (newly n ∙ (λ i. differed i && not (e i))) differed
+-- the keys of the pending cases are noted
+pub noted_gathered : (is_marked : Bool) (routes : Numbered) (cases : Slots) (notes notes' : Noted) (pending : List ℕ) → AreNoted is_marked routes cases notes pending → TellsMarks routes cases notes notes'
+    → AreCovered routes cases pending notes' → AreNoted is_marked routes cases notes' []
+noted_gathered is_marked routes cases notes notes' pending noted tells covered t q n here differed =
+    ap (λ (b : Bool). b || false) (by (is_some (lookup (is_at (key_cmp q)) notes)) refl) where
+      by : (b : Bool) → is_some (lookup (is_at (key_cmp q)) notes) ≡ b → is_some (lookup (is_at (key_cmp q)) notes') ≡ true
+      by true e = told_some routes cases q _ _ (tells q) e
+      by false e = covered q n here (sym (ap (λ (b : Bool). b || numbers_have pending n) e) ∙ noted t q n here differed) differed
 
 -- what is marked stays
 mark_told : (routes : Numbered) (cases : Slots) (q : Key) (old new : Option (Option Verdict)) → (new ≡ old) ⊎ TellsMark routes cases q old new
@@ -194,8 +217,8 @@ marked_differed : (c : Option StoredCase) → has_differed (marked_now c) ≡ fa
 marked_differed None = refl
 marked_differed (Some c) = refl
 
-pub noted_marked : (routes : Numbered) (old new : Slots) (notes : Noted) → ((n : ℕ) → at new n ≡ marked_now (at old n)) → AreNoted true routes new notes
-noted_marked routes old new notes marked t q n here differed = absurd (true≢false (sym differed ∙ ap has_differed (marked n) ∙ marked_differed (at old n)))
+pub noted_marked : (routes : Numbered) (old new : Slots) (notes : Noted) (pending : List ℕ) → ((n : ℕ) → at new n ≡ marked_now (at old n)) → AreNoted true routes new notes pending
+noted_marked routes old new notes pending marked t q n here differed = absurd (true≢false (sym differed ∙ ap has_differed (marked n) ∙ marked_differed (at old n)))
 
 -- ---- one more of the cases, and one more of the keys
 

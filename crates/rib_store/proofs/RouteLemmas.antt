@@ -82,8 +82,8 @@ module _ (g : Grounds) (parts : Parts) (relations : Relations) (is_marked : Bool
         (marked_move is_marked old new before after notes notes' k (Some n) updates noted (kept marked_or raised_mark lowered_mark))
 
     -- each key whose case differed still has a note
-    pub announced_noted : AreNoted is_marked before old notes → AreNoted is_marked after new notes'
-    announced_noted notes_are = noted_move old new before after notes notes' k (Some n) (mark_at old before k) updates (kept has_differed raised_differed lowered_differed) is_marked notes_are noted
+    pub announced_noted : (pending : List ℕ) → AreNoted is_marked before old notes pending → AreNoted is_marked after new notes' pending
+    announced_noted pending notes_are = noted_move old new before after notes notes' pending k (Some n) (mark_at old before k) updates (kept has_differed raised_differed lowered_differed) is_marked notes_are noted
 
   -- a route goes
   module _ (old new : Slots) (stored : AreStored g before old)
@@ -98,8 +98,8 @@ module _ (g : Grounds) (parts : Parts) (relations : Relations) (is_marked : Bool
         (through_removed path_or old new before after k updates (left_kept path_or lowered_path))
         (marked_move is_marked old new before after notes notes' k None updates noted (left_kept marked_or lowered_mark))
 
-    pub withdrawn_noted : AreNoted is_marked before old notes → AreNoted is_marked after new notes'
-    withdrawn_noted notes_are = noted_move old new before after notes notes' k None (mark_at old before k) updates (left_kept has_differed lowered_differed) is_marked notes_are noted
+    pub withdrawn_noted : (pending : List ℕ) → AreNoted is_marked before old notes pending → AreNoted is_marked after new notes' pending
+    withdrawn_noted pending notes_are = noted_move old new before after notes notes' pending k None (mark_at old before k) updates (left_kept has_differed lowered_differed) is_marked notes_are noted
 
 same_path : (c d : Option StoredCase) → IsSameCase c d → path_or d ≡ path_or c
 same_path None None same = refl

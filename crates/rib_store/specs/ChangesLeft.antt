@@ -17,9 +17,11 @@ use Rattle.shared_cases.specs.Cases.{Slots, at, verdict_or}
 use Rattle.rib_store.specs.declared.journal.ChangedKey.{ChangedKey}
 use Rattle.rib_store.specs.declared.journal.Journal.{Journal}
 use Rattle.rib_store.specs.declared.journal.Left.{Left}
-use Rattle.rib_store.specs.declared.journal.Left.TheVariants.{OfRoutes, OfNotes}
+use Rattle.rib_store.specs.declared.journal.Left.TheVariants.{OfAll, OfNotes}
 use Rattle.rib_store.specs.Cased.{Numbered}
 use Rattle.rib_store.specs.Held.{Held}
+use Rattle.rib_store.specs.declared.merged.Row.{Row}
+use Rattle.rib_store.specs.Merge.{marked_of, merged_left}
 use Rattle.rib_store.specs.Rows.{current_verdict}
 
 -- the current verdict of a key with or without a path
@@ -45,19 +47,20 @@ change_at parts relations e = change_between e.0 e.1.marked (present_verdict par
 abbrev pub changes_in : Parts → Relations → List (Key × Held) → List ChangedKey
 changes_in parts relations es = filter_map (change_at parts relations) es
 
--- before the first mark each route is a change: its key had none that was marked
-abbrev pub came : Slots → Key × ℕ → Option ChangedKey
-came cases e = change_between e.0 None (Some (verdict_or (at cases e.1)))
+-- the change of a row of notes and routes
+abbrev pub row_change : Bool → Slots → Key × Row → Option ChangedKey
+row_change is_marked cases e =
+    change_between e.0 (marked_of is_marked cases e.1) (option_map (λ n. verdict_or (at cases n)) e.1.case)
 
 -- the change of a noted key, by the case of its route if it has one
 abbrev pub changed : Numbered → Slots → Key × Option Verdict → Option ChangedKey
 changed routes cases e =
     change_between e.0 e.1 (option_map (λ n. verdict_or (at cases n)) (lookup (is_at (key_cmp e.0)) routes))
 
--- the changes among the routes or the notes that are left
-abbrev pub changes_of : Left → Numbered → Slots → List ChangedKey
-changes_of (OfRoutes es) routes cases = filter_map (came cases) es
-changes_of (OfNotes es) routes cases = filter_map (changed routes cases) es
+-- the changes among the rows or the notes that are left
+abbrev pub changes_of : Left → Bool → Numbered → Slots → List ChangedKey
+changes_of (OfAll merged) is_marked routes cases = filter_map (row_change is_marked cases) (merged_left merged)
+changes_of (OfNotes es) is_marked routes cases = filter_map (changed routes cases) es
 
 abbrev pub changes_left : Journal → List ChangedKey
-changes_left journal = changes_of journal.left journal.routes.now journal.cases.now
+changes_left journal = changes_of journal.left journal.is_marked journal.routes.now journal.cases.now

@@ -7,6 +7,7 @@ pub mod Counts
 pub mod Held
 pub mod Laws
 pub mod Marks
+pub mod Merge
 pub mod OfPeer
 pub mod Routing
 pub mod Rows

@@ -1,5 +1,5 @@
 -- What keeps the notes and the keys of the cases with the routes and their cases. Private contracts alone cite it.
-use Rattle.std.specs.Prelude.{◌≡◌, ◌&&◌, ℕ, nat_eq, Bool, true, false, List, [], ◌∷◌, cond, ⊤, ◌⊎◌}
+use Rattle.std.specs.Prelude.{◌≡◌, ◌&&◌, ◌||◌, ℕ, nat_eq, Bool, true, false, List, [], ◌∷◌, cond, ⊤, ◌⊎◌}
 use Rattle.std.specs.declared.option.Option.{Option}
 use Rattle.std.specs.declared.option.Option.TheVariants.{Some, None}
 use Rattle.std.specs.BTreeMap.{is_at}
@@ -16,10 +16,14 @@ use Rattle.shared_cases.specs.Numbers.{has as numbers_have}
 use Rattle.rib_store.specs.declared.marks.Marks.{Marks}
 use Rattle.rib_store.specs.Cased.{Noted, Numbered, IsOfAs, AreStored}
 
--- once verdicts were marked, each key whose case differed since has a note
-abbrev pub AreNoted : Bool → Numbered → Slots → Noted → Type 0
-AreNoted is_marked routes cases notes = is_marked ≡ true → (key : Key) (n : ℕ) → lookup (is_at (key_cmp key)) routes ≡ Some n
-    → has_differed (at cases n) ≡ true → is_some (lookup (is_at (key_cmp key)) notes) ≡ true
+-- the key has a note, or its case's number is pending
+abbrev pub is_noted : Noted → List ℕ → Key → ℕ → Bool
+is_noted notes pending key n = is_some (lookup (is_at (key_cmp key)) notes) || numbers_have pending n
+
+-- once verdicts were marked, so it is with each key whose case differed since
+abbrev pub AreNoted : Bool → Numbered → Slots → Noted → List ℕ → Type 0
+AreNoted is_marked routes cases notes pending = is_marked ≡ true → (key : Key) (n : ℕ) → lookup (is_at (key_cmp key)) routes ≡ Some n
+    → has_differed (at cases n) ≡ true → is_noted notes pending key n ≡ true
 
 -- where the keys of the cases are held, they are those of the routes
 abbrev pub AreKeysOfRoutes : Option Entries → Numbered → Type 0
@@ -27,7 +31,7 @@ AreKeysOfRoutes None routes = ⊤
 AreKeysOfRoutes (Some index) routes = IsReverse index routes
 
 pub record AreMarks (routes : Numbered) (cases : Slots) (marks : Marks) : Type 0 where
-  pub noted : AreNoted marks.is_marked routes cases marks.notes
+  pub noted : AreNoted marks.is_marked routes cases marks.notes marks.pending.keys
   pub keys : AreKeysOfRoutes marks.keys routes
 
 -- the routes, their cases and the marks belong together
@@ -49,6 +53,11 @@ FollowsIn (Some old) key case None = ⊥
 FollowsIn (Some old) key case (Some new) = Follows old key case new
 
 -- ---- cases differ
+
+-- these cases are pending too, once verdicts were marked
+abbrev pub Defers : Bool → List ℕ → List ℕ → List ℕ → Type 0
+Defers false old numbers new = ⊤
+Defers true old numbers new = (n : ℕ) → numbers_have new n ≡ (numbers_have old n || numbers_have numbers n)
 
 -- each case is of the AS of its keys' peers
 abbrev pub AreOfPeers : Numbered → Slots → Type 0

@@ -36,7 +36,7 @@ kept_note (Some n) here (Some None) = Some None
 
 -- what was marked of the key is noted, once verdicts were marked, where its case becomes this one
 abbrev pub NotesChange : Bool → Noted → Key → Option ℕ → Option Verdict → Noted → Type 0
-NotesChange false old key after marked new = ⊤
+NotesChange false old key after marked new = new ≡ old
 NotesChange true old key after marked new = (q : Key) → lookup (is_at (key_cmp q)) new
     ≡ kept_note after (is_at (key_cmp key) q) (or_noted (lookup (is_at (key_cmp q)) old) (is_at (key_cmp key) q) marked)
 

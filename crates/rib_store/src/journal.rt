@@ -4,8 +4,10 @@ ghost use Rattle.std.specs.Iterator.{YieldsFirst, YieldsFirstBy, item_count};
 ghost use Rattle.std.specs.List.{filter_map};
 ghost use Rattle.std.specs.Option.{option_map};
 ghost use Rattle.shared_cases.specs.Cases.{at, marked_or, verdict_or};
-ghost use Rattle.rib_store.specs.ChangesLeft.{came, change_between, changed, changes_left};
+ghost use Rattle.rib_store.specs.ChangesLeft.{change_between, changed, changes_left, row_change};
+ghost use Rattle.rib_store.specs.Merge.{marked_of, merged_left};
 
+use crate::merged::{Merged, Row};
 use path_model::{Key, Verdict};
 use route_map::{Iter, RouteMap};
 use shared_cases::SharedCases;
@@ -24,19 +26,22 @@ pub struct ChangedKey {
 // What a list of changes has still to go over.
 #[derive(Drop)]
 pub(crate) enum Left<'a> {
-    // before the first mark all routes, each of which is a change
-    OfRoutes(Iter<'a, u32>),
-    // and else the notes: what was marked of the keys whose route changed since, or whose case got another verdict
+    // all notes and routes
+    OfAll(Merged<'a>),
+    // the notes alone, where each key that may have changed has one
     OfNotes(Iter<'a, Option<Verdict>>),
 }
 
-/// The changed keys in key order. It judges nothing, and takes no memory. Before the first mark each route takes a step; after it each key
-/// whose route changed since, or whose case got another verdict, takes a step and a look-up among the routes.
+/// The changed keys in key order. It judges nothing, and takes no memory. Where the keys of the cases that got another verdict are gathered,
+/// each key whose route changed since the mark, or whose case got another verdict, takes a step and a look-up among the routes; else, and before
+/// the first mark, each route and each noted key takes a step.
 #[derive(Drop)]
 pub struct Journal<'a> {
     pub(crate) left: Left<'a>,
     pub(crate) routes: &'a RouteMap<u32>,
     pub(crate) cases: &'a SharedCases,
+    // whether verdicts were ever marked
+    pub(crate) is_marked: bool,
 }
 
 impl<'a> Iterator for Journal<'a> {
@@ -48,24 +53,24 @@ impl<'a> Iterator for Journal<'a> {
 
     fn next(&mut self) -> Option<ChangedKey> {
         match &mut self.left {
-            Left::OfRoutes(routes) => next_come(routes, self.cases),
+            Left::OfAll(merged) => next_row(merged, self.is_marked, self.cases),
             Left::OfNotes(notes) => next_changed(notes, self.routes, self.cases),
         }
     }
 }
 
-// The first of the routes that are left, as a change.
-fn next_come(routes: &mut Iter<'_, u32>, cases: &SharedCases) -> Option<ChangedKey>
-    ensures { YieldsFirst (λ left. filter_map (came cases.now) left) routes.old result routes.new }
+// The first change among the rows that are left.
+fn next_row(merged: &mut Merged<'_>, is_marked: bool, cases: &SharedCases) -> Option<ChangedKey>
+    ensures { YieldsFirst (λ left. filter_map (row_change is_marked cases.now) (merged_left left))
+        merged.old result merged.new }
 {
-    match routes.next() {
-        None => None,
-        Some((key, number)) => Some(ChangedKey {
-            key,
-            before: None,
-            after: Some(cases.verdict(*number as usize)),
-        }),
+    while let Some((key, row)) = merged.next() {
+        let before = marked_of(is_marked, cases, row);
+        if let Some(change) = change_between(key, before, verdict_of(cases, row.case)) {
+            return Some(change);
+        }
     }
+    None
 }
 
 // The first change among the notes that are left.
@@ -94,6 +99,19 @@ fn change_between(key: Key, before: Option<Verdict>, after: Option<Verdict>) -> 
         return None;
     }
     Some(ChangedKey { key, before, after })
+}
+
+// What was marked of a key.
+fn marked_of(is_marked: bool, cases: &SharedCases, row: Row) -> Option<Verdict>
+    ensures { result ≡ marked_of is_marked cases.now row }
+{
+    if !is_marked {
+        return None;
+    }
+    match row.noted {
+        Some(noted) => noted,
+        None => mark_of(cases, row.case),
+    }
 }
 
 // The verdict of a case, if there is one.

@@ -14,6 +14,7 @@ mod counts;
 mod journal;
 mod laws;
 mod marks;
+mod merged;
 mod rib;
 mod routing;
 mod store;

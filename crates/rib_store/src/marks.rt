@@ -1,5 +1,5 @@
 //! What was marked, beside what the cases tell of it.
-ghost use Rattle.std.specs.Prelude.{◌≡◌, true, false, [], None, Some, IfOk, OnOk};
+ghost use Rattle.std.specs.Prelude.{◌≡◌, ◌||◌, ℕ, nat_eq, true, false, [], None, Some, IfOk, OnOk};
 ghost use Rattle.std.specs.BTreeMap.{is_at};
 ghost use Rattle.std.specs.Map.{lookup};
 ghost use Rattle.std.specs.Option.{option_map};
@@ -7,7 +7,8 @@ ghost use Rattle.path_model.specs.declared.key.Key.{Key as AnyKey};
 ghost use Rattle.path_model.specs.Key.{key_cmp};
 ghost use Rattle.route_map.specs.Keys.{has_key, IsReverse};
 ghost use Rattle.shared_cases.specs.Cases.{at, marked_or};
-ghost use Rattle.rib_store.specs.Marks.{is_key_of, AreCovered, AreKeysOfRoutes, AreOfPeers, FollowsIn, IsCaseAt, NotesCases, TellsMarks};
+ghost use Rattle.shared_cases.specs.Numbers.{has as numbers_have};
+ghost use Rattle.rib_store.specs.Marks.{is_key_of, AreCovered, AreKeysOfRoutes, AreOfPeers, Defers, FollowsIn, IsCaseAt, NotesCases, TellsMarks};
 ghost use Rattle.rib_store.specs.Steps.{kept_note, or_noted, Notes, NotesMove};
 
 use crate::journal::mark_of;
@@ -16,32 +17,38 @@ use path_model::{Key, Verdict};
 use route_map::{KeysByNumber, RouteMap};
 use shared_cases::{CaseNumbers, SharedCases};
 use std::alloc::Global;
+use std::collections::BTreeSet;
 
-// Once verdicts were marked, a note of each key whose route changed since, or whose case got another verdict than the marked one: what
-// was marked of the key. Of each other key its case tells it.
+// Once verdicts were marked, a note of each key whose route changed since, or whose case got another verdict than the marked one and isn't
+// pending: what was marked of the key. Of each other key its case tells it. Each note is of a key that has a route, or had one at the mark.
 #[derive(Drop)]
 pub(crate) struct Marks {
-    // whether verdicts were ever marked; before, there are no notes
+    // whether verdicts were ever marked; before, there are no notes, and none are pending
     pub(crate) is_marked: bool,
     // none, where the key had no route at the mark
     pub(crate) notes: RouteMap<Option<Verdict>>,
-    // the keys of each case, from when a case first gets another verdict than the marked one
+    // the numbers of the cases whose keys are still to be noted
+    pub(crate) pending: BTreeSet<usize>,
+    // the keys of each case, from when some are first noted by their case
     pub(crate) keys: Option<KeysByNumber>,
 }
 
 impl Marks {
     // Nothing was marked yet. It takes no memory.
     pub(crate) fn new(alloc: Global) -> Marks
-        ensures { result ≡ record { is_marked = false; notes = []; keys = None } }
+        ensures marked { result.is_marked ≡ false }
+        ensures notes { result.notes ≡ [] }
+        ensures keys { result.keys ≡ None }
     {
         Marks {
             is_marked: false,
             notes: RouteMap::new(alloc),
+            pending: BTreeSet::new(alloc),
             keys: None,
         }
     }
 
-    // A key that had the case `before`, if it had one, has `after` from now on. It takes up to four look-ups, and where these are the same
+    // A key that had the case `before`, if it had one, has `after` from now on. It takes a few look-ups, and where these are the same
     // none.
     pub(crate) fn follow(
         &mut self,
@@ -55,6 +62,7 @@ impl Marks {
             (option_map (λ n. marked_or (at cases.now n)) before) self.new.notes) }
         ensures keys { OnOk result (FollowsIn self.old.keys key.now after self.new.keys) }
         ensures same { self.new.is_marked ≡ self.old.is_marked }
+        ensures pending { self.new.pending.keys ≡ self.old.pending.keys }
     {
         note(&mut self.notes, self.is_marked, cases, key, before, after)?;
         match &mut self.keys {
@@ -63,31 +71,66 @@ impl Marks {
         }
     }
 
-    // These cases got another verdict than the marked one, each for the first time since the mark. It takes the time of their keys, and the
-    // first time that of all routes.
-    pub(crate) fn note_cases(
+    // These cases got another verdict than the marked one, each for the first time since the mark: their keys are to be noted. It takes
+    // a look-up for each.
+    pub(crate) fn defer(&mut self, numbers: &CaseNumbers) -> Result<(), NoMemory>
+        ensures deferred { OnOk result (Defers self.old.is_marked self.old.pending.keys numbers.now
+            self.new.pending.keys) }
+        ensures same { self.new.is_marked ≡ self.old.is_marked }
+        ensures notes { self.new.notes ≡ self.old.notes }
+        ensures keys { self.new.keys ≡ self.old.keys }
+    {
+        if !self.is_marked {
+            return Ok(());
+        }
+        insert_all(&mut self.pending, numbers)
+    }
+
+    // The keys of the pending cases are noted. It takes the time of these keys, of a look-up for each pending case and peer of its AS, and
+    // the first time that of all routes.
+    pub(crate) fn gather(
         &mut self,
         alloc: Global,
         routes: &RouteMap<u32>,
         cases: &SharedCases,
-        numbers: &CaseNumbers,
     ) -> Result<(), NoMemory>
         requires of_peers { AreOfPeers routes.now cases.now }
         requires held { AreKeysOfRoutes self.old.keys routes.now }
         ensures told { OnOk result (TellsMarks routes.now cases.now self.old.notes self.new.notes) }
-        ensures covered { OnOk result (self.old.is_marked ≡ true
-            → AreCovered routes.now cases.now numbers.now self.new.notes) }
+        ensures covered { OnOk result (AreCovered routes.now cases.now self.old.pending.keys
+            self.new.notes) }
         ensures keys { OnOk result (AreKeysOfRoutes self.new.keys routes.now) }
+        ensures pending { OnOk result (self.new.pending.keys ≡ []) }
         ensures same { self.new.is_marked ≡ self.old.is_marked }
     {
-        if !self.is_marked || numbers.is_empty() {
+        if self.pending.is_empty() {
             return Ok(());
         }
         let keys = take_keys(&mut self.keys, alloc, routes)?;
-        note_each(&mut self.notes, &keys, cases, numbers)?;
+        note_each(&mut self.notes, &keys, cases, &self.pending)?;
         self.keys = Some(keys);
+        self.pending = BTreeSet::new(alloc);
         Ok(())
     }
+}
+
+// These numbers come to the others.
+fn insert_all(pending: &mut BTreeSet<usize>, numbers: &CaseNumbers) -> Result<(), NoMemory>
+    ensures { OnOk result (Defers true pending.old.keys numbers.now pending.new.keys) }
+{
+    for number in numbers.iter() {
+        insert(pending, *number)?;
+    }
+    Ok(())
+}
+
+// One number comes to the others.
+fn insert(pending: &mut BTreeSet<usize>, number: usize) -> Result<(), NoMemory>
+    ensures { OnOk result ((n : ℕ) → numbers_have pending.new.keys n
+        ≡ (numbers_have pending.old.keys n || nat_eq n number)) }
+{
+    pending.insert(number)?;
+    Ok(())
 }
 
 // The keys of the cases, which are held for as long as they follow the routes.
@@ -143,9 +186,9 @@ fn note_each(
     notes: &mut RouteMap<Option<Verdict>>,
     keys: &KeysByNumber,
     cases: &SharedCases,
-    numbers: &CaseNumbers,
+    numbers: &BTreeSet<usize>,
 ) -> Result<(), NoMemory>
-    ensures { OnOk result (NotesCases keys.now cases.now numbers.now notes.old notes.new) }
+    ensures { OnOk result (NotesCases keys.now cases.now numbers.now.keys notes.old notes.new) }
 {
     for number in numbers.iter() {
         note_case(notes, keys, cases, *number)?;

@@ -19,6 +19,7 @@ ghost use Rattle.rib_store.specs.Touched.{announced, IsWithinTouched};
 use crate::counts::{Counts, count};
 use crate::journal::{Journal, Left};
 use crate::marks::Marks;
+use crate::merged::Merged;
 use crate::rib::{Rib, Shown};
 use crate::routing::Routing;
 use av_base::{NoMemory, Steps};
@@ -27,6 +28,7 @@ use path_model::{Changes, Key, Role, Roles};
 use route_map::RouteMap;
 use shared_cases::{Case, SharedCases};
 use std::alloc::Global;
+use std::collections::BTreeSet;
 use std::marker::Model;
 use std::sync::ledger::Ledger;
 use vap_table::{TableChange, Vaps};
@@ -150,7 +152,7 @@ impl RibStore {
         cases.are_distinct();
         let (table, moves) = table.change(change)?;
         let (cases, differing) = cases.follow_table(&moves, &table, &roles, steps)?;
-        marks.note_cases(alloc, &routes, &cases, &differing)?;
+        marks.defer(&differing)?;
         Ok(RibStore {
             alloc,
             table,
@@ -187,7 +189,7 @@ impl RibStore {
         let before = roles.of(asn);
         roles.set(asn, role)?;
         let (cases, differing) = cases.follow_role(asn, before, &table, &roles, steps)?;
-        marks.note_cases(alloc, &routes, &cases, &differing)?;
+        marks.defer(&differing)?;
         Ok(RibStore {
             alloc,
             table,
@@ -224,7 +226,7 @@ impl RibStore {
         let before = roles.copy()?;
         roles.set_default(role);
         let (cases, differing) = cases.follow_roles(&before, &table, &roles, steps)?;
-        marks.note_cases(alloc, &routes, &cases, &differing)?;
+        marks.defer(&differing)?;
         Ok(RibStore {
             alloc,
             table,
@@ -269,31 +271,58 @@ impl RibStore {
     }
 
     /// Each key whose verdict or presence differs from the marked one, in key order. At the start nothing is marked. It takes no
-    /// memory, and after a mark the time of a look-up for each key whose route changed since or whose case got another verdict; before the
-    /// first mark that of all routes.
+    /// memory. Where [`RibStore::gather`] came after the last event, it takes the time of a look-up for each key whose route changed since the
+    /// mark or whose case got another verdict; else, and before the first mark, that of all routes.
     pub fn changes(&self) -> Journal<'_>
         ensures changes { AreChanges self.now.state (changes_left result) }
         ensures few { length (changes_left result) < 2 ^ 64 }
     {
         // it comes with the order of the keys
         let _length = self.routes.len();
-        if !self.marks.is_marked {
+        if self.marks.is_marked && self.marks.pending.is_empty() {
+            self.cases.are_settled();
             return Journal {
-                left: Left::OfRoutes(self.routes.iter()),
+                left: Left::OfNotes(self.marks.notes.iter()),
                 routes: &self.routes,
                 cases: &self.cases,
+                is_marked: self.marks.is_marked,
             };
         }
-        self.cases.are_settled();
         Journal {
-            left: Left::OfNotes(self.marks.notes.iter()),
+            left: Left::OfAll(Merged::new(self.marks.notes.iter(), self.routes.iter())),
             routes: &self.routes,
             cases: &self.cases,
+            is_marked: self.marks.is_marked,
         }
     }
 
+    /// The store as it is, with the keys of the cases gathered that got another verdict since verdicts were marked, so that [`RibStore::changes`]
+    /// goes over the changed keys alone. It takes the time and the memory of these keys, a look-up for each such case and peer of its AS, and
+    /// the first time the time and the memory of all routes.
+    pub fn gather(self) -> Result<RibStore, NoMemory>
+        ensures { IfOk result (λ s. s ≡ self) }
+    {
+        let RibStore {
+            alloc,
+            table,
+            roles,
+            routes,
+            cases,
+            mut marks,
+        } = self;
+        marks.gather(alloc, &routes, &cases)?;
+        Ok(RibStore {
+            alloc,
+            table,
+            roles,
+            routes,
+            cases,
+            marks,
+        })
+    }
+
     /// The current verdicts are the marked ones from now on. It takes no memory, and the time of the cases that got another verdict and of
-    /// the keys whose route or whose case's verdict changed since the last mark.
+    /// the keys that were noted since the last mark.
     pub fn mark(self) -> RibStore
         ensures { IsMarked self.state result.state }
     {
@@ -311,6 +340,7 @@ impl RibStore {
         let marks = Marks {
             is_marked: true,
             notes: RouteMap::new(alloc),
+            pending: BTreeSet::new(alloc),
             keys: marks.keys,
         };
         RibStore {

@@ -100,7 +100,7 @@ abbrev pub marked_now : Option StoredCase → Option StoredCase
 marked_now None = None
 marked_now (Some c) = Some (record c { marked = c.judged.verdict; differed = false })
 
--- the same case with another judgement at most
+-- the same case with another judgement at most, and whether it has differed
 abbrev pub IsSameCase : Option StoredCase → Option StoredCase → Type 0
 IsSameCase None None = ⊤
 IsSameCase None (Some d) = ⊥

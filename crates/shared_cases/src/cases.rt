@@ -123,8 +123,8 @@ impl SharedCases {
     }
 
     /// One route more has the case of this AS and path, and the number of the case, which stays until its last route leaves it. A new
-    /// case is judged, for one step, and its verdict is the marked one. Where there was no memory, nothing is promised of the cases but
-    /// that they fit together.
+    /// case is judged, for one step, and its verdict is the marked one. For 2^32 routes of one case there is no memory. Where there was none,
+    /// nothing is promised of the cases but that they fit together.
     pub fn take<L: Ledger>(
         &mut self,
         asn: u32,

@@ -15,7 +15,7 @@ use std::collections::BTreeMap;
 // The number of each case, under its word or, where another case has that, under its whole name.
 #[derive(Drop)]
 pub(crate) struct Names {
-    // the case that came first of those that had the word then
+    // of each word a case that has it: the one that came while no other stood under it
     pub(crate) words: BTreeMap<u64, u32>,
     // those that came while another had their word
     pub(crate) twins: BTreeMap<CaseName, u32>,

@@ -1,5 +1,6 @@
 //! The store of routes beside plain lists: after each of many drawn events all routes are judged from scratch, and compared with the
-//! store's rows; what changed since verdicts were marked is worked out from two such lists, and compared with the store's changes.
+//! store's rows; what changed since verdicts were marked is worked out from two such lists, and compared with the store's changes,
+//! which are gathered before most of the time.
 ghost use Rattle.std.specs.Prelude.{◌≡◌};
 
 use analyser::{Analyser, Event};
@@ -360,6 +361,9 @@ fn replayed<L: Ledger>(alloc: Global, blank: Blank) -> Result<Compared, NoMemory
     for _ in 0..EVENTS {
         let event = next_event(&mut drawn, &mut plain)?;
         analyser = analyser.step(event, &mut steps)?;
+        if drawn.four() != 0 {
+            analyser = analyser.gather()?;
+        }
         let now = plain.verdicts(&mut steps)?;
         let are_same = has_rows(&analyser, &now, &mut compared);
         if are_same && has_changes(&analyser, &plain.changes(&now)?, &mut compared) {

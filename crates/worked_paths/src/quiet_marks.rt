@@ -58,16 +58,19 @@ fn replayed<L: Ledger>(alloc: Global, blank: Blank) -> Result<(u32, u32, u32), N
     let analyser = analyser.step(routes(alloc)?, &mut steps)?;
     let analyser = analyser.step(other_route(alloc)?, &mut steps)?.mark();
     let analyser = analyser.step(Event::DefaultRole(Role::Customer), &mut steps)?;
+    let analyser = analyser.gather()?;
     let first = changed(analyser.store());
     let mut analyser = analyser.mark();
     let mut there = 0u32;
     let mut gone = 0u32;
     for _ in 0..250_000u32 {
         analyser = analyser.step(assertion(alloc, 300_000, 1)?, &mut steps)?;
+        analyser = analyser.gather()?;
         there = there.saturating_add(changed(analyser.store()));
         analyser = analyser.mark();
         let unassertion = Event::Table(TableChange::Unassert(300_000));
         analyser = analyser.step(unassertion, &mut steps)?;
+        analyser = analyser.gather()?;
         gone = gone.saturating_add(changed(analyser.store()));
         analyser = analyser.mark();
     }

@@ -1,4 +1,4 @@
-use Rattle.std.proofs.Common.{Ok, refl, sym, ap, subst, ◌∙◌, arith, rules}
+use Rattle.std.proofs.Common.{◌≡◌, Ok, refl, sym, ap, subst, ◌∙◌, arith, rules}
 use Rattle.std.specs.Io.KnownBytes.{append_known}
 use Rattle.av_base.proofs.PouringLemmas.{Grows-refl}
 use Rattle.feed_lines.proofs.FaultsLemmas.{BreaksByFault-refl}
@@ -7,6 +7,7 @@ use Rattle.report_text.proofs.ReportedLemmas.{adds_front}
 use Rattle.stream_lines.proofs.ReportedLemmas.{changes_reported, changes_reported_front, rows_reported, rows_reported_front}
 use Rattle.aspa_top.specs.declared.task.Task.{Task}
 use Rattle.aspa_top.specs.declared.working.Working.{Working}
+use Rattle.aspa_top.specs.Performing.{Marked}
 use Rattle.aspa_top.specs.Tasks.{DoesTask}
 use Rattle.aspa_top.proofs.FeedLemmas.{IsSound-feeds, feed_goes, feed_part, feeds_kept, take_stopped, taken_feeds, takes_feed}
 use Rattle.aspa_top.proofs.PerformingLemmas.{err_as, goes_as, listed, listed_part, nothing, ok_goes_as, on_err, part_load, part_short, part_some, reported, reported_part, some_as, uses_as, uses_load, within_as, IsSound-marked}
@@ -377,14 +378,17 @@ returns-in_err-put_rows-in-Report g c =
 
 pub returns : goal.returns
 returns g c =
+    let is : c.in_ok-working.working ≡ c.args.working = c.in_ok-working.ensures in
+    let held = c.store-in-Changes.ensures ∙ ap (λ (w : Working). w.analyser) is in
+    let marked : Marked c.args.working c.mark.result = subst (λ (w : Working). Marked w c.mark.result) is c.mark.ensures in
     let same = sym c.task_of.ensures ∙ c.in-Changes.is in
-    let goes = goes_as c.args.working c.args.command Changes same _ _ _ _ _ _ _ _ _ (listed c.args.working _ _ _ _ _ _ _ c.store-in-Changes.ensures c.in_ok-put_changes-in-Changes.ensures.whole c.mark.ensures) in
+    let goes = goes_as c.args.working c.args.command Changes same _ _ _ _ _ _ _ _ _ (listed c.args.working _ _ _ _ _ _ _ held c.in_ok-put_changes-in-Changes.ensures.whole marked) in
     record {
       goes = goes;
-      sound = IsSound-marked c.args.working _ _ _ _ (omega (arith, c.requires.room.0)) c.requires.sound c.mark.ensures;
-      lines = ap (λ (w : Working). w.lines) c.mark.ensures.left;
+      sound = IsSound-marked c.args.working _ _ _ _ (omega (arith, c.requires.room.0)) c.requires.sound marked;
+      lines = ap (λ (w : Working). w.lines) marked.left;
       part = search rules;
-      feeds = feeds_kept _ _ _ c.args.working c.mark.result (omega (arith, c.requires.room.0)) (ap (λ (w : Working). w.feeds) c.mark.ensures.left) c.requires.feeds;
+      feeds = feeds_kept _ _ _ c.args.working c.mark.result (omega (arith, c.requires.room.0)) (ap (λ (w : Working). w.feeds) marked.left) c.requires.feeds;
       later = GoesOn-refl _;
       broke = BreaksByFault-refl _ _;
       grows = c.put_changes.ensures.grows;
@@ -401,11 +405,13 @@ returns g c =
 
 pub returns-in_err-put_changes-in-Changes : goal.returns-in_err-put_changes-in-Changes
 returns-in_err-put_changes-in-Changes g c =
+    let is : c.in_ok-working.working ≡ c.args.working = c.in_ok-working.ensures in
+    let held = c.store-in-Changes.ensures ∙ ap (λ (w : Working). w.analyser) is in
     record {
       goes = search rules;
       sound = search rules;
       lines = search rules;
-      part = on_err _ (some_as c.args.working c.args.command Changes (sym c.task_of.ensures ∙ c.in-Changes.is) _ _ _ _ _ _ (listed_part c.args.working _ _ _ _ _ c.store-in-Changes.ensures c.put_changes.ensures.front));
+      part = on_err _ (some_as c.args.working c.args.command Changes (sym c.task_of.ensures ∙ c.in-Changes.is) _ _ _ _ _ _ (listed_part c.args.working _ _ _ _ _ held c.put_changes.ensures.front));
       feeds = search rules;
       later = GoesOn-refl _;
       broke = BreaksByFault-refl _ _;
@@ -419,4 +425,26 @@ returns-in_err-put_changes-in-Changes g c =
       sink_cause = search rules;
       adds = search rules;
       adds_front = changes_reported_front _ _ _ c.put_changes.ensures.front (g.K.Links.faults c.args.links.now);
+    }
+
+pub returns-in_err-working-in-Changes : goal.returns-in_err-working-in-Changes
+returns-in_err-working-in-Changes g c =
+    record {
+      goes = search rules;
+      sound = search rules;
+      lines = search rules;
+      part = on_err _ (nothing c.args.working (Ok c.args.command) _ _ _ _ _ refl);
+      feeds = search rules;
+      later = GoesOn-refl _;
+      broke = BreaksByFault-refl _ _;
+      grows = Grows-refl _;
+      names = refl;
+      shelf_faults = omega arith;
+      sink_faults = omega arith;
+      uses = search rules;
+      shelf_cause = search rules;
+      held = search rules;
+      sink_cause = search rules;
+      adds = search rules;
+      adds_front = front_same (g.W.Sink.written c.args.out.now) _ _ _ _ (omega arith) refl;
     }

@@ -9,4 +9,4 @@ use Rattle.rib_store.proofs.marks.note_each.Given as goal
 -- the keys of the cases to come are noted last
 abbrev pub invariant-loop-number : goal.invariant-loop-number
 invariant-loop-number l = (q : Key) → or_else (lookup (is_at (key_cmp q)) l.notes) (note_by l.keys l.cases l.number-iterator q)
-    ≡ or_else (lookup (is_at (key_cmp q)) l.fn.notes) (note_by l.keys l.cases l.numbers q)
+    ≡ or_else (lookup (is_at (key_cmp q)) l.fn.notes) (note_by l.keys l.cases l.numbers.keys q)

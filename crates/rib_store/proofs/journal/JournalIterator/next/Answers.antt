@@ -3,17 +3,18 @@ use Rattle.std.specs.Prelude.{MatchOption}
 use Rattle.std.specs.List.{filter_map}
 use Rattle.rib_store.specs.declared.journal.ChangedKey.{ChangedKey}
 use Rattle.rib_store.specs.declared.journal.Left.{Left}
-use Rattle.rib_store.specs.ChangesLeft.{came, changed, changes_of}
+use Rattle.rib_store.specs.ChangesLeft.{changed, changes_of, row_change}
+use Rattle.rib_store.specs.Merge.{merged_left}
 use Rattle.rib_store.proofs.journal.JournalIterator.next.Goals as goal
 
-pub returns-in-OfRoutes-clause-steps : goal.returns-in-OfRoutes-clause-steps
-returns-in-OfRoutes-clause-steps c =
-    let rest : List ChangedKey = filter_map (came c.args.self.now.cases.now) c.next_come.new.routes in
-    subst (λ (first : List ChangedKey). MatchOption c.next_come.result ((first ≡ []) × (rest ≡ [])) (λ x. first ≡ x ∷ rest))
-    (sym (ap (λ (left : Left). changes_of left c.args.self.now.routes.now c.args.self.now.cases.now) c.in-OfRoutes.is)) c.next_come.ensures
+pub returns-in-OfAll-clause-steps : goal.returns-in-OfAll-clause-steps
+returns-in-OfAll-clause-steps c =
+    let rest : List ChangedKey = filter_map (row_change c.args.self.now.is_marked c.args.self.now.cases.now) (merged_left c.next_row.new.merged) in
+    subst (λ (first : List ChangedKey). MatchOption c.next_row.result ((first ≡ []) × (rest ≡ [])) (λ x. first ≡ x ∷ rest))
+    (sym (ap (λ (left : Left). changes_of left c.args.self.now.is_marked c.args.self.now.routes.now c.args.self.now.cases.now) c.in-OfAll.is)) c.next_row.ensures
 
 pub returns-in-OfNotes-clause-steps : goal.returns-in-OfNotes-clause-steps
 returns-in-OfNotes-clause-steps c =
     let rest : List ChangedKey = filter_map (changed c.args.self.now.routes.now c.args.self.now.cases.now) c.next_changed.new.notes in
     subst (λ (first : List ChangedKey). MatchOption c.next_changed.result ((first ≡ []) × (rest ≡ [])) (λ x. first ≡ x ∷ rest))
-    (sym (ap (λ (left : Left). changes_of left c.args.self.now.routes.now c.args.self.now.cases.now) c.in-OfNotes.is)) c.next_changed.ensures
+    (sym (ap (λ (left : Left). changes_of left c.args.self.now.is_marked c.args.self.now.routes.now c.args.self.now.cases.now) c.in-OfNotes.is)) c.next_changed.ensures

@@ -1,4 +1,4 @@
-use Rattle.std.proofs.Common.{Bool, Option, Some, ℕ, sym, subst, ◌∙◌, ap}
+use Rattle.std.proofs.Common.{Bool, Option, Some, ℕ, sym, subst, ◌∙◌, ap, List}
 use Rattle.std.specs.BTreeMap.{is_at}
 use Rattle.std.specs.Map.{lookup}
 use Rattle.std.specs.Option.{option_map}
@@ -32,10 +32,11 @@ returns-clause-routed g c =
           c.requires.stored c.in_ok-number.ensures.taken c.len-length.ensures.in_order c.in_ok-before.ensures.inserted c.in_ok-before.ensures.updates)
           leaves;
       marks = record {
-        noted = subst (λ (b : Bool). AreNoted b c.insert.new.self c.leave.new.cases c.follow.new.self.notes) (sym c.follow.ensures.same)
+        noted = subst (λ (b : Bool). AreNoted b c.insert.new.self c.leave.new.cases c.follow.new.self.notes c.follow.new.self.pending.keys) (sym c.follow.ensures.same)
+            (subst (λ (ps : List ℕ). AreNoted c.args.self.now.marks.is_marked c.insert.new.self c.leave.new.cases c.follow.new.self.notes ps) (sym c.follow.ensures.pending)
             (announced_noted (grounds c.args.table.now c.args.roles.now) c.args.table.now c.args.roles.now c.args.self.now.marks.is_marked c.args.self.now.routes c.insert.new.self c.args.self.now.marks.notes c.follow.new.self.notes c.args.key
             c.args.self.now.cases c.take.new.self c.leave.new.cases c.in_ok-number.number c.args.trail
-            c.requires.stored c.in_ok-number.ensures.taken c.len-length.ensures.in_order c.in_ok-before.ensures.inserted c.in_ok-before.ensures.updates leaves moves c.requires.marks.noted);
+            c.requires.stored c.in_ok-number.ensures.taken c.len-length.ensures.in_order c.in_ok-before.ensures.inserted c.in_ok-before.ensures.updates leaves moves c.args.self.now.marks.pending.keys c.requires.marks.noted));
         keys = keys_follow c.args.self.now.marks.keys c.follow.new.self.keys c.args.self.now.routes c.insert.new.self c.args.key (Some c.in_ok-number.number) c.requires.marks.keys c.in_ok-before.ensures.updates c.in_ok-follow.ensures.keys;
       };
     }

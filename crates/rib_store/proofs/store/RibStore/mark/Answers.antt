@@ -13,7 +13,7 @@ pub invariant_of-result : goal.invariant_of-result
 invariant_of-result c = record {
   stored = marked_stored (grounds c.self.inside.table c.self.inside.roles) c.self.inside.routes c.self.inside.cases c.mark-cases.result c.self.invariant.stored c.mark-cases.ensures;
   marks = record {
-    noted = noted_marked c.self.inside.routes c.self.inside.cases c.mark-cases.result c.new.result c.mark-cases.ensures;
+    noted = noted_marked c.self.inside.routes c.self.inside.cases c.mark-cases.result c.new.result _ c.mark-cases.ensures;
     keys = c.self.invariant.marks.keys;
   };
 }

@@ -6,30 +6,21 @@ use Rattle.shared_cases.specs.Touched.{AreWithinTouched}
 use Rattle.rib_store.specs.State.{State}
 use Rattle.rib_store.specs.Stored.{Stored}
 use Rattle.rib_store.specs.Touched.{IsWithinTouched}
-use Rattle.rib_store.proofs.EventLemmas.{event_sound, noted_state, rejudged_state, few_judged}
+use Rattle.rib_store.proofs.EventLemmas.{event_sound, deferred_state, rejudged_state, few_judged}
 use Rattle.rib_store.proofs.RouteLemmas.{state_by}
 use Rattle.rib_store.proofs.StoredLemmas.{rejudged}
 use Rattle.rib_store.proofs.store.RibStore.set_default.Goals as goal
 
--- the cases are still those of the routes
-pub note_cases-requires-clause-of_peers : goal.note_cases-requires-clause-of_peers
-note_cases-requires-clause-of_peers g c = (rejudged (grounds c.self.inside.table c.self.inside.roles) (grounds c.self.inside.table c.set_default.new.self) c.self.inside.routes c.self.inside.cases c.in_ok-cases.cases
-    c.self.invariant.stored c.in_ok-cases.ensures.same
-    (subst (λ (r : Relations). (n : ℕ) → IsJudged (grounds c.self.inside.table r) (at c.self.inside.cases n) → IsJudged (grounds c.self.inside.table c.set_default.new.self) (at c.in_ok-cases.cases n)) c.in_ok-before.ensures c.in_ok-cases.ensures.judged)).of_peers
-
-pub note_cases-requires-clause-held : goal.note_cases-requires-clause-held
-note_cases-requires-clause-held g c = c.self.invariant.marks.keys
-
 pub invariant_of-result : goal.invariant_of-result
-invariant_of-result g c = event_sound (grounds c.self.inside.table c.set_default.new.self) c.self.inside.routes c.self.inside.cases c.in_ok-cases.cases c.self.inside.marks c.note_cases.new.self c.in_ok-cases.differing c.self.invariant.marks
+invariant_of-result g c = event_sound (grounds c.self.inside.table c.set_default.new.self) c.self.inside.routes c.self.inside.cases c.in_ok-cases.cases c.self.inside.marks c.defer.new.self c.in_ok-cases.differing c.self.invariant.marks
     (rejudged (grounds c.self.inside.table c.self.inside.roles) (grounds c.self.inside.table c.set_default.new.self) c.self.inside.routes c.self.inside.cases c.in_ok-cases.cases
     c.self.invariant.stored c.in_ok-cases.ensures.same
     (subst (λ (r : Relations). (n : ℕ) → IsJudged (grounds c.self.inside.table r) (at c.self.inside.cases n) → IsJudged (grounds c.self.inside.table c.set_default.new.self) (at c.in_ok-cases.cases n)) c.in_ok-before.ensures c.in_ok-cases.ensures.judged))
-    c.in_ok-cases.ensures.newly c.in_ok-note_cases.ensures.told c.in_ok-note_cases.ensures.covered c.in_ok-note_cases.ensures.keys c.note_cases.ensures.same
+    c.in_ok-cases.ensures.newly c.in_ok-defer.ensures.deferred c.defer.ensures.same c.defer.ensures.notes c.defer.ensures.keys
 
 pub returns-clause-state : goal.returns-clause-state
 returns-clause-state g c =
-    noted_state c.self.inside.table c.set_default.new.self c.self.inside.marks.is_marked c.note_cases.new.self.is_marked c.self.inside.routes c.in_ok-cases.cases c.self.inside.marks.notes c.note_cases.new.self.notes c.in_ok-note_cases.ensures.told c.note_cases.ensures.same
+    deferred_state c.self.inside.table c.set_default.new.self c.self.inside.marks.is_marked c.defer.new.self.is_marked c.self.inside.routes c.in_ok-cases.cases c.self.inside.marks.notes c.defer.new.self.notes c.defer.ensures.notes c.defer.ensures.same
     ∙ rejudged_state c.self.inside.table c.self.inside.table c.self.inside.roles c.set_default.new.self c.self.inside.marks.is_marked c.self.inside.routes c.self.inside.marks.notes c.self.inside.cases c.in_ok-cases.cases c.in_ok-cases.ensures.same
     ∙ ap (λ (r : Relations). record (state_by c.self.inside.table c.self.inside.roles c.self.inside.marks.is_marked c.self.inside.cases c.self.inside.routes c.self.inside.marks.notes) { roles = r }) c.set_default.ensures
     ∙ ap (λ (s : Stored). record s.state { roles = record s.state.roles { default = c.args.role } }) c.self.view_is
@@ -50,8 +41,8 @@ returns-in_err-cases-clause-ticks g c =
     (few_judged c.self.inside.table c.self.inside.table c.self.inside.roles c.set_default.new.self c.self.inside.marks.is_marked c.self.inside.routes c.self.inside.marks.notes c.self.inside.cases _ c.self.invariant.stored c.len-length.ensures.in_order
     (subst (λ (r : Relations). AreWithinTouched (grounds c.self.inside.table r) (grounds c.self.inside.table c.set_default.new.self) c.self.inside.cases (c.follow_roles.new.steps - c.args.steps.now)) c.in_ok-before.ensures c.follow_roles.ensures.ticks)))
 
-pub returns-in_err-note_cases-clause-ticks : goal.returns-in_err-note_cases-clause-ticks
-returns-in_err-note_cases-clause-ticks g c =
+pub returns-in_err-defer-clause-ticks : goal.returns-in_err-defer-clause-ticks
+returns-in_err-defer-clause-ticks g c =
     subst (λ (s : Stored). IsWithinTouched s.state (record s.state { roles = record s.state.roles { default = c.args.role } }) (c.follow_roles.new.steps - c.args.steps.now)) c.self.view_is
     (let state : State = state_by c.self.inside.table c.self.inside.roles c.self.inside.marks.is_marked c.self.inside.cases c.self.inside.routes c.self.inside.marks.notes in
     subst (λ (r : Relations). IsWithinTouched state (record state { roles = r }) (c.follow_roles.new.steps - c.args.steps.now)) c.set_default.ensures
