@@ -378,7 +378,7 @@ returns-in_err-put_rows-in-Report g c =
 
 pub returns : goal.returns
 returns g c =
-    let is : c.in_ok-working.working ≡ c.args.working = c.in_ok-working.ensures in
+    let is : c.in_ok-working-in-Changes.working ≡ c.args.working = c.in_ok-working-in-Changes.ensures in
     let held = c.store-in-Changes.ensures ∙ ap (λ (w : Working). w.analyser) is in
     let marked : Marked c.args.working c.mark.result = subst (λ (w : Working). Marked w c.mark.result) is c.mark.ensures in
     let same = sym c.task_of.ensures ∙ c.in-Changes.is in
@@ -403,29 +403,29 @@ returns g c =
       adds_front = changes_reported_front _ _ _ c.put_changes.ensures.front (g.K.Links.faults c.args.links.now);
     }
 
-pub returns-in_err-put_changes-in-Changes : goal.returns-in_err-put_changes-in-Changes
-returns-in_err-put_changes-in-Changes g c =
-    let is : c.in_ok-working.working ≡ c.args.working = c.in_ok-working.ensures in
-    let held = c.store-in-Changes.ensures ∙ ap (λ (w : Working). w.analyser) is in
-    record {
-      goes = search rules;
-      sound = search rules;
-      lines = search rules;
-      part = on_err _ (some_as c.args.working c.args.command Changes (sym c.task_of.ensures ∙ c.in-Changes.is) _ _ _ _ _ _ (listed_part c.args.working _ _ _ _ _ held c.put_changes.ensures.front));
-      feeds = search rules;
-      later = GoesOn-refl _;
-      broke = BreaksByFault-refl _ _;
-      grows = c.put_changes.ensures.grows;
-      names = refl;
-      shelf_faults = omega arith;
-      sink_faults = c.put_changes.ensures.sink_faults;
-      uses = search rules;
-      shelf_cause = search rules;
-      held = search rules;
-      sink_cause = search rules;
-      adds = search rules;
-      adds_front = changes_reported_front _ _ _ c.put_changes.ensures.front (g.K.Links.faults c.args.links.now);
-    }
+pub returns-in_err-put_changes-in-Changes-clause-part : goal.returns-in_err-put_changes-in-Changes-clause-part
+returns-in_err-put_changes-in-Changes-clause-part g c = on_err _ (some_as c.args.working c.args.command Changes (sym c.task_of.ensures ∙ c.in-Changes.is) _ _ _ _ _ _ (listed_part c.args.working _ _ _ _ _ (c.store-in-Changes.ensures ∙ ap (λ (w : Working). w.analyser) c.in_ok-working-in-Changes.ensures) c.put_changes.ensures.front))
+
+pub returns-in_err-put_changes-in-Changes-clause-later : goal.returns-in_err-put_changes-in-Changes-clause-later
+returns-in_err-put_changes-in-Changes-clause-later g c = GoesOn-refl _
+
+pub returns-in_err-put_changes-in-Changes-clause-broke : goal.returns-in_err-put_changes-in-Changes-clause-broke
+returns-in_err-put_changes-in-Changes-clause-broke g c = BreaksByFault-refl _ _
+
+pub returns-in_err-put_changes-in-Changes-clause-grows : goal.returns-in_err-put_changes-in-Changes-clause-grows
+returns-in_err-put_changes-in-Changes-clause-grows g c = c.put_changes.ensures.grows
+
+pub returns-in_err-put_changes-in-Changes-clause-names : goal.returns-in_err-put_changes-in-Changes-clause-names
+returns-in_err-put_changes-in-Changes-clause-names g c = refl
+
+pub returns-in_err-put_changes-in-Changes-clause-shelf_faults : goal.returns-in_err-put_changes-in-Changes-clause-shelf_faults
+returns-in_err-put_changes-in-Changes-clause-shelf_faults g c = omega arith
+
+pub returns-in_err-put_changes-in-Changes-clause-sink_faults : goal.returns-in_err-put_changes-in-Changes-clause-sink_faults
+returns-in_err-put_changes-in-Changes-clause-sink_faults g c = c.put_changes.ensures.sink_faults
+
+pub returns-in_err-put_changes-in-Changes-clause-adds_front : goal.returns-in_err-put_changes-in-Changes-clause-adds_front
+returns-in_err-put_changes-in-Changes-clause-adds_front g c = changes_reported_front _ _ _ c.put_changes.ensures.front (g.K.Links.faults c.args.links.now)
 
 pub returns-in_err-working-in-Changes : goal.returns-in_err-working-in-Changes
 returns-in_err-working-in-Changes g c =
