@@ -26,12 +26,13 @@ use Rattle.analyser.proofs.EventLemmas.{one_outcome as one_event_outcome}
 use Rattle.report_text.specs.Refusals.{of_line, of_unit, refusal_line}
 use Rattle.report_text.specs.Feeds.{feed_line}
 use Rattle.report_text.proofs.RefusalLemmas.{refusal_is_one_line, feed_end_is_one_line}
-use Rattle.feed_lines.specs.declared.telling.Cause.{Cause}
+use Rattle.report_text.specs.declared.cause.Cause.{Cause}
+use Rattle.report_text.specs.declared.cause.Cause.TheVariants.{NoName as NameIsNone, StreamOver as StreamIsOver}
 use Rattle.feed_lines.specs.declared.telling.Telling.{Telling}
 use Rattle.feed_lines.specs.declared.telling.Telling.TheVariants.{NoName, StreamOver, Pdu as PduRefused, End as FeedEnds}
 use Rattle.feed_lines.specs.declared.working.Work.{Work}
 use Rattle.feed_lines.specs.declared.working.Work.TheVariants.{Ask, Take, Sync}
-use Rattle.feed_lines.specs.Tellings.{Asking, IsCauseOf, number_of, tells_text}
+use Rattle.feed_lines.specs.Tellings.{Asking, IsCauseOf, tells_text}
 use Rattle.feed_lines.specs.Feeds.{Feed, Taking, Coming, OnePdu, BadPdu, NoMore, HasSent, LostAtSend, Queries, IsComing, Moves, Follows, Counts, Stays, TakesPdu, TakesComing, TakesFrom, TakesPdus, Syncs, AsksFeed, AsksBy, after_pdu, asked_of, change_due, query_bytes, short_of}
 use Rattle.feed_lines.specs.Lines.{World, State, Connects, StartsBy, Does, Works, WorksBy, Writes, taking_of, with_feed, with_taking}
 use Rattle.feed_lines.specs.Laws.{FeedLinesHaveOneOutcome, EachTellingIsOneLine}
@@ -294,9 +295,9 @@ one_outcome world attempts told asking old = record {
 -- ---- what is reported
 
 pub telling_is_one_line : EachTellingIsOneLine
-telling_is_one_line asking NoName in_line = record { line = refusal_line asking.line of_line 36; whole = refl; marked = refusal_is_one_line asking.line of_line 36 tt }
-telling_is_one_line asking StreamOver in_line = record { line = refusal_line asking.line of_line 38; whole = refl; marked = refusal_is_one_line asking.line of_line 38 tt }
+telling_is_one_line asking NoName in_line = record { line = refusal_line asking.line of_line NameIsNone; whole = refl; marked = refusal_is_one_line asking.line of_line NameIsNone tt }
+telling_is_one_line asking StreamOver in_line = record { line = refusal_line asking.line of_line StreamIsOver; whole = refl; marked = refusal_is_one_line asking.line of_line StreamIsOver tt }
 telling_is_one_line asking (PduRefused number cause) in_line =
-    record { line = refusal_line asking.line (of_unit asking.name number) (number_of cause); whole = refl; marked = refusal_is_one_line asking.line (of_unit asking.name number) (number_of cause) in_line }
+    record { line = refusal_line asking.line (of_unit asking.name number) cause; whole = refl; marked = refusal_is_one_line asking.line (of_unit asking.name number) cause in_line }
 telling_is_one_line asking (FeedEnds how) in_line =
     record { line = feed_line asking.line asking.name how; whole = refl; marked = feed_end_is_one_line asking.line asking.name how in_line }

@@ -26,7 +26,7 @@ use Rattle.feed_lines.specs.declared.asking.Asked.TheVariants.{Pdu as Took, Refu
 use Rattle.feed_lines.specs.declared.feed.OpenFeed.{OpenFeed}
 use Rattle.feed_lines.specs.declared.taking.Outcome.{Outcome}
 use Rattle.feed_lines.specs.declared.taking.Outcome.TheVariants.{Open as GoesOn, Ended}
-use Rattle.feed_lines.specs.declared.telling.Cause.{Cause}
+use Rattle.report_text.specs.declared.cause.Cause.{Cause}
 use Rattle.feed_lines.specs.declared.telling.Telling.{Telling}
 use Rattle.feed_lines.specs.declared.telling.Telling.TheVariants.{Pdu as PduRefused, End as FeedEnds}
 use Rattle.feed_lines.specs.Tellings.{IsCauseOf, cause_of_end}

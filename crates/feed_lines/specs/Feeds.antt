@@ -31,7 +31,7 @@ use Rattle.analyser.specs.declared.event.Event.TheVariants.{Table}
 use Rattle.analyser.specs.Events.{Happens}
 use Rattle.analyser.specs.Touched.{Costs}
 use Rattle.report_text.specs.declared.feed.FeedEnd.TheVariants.{Lost, Short}
-use Rattle.feed_lines.specs.declared.telling.Cause.{Cause}
+use Rattle.report_text.specs.declared.cause.Cause.{Cause}
 use Rattle.feed_lines.specs.declared.telling.Telling.{Telling}
 use Rattle.feed_lines.specs.declared.telling.Telling.TheVariants.{Pdu as PduRefused, End as FeedEnds}
 use Rattle.feed_lines.specs.Tellings.{IsCauseOf, cause_of_end}

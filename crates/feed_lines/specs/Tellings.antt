@@ -4,10 +4,10 @@ use Rattle.rtr_pdu.specs.declared.pdu.PduFault.{PduFault}
 use Rattle.rtr_pdu.specs.declared.pdu.PduFault.TheVariants.{PduVersion as BadVersion, PduLength as BadLength, PduType as BadType, NoProviders as HasNoProviders, NoMemory}
 use Rattle.rtr_session.specs.declared.act.Ending.{Ending}
 use Rattle.rtr_session.specs.declared.act.Ending.TheVariants.{Unexpected as EndsUnexpected, UnknownWithdrawal as EndsUnknown, SessionChanged as EndsChanged, PeerReported as EndsReported}
+use Rattle.report_text.specs.declared.cause.Cause.{Cause}
+use Rattle.report_text.specs.declared.cause.Cause.TheVariants.{PduVersion, PduLength, PduType, PduNoProviders, Unexpected, UnknownWithdrawal, SessionChanged, PeerReported, NoName as NameIsNone, StreamOver as StreamIsOver}
 use Rattle.report_text.specs.Feeds.{feed_text}
 use Rattle.report_text.specs.Refusals.{of_line, of_unit, refusal_text}
-use Rattle.feed_lines.specs.declared.telling.Cause.{Cause}
-use Rattle.feed_lines.specs.declared.telling.Cause.TheVariants.{PduVersion, PduLength, PduType, NoProviders, Unexpected, UnknownWithdrawal, SessionChanged, PeerReported}
 use Rattle.feed_lines.specs.declared.telling.Telling.{Telling}
 use Rattle.feed_lines.specs.declared.telling.Telling.TheVariants.{NoName, StreamOver, Pdu, End}
 
@@ -16,23 +16,12 @@ pub record Asking : Type 0 where
   pub line : ℕ
   pub name : List ℕ
 
--- the number of each cause for which a PDU is refused or ends its session
-abbrev pub number_of : Cause → ℕ
-number_of PduVersion = 15
-number_of PduLength = 16
-number_of PduType = 17
-number_of NoProviders = 18
-number_of Unexpected = 19
-number_of UnknownWithdrawal = 20
-number_of SessionChanged = 21
-number_of PeerReported = 22
-
 -- the cause of a refused PDU; want of memory is none
 abbrev pub IsCauseOf : PduFault → Cause → Type 0
 IsCauseOf BadVersion cause = cause ≡ PduVersion
 IsCauseOf BadLength cause = cause ≡ PduLength
 IsCauseOf BadType cause = cause ≡ PduType
-IsCauseOf HasNoProviders cause = cause ≡ NoProviders
+IsCauseOf HasNoProviders cause = cause ≡ PduNoProviders
 IsCauseOf NoMemory cause = ⊥
 
 -- the cause of a PDU that ends its session
@@ -44,9 +33,9 @@ cause_of_end EndsReported = PeerReported
 
 -- one line of text
 abbrev pub telling_text : Asking → Telling → List ℕ
-telling_text asking NoName = refusal_text asking.line of_line 36
-telling_text asking StreamOver = refusal_text asking.line of_line 38
-telling_text asking (Pdu number cause) = refusal_text asking.line (of_unit asking.name number) (number_of cause)
+telling_text asking NoName = refusal_text asking.line of_line NameIsNone
+telling_text asking StreamOver = refusal_text asking.line of_line StreamIsOver
+telling_text asking (Pdu number cause) = refusal_text asking.line (of_unit asking.name number) cause
 telling_text asking (End how) = feed_text asking.line asking.name how
 
 -- all that a line reports

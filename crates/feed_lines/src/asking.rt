@@ -5,8 +5,9 @@ ghost use Rattle.feed_lines.specs.Connection.{Has, Now};
 ghost use Rattle.feed_lines.specs.Faults.{BreaksByFault};
 ghost use Rattle.feed_lines.specs.Moves.{Answers, AnswersTurn, Grows, KeepsSent, Only, RefusesNow, StaysUsable, TurnsUsable};
 
-use crate::telling::{Cause, refusal};
+use crate::telling::refusal;
 use av_base::{Links, NoMemory, PIECE};
+use report_text::Cause;
 use rtr_pdu::{Framer, Pdu};
 
 /// What a connection answered that was asked for a PDU.

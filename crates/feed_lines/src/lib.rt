@@ -28,5 +28,5 @@ mod working;
 pub use feed::Feeds;
 pub use laws::{each_telling_is_one_line, feed_lines_have_one_outcome, lost_feeds_broke_or_ended};
 pub use lines::{Progress, connect, work};
-pub use telling::{Cause, Telling};
+pub use telling::Telling;
 pub use working::Work;

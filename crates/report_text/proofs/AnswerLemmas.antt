@@ -24,7 +24,7 @@ use Rattle.av_text.specs.Spellings.{IsInLine}
 use Rattle.av_text.proofs.AnySpellingLemmas.{peers_in_line, prefixes_in_line, verdicts_in_line}
 use Rattle.av_text.proofs.LackLemmas.{decimal-lacks}
 use Rattle.report_text.specs.declared.summary.Summary.{Summary}
-use Rattle.report_text.specs.Change.{mark_text, marks_text, change_line}
+use Rattle.report_text.specs.Change.{mark_text, marks_text, change_line, changed_line}
 use Rattle.report_text.specs.Laws.{IsAnswerLine}
 use Rattle.report_text.specs.Rows.{row_line}
 use Rattle.report_text.specs.Summary.{verdicts_part, sources_part, summary_line}
@@ -165,6 +165,11 @@ summary_is_one_line summary = record {
       (sources_part_in_line summary);
   unmarked = refl;
 }
+
+-- ---- how many changed
+
+pub changed_is_one_line : (changes : ℕ) → IsAnswerLine (changed_line changes)
+changed_is_one_line changes = record { in_line = worded (codes "changed ") changes (clean (codes "changed ") refl); unmarked = refl }
 
 -- ---- reasons
 

@@ -1,4 +1,5 @@
 pub mod AnswerLemmas
+mod CauseLemmas
 mod InLineLemmas
 pub mod RefusalLemmas
 pub mod ReportedLemmas

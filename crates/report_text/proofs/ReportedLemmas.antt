@@ -19,9 +19,12 @@ use Rattle.report_text.specs.declared.feed.FeedEnd.{FeedEnd}
 use Rattle.report_text.specs.declared.feed.FeedEnd.TheVariants.{Unreachable, Lost, Short}
 use Rattle.report_text.specs.Feeds.{end_word, feed_line, feed_text}
 use Rattle.report_text.specs.Laws.{IsPlaceInLine, IsAnswerLine}
-use Rattle.report_text.specs.Refusals.{AnyPlace, word_of, place_text, refusal_line, refusal_text}
+use Rattle.report_text.specs.declared.cause.Cause.{Cause}
+use Rattle.report_text.specs.Causes.{number_of, word_of}
+use Rattle.report_text.specs.Refusals.{AnyPlace, place_text, refusal_line, refusal_text}
 use Rattle.report_text.specs.Reported.{is_unreachable, unreachables_in, IsWithinRise, lines_text, AddsLines, AddsFront, AddsQuiet}
-use Rattle.report_text.proofs.RefusalLemmas.{word_of-passes, refusal_is_one_line, feed_end_is_one_line}
+use Rattle.report_text.proofs.CauseLemmas.{clashes, ends_otherwise, word_passes}
+use Rattle.report_text.proofs.RefusalLemmas.{refusal_is_one_line, feed_end_is_one_line}
 
 -- ---- so many within a rise
 
@@ -136,12 +139,6 @@ written_lines old new held a b grows adds =
 
 -- ---- how a line ends
 
--- two lists differ at a place where both have an element
-abbrev clashes : List ℕ → List ℕ → Bool
-clashes [] ys = false
-clashes (x ∷ xs) [] = false
-clashes (x ∷ xs) (y ∷ ys) = cond (nat_eq x y) (clashes xs ys) true
-
 -- whatever stands behind them, they aren't the same
 clash : (xs ys s t : List ℕ) → clashes xs ys ≡ true → xs ++ s ≢ ys ++ t
 clash [] ys s t differ = absurd cc
@@ -150,10 +147,6 @@ clash (x ∷ xs) (y ∷ ys) s t differ = λ same.
     let heads : x ≡ y = cc in
     let tails : xs ++ s ≡ ys ++ t = cc in
     clash xs ys s t (ap (λ (b : Bool). cond b (clashes xs ys) true) (sym (eq-eqb x y heads)) ∙ differ) tails
-
--- a word whose last bytes aren't those of ` unreachable`
-abbrev ends_otherwise : List ℕ → Bool
-ends_otherwise word = clashes (reverse word) (reverse (codes " unreachable"))
 
 ends_other : (front word : List ℕ) → ends_otherwise word ≡ true → ends_with nat_eq (front ++ word) (codes " unreachable") ≡ false
 ends_other front word other =
@@ -180,11 +173,11 @@ adds_quiet_line old new line in_line quiet told = λ faults.
     adds_line old new line faults faults in_line
     (subst (λ (b : Bool). IsWithinRise (cond b 1 0) faults faults) (sym quiet) (within_none faults faults (omega arith))) told
 
-pub adds_refusal : (old new : Option (List ℕ)) (number : ℕ) (place : AnyPlace) (cause : ℕ) → IsPlaceInLine place → new ≡ append_known old (refusal_text number place cause) → AddsQuiet old new
+pub adds_refusal : (old new : Option (List ℕ)) (number : ℕ) (place : AnyPlace) (cause : Cause) → IsPlaceInLine place → new ≡ append_known old (refusal_text number place cause) → AddsQuiet old new
 adds_refusal old new number place cause in_line told =
     let line = refusal_line number place cause in
-    let front = codes "! line " ++ decimal number ++ place_text place ++ codes " cause " ++ decimal cause in
-    let word : ends_otherwise (32 ∷ word_of cause) ≡ true = word_of-passes (λ word. ends_otherwise (32 ∷ word)) cause refl refl in
+    let front = codes "! line " ++ decimal number ++ place_text place ++ codes " cause " ++ decimal (number_of cause) in
+    let word = (word_passes cause).1 in
     adds_quiet_line old new line (refusal_is_one_line number place cause in_line).in_line
     (and_right (starts_with nat_eq line (codes "! ")) (ends_with nat_eq line (codes " unreachable")) (ends_other front (32 ∷ word_of cause) word)) told
 

@@ -26,6 +26,10 @@ change_line key before after =
 abbrev pub change_text : Key → Option Verdict → Option Verdict → List ℕ
 change_text key before after = change_line key before after ++ 10 ∷ []
 
--- how many routes changed, with the line feed
+-- how many routes changed, without the line feed
+abbrev pub changed_line : ℕ → List ℕ
+changed_line changes = codes "changed " ++ decimal changes
+
+-- and with it
 abbrev pub changed_text : ℕ → List ℕ
-changed_text changes = codes "changed " ++ decimal changes ++ 10 ∷ []
+changed_text changes = changed_line changes ++ 10 ∷ []

@@ -7,7 +7,8 @@ use Rattle.path_model.specs.declared.verdict.Verdict.{Verdict}
 use Rattle.path_model.specs.declared.witness.Witness.{Witness}
 use Rattle.av_text.specs.Spellings.{IsInLine}
 use Rattle.report_text.specs.declared.summary.Summary.{Summary}
-use Rattle.report_text.specs.Change.{change_line}
+use Rattle.report_text.specs.declared.cause.Cause.{Cause}
+use Rattle.report_text.specs.Change.{change_line, changed_line}
 use Rattle.report_text.specs.declared.feed.FeedEnd.{FeedEnd}
 use Rattle.report_text.specs.Feeds.{feed_line}
 use Rattle.report_text.specs.Refusals.{AnyPlace, of_line, of_unit, refusal_line}
@@ -27,7 +28,7 @@ pub record IsRefusalLine (line : List ℕ) : Type 0 where
 
 abbrev pub EachRefusalIsOneLine : Type 0
 EachRefusalIsOneLine =
-    (number : ℕ) (place : AnyPlace) (cause : ℕ) → IsPlaceInLine place → IsRefusalLine (refusal_line number place cause)
+    (number : ℕ) (place : AnyPlace) (cause : Cause) → IsPlaceInLine place → IsRefusalLine (refusal_line number place cause)
 
 abbrev pub EachFeedEndIsOneLine : Type 0
 EachFeedEndIsOneLine = (number : ℕ) (name : List ℕ) (end : FeedEnd) → IsInLine name → IsRefusalLine (feed_line number name end)
@@ -42,6 +43,9 @@ EachRowIsOneLine = (key : Key) (verdict : Verdict) → IsAnswerLine (row_line ke
 
 abbrev pub EachChangeIsOneLine : Type 0
 EachChangeIsOneLine = (key : Key) (before after : Option Verdict) → IsAnswerLine (change_line key before after)
+
+abbrev pub EachCountOfChangesIsOneLine : Type 0
+EachCountOfChangesIsOneLine = (changes : ℕ) → IsAnswerLine (changed_line changes)
 
 abbrev pub EachSummaryIsOneLine : Type 0
 EachSummaryIsOneLine = (summary : Summary) → IsAnswerLine (summary_line summary)

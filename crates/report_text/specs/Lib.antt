@@ -1,3 +1,4 @@
+pub mod Causes
 pub mod Change
 pub mod Feeds
 pub mod Laws

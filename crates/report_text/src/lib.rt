@@ -4,7 +4,7 @@
 //! [`put_refusal`] reports a refusal, [`put_feed`] a feed's end, [`put_row`] a route's verdict, [`put_change`] a route whose verdict
 //! changed, [`put_changed`] how many changed, [`put_why`] why a path has its verdict, and [`put_summary`] how many there are of each.
 //! `refusal_text` of `specs/Refusals.antt` and the `.._text` of `Feeds`, `Rows`, `Change`, `Why` and `Summary` are those lines: begin
-//! there, with the table of causes and their words. Whatever is refused and however a feed ends, the line is one line that begins with
+//! there, and at `specs/Causes.antt`, the table of causes with their numbers and words. Whatever is refused and however a feed ends, the line is one line that begins with
 //! `! `, and no row, change, summary or reason begins so (`laws`): who reads the program's output finds each of them by its first two
 //! bytes.
 #![tactic(auto)]
@@ -20,6 +20,7 @@ mod row;
 mod summary;
 mod why;
 
+pub use cause::Cause;
 pub use change::{put_change, put_changed};
 pub use feed::{FeedEnd, put_feed};
 pub use laws::{each_feed_end_is_one_line, each_refusal_is_one_line, no_answer_reads_as_a_refusal};

@@ -1,23 +1,21 @@
 //! The line that reports a refusal.
 ghost use Rattle.std.specs.Prelude.{◌≡◌, ◌++◌, IfOk, OnOk, OnErr};
 ghost use Rattle.report_text.specs.Places.{place_of};
-ghost use Rattle.report_text.specs.Refusals.{IsCause, place_text, refusal_text};
+ghost use Rattle.report_text.specs.Refusals.{place_text, refusal_text};
 
-use crate::cause::cause_word;
+use crate::cause::Cause;
 use crate::place::Place;
 use av_base::NoMemory;
 use av_text::put_u64;
 use std::alloc::Global;
 
-/// Appends `! line L cause C WORD` or `! line L NAME unit K cause C WORD`, whole or not at all. Lines are numbered from 1, and the
-/// causes run from 5 to 40.
+/// Appends `! line L cause C WORD` or `! line L NAME unit K cause C WORD`, whole or not at all. Lines are numbered from 1.
 pub fn put_refusal(
     out: &mut Vec<u8>,
     line: u64,
     place: Place<'_>,
-    cause: u16,
+    cause: Cause,
 ) -> Result<(), NoMemory>
-    requires { IsCause cause }
     ensures ok { OnOk result (out.new.items ≡ out.old.items ++ refusal_text line (place_of place.entry) cause) }
     ensures err { OnErr result (out.new.items ≡ out.old.items) }
 {
@@ -27,8 +25,7 @@ pub fn put_refusal(
 }
 
 // The whole line.
-fn refusal(alloc: Global, line: u64, place: Place<'_>, cause: u16) -> Result<Vec<u8>, NoMemory>
-    requires { IsCause cause }
+fn refusal(alloc: Global, line: u64, place: Place<'_>, cause: Cause) -> Result<Vec<u8>, NoMemory>
     ensures { IfOk result (λ whole. whole.items ≡ refusal_text line (place_of place.entry) cause) }
 {
     let mut whole = Vec::new(alloc);
@@ -36,9 +33,9 @@ fn refusal(alloc: Global, line: u64, place: Place<'_>, cause: u16) -> Result<Vec
     put_u64(&mut whole, line)?;
     put_place(&mut whole, place)?;
     whole.extend_from_slice(b" cause ")?;
-    put_u64(&mut whole, u64::from(cause))?;
+    put_u64(&mut whole, u64::from(cause.number()))?;
     whole.push(b' ')?;
-    whole.extend_from_slice(cause_word(cause))?;
+    whole.extend_from_slice(cause.word().as_bytes())?;
     whole.push(b'\n')?;
     Ok(whole)
 }

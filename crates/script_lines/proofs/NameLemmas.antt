@@ -3,7 +3,8 @@ use Rattle.std.proofs.Common.{◌≡◌, ℕ, List, [], ◌∷◌, refl}
 use Rattle.path_model.proofs.Decide.{Decided}
 use Rattle.av_text.proofs.SpellingLemmas.{value_among, found_injective, found_or_none}
 use Rattle.script_lines.specs.declared.command.CommandName.{CommandName}
-use Rattle.script_lines.specs.declared.command.CommandName.TheVariants.{Aspa as AspaName, Aspa64 as Aspa64Name, Slurm as SlurmName, Filter as FilterName, Unfilter as UnfilterName, Assert as AssertName, Unassert as UnassertName, Role as RoleName, Open as OpenName, Take as TakeName, Feed as FeedName, Ask as AskName, Sync as SyncName, Judge as JudgeName, Report as ReportName, Changes as ChangesName, Summary as SummaryName, Why as WhyName}
+use Rattle.script_lines.specs.declared.command.CommandName.TheVariants.{Aspa as AspaName, Aspa64 as Aspa64Name, Slurm as SlurmName, Filter as FilterName, Unfilter as UnfilterName, Assert as AssertName, Unassert as UnassertName, Role as RoleName, Open as OpenName, Take as TakeName, Feed as FeedName, Ask as AskName, Sync as SyncName, Judge as JudgeName, Changes as ChangesName, Why as WhyName, Show as ShowName}
+use Rattle.script_lines.specs.declared.command.Show.TheVariants.{Report, Summary}
 use Rattle.script_lines.specs.Commands.{name_text}
 use Rattle.script_lines.specs.Grammar.{IsCommandName}
 
@@ -11,7 +12,8 @@ use Rattle.script_lines.specs.Grammar.{IsCommandName}
 name_of : List ℕ → CommandName
 name_of = value_among name_text JudgeName
     (AspaName ∷ Aspa64Name ∷ SlurmName ∷ FilterName ∷ UnfilterName ∷ AssertName ∷ UnassertName
-    ∷ RoleName ∷ OpenName ∷ TakeName ∷ FeedName ∷ AskName ∷ SyncName ∷ ReportName ∷ ChangesName ∷ SummaryName ∷ WhyName ∷ [])
+    ∷ RoleName ∷ OpenName ∷ TakeName ∷ FeedName ∷ AskName ∷ SyncName ∷ ChangesName ∷ WhyName
+    ∷ ShowName Report ∷ ShowName Summary ∷ [])
 
 name_of-name_text : (name : CommandName) → name_of (name_text name) ≡ name
 unfolding name_of value_among
@@ -29,10 +31,10 @@ name_of-name_text FeedName = refl
 name_of-name_text AskName = refl
 name_of-name_text SyncName = refl
 name_of-name_text JudgeName = refl
-name_of-name_text ReportName = refl
 name_of-name_text ChangesName = refl
-name_of-name_text SummaryName = refl
 name_of-name_text WhyName = refl
+name_of-name_text (ShowName Report) = refl
+name_of-name_text (ShowName Summary) = refl
 
 -- two commands with one name are one
 pub name_text_injective : (one other : CommandName) → name_text one ≡ name_text other → one ≡ other

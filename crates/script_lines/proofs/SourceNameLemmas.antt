@@ -3,9 +3,9 @@ use Rattle.std.proofs.Common.{inl, inr, ℕ, ◌≤◌, List, [], ◌∷◌, Opt
 use Rattle.path_model.specs.declared.role.Role.{Role as RoleOf}
 use Rattle.path_model.specs.Name.{IsName}
 use Rattle.script_lines.specs.declared.command.Command.{Command}
-use Rattle.script_lines.specs.declared.command.Command.TheVariants.{Idle, Aspa, Aspa64, Slurm, Filter, Unfilter, Assert, Unassert, Role, RoleDefault, Open, Take, Feed, Ask, Sync, Judge, Report, Changes, Summary, Why}
+use Rattle.script_lines.specs.declared.command.Command.TheVariants.{Idle, Aspa, Aspa64, Slurm, Filter, Unfilter, Assert, Unassert, Role, RoleDefault, Open, Take, Feed, Ask, Sync, Judge, Changes, Why, Show}
 use Rattle.script_lines.specs.declared.command.CommandName.{CommandName}
-use Rattle.script_lines.specs.declared.command.CommandName.TheVariants.{Aspa as AspaName, Aspa64 as Aspa64Name, Slurm as SlurmName, Filter as FilterName, Unfilter as UnfilterName, Assert as AssertName, Unassert as UnassertName, Role as RoleName, Open as OpenName, Take as TakeName, Feed as FeedName, Ask as AskName, Sync as SyncName, Judge as JudgeName, Report as ReportName, Changes as ChangesName, Summary as SummaryName, Why as WhyName}
+use Rattle.script_lines.specs.declared.command.CommandName.TheVariants.{Aspa as AspaName, Aspa64 as Aspa64Name, Slurm as SlurmName, Filter as FilterName, Unfilter as UnfilterName, Assert as AssertName, Unassert as UnassertName, Role as RoleName, Open as OpenName, Take as TakeName, Feed as FeedName, Ask as AskName, Sync as SyncName, Judge as JudgeName, Changes as ChangesName, Why as WhyName, Show as ShowName}
 use Rattle.script_lines.specs.Kinds.{WordKind, NAME, TEXT, ROLE, ADDRESS, PREFIX, NUMBER, WHOM, ValueOf, Spells}
 use Rattle.script_lines.specs.Forms.{Form, end, ases, ◌then◌, Builds, IsSpelled}
 use Rattle.script_lines.specs.Commands.{form_of, sets_role, made_by}
@@ -29,10 +29,9 @@ IsNamed (Feed name place) = IsName name
 IsNamed (Ask name) = IsName name
 IsNamed (Sync name count) = IsName name × (count ≤ 100000000)
 IsNamed (Judge role neighbour path) = Unit {0}
-IsNamed Report = Unit {0}
 IsNamed Changes = Unit {0}
-IsNamed Summary = Unit {0}
 IsNamed (Why addr asn prefix) = Unit {0}
+IsNamed (Show show) = Unit {0}
 
 -- a value that its word may have
 abbrev IsValue : (kind : WordKind) → ValueOf kind → Type 0
@@ -79,10 +78,9 @@ makes_named FeedName = λ name is place any. is
 makes_named AskName = λ name is. is
 makes_named SyncName = λ name is count within. (is, within)
 makes_named JudgeName = λ role any neighbour other path. tt
-makes_named ReportName = tt
 makes_named ChangesName = tt
-makes_named SummaryName = tt
 makes_named WhyName = λ addr any asn within prefix other. tt
+makes_named (ShowName show) = tt
 
 spelled_named : (form : Form) (build : Builds form) (words : List (List ℕ)) (command : Command)
     → MakesNamed form build → IsSpelled form build words command → IsNamed command

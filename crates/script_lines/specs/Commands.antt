@@ -4,9 +4,11 @@ use Rattle.std.specs.declared.option.Option.{Option}
 use Rattle.std.specs.declared.option.Option.TheVariants.{Some, None}
 use Rattle.path_model.specs.declared.role.Role.{Role as RoleOf}
 use Rattle.script_lines.specs.declared.command.Command.{Command}
-use Rattle.script_lines.specs.declared.command.Command.TheVariants.{Aspa, Aspa64, Slurm, Filter, Unfilter, Assert, Unassert, Role, RoleDefault, Open, Take, Feed, Ask, Sync, Judge, Report, Changes, Summary, Why}
+use Rattle.script_lines.specs.declared.command.Command.TheVariants.{Aspa, Aspa64, Slurm, Filter, Unfilter, Assert, Unassert, Role, RoleDefault, Open, Take, Feed, Ask, Sync, Judge, Changes, Why, Show}
 use Rattle.script_lines.specs.declared.command.CommandName.{CommandName}
-use Rattle.script_lines.specs.declared.command.CommandName.TheVariants.{Aspa as AspaName, Aspa64 as Aspa64Name, Slurm as SlurmName, Filter as FilterName, Unfilter as UnfilterName, Assert as AssertName, Unassert as UnassertName, Role as RoleName, Open as OpenName, Take as TakeName, Feed as FeedName, Ask as AskName, Sync as SyncName, Judge as JudgeName, Report as ReportName, Changes as ChangesName, Summary as SummaryName, Why as WhyName}
+use Rattle.script_lines.specs.declared.command.CommandName.TheVariants.{Aspa as AspaName, Aspa64 as Aspa64Name, Slurm as SlurmName, Filter as FilterName, Unfilter as UnfilterName, Assert as AssertName, Unassert as UnassertName, Role as RoleName, Open as OpenName, Take as TakeName, Feed as FeedName, Ask as AskName, Sync as SyncName, Judge as JudgeName, Changes as ChangesName, Why as WhyName, Show as ShowName}
+use Rattle.script_lines.specs.declared.command.Show.{Show as ShowOf}
+use Rattle.script_lines.specs.declared.command.Show.TheVariants.{Report, Summary}
 use Rattle.script_lines.specs.Kinds.{WordKind, NAME, TEXT, ROLE, ADDRESS, PREFIX, NUMBER, WHOM}
 use Rattle.script_lines.specs.Forms.{Form, end, ases, ◌then◌, Builds, IsSpelled}
 
@@ -16,6 +18,11 @@ AS = NUMBER 0 4294967295
 
 abbrev pub COUNT : WordKind
 COUNT = NUMBER 1 100000000
+
+-- the one word of the lines that show what is held
+abbrev pub show_text : ShowOf → List ℕ
+show_text Report = codes "report"
+show_text Summary = codes "summary"
 
 -- the first word of a command's lines,
 abbrev pub name_text : CommandName → List ℕ
@@ -33,10 +40,9 @@ name_text FeedName = codes "feed"
 name_text AskName = codes "ask"
 name_text SyncName = codes "sync"
 name_text JudgeName = codes "judge"
-name_text ReportName = codes "report"
 name_text ChangesName = codes "changes"
-name_text SummaryName = codes "summary"
 name_text WhyName = codes "why"
+name_text (ShowName show) = show_text show
 
 -- the words behind it,
 abbrev pub form_of : CommandName → Form
@@ -54,10 +60,9 @@ form_of FeedName = NAME then TEXT then end
 form_of AskName = NAME then end
 form_of SyncName = NAME then COUNT then end
 form_of JudgeName = ROLE then AS then ases 0
-form_of ReportName = end
 form_of ChangesName = end
-form_of SummaryName = end
 form_of WhyName = ADDRESS then AS then PREFIX then end
+form_of (ShowName show) = end
 
 -- a role is that of one AS, or of all ASes without one of their own
 abbrev pub sets_role : Option ℕ → RoleOf → Command
@@ -80,10 +85,9 @@ made_by FeedName = λ name place. Feed name place
 made_by AskName = λ name. Ask name
 made_by SyncName = λ name count. Sync name count
 made_by JudgeName = λ role neighbour path. Judge role neighbour path
-made_by ReportName = Report
 made_by ChangesName = Changes
-made_by SummaryName = Summary
 made_by WhyName = λ addr asn prefix. Why addr asn prefix
+made_by (ShowName show) = Show show
 
 -- the words behind a command's name spell this command
 abbrev pub SpellsCommand : CommandName → List (List ℕ) → Command → Type 0

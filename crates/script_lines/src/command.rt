@@ -42,14 +42,21 @@ pub enum Command {
     Sync(Name, u32),
     /// `judge ROLE NEIGHBOUR AS..`: the verdict of the path, written neighbour first.
     Judge(Role, u32, AsList),
-    /// `report`: each route of the table, with the verdict of its path.
-    Report,
     /// `changes`: each route that stands otherwise than it was marked; all are marked then.
     Changes,
-    /// `summary`: how many routes and customers there are, and how many records were passed over and lines refused.
-    Summary,
+    /// A line of one word that shows what is held, and changes nothing.
+    Show(Show),
     /// `why ADDRESS AS PREFIX`: the verdict of the route of that peer and prefix, and what shows it.
     Why(Addr, u32, Prefix),
+}
+
+/// What is shown of all that is held, by a line of one word.
+#[derive(Clone, Copy, Debug, PartialEq, Eq)]
+pub enum Show {
+    /// `report`: each route of the table, with the verdict of its path.
+    Report,
+    /// `summary`: how many routes and customers there are, and how many records were passed over and lines refused.
+    Summary,
 }
 
 /// A command, by the first word of its lines.
@@ -69,10 +76,9 @@ pub(crate) enum CommandName {
     Ask,
     Sync,
     Judge,
-    Report,
     Changes,
-    Summary,
     Why,
+    Show(Show),
 }
 
 /// Why a line was refused, in the order of the tests, or that there was no memory to read it.

@@ -5,7 +5,7 @@ ghost use Rattle.script_lines.specs.Fields.{RefusesWords};
 ghost use Rattle.script_lines.specs.Commands.{name_text, form_of, sets_role, SpellsCommand};
 ghost use Rattle.script_lines.specs.Grammar.{IsCommandName, IsComment, IsPrintable, IsReading};
 
-use crate::command::{Command, CommandName, LineFault};
+use crate::command::{Command, CommandName, LineFault, Show};
 use crate::fields::{Ases, End, Fields, Then};
 use crate::kinds::{
     AddressWord, AsWord, CountWord, NameWord, PrefixWord, RoleWord, TextWord, WhomWord,
@@ -77,10 +77,10 @@ fn command_name(word: &[u8]) -> Option<CommandName>
         b"ask" => Some(CommandName::Ask),
         b"sync" => Some(CommandName::Sync),
         b"judge" => Some(CommandName::Judge),
-        b"report" => Some(CommandName::Report),
         b"changes" => Some(CommandName::Changes),
-        b"summary" => Some(CommandName::Summary),
         b"why" => Some(CommandName::Why),
+        b"report" => Some(CommandName::Show(Show::Report)),
+        b"summary" => Some(CommandName::Show(Show::Summary)),
         _ => None,
     }
 }
@@ -149,17 +149,9 @@ fn read_fields(alloc: Global, name: CommandName, words: Words<'_>) -> Result<Com
             )?;
             Ok(Command::Judge(role, neighbour, path))
         }
-        CommandName::Report => {
-            End::read(alloc, words)?;
-            Ok(Command::Report)
-        }
         CommandName::Changes => {
             End::read(alloc, words)?;
             Ok(Command::Changes)
-        }
-        CommandName::Summary => {
-            End::read(alloc, words)?;
-            Ok(Command::Summary)
         }
         CommandName::Why => {
             let (addr, (asn, (prefix, ()))) = <Then<
@@ -167,6 +159,10 @@ fn read_fields(alloc: Global, name: CommandName, words: Words<'_>) -> Result<Com
                 Then<AsWord, Then<PrefixWord, End>>,
             >>::read(alloc, words)?;
             Ok(Command::Why(addr, asn, prefix))
+        }
+        CommandName::Show(show) => {
+            End::read(alloc, words)?;
+            Ok(Command::Show(show))
         }
     }
 }

@@ -14,7 +14,7 @@ mod kinds;
 mod laws;
 mod word;
 
-pub use command::{Command, LineFault};
+pub use command::{Command, LineFault, Show};
 pub use grammar::read;
 pub use laws::each_line_has_one_reading;
 pub use word::Word;

@@ -1,5 +1,5 @@
 -- How many judgements units may cost, and that no more steps are taken.
-use Rattle.std.proofs.Common.{◌≡◌, ℕ, zero, suc, ◌+◌, ◌-◌, ◌≤◌, Bool, true, false, List, ◌++◌, Ok, Err, refl, sym, ◌∙◌, ap, subst, arith}
+use Rattle.std.proofs.Common.{◌≡◌, ℕ, zero, suc, ◌+◌, ◌-◌, ◌≤◌, Bool, true, false, List, ◌++◌, Some, None, Ok, Err, refl, sym, ◌∙◌, ap, subst, arith}
 use Rattle.std.specs.Io.KnownBytes.{prepend_known}
 use Rattle.std.specs.declared.option.Option.{Option}
 use Rattle.std.specs.declared.result.Result.{Result}
@@ -8,7 +8,7 @@ use Rattle.path_model.specs.declared.peer.Peer.{Peer}
 use Rattle.mrt_reader.specs.declared.body.Body.{Body}
 use Rattle.mrt_reader.specs.declared.body.Body.TheVariants.{Peers, Routes as RoutesBody, Passed}
 use Rattle.mrt_reader.specs.declared.fault.BodyFault.{BodyFault}
-use Rattle.mrt_reader.specs.declared.fault.BodyFault.TheVariants.{Body as BadBody, NoPeerTable, PeerIndex, Message, Attributes, NoPath, NoMemory}
+use Rattle.report_text.specs.declared.cause.Cause.{Cause}
 use Rattle.mrt_reader.specs.Bodies.{IsReading}
 use Rattle.mrt_reader.specs.Coming.{Coming, IsComing, Whole, TooLong, CutShort, End}
 use Rattle.mrt_reader.specs.Records.{Recorded}
@@ -19,7 +19,7 @@ use Rattle.stream_lines.specs.declared.dump.Next.TheVariants.{Record}
 use Rattle.stream_lines.specs.declared.taking.Progress.{Progress}
 use Rattle.stream_lines.specs.Held.{HeldDump}
 use Rattle.stream_lines.specs.Next.{IsNext}
-use Rattle.stream_lines.specs.Streams.{Asking, Taking, TakesBody, TakesRecord, TakesNext, TakesComing, TakesUnless, TakesUnit, TakesUnits}
+use Rattle.stream_lines.specs.Streams.{Asking, Taking, body_cause, RefusesRecord, TakesBody, TakesRecord, TakesNext, TakesComing, TakesUnless, TakesUnit, TakesUnits}
 use Rattle.stream_lines.specs.Taking.{TicksWithinUnits, TookUnits}
 use Rattle.stream_lines.specs.TakingSteps.{TicksWithinUnit, judged_by}
 use Rattle.stream_lines.proofs.LawLemmas.{some_unless, some_units, units_unique}
@@ -66,13 +66,10 @@ body_costs asking old rest Passed text new takes = none_more old new (kept old n
 body_grows : (asking : Asking) (old : Taking) (rest : List ℕ) (reading : Result Body BodyFault) (text : List ℕ) (new : Taking) → TakesBody asking old rest reading text new
     → old.judgements ≤ new.judgements
 body_grows asking old rest (Ok body) text new takes = at_least old.judgements new.judgements (judged_by body) (body_costs asking old rest body text new takes)
-body_grows asking old rest (Err Attributes) text new takes = no_fewer old new (kept old new _ takes.1 refl)
-body_grows asking old rest (Err Message) text new takes = no_fewer old new (kept old new _ takes.1 refl)
-body_grows asking old rest (Err NoPath) text new takes = no_fewer old new (kept old new _ takes.1 refl)
-body_grows asking old rest (Err BadBody) text new takes = no_fewer old new (kept old new _ takes.1 refl)
-body_grows asking old rest (Err NoPeerTable) text new takes = no_fewer old new (kept old new _ takes.1 refl)
-body_grows asking old rest (Err PeerIndex) text new takes = no_fewer old new (kept old new _ takes.1 refl)
-body_grows asking old rest (Err NoMemory) text new takes = absurd takes
+body_grows asking old rest (Err fault) text new takes = record_grows (body_cause fault) takes where
+  record_grows : (cause : Option Cause) → RefusesRecord cause asking old rest text new → old.judgements ≤ new.judgements
+  record_grows None refuses = absurd refuses
+  record_grows (Some cause) refuses = no_fewer old new (kept old new _ refuses.1 refl)
 
 coming_grows : (asking : Asking) (old : Taking) (coming : Coming) (text : List ℕ) (new : Taking) → TakesComing asking old coming text new → old.judgements ≤ new.judgements
 coming_grows asking old (Whole it rest) text new takes = body_grows asking old rest takes.reading text new takes.takes

@@ -1,11 +1,13 @@
 -- From each dump any number of units has one text and one outcome.
-use Rattle.std.proofs.Common.{◌≡◌, ℕ, zero, suc, ◌+◌, Bool, true, false, List, [], ◌++◌, Ok, Err, refl, sym, ◌∙◌, ap, subst}
+use Rattle.std.proofs.Common.{◌≡◌, ◌≢◌, ℕ, zero, suc, ◌+◌, Bool, true, false, List, [], ◌++◌, Option, Some, None, Ok, Err, refl, sym, ◌∙◌, ap, subst}
 use Rattle.std.specs.declared.result.Result.{Result}
+use Rattle.av_base.specs.One.{HasOnePair}
 use Rattle.path_model.specs.Routes.{performed}
 use Rattle.mrt_reader.specs.declared.body.Body.{Body}
 use Rattle.mrt_reader.specs.declared.body.Body.TheVariants.{Peers, Routes as RoutesBody, Passed}
 use Rattle.mrt_reader.specs.declared.fault.BodyFault.{BodyFault}
 use Rattle.mrt_reader.specs.declared.fault.BodyFault.TheVariants.{Body as BadBody, NoPeerTable, PeerIndex, Message, Attributes, NoPath, NoMemory}
+use Rattle.path_model.specs.declared.peer.Peer.{Peer}
 use Rattle.mrt_reader.specs.Bodies.{IsReading}
 use Rattle.mrt_reader.specs.Coming.{Coming, Whole, TooLong, CutShort, End}
 use Rattle.mrt_reader.specs.Records.{Recorded}
@@ -15,8 +17,8 @@ use Rattle.mrt_reader.proofs.SameLemmas.{reading_same}
 use Rattle.mrt_reader.proofs.SomeLemmas.{one_reading}
 use Rattle.rib_store.specs.State.{State}
 use Rattle.rib_store.specs.Touched.{announced}
-use Rattle.stream_lines.specs.Laws.{HasOneOutcome}
-use Rattle.stream_lines.specs.Streams.{Asking, Taking, after_unit, TakesBody, TakesComing, TakesUnless, TakesUnits}
+use Rattle.report_text.specs.declared.cause.Cause.{Cause}
+use Rattle.stream_lines.specs.Streams.{Asking, Taking, after_unit, body_cause, RefusesRecord, TakesBody, TakesComing, TakesUnless, TakesUnits}
 
 -- ---- one at most
 
@@ -30,13 +32,10 @@ body_unique asking old rest (Ok (Peers table)) one other end last a b = both one
 body_unique asking old rest (Ok (RoutesBody changes)) one other end last a b =
     (a.0 ∙ sym b.0, a.1.2 ∙ ap (λ (s : State). record old { dump = after_unit old.dump rest; state = s; judgements = old.judgements + announced changes }) (a.1.1 ∙ sym b.1.1) ∙ sym b.1.2)
 body_unique asking old rest (Ok Passed) one other end last a b = both one other _ end last _ a b
-body_unique asking old rest (Err Attributes) one other end last a b = both one other _ end last _ a b
-body_unique asking old rest (Err Message) one other end last a b = both one other _ end last _ a b
-body_unique asking old rest (Err NoPath) one other end last a b = both one other _ end last _ a b
-body_unique asking old rest (Err BadBody) one other end last a b = both one other _ end last _ a b
-body_unique asking old rest (Err NoPeerTable) one other end last a b = both one other _ end last _ a b
-body_unique asking old rest (Err PeerIndex) one other end last a b = both one other _ end last _ a b
-body_unique asking old rest (Err NoMemory) one other end last a b = absurd a
+body_unique asking old rest (Err fault) one other end last a b = record_unique (body_cause fault) a b where
+  record_unique : (cause : Option Cause) → RefusesRecord cause asking old rest one end → RefusesRecord cause asking old rest other last → (one ≡ other) × (end ≡ last)
+  record_unique None c d = absurd c
+  record_unique (Some cause) c d = both one other _ end last _ c d
 
 coming_unique : (asking : Asking) (old : Taking) (coming : Coming) (one other : List ℕ) (end last : Taking)
     → TakesComing asking old coming one end → TakesComing asking old coming other last → (one ≡ other) × (end ≡ last)
@@ -65,19 +64,26 @@ units_unique asking (suc count) old one other end last a b =
 
 -- ---- one at least
 
+-- what is refused is so for a cause
+has_cause : (it : Recorded) (peers : Option (List Peer)) (fault : BodyFault) → IsReading it peers (Err fault) → body_cause fault ≢ None
+has_cause it peers Attributes reads = λ none. cc
+has_cause it peers Message reads = λ none. cc
+has_cause it peers NoPath reads = λ none. cc
+has_cause it peers BadBody reads = λ none. cc
+has_cause it peers NoPeerTable reads = λ none. cc
+has_cause it peers PeerIndex reads = λ none. cc
+has_cause it peers NoMemory reads = absurd (no_want_of_memory it peers reads)
+
 some_body : (asking : Asking) (old : Taking) (it : Recorded) (rest : List ℕ) (reading : Result Body BodyFault) → IsReading it old.dump.peers reading
     → (text : List ℕ) × (new : Taking) × TakesBody asking old rest reading text new
 some_body asking old it rest (Ok (Peers table)) reads = ([], _, (refl, refl))
 some_body asking old it rest (Ok (RoutesBody changes)) reads =
     ([], _, (refl, (record old.state { routes = performed changes old.state.routes }, refl, refl)))
 some_body asking old it rest (Ok Passed) reads = ([], _, (refl, refl))
-some_body asking old it rest (Err Attributes) reads = (_, _, (refl, refl))
-some_body asking old it rest (Err Message) reads = (_, _, (refl, refl))
-some_body asking old it rest (Err NoPath) reads = (_, _, (refl, refl))
-some_body asking old it rest (Err BadBody) reads = (_, _, (refl, refl))
-some_body asking old it rest (Err NoPeerTable) reads = (_, _, (refl, refl))
-some_body asking old it rest (Err PeerIndex) reads = (_, _, (refl, refl))
-some_body asking old it rest (Err NoMemory) reads = absurd (no_want_of_memory it old.dump.peers reads)
+some_body asking old it rest (Err fault) reads = some_refusal (body_cause fault) (has_cause it old.dump.peers fault reads) where
+  some_refusal : (cause : Option Cause) → cause ≢ None → (text : List ℕ) × (new : Taking) × RefusesRecord cause asking old rest text new
+  some_refusal None some = absurd (some refl)
+  some_refusal (Some cause) some = (_, _, (refl, refl))
 
 some_coming : (asking : Asking) (old : Taking) (coming : Coming) → (text : List ℕ) × (new : Taking) × TakesComing asking old coming text new
 some_coming asking old (Whole it rest) =
@@ -102,12 +108,12 @@ some_units asking (suc count) old =
     let rest = some_units asking count first.1 in
     (first.0 ++ rest.0, rest.1, record { first = first.0; rest = rest.0; mid = first.1; takes = first.2; goes_on = rest.2; text_is = refl })
 
-pub one_outcome : (asking : Asking) (count : ℕ) (old : Taking) → HasOneOutcome asking count old
+pub one_outcome : (asking : Asking) (count : ℕ) (old : Taking) → HasOnePair (TakesUnits asking count old)
 one_outcome asking count old =
     let some = some_units asking count old in
     record {
-      text = some.0;
-      new = some.1;
-      takes = some.2;
+      one = some.0;
+      its = some.1;
+      is = some.2;
       only = λ other last takes. units_unique asking count old other some.0 last some.1 takes some.2;
     }

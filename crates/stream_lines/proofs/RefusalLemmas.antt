@@ -1,5 +1,5 @@
 -- The refusals in a text are those that were counted.
-use Rattle.std.proofs.Common.{◌≡◌, ℕ, zero, suc, ◌+◌, Bool, true, false, not, cond, nat_eq, List, [], ◌∷◌, ◌++◌, Ok, Err, codes, refl, sym, ap, ◌∙◌, arith}
+use Rattle.std.proofs.Common.{◌≡◌, ℕ, zero, suc, ◌+◌, Bool, true, false, not, cond, nat_eq, List, [], ◌∷◌, ◌++◌, Option, Some, None, Ok, Err, codes, refl, sym, ap, ◌∙◌, arith}
 use Rattle.std.specs.List.{list_all, slice_split, starts_with, count_by}
 use Rattle.std.specs.declared.result.Result.{Result}
 use Rattle.std.proofs.lemmas.List.{append_assoc}
@@ -16,10 +16,11 @@ pub use Rattle.report_text.proofs.ReportedLemmas.{lacks_lf, lacks}
 use Rattle.mrt_reader.specs.declared.body.Body.{Body}
 use Rattle.mrt_reader.specs.declared.body.Body.TheVariants.{Peers, Routes as RoutesBody, Passed}
 use Rattle.mrt_reader.specs.declared.fault.BodyFault.{BodyFault}
-use Rattle.mrt_reader.specs.declared.fault.BodyFault.TheVariants.{Body as BadBody, NoPeerTable, PeerIndex, Message, Attributes, NoPath, NoMemory}
+use Rattle.report_text.specs.declared.cause.Cause.{Cause}
+use Rattle.report_text.specs.declared.cause.Cause.TheVariants as causes
 use Rattle.mrt_reader.specs.Coming.{Coming, Whole, TooLong, CutShort, End}
 use Rattle.stream_lines.specs.Counts.{refusals_in}
-use Rattle.stream_lines.specs.Streams.{Asking, Taking, TakesBody, TakesComing, TakesUnless, TakesUnits}
+use Rattle.stream_lines.specs.Streams.{Asking, Taking, body_cause, RefusesRecord, TakesBody, TakesComing, TakesUnless, TakesUnits}
 
 -- ---- texts without a line feed
 
@@ -39,7 +40,7 @@ refusals_in-line line rest lacks =
     ∙ sum_by-cons (λ l. cond (begins l) 1 0) line (slice_split is_lf rest)
 
 -- a refusal is one line, which begins with `! `
-pub refusals_in-refusal : (number : ℕ) (place : AnyPlace) (cause : ℕ) (rest : List ℕ) → IsPlaceInLine place
+pub refusals_in-refusal : (number : ℕ) (place : AnyPlace) (cause : Cause) (rest : List ℕ) → IsPlaceInLine place
     → refusals_in (refusal_text number place cause ++ rest) ≡ 1 + refusals_in rest
 refusals_in-refusal number place cause rest in_line =
     let one = refusal_is_one_line number place cause in_line in
@@ -53,7 +54,7 @@ pub silent : (text rest : List ℕ) (before after : ℕ) → text ≡ [] → aft
 silent text rest before after none same = ap (λ (n : ℕ). n + refusals_in rest) same ∙ ap (λ (t : List ℕ). before + refusals_in (t ++ rest)) (sym none)
 
 -- one refusal is written, and counted
-pub refused : (number : ℕ) (place : AnyPlace) (cause : ℕ) (text rest : List ℕ) (before after : ℕ) → IsPlaceInLine place → text ≡ refusal_text number place cause
+pub refused : (number : ℕ) (place : AnyPlace) (cause : Cause) (text rest : List ℕ) (before after : ℕ) → IsPlaceInLine place → text ≡ refusal_text number place cause
     → after ≡ before + 1 → after + refusals_in rest ≡ before + refusals_in (text ++ rest)
 refused number place cause text rest before after in_line is more =
     let has : refusals_in (text ++ rest) ≡ 1 + refusals_in rest = ap (λ (t : List ℕ). refusals_in (t ++ rest)) is ∙ refusals_in-refusal number place cause rest in_line in
@@ -68,7 +69,7 @@ joined first more text rest before mid after is one others =
 -- ---- units
 
 module _ (asking : Asking) (in_line : IsInLine asking.name) where
-  unit_refused : (old : Taking) (cause : ℕ) (text : List ℕ) (new end : Taking) (rest : List ℕ) → end.refused ≡ old.refused + 1
+  unit_refused : (old : Taking) (cause : Cause) (text : List ℕ) (new end : Taking) (rest : List ℕ) → end.refused ≡ old.refused + 1
       → (text ≡ refusal_text asking.line (of_unit asking.name (old.dump.taken + 1)) cause) × (new ≡ end) → new.refused + refusals_in rest ≡ old.refused + refusals_in (text ++ rest)
   unit_refused old cause text new end rest more takes =
       refused asking.line (of_unit asking.name (old.dump.taken + 1)) cause text rest old.refused new.refused in_line takes.0 (ap (λ (t : Taking). t.refused) takes.1 ∙ more)
@@ -78,19 +79,16 @@ module _ (asking : Asking) (in_line : IsInLine asking.name) where
   body_counted old left (Ok (Peers table)) text new rest takes = silent text rest old.refused new.refused takes.0 (ap (λ (t : Taking). t.refused) takes.1)
   body_counted old left (Ok (RoutesBody changes)) text new rest takes = silent text rest old.refused new.refused takes.0 (ap (λ (t : Taking). t.refused) takes.1.2)
   body_counted old left (Ok Passed) text new rest takes = silent text rest old.refused new.refused takes.0 (ap (λ (t : Taking). t.refused) takes.1)
-  body_counted old left (Err Attributes) text new rest takes = unit_refused old 23 text new _ rest refl takes
-  body_counted old left (Err Message) text new rest takes = unit_refused old 24 text new _ rest refl takes
-  body_counted old left (Err NoPath) text new rest takes = unit_refused old 25 text new _ rest refl takes
-  body_counted old left (Err BadBody) text new rest takes = unit_refused old 28 text new _ rest refl takes
-  body_counted old left (Err NoPeerTable) text new rest takes = unit_refused old 29 text new _ rest refl takes
-  body_counted old left (Err PeerIndex) text new rest takes = unit_refused old 30 text new _ rest refl takes
-  body_counted old left (Err NoMemory) text new rest takes = absurd takes
+  body_counted old left (Err fault) text new rest takes = record_counted (body_cause fault) takes where
+    record_counted : (cause : Option Cause) → RefusesRecord cause asking old left text new → new.refused + refusals_in rest ≡ old.refused + refusals_in (text ++ rest)
+    record_counted None refuses = absurd refuses
+    record_counted (Some cause) refuses = unit_refused old cause text new _ rest refl refuses
 
   coming_counted : (old : Taking) (coming : Coming) (text : List ℕ) (new : Taking) (rest : List ℕ) → TakesComing asking old coming text new
       → new.refused + refusals_in rest ≡ old.refused + refusals_in (text ++ rest)
   coming_counted old (Whole it left) text new rest takes = body_counted old left takes.reading text new rest takes.takes
-  coming_counted old TooLong text new rest takes = unit_refused old 26 text new _ rest refl takes
-  coming_counted old CutShort text new rest takes = unit_refused old 27 text new _ rest refl takes
+  coming_counted old TooLong text new rest takes = unit_refused old causes.TooLong text new _ rest refl takes
+  coming_counted old CutShort text new rest takes = unit_refused old causes.CutShort text new _ rest refl takes
   coming_counted old End text new rest takes = silent text rest old.refused new.refused takes.0 (ap (λ (t : Taking). t.refused) takes.1)
 
   unless_counted : (over : Bool) (old : Taking) (text : List ℕ) (new : Taking) (rest : List ℕ) → TakesUnless over asking old text new

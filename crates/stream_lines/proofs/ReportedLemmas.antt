@@ -11,6 +11,7 @@ use Rattle.path_model.specs.declared.key.Key.{Key}
 use Rattle.path_model.specs.declared.verdict.Verdict.{Verdict}
 use Rattle.report_text.specs.Change.{change_line}
 use Rattle.report_text.specs.Laws.{IsAnswerLine}
+use Rattle.report_text.specs.declared.cause.Cause.{Cause}
 use Rattle.report_text.specs.Refusals.{of_unit, refusal_text}
 use Rattle.report_text.specs.Reported.{lines_text, AddsFront, AddsQuiet}
 use Rattle.report_text.specs.Rows.{row_line, row_text}
@@ -70,7 +71,7 @@ none_reported written text_old text_new same =
     subst (λ (t : List ℕ). AddsQuiet (append_known written text_old) (append_known written t)) (sym same) (adds_quiet_none (append_known written text_old))
 
 -- a unit's refusal is held
-pub unit_reported : (written : Option (List ℕ)) (text_old text_new : List ℕ) (number : ℕ) (name : List ℕ) (unit cause : ℕ) → IsInLine name
+pub unit_reported : (written : Option (List ℕ)) (text_old text_new : List ℕ) (number : ℕ) (name : List ℕ) (unit : ℕ) (cause : Cause) → IsInLine name
     → text_new ≡ text_old ++ refusal_text number (of_unit name unit) cause → AddsQuiet (append_known written text_old) (append_known written text_new)
 unit_reported written text_old text_new number name unit cause in_line held =
     let refusal = refusal_text number (of_unit name unit) cause in

@@ -1,5 +1,5 @@
 -- Units taken one after another.
-use Rattle.std.proofs.Common.{◌≡◌, ℕ, ◌+◌, true, false, List, [], ◌++◌, Some, Ok, Err, refl, sym, ◌∙◌, ap, subst, append-nil, arith}
+use Rattle.std.proofs.Common.{◌≡◌, ℕ, ◌+◌, true, false, List, [], ◌++◌, Some, Ok, Err, refl, sym, ◌∙◌, ap, subst, append-nil}
 use Rattle.std.specs.Io.KnownBytes.{prepend_known}
 use Rattle.std.specs.declared.option.Option.{Option}
 use Rattle.av_base.specs.Files.{Files, left_of}
@@ -11,7 +11,9 @@ use Rattle.mrt_reader.specs.declared.fault.BodyFault.TheVariants.{Body as BadBod
 use Rattle.mrt_reader.specs.Bodies.{IsReading, IsOutcome}
 use Rattle.mrt_reader.specs.Coming.{Whole, TooLong as ATooLong, CutShort as ACutShort, End as AnEnd}
 use Rattle.mrt_reader.specs.Records.{Recorded}
-use Rattle.report_text.specs.Refusals.{IsCause, of_unit, refusal_text}
+use Rattle.report_text.specs.declared.cause.Cause.{Cause}
+use Rattle.report_text.specs.declared.cause.Cause.TheVariants as causes
+use Rattle.report_text.specs.Refusals.{of_unit, refusal_text}
 use Rattle.rib_store.specs.State.{State}
 use Rattle.rib_store.specs.Touched.{announced}
 use Rattle.analyser.specs.declared.event.Event.TheVariants.{Routes}
@@ -21,32 +23,22 @@ use Rattle.stream_lines.specs.declared.dump.Next.TheVariants.{Record, TooLong, C
 use Rattle.stream_lines.specs.declared.taking.Progress.{Progress}
 use Rattle.stream_lines.specs.Held.{HeldDump}
 use Rattle.stream_lines.specs.Next.{IsNext}
-use Rattle.stream_lines.specs.Streams.{Asking, Taking, body_cause, after_unit, unit_refused, TakesBody, TakesUnless, TakesUnit, TakesNext}
+use Rattle.stream_lines.specs.Streams.{Asking, Taking, body_cause, after_unit, unit_refused, RefusesRecord, TakesUnless, TakesUnit, TakesNext}
 use Rattle.stream_lines.specs.TakingSteps.{TookUnit, TookBody}
 
 -- a dump that isn't over
 takes_next : (asking : Asking) (old : Taking) (text : List ℕ) (new : Taking) → old.dump.over ≡ false → TakesNext asking old text new → TakesUnit asking old text new
 takes_next asking old text new open_yet next = subst (λ b. TakesUnless b asking old text new) (sym open_yet) next
 
--- a fault with a number is no want of memory
-reads_fault : (it : Recorded) (peers : Option (List Peer)) (fault : BodyFault) → IsCause (body_cause fault) → IsOutcome it peers (Err fault) → IsReading it peers (Err fault)
-reads_fault it peers BadBody known reads = reads
-reads_fault it peers NoPeerTable known reads = reads
-reads_fault it peers PeerIndex known reads = reads
-reads_fault it peers Message known reads = reads
-reads_fault it peers Attributes known reads = reads
-reads_fault it peers NoPath known reads = reads
-reads_fault it peers NoMemory known reads = absurd (omega (arith, known.least))
-
-takes_fault : (asking : Asking) (old : Taking) (rest : List ℕ) (fault : BodyFault) → IsCause (body_cause fault)
-    → TakesBody asking old rest (Err fault) (unit_refused asking old.dump (body_cause fault)) (record old { dump = after_unit old.dump rest; refused = old.refused + 1 })
-takes_fault asking old rest BadBody known = (refl, refl)
-takes_fault asking old rest NoPeerTable known = (refl, refl)
-takes_fault asking old rest PeerIndex known = (refl, refl)
-takes_fault asking old rest Message known = (refl, refl)
-takes_fault asking old rest Attributes known = (refl, refl)
-takes_fault asking old rest NoPath known = (refl, refl)
-takes_fault asking old rest NoMemory known = absurd (omega (arith, known.least))
+-- a fault with a cause is no want of memory
+reads_fault : (it : Recorded) (peers : Option (List Peer)) (fault : BodyFault) (cause : Cause) → body_cause fault ≡ Some cause → IsOutcome it peers (Err fault) → IsReading it peers (Err fault)
+reads_fault it peers BadBody cause known reads = reads
+reads_fault it peers NoPeerTable cause known reads = reads
+reads_fault it peers PeerIndex cause known reads = reads
+reads_fault it peers Message cause known reads = reads
+reads_fault it peers Attributes cause known reads = reads
+reads_fault it peers NoPath cause known reads = reads
+reads_fault it peers NoMemory cause known reads = let none : ⊥ = cc in absurd none
 
 -- ---- one unit: what came next, with `held` held behind it
 
@@ -107,37 +99,35 @@ module _ (asking : Asking) (dump : HeldDump) (progress : Progress) (files_old fi
       )
 
   -- a record that is refused
-  pub took_refused : (fault : BodyFault) (mid new : HeldDump) (after : Progress) (taken cause : ℕ) (text_old text_new : List ℕ) → next ≡ Record (Err fault)
+  pub took_refused : (fault : BodyFault) (mid new : HeldDump) (after : Progress) (taken : ℕ) (cause : Cause) (text_old text_new : List ℕ) → next ≡ Record (Err fault)
       → mid ≡ record dump { held = held } → new ≡ record mid { taken = mid.taken + 1 } → after ≡ record progress { refused = progress.refused + 1 }
-      → taken ≡ mid.taken → cause ≡ body_cause fault → IsCause cause → text_new ≡ text_old ++ refusal_text asking.line (of_unit asking.name (taken + 1)) cause
+      → taken ≡ mid.taken → body_cause fault ≡ Some cause → text_new ≡ text_old ++ refusal_text asking.line (of_unit asking.name (taken + 1)) cause
       → TookUnit asking dump new progress files_old files_new text_old text_new after
-  took_refused fault mid new after taken cause text_old text_new is before passed counted at number known added = λ open_yet old stands.
+  took_refused fault mid new after taken cause text_old text_new is before passed counted at known added = λ open_yet old stands.
       let came = (rw is at comes) old.dump.left stands.holds.left in
       let now : new ≡ record dump { held = held; taken = dump.taken + 1 } = passed ∙ ap (λ (d : HeldDump). record d { taken = d.taken + 1 }) before in
-      let known : IsCause (body_cause fault) = subst (λ (n : ℕ). IsCause n) number known in
       let unit : taken + 1 ≡ old.dump.taken + 1 = ap (λ (n : ℕ). n + 1) (at ∙ ap (λ (d : HeldDump). d.taken) before ∙ stands.holds.taken) in (
         record old { dump = after_unit old.dump came.rest; refused = old.refused + 1 },
         rw (now, counted) (record { holds = record { left = came.told; taken = ap (λ (n : ℕ). n + 1) stands.holds.taken; peers = stands.holds.peers; over = stands.holds.over }; state = stands.state; passed = stands.passed; refused = ap (λ (n : ℕ). n + 1) stands.refused }),
         record {
-          text = unit_refused asking old.dump (body_cause fault);
+          text = unit_refused asking old.dump cause;
           takes = takes_next _ _ _ _ (sym stands.holds.over ∙ open_yet) (record {
             coming = Whole came.it came.rest;
             comes = came.begins;
             takes = record {
               reading = Err fault;
-              reads = reads_fault came.it old.dump.peers fault known (subst (λ (p : Option (List Peer)). IsOutcome came.it p (Err fault)) stands.holds.peers came.reads);
-              takes = takes_fault asking old came.rest fault known;
+              reads = reads_fault came.it old.dump.peers fault cause known (subst (λ (p : Option (List Peer)). IsOutcome came.it p (Err fault)) stands.holds.peers came.reads);
+              takes = subst (λ (c : Option Cause). RefusesRecord c asking old came.rest (unit_refused asking old.dump cause) (record old { dump = after_unit old.dump came.rest; refused = old.refused + 1 })) (sym known) (refl, refl);
             };
           });
-          added = added ∙ ap (λ (n : ℕ). text_old ++ refusal_text asking.line (of_unit asking.name n) cause) unit
-              ∙ ap (λ (n : ℕ). text_old ++ refusal_text asking.line (of_unit asking.name (old.dump.taken + 1)) n) number;
+          added = added ∙ ap (λ (n : ℕ). text_old ++ refusal_text asking.line (of_unit asking.name n) cause) unit;
         },
       )
 
   -- a length over the limit
   pub took_too_long : (mid new : HeldDump) (after : Progress) (taken : ℕ) (text_old text_new : List ℕ) → next ≡ TooLong → mid ≡ record dump { held = held }
       → new ≡ record mid { over = true } → after ≡ record progress { refused = progress.refused + 1 }
-      → taken ≡ mid.taken → text_new ≡ text_old ++ refusal_text asking.line (of_unit asking.name (taken + 1)) 26
+      → taken ≡ mid.taken → text_new ≡ text_old ++ refusal_text asking.line (of_unit asking.name (taken + 1)) causes.TooLong
       → TookUnit asking dump new progress files_old files_new text_old text_new after
   took_too_long mid new after taken text_old text_new is before ended counted at added = λ open_yet old stands.
       let came = (rw is at comes) old.dump.left stands.holds.left in
@@ -146,16 +136,16 @@ module _ (asking : Asking) (dump : HeldDump) (progress : Progress) (files_old fi
         record old { dump = record old.dump { over = true }; refused = old.refused + 1 },
         rw (now, counted) (record { holds = record { left = came.1; taken = stands.holds.taken; peers = stands.holds.peers; over = refl }; state = stands.state; passed = stands.passed; refused = ap (λ (n : ℕ). n + 1) stands.refused }),
         record {
-          text = unit_refused asking old.dump 26;
+          text = unit_refused asking old.dump causes.TooLong;
           takes = takes_next _ _ _ _ (sym stands.holds.over ∙ open_yet) (record { coming = ATooLong; comes = came.0; takes = (refl, refl) });
-          added = added ∙ ap (λ (n : ℕ). text_old ++ refusal_text asking.line (of_unit asking.name n) 26) unit;
+          added = added ∙ ap (λ (n : ℕ). text_old ++ refusal_text asking.line (of_unit asking.name n) causes.TooLong) unit;
         },
       )
 
   -- the end within a record
   pub took_cut_short : (mid new : HeldDump) (after : Progress) (taken : ℕ) (text_old text_new : List ℕ) → next ≡ CutShort → mid ≡ record dump { held = held }
       → new ≡ record mid { over = true } → after ≡ record progress { refused = progress.refused + 1 }
-      → taken ≡ mid.taken → text_new ≡ text_old ++ refusal_text asking.line (of_unit asking.name (taken + 1)) 27
+      → taken ≡ mid.taken → text_new ≡ text_old ++ refusal_text asking.line (of_unit asking.name (taken + 1)) causes.CutShort
       → TookUnit asking dump new progress files_old files_new text_old text_new after
   took_cut_short mid new after taken text_old text_new is before ended counted at added = λ open_yet old stands.
       let came = (rw is at comes) old.dump.left stands.holds.left in
@@ -164,9 +154,9 @@ module _ (asking : Asking) (dump : HeldDump) (progress : Progress) (files_old fi
         record old { dump = record old.dump { over = true }; refused = old.refused + 1 },
         rw (now, counted) (record { holds = record { left = came.2; taken = stands.holds.taken; peers = stands.holds.peers; over = refl }; state = stands.state; passed = stands.passed; refused = ap (λ (n : ℕ). n + 1) stands.refused }),
         record {
-          text = unit_refused asking old.dump 27;
+          text = unit_refused asking old.dump causes.CutShort;
           takes = takes_next _ _ _ _ (sym stands.holds.over ∙ open_yet) (record { coming = ACutShort; comes = (came.0, came.1); takes = (refl, refl) });
-          added = added ∙ ap (λ (n : ℕ). text_old ++ refusal_text asking.line (of_unit asking.name n) 27) unit;
+          added = added ∙ ap (λ (n : ℕ). text_old ++ refusal_text asking.line (of_unit asking.name n) causes.CutShort) unit;
         },
       )
 

@@ -1,21 +1,15 @@
 -- Laws of the definitions, each the contract of a public function of the module `laws`.
 use Rattle.std.specs.Prelude.{◌≡◌, ℕ, ◌+◌, List, ◌++◌}
+use Rattle.av_base.specs.One.{HasOne, HasOnePair}
 use Rattle.av_text.specs.Spellings.{IsInLine}
 use Rattle.stream_lines.specs.Counts.{refusals_in}
-use Rattle.report_text.specs.declared.summary.Summary.{Summary}
 use Rattle.rib_store.specs.State.{State}
 use Rattle.stream_lines.specs.Streams.{Asking, Taking, TakesUnits}
 use Rattle.stream_lines.specs.Summary.{IsSummary}
 
 -- so many units of a dump have one text, and leave one state
-pub record HasOneOutcome (asking : Asking) (count : ℕ) (old : Taking) : Type 0 where
-  pub text : List ℕ
-  pub new : Taking
-  pub takes : TakesUnits asking count old text new
-  pub only : (other : List ℕ) (last : Taking) → TakesUnits asking count old other last → (other ≡ text) × (last ≡ new)
-
 abbrev pub UnitsHaveOneOutcome : Type 0
-UnitsHaveOneOutcome = (asking : Asking) (count : ℕ) (old : Taking) → HasOneOutcome asking count old
+UnitsHaveOneOutcome = (asking : Asking) (count : ℕ) (old : Taking) → HasOnePair (TakesUnits asking count old)
 
 -- Where the dump's name has no line feed, as many refusals are counted as the text reports, whatever text comes behind.
 abbrev pub RefusedUnitsAreCounted : Type 0
@@ -23,10 +17,5 @@ RefusedUnitsAreCounted = (asking : Asking) (count : ℕ) (old new : Taking) (tex
     → TakesUnits asking count old text new → new.refused + refusals_in rest ≡ old.refused + refusals_in (text ++ rest)
 
 -- a state, with these two numbers, has one summary
-pub record HasOneSummary (state : State) (passed refused : ℕ) : Type 0 where
-  pub summary : Summary
-  pub is : IsSummary state passed refused summary
-  pub only : (other : Summary) → IsSummary state passed refused other → other ≡ summary
-
 abbrev pub EachStateHasOneSummary : Type 0
-EachStateHasOneSummary = (state : State) (passed refused : ℕ) → HasOneSummary state passed refused
+EachStateHasOneSummary = (state : State) (passed refused : ℕ) → HasOne (IsSummary state passed refused)

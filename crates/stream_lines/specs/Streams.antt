@@ -1,7 +1,7 @@
 -- The units that a line takes from a dump.
 use Rattle.std.specs.Prelude.{◌≡◌, ℕ, zero, suc, ◌+◌, Bool, true, false, List, [], ◌++◌}
 use Rattle.std.specs.declared.option.Option.{Option}
-use Rattle.std.specs.declared.option.Option.TheVariants.{Some}
+use Rattle.std.specs.declared.option.Option.TheVariants.{Some, None}
 use Rattle.std.specs.declared.result.Result.{Result}
 use Rattle.std.specs.declared.result.Result.TheVariants.{Ok, Err}
 use Rattle.path_model.specs.declared.peer.Peer.{Peer}
@@ -12,6 +12,8 @@ use Rattle.mrt_reader.specs.declared.fault.BodyFault.TheVariants.{Body as BadBod
 use Rattle.mrt_reader.specs.Bodies.{IsReading}
 use Rattle.mrt_reader.specs.Coming.{Coming, IsComing}
 use Rattle.mrt_reader.specs.Records.{Recorded}
+use Rattle.report_text.specs.declared.cause.Cause.{Cause}
+use Rattle.report_text.specs.declared.cause.Cause.TheVariants as causes
 use Rattle.report_text.specs.Refusals.{of_unit, refusal_text}
 use Rattle.rib_store.specs.State.{State}
 use Rattle.rib_store.specs.Touched.{announced}
@@ -39,25 +41,31 @@ pub record Asking : Type 0 where
   pub line : ℕ
   pub name : List ℕ
 
--- the number of the cause for which a record's body is refused; want of memory is none
-abbrev pub body_cause : BodyFault → ℕ
-body_cause Attributes = 23
-body_cause Message = 24
-body_cause NoPath = 25
-body_cause BadBody = 28
-body_cause NoPeerTable = 29
-body_cause PeerIndex = 30
-body_cause NoMemory = 0
+-- the cause for which a record's body is refused; want of memory is none
+abbrev pub body_cause : BodyFault → Option Cause
+body_cause Attributes = Some causes.Attributes
+body_cause Message = Some causes.Message
+body_cause NoPath = Some causes.NoPath
+body_cause BadBody = Some causes.Body
+body_cause NoPeerTable = Some causes.NoPeerTable
+body_cause PeerIndex = Some causes.PeerIndex
+body_cause NoMemory = None
 
 -- the dump stands after one unit more
 abbrev pub after_unit : Dump → List ℕ → Dump
 after_unit dump rest = record dump { left = rest; taken = dump.taken + 1 }
 
 -- the line that reports the next unit as refused
-abbrev pub unit_refused : Asking → Dump → ℕ → List ℕ
+abbrev pub unit_refused : Asking → Dump → Cause → List ℕ
 unit_refused asking dump cause = refusal_text asking.line (of_unit asking.name (dump.taken + 1)) cause
 
--- a record that reads so is taken; a refused one changes nothing but the place in the dump
+-- a refused record changes nothing but the place in the dump
+abbrev pub RefusesRecord : Option Cause → Asking → Taking → List ℕ → List ℕ → Taking → Type 0
+RefusesRecord None asking old rest text new = ⊥
+RefusesRecord (Some cause) asking old rest text new = (text ≡ unit_refused asking old.dump cause)
+    × (new ≡ record old { dump = after_unit old.dump rest; refused = old.refused + 1 })
+
+-- a record that reads so is taken
 abbrev pub TakesBody : Asking → Taking → List ℕ → Result Body BodyFault → List ℕ → Taking → Type 0
 TakesBody asking old rest (Ok (Peers table)) text new =
     (text ≡ []) × (new ≡ record old { dump = record (after_unit old.dump rest) { peers = Some table } })
@@ -66,9 +74,7 @@ TakesBody asking old rest (Ok (RoutesBody changes)) text new =
     × (new ≡ record old { dump = after_unit old.dump rest; state = state; judgements = old.judgements + announced changes }))
 TakesBody asking old rest (Ok Passed) text new =
     (text ≡ []) × (new ≡ record old { dump = after_unit old.dump rest; passed = old.passed + 1 })
-TakesBody asking old rest (Err NoMemory) text new = ⊥
-TakesBody asking old rest (Err fault) text new = (text ≡ unit_refused asking old.dump (body_cause fault))
-    × (new ≡ record old { dump = after_unit old.dump rest; refused = old.refused + 1 })
+TakesBody asking old rest (Err fault) text new = RefusesRecord (body_cause fault) asking old rest text new
 
 -- a record is taken as it reads by the last accepted peer table
 pub record TakesRecord (asking : Asking) (old : Taking) (it : Recorded) (rest text : List ℕ) (new : Taking) : Type 0 where
@@ -77,14 +83,14 @@ pub record TakesRecord (asking : Asking) (old : Taking) (it : Recorded) (rest te
   pub takes : TakesBody asking old rest reading text new
 
 -- the dump is over, in a refused unit
-abbrev pub Breaks : Asking → Taking → ℕ → List ℕ → Taking → Type 0
+abbrev pub Breaks : Asking → Taking → Cause → List ℕ → Taking → Type 0
 Breaks asking old cause text new = (text ≡ unit_refused asking old.dump cause)
     × (new ≡ record old { dump = record old.dump { over = true }; refused = old.refused + 1 })
 
 abbrev pub TakesComing : Asking → Taking → Coming → List ℕ → Taking → Type 0
 TakesComing asking old (Coming.Whole it rest) text new = TakesRecord asking old it rest text new
-TakesComing asking old Coming.TooLong text new = Breaks asking old 26 text new
-TakesComing asking old Coming.CutShort text new = Breaks asking old 27 text new
+TakesComing asking old Coming.TooLong text new = Breaks asking old causes.TooLong text new
+TakesComing asking old Coming.CutShort text new = Breaks asking old causes.CutShort text new
 TakesComing asking old Coming.End text new = (text ≡ []) × (new ≡ record old { dump = record old.dump { over = true } })
 
 -- a line takes what comes next in the dump

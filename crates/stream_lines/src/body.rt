@@ -1,7 +1,6 @@
 //! What the body of a record makes of a dump, of the analysis and of the counts.
-ghost use Rattle.std.specs.Prelude.{◌≡◌, ◌<◌, ◌≤◌, ◌+◌, ◌^◌, IfOk};
-ghost use Rattle.report_text.specs.Refusals.{IsCause};
-ghost use Rattle.stream_lines.specs.Streams.{body_cause as number_of_fault};
+ghost use Rattle.std.specs.Prelude.{◌≡◌, ◌<◌, ◌≤◌, ◌+◌, ◌^◌, IfOk, Some};
+ghost use Rattle.stream_lines.specs.Streams.{body_cause as cause_of_fault};
 ghost use Rattle.stream_lines.specs.Taking.{GrewBy};
 ghost use Rattle.stream_lines.specs.TakingSteps.{TookBody, judged_by};
 
@@ -10,6 +9,7 @@ use crate::taking::Progress;
 use analyser::Event;
 use av_base::{NoMemory, Steps};
 use mrt_reader::{Body, BodyFault};
+use report_text::Cause;
 use std::sync::ledger::Ledger;
 
 /// Takes a record that says this.
@@ -55,18 +55,17 @@ pub(crate) fn take_body<L: Ledger>(
     }
 }
 
-/// The number of the cause for which a record's body is refused; want of memory is none.
-pub(crate) fn body_cause(fault: BodyFault) -> Result<u16, NoMemory>
-    ensures number { IfOk result (λ cause. cause ≡ number_of_fault fault) }
-    ensures known { IfOk result IsCause }
+/// The cause for which a record's body is refused; want of memory is none.
+pub(crate) fn body_cause(fault: BodyFault) -> Result<Cause, NoMemory>
+    ensures { IfOk result (λ cause. cause_of_fault fault ≡ Some cause) }
 {
     match fault {
-        BodyFault::Attributes => Ok(23),
-        BodyFault::Message => Ok(24),
-        BodyFault::NoPath => Ok(25),
-        BodyFault::Body => Ok(28),
-        BodyFault::NoPeerTable => Ok(29),
-        BodyFault::PeerIndex => Ok(30),
+        BodyFault::Attributes => Ok(Cause::Attributes),
+        BodyFault::Message => Ok(Cause::Message),
+        BodyFault::NoPath => Ok(Cause::NoPath),
+        BodyFault::Body => Ok(Cause::Body),
+        BodyFault::NoPeerTable => Ok(Cause::NoPeerTable),
+        BodyFault::PeerIndex => Ok(Cause::PeerIndex),
         BodyFault::NoMemory => Err(NoMemory),
     }
 }

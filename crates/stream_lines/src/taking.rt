@@ -4,7 +4,7 @@ ghost use Rattle.std.specs.Io.KnownBytes.{append_known};
 ghost use Rattle.std.specs.declared.option.Option.{Option};
 ghost use Rattle.av_base.specs.Told.{Grows, Rose};
 ghost use Rattle.av_text.specs.Spellings.{IsInLine};
-ghost use Rattle.report_text.specs.Refusals.{IsCause, of_unit, refusal_text};
+ghost use Rattle.report_text.specs.Refusals.{of_unit, refusal_text};
 ghost use Rattle.report_text.specs.Reported.{AddsQuiet};
 ghost use Rattle.stream_lines.specs.Frames.{Leaves, names_of};
 ghost use Rattle.stream_lines.specs.Taking.{GrewBy, TicksWithinUnits, TookSome, TookUnits, asking_of};
@@ -15,7 +15,7 @@ use crate::dump::{Next, OpenDump};
 use crate::stop::{ReadFault, Stop};
 use analyser::Analyser;
 use av_base::{NoMemory, Shelf, Sink, Steps, pour_piece};
-use report_text::{Place, put_refusal};
+use report_text::{Cause, Place, put_refusal};
 use std::alloc::Global;
 use std::sync::ledger::Ledger;
 
@@ -140,12 +140,12 @@ fn take_unit<F: Shelf, L: Ledger>(
             Ok(refused_once(progress))
         }
         Next::TooLong => {
-            report(text, asking, dump.taken(), 26)?;
+            report(text, asking, dump.taken(), Cause::TooLong)?;
             dump.end();
             Ok(refused_once(progress))
         }
         Next::CutShort => {
-            report(text, asking, dump.taken(), 27)?;
+            report(text, asking, dump.taken(), Cause::CutShort)?;
             dump.end();
             Ok(refused_once(progress))
         }
@@ -168,9 +168,8 @@ fn refused_once(progress: Progress) -> Progress
 }
 
 // Reports the unit behind those that were taken.
-fn report(text: &mut Vec<u8>, asking: Asked<'_>, taken: u64, cause: u16) -> Result<(), NoMemory>
+fn report(text: &mut Vec<u8>, asking: Asked<'_>, taken: u64, cause: Cause) -> Result<(), NoMemory>
     requires few { taken < 2 ^ 63 }
-    requires known { IsCause cause }
     ensures ok { OnOk result (text.new.items
         ≡ text.old.items
         ++ refusal_text asking.entry.line (of_unit asking.entry.name.now (taken + 1)) cause) }

@@ -1,7 +1,7 @@
 //! Lines by themselves: of each command some that are right, and some wrong in the number of words, in a spelling and in a number.
 use av_base::NoMemory;
 use path_model::Role;
-use script_lines::{Command, LineFault, read};
+use script_lines::{Command, LineFault, Show, read};
 use std::alloc::Global;
 use std::process::Abort;
 
@@ -198,7 +198,7 @@ fn is_read_so(read: &Result<Command, LineFault>, reading: Reading) -> bool {
         (Ok(Command::Sync(name, count)), Reading::Sync(called, wanted)) => {
             name.text() == called && *count == wanted
         }
-        (Ok(Command::Report), Reading::Report) => true,
+        (Ok(Command::Show(Show::Report)), Reading::Report) => true,
         (Ok(Command::Judge(role, neighbour, path)), Reading::Judge(of, wanted, all)) => {
             *role == of && *neighbour == wanted && path.as_slice() == all
         }

@@ -1,4 +1,4 @@
-use Rattle.script_lines.specs.declared.command.CommandName.TheVariants.{Aspa as AspaName, Aspa64 as Aspa64Name, Slurm as SlurmName, Filter as FilterName, Unfilter as UnfilterName, Assert as AssertName, Unassert as UnassertName, Role as RoleName, Open as OpenName, Take as TakeName, Feed as FeedName, Ask as AskName, Sync as SyncName, Judge as JudgeName, Report as ReportName, Changes as ChangesName, Summary as SummaryName, Why as WhyName}
+use Rattle.script_lines.specs.declared.command.CommandName.TheVariants.{Aspa as AspaName, Aspa64 as Aspa64Name, Slurm as SlurmName, Filter as FilterName, Unfilter as UnfilterName, Assert as AssertName, Unassert as UnassertName, Role as RoleName, Open as OpenName, Take as TakeName, Feed as FeedName, Ask as AskName, Sync as SyncName, Judge as JudgeName, Changes as ChangesName, Why as WhyName, Show as ShowName}
 use Rattle.script_lines.specs.Commands.{made_by}
 use Rattle.script_lines.proofs.grammar.read_fields.Goals as goal
 
@@ -44,14 +44,11 @@ returns-in_ok-name-in-Sync-clause-spelled c = rw c.in-Sync.is (c.in_ok-name-in-S
 pub returns-in_ok-role-in-Judge-clause-spelled : goal.returns-in_ok-role-in-Judge-clause-spelled
 returns-in_ok-role-in-Judge-clause-spelled c = rw c.in-Judge.is (c.in_ok-role-in-Judge.ensures.spelled (made_by JudgeName))
 
-pub returns-in_ok-read-in-Report-clause-spelled : goal.returns-in_ok-read-in-Report-clause-spelled
-returns-in_ok-read-in-Report-clause-spelled c = rw c.in-Report.is (c.in_ok-read-in-Report.ensures.spelled (made_by ReportName))
-
 pub returns-in_ok-read-in-Changes-clause-spelled : goal.returns-in_ok-read-in-Changes-clause-spelled
 returns-in_ok-read-in-Changes-clause-spelled c = rw c.in-Changes.is (c.in_ok-read-in-Changes.ensures.spelled (made_by ChangesName))
 
-pub returns-in_ok-read-in-Summary-clause-spelled : goal.returns-in_ok-read-in-Summary-clause-spelled
-returns-in_ok-read-in-Summary-clause-spelled c = rw c.in-Summary.is (c.in_ok-read-in-Summary.ensures.spelled (made_by SummaryName))
-
 pub returns-in_ok-addr-in-Why-clause-spelled : goal.returns-in_ok-addr-in-Why-clause-spelled
 returns-in_ok-addr-in-Why-clause-spelled c = rw c.in-Why.is (c.in_ok-addr-in-Why.ensures.spelled (made_by WhyName))
+
+pub returns-in_ok-read-in-Show-clause-spelled : goal.returns-in_ok-read-in-Show-clause-spelled
+returns-in_ok-read-in-Show-clause-spelled c = rw c.in-Show.is (c.in_ok-read-in-Show.ensures.spelled (made_by (ShowName c.in-Show.show)))

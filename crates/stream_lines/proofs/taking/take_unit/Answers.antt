@@ -20,7 +20,7 @@ returns-in_ok-report-in-Record-Err-clause-took g c =
     took_refused (asking_of c.args.asking) c.args.dump.now c.args.progress (g.F.Shelf.files c.args.shelf.now) (g.F.Shelf.files c.next.new.shelf) c.next.new.self.held c.in_ok-body.field-0
     c.in_ok-body.ensures.next c.in-Record-Err.fault c.next.new.self c.pass.new.self c.refused_once.result c.taken.result c.in_ok-cause-in-Record-Err.cause c.args.text.now.items c.report.new.text.items
     (c.in-Record-Err.is ∙ ap (λ (r : Result Body BodyFault). Record r) c.in-Record-Err.field-0-is) c.in_ok-body.ensures.held c.pass.ensures c.refused_once.ensures
-    c.taken.ensures c.in_ok-cause-in-Record-Err.ensures.number c.in_ok-cause-in-Record-Err.ensures.known c.in_ok-report-in-Record-Err.ensures.ok
+    c.taken.ensures c.in_ok-cause-in-Record-Err.ensures c.in_ok-report-in-Record-Err.ensures.ok
 
 pub returns-in_ok-report-in-TooLong-clause-took : goal.returns-in_ok-report-in-TooLong-clause-took
 returns-in_ok-report-in-TooLong-clause-took g c =
