@@ -143,18 +143,18 @@ some_reason (Some path) state key route =
     let table = table_of state.analysis.parts in
     let role = role_of state.analysis.roles key.peer.asn in
     let one = one_printed table role key.peer.asn path in (
-      why_text one.verdict one.witness,
+      why_text one.one one.its,
       state,
       record {
-        verdict = one.verdict;
-        witness = one.witness;
+        verdict = one.one;
+        witness = one.its;
         explained = record {
           path = path;
           route = route;
           table = table;
           current = table_is_current state.analysis.parts;
-          printed = one.printed;
-          facts = printed_facts table role key.peer.asn path one.verdict one.witness one.printed;
+          printed = one.is;
+          facts = printed_facts table role key.peer.asn path one.one one.its one.is;
         };
         text_is = refl;
         left = refl;

@@ -1,5 +1,6 @@
 -- The laws of verdicts and witnesses.
 use Rattle.std.proofs.Common.{◌≡◌, ℕ, inl, inr, List, refl, sym, ◌∙◌}
+use Rattle.av_base.specs.One.{HasOne, HasOnePair}
 use Rattle.path_model.specs.declared.role.Role.{Role}
 use Rattle.path_model.specs.declared.role.Direction.{Direction}
 use Rattle.path_model.specs.declared.verdict.Verdict.{Verdict}
@@ -10,7 +11,8 @@ use Rattle.path_model.specs.Trail.{Path}
 use Rattle.path_model.specs.Labelling.{IsValid, direction_of}
 use Rattle.path_model.specs.RightVerdict.{IsRight}
 use Rattle.path_model.specs.Witness.{Facts}
-use Rattle.path_model.specs.Laws.{FullestDecides, fullest, SameOnHops, HasOneRightVerdict, HasOneWitness, IsWitnessToo}
+use Rattle.path_model.specs.PrintedWitness.{IsPrinted}
+use Rattle.path_model.specs.Laws.{FullestDecides, fullest, SameOnHops, IsWitnessToo}
 use Rattle.path_model.proofs.AuthorityLemmas.{IsCompletion-fullest}
 use Rattle.path_model.proofs.ValidLemmas.{AttestsToo-same, AttestsToo-completion, IsValid-more, SameOnHops-sym, CanBeValid-same}
 use Rattle.path_model.proofs.WitnessLemmas.{printed_facts}
@@ -37,19 +39,19 @@ some_right table role neighbour path =
     (found.0, found.2.right)
 
 -- every case has one right verdict
-pub one_right : (table : Table) (role : Role) (neighbour : ℕ) (path : Path) → HasOneRightVerdict table role neighbour path
+pub one_right : (table : Table) (role : Role) (neighbour : ℕ) (path : Path) → HasOne (IsRight table role neighbour path)
 one_right table role neighbour path =
     let found : Found table role neighbour path = some_printed table role neighbour path in
-    record { verdict = found.0; right = found.2.right; only = λ other right. IsRight-unique table role neighbour path other found.0 right found.2.right }
+    record { one = found.0; is = found.2.right; only = λ other right. IsRight-unique table role neighbour path other found.0 right found.2.right }
 
 -- every case has one printed witness
-pub one_printed : (table : Table) (role : Role) (neighbour : ℕ) (path : Path) → HasOneWitness table role neighbour path
+pub one_printed : (table : Table) (role : Role) (neighbour : ℕ) (path : Path) → HasOnePair (IsPrinted table role neighbour path)
 one_printed table role neighbour path =
     let found : Found table role neighbour path = some_printed table role neighbour path in
     record {
-      verdict = found.0;
-      witness = found.1;
-      printed = found.2;
+      one = found.0;
+      its = found.1;
+      is = found.2;
       only = λ other also printed.
           let same : other ≡ found.0 = IsRight-unique table role neighbour path other found.0 printed.right found.2.right in
           (same, chosen_same table role neighbour path also found.1 (sym printed.verdict_shown ∙ same ∙ found.2.verdict_shown) printed.chosen found.2.chosen);

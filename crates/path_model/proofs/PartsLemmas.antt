@@ -1,13 +1,11 @@
 -- Any parts have exactly one current table.
-use Rattle.std.proofs.Common.{◌≡◌, ◌≢◌, ℕ, nat_eq, Bool, true, false, not, ◌&&◌, ◌||◌, cond, ◌⊎◌, inl, inr, List, [], ◌∷◌, ◌++◌, filter, refl, sym, ap, subst, ◌∙◌, arith}
+use Rattle.std.proofs.Common.{◌≡◌, ◌≢◌, ℕ, nat_eq, Bool, true, false, not, ◌&&◌, ◌||◌, ◌⊎◌, inl, inr, List, [], ◌∷◌, filter, refl, sym, ap, ◌∙◌, arith}
 use Rattle.std.specs.declared.option.Option.{Option}
 use Rattle.std.specs.declared.option.Option.TheVariants.{Some, None}
-use Rattle.std.specs.Ordering.{nat_cmp}
 use Rattle.std.specs.FinMap as map
-use Rattle.std.specs.List.Sorted.{IsStrictlySortedBy}
 use Rattle.std.proofs.lemmas.Bool.Decides.{nat_tests}
 use Rattle.std.proofs.lemmas.Map.Keys.{IsStrictlyIncreasing-from_sorted, sorted_from_strictly_increasing}
-use Rattle.path_model.specs.Authority.{Table, has}
+use Rattle.path_model.specs.Authority.{has}
 use Rattle.path_model.specs.Rows.{RowMap}
 use Rattle.path_model.specs.CurrentTable.{Parts, IsAttested, GoesIn, IsUnion, IsCurrentRow, IsCurrentTable, HasOneTable}
 use Rattle.path_model.specs.ComputedTable.{onto, attested, unfiltered, sourced, given, joined, union_of, row_made, table_of}

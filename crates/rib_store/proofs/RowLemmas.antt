@@ -22,7 +22,7 @@ use Rattle.rib_store.proofs.KeyLemmas.{AllFound, all_found}
 
 pub right_verdict : (table : Table) (role : Role) (neighbour : ℕ) (path : Path) → IsRight table role neighbour path (verdict_of table role neighbour path)
 unfolding verdict_of
-right_verdict table role neighbour path = (one_right table role neighbour path).right
+right_verdict table role neighbour path = (one_right table role neighbour path).is
 
 pub is_verdict_of : (table : Table) (role : Role) (neighbour : ℕ) (path : Path) (verdict : Verdict) → IsRight table role neighbour path verdict → verdict ≡ verdict_of table role neighbour path
 unfolding verdict_of

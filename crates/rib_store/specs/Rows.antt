@@ -18,7 +18,7 @@ use Rattle.rib_store.specs.State.{Marked}
 
 -- the right verdict of a case: the one that the law of verdicts gives
 unfoldable pub verdict_of : Table → Role → ℕ → Path → Verdict
-verdict_of table role neighbour path = (one_right table role neighbour path).verdict
+verdict_of table role neighbour path = (one_right table role neighbour path).one
 
 -- the right verdict of a key's path, by the table that the parts make and the role of the peer's AS
 abbrev pub current_verdict : Parts → Relations → Key → Path → Verdict
