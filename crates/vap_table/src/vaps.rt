@@ -64,13 +64,13 @@ impl Vaps {
         ensures moves { IfOk result (λ r. AreMoves (table_of self) (table_of r.0) r.1) }
     {
         let Vaps {
-            parts,
+            mut parts,
             current,
             tallies,
         } = self;
         let names = parts.named(&change)?;
         let before = current.rows_of(parts.alloc, &parts, &names)?;
-        let parts = parts.changed(change)?;
+        parts.change(change)?;
         let (current, tallies, moves) = refreshed(&parts, current, tallies, &before, &names)?;
         let vaps = Vaps {
             parts,
