@@ -9,7 +9,8 @@ use Rattle.path_model.specs.Union.{Attestation}
 use Rattle.aspa_payload.specs.Reading.{TakesPayload, IsRefused}
 use Rattle.path_model.specs.Union.{AreUnited}
 use Rattle.aspa_payload.specs.File.{ArePayloads, RefusedAt, IsFileReading}
-use Rattle.aspa_payload.specs.Laws.{HasOneReading, EachFileHasOneReading}
+use Rattle.av_base.specs.One.{HasOne}
+use Rattle.aspa_payload.specs.Laws.{EachFileHasOneReading}
 use Rattle.aspa_payload.specs.declared.file.FileFault.{FileFault}
 use Rattle.aspa_payload.specs.declared.file.FileFault.TheVariants.{Bad, NoMemory as OutOfMemory}
 use Rattle.aspa_payload.specs.declared.fault.PayloadFault.{PayloadFault}
@@ -101,10 +102,10 @@ file_within (suc k) (b ∷ bs) h =
     file_first k (b ∷ bs) h (λ e. let zero : suc (length bs) ≡ 0 = ap (λ (ys : List ℕ). length ys) e in omega arith) (file_within k) (some_unit (b ∷ bs))
 
 -- the reading that there is, and no other
-only_reading : (bytes : List ℕ) (r : Result RowMap FileFault) → IsFileReading bytes r → HasOneReading (IsFileReading bytes)
-only_reading bytes r h = record { reading = r; reads = h; only = λ s k. one_reading bytes s r k h }
+only_reading : (bytes : List ℕ) (r : Result RowMap FileFault) → IsFileReading bytes r → HasOne (IsFileReading bytes)
+only_reading bytes r h = record { one = r; is = h; only = λ s k. one_reading bytes s r k h }
 
-file_reading : (bytes : List ℕ) → SomeFile bytes → HasOneReading (IsFileReading bytes)
+file_reading : (bytes : List ℕ) → SomeFile bytes → HasOne (IsFileReading bytes)
 file_reading bytes (inl f) = let u = some_union f.0 in only_reading bytes (Ok u.0) (record { attestations = f.0; whole = f.1; united = u.1 })
 file_reading bytes (inr r) = only_reading bytes (Err (Bad r.0 r.1.0)) r.1.1
 

@@ -9,4 +9,5 @@ pub mod LinesLawLemmas
 mod LinesLemmas
 mod OneLemmas
 mod ReadingLemmas
+mod SpellingLemmas
 mod WritingLemmas

@@ -12,7 +12,8 @@ use Rattle.aspa_payload.specs.Reading.{TakesPayload, IsRefused, IsWhole}
 use Rattle.path_model.specs.Union.{AreUnited}
 use Rattle.aspa_payload.specs.Line.{Decodes, IsLineOf, IsLineRefused}
 use Rattle.aspa_payload.specs.Lines.{StandsFor, StandFor, attested, IsLinesReading}
-use Rattle.aspa_payload.specs.Laws.{HasOneReading, EachFileOfLinesHasOneReading}
+use Rattle.av_base.specs.One.{HasOne}
+use Rattle.aspa_payload.specs.Laws.{EachFileOfLinesHasOneReading}
 use Rattle.aspa_payload.specs.declared.file.FileFault.{FileFault}
 use Rattle.aspa_payload.specs.declared.file.FileFault.TheVariants.{Bad, NoMemory as OutOfMemory}
 use Rattle.aspa_payload.specs.declared.fault.PayloadFault.{PayloadFault}
@@ -196,10 +197,10 @@ some_lines [] = inl ([], tt)
 some_lines (l ∷ ls) = lines_next l ls (line_some l (empty_or_not l)) (some_lines ls)
 
 -- the reading that there is, and no other
-only_reading : (bytes : List ℕ) (r : Result RowMap FileFault) → IsLinesReading bytes r → HasOneReading (IsLinesReading bytes)
-only_reading bytes r h = record { reading = r; reads = h; only = λ s k. one_reading bytes s r k h }
+only_reading : (bytes : List ℕ) (r : Result RowMap FileFault) → IsLinesReading bytes r → HasOne (IsLinesReading bytes)
+only_reading bytes r h = record { one = r; is = h; only = λ s k. one_reading bytes s r k h }
 
-lines_reading : (bytes : List ℕ) → SomeLines (lines bytes) → HasOneReading (IsLinesReading bytes)
+lines_reading : (bytes : List ℕ) → SomeLines (lines bytes) → HasOne (IsLinesReading bytes)
 lines_reading bytes (inl f) = let u = some_union (attested f.0) in only_reading bytes (Ok u.0) (record { units = f.0; stand = f.1; united = u.1 })
 lines_reading bytes (inr r) = only_reading bytes (Err (Bad r.0 r.1.0)) (record {
   before = r.1.1.before;

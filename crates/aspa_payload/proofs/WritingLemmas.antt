@@ -34,7 +34,7 @@ one_inner = record {
 }
 
 -- the parts of the content, joined, are the content
-says_joined : (customer last list : List ℕ) (a : Attestation) → TakesInteger customer a.customer [] → Spells 48 list last
+pub says_joined : (customer last list : List ℕ) (a : Attestation) → TakesInteger customer a.customer [] → Spells 48 list last
     → AreIntegers list a.providers → Says (160 ∷ 3 ∷ 2 ∷ 1 ∷ 1 ∷ (customer ++ last)) a
 says_joined customer last list a t s are = record {
   after_version = customer ++ last;

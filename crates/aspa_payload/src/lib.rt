@@ -23,8 +23,8 @@ mod writing;
 pub use fault::PayloadFault;
 pub use file::{FileFault, read_many};
 pub use laws::{
-    each_file_has_one_reading, each_file_of_lines_has_one_reading, one_payload_at_the_front,
-    written_is_read_again,
+    each_attestation_has_one_payload, each_file_has_one_reading,
+    each_file_of_lines_has_one_reading, one_payload_at_the_front, written_is_read_again,
 };
 pub use lines::read_lines;
 pub use payload::Payload;

@@ -1,5 +1,7 @@
+mod AddrFormLemmas
 mod AddressLemmas
 pub mod AnySpellingLemmas
+mod HostLemmas
 pub mod LackLemmas
 pub mod LineLemmas
 pub mod NumberLemmas

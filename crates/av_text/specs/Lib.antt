@@ -1,4 +1,5 @@
 pub mod AddressText
+pub mod HostPort
 pub mod Lines
 pub mod Marks
 pub mod NameText

@@ -13,6 +13,7 @@
 
 mod address_text;
 mod groups;
+mod host_port;
 mod lines;
 mod marks;
 mod name_text;
@@ -27,6 +28,7 @@ mod splitting;
 mod verdict_text;
 
 pub use address_text::{put_addr, read_addr};
+pub use host_port::{HostPort, read_host_port};
 pub use lines::next_line;
 pub use name_text::read_name;
 pub use number::{put_u64, read_u32};

@@ -16,6 +16,24 @@ pub(crate) fn cut(text: &[u8], mark: u8) -> Option<(&[u8], &[u8])>
     Some((front, rest))
 }
 
+/// What stands before the last mark, and what stands behind it.
+pub(crate) fn cut_last(text: &[u8], mark: u8) -> Option<(&[u8], &[u8])>
+    ensures whole { IfSome result (λ parts. text.now ≡ parts.0.now ++ mark ∷ parts.1.now) }
+    ensures last { IfSome result (λ parts. Lacks mark parts.1.now) }
+    ensures none { IfNone result (Lacks mark text.now) }
+{
+    let mut at = text.len();
+    while at > 0 {
+        at -= 1;
+        if text[at] == mark {
+            let (front, back) = text.split_at(at);
+            let (_, rest) = back.split_at(1);
+            return Some((front, rest));
+        }
+    }
+    None
+}
+
 /// Takes back what was appended behind the first `start` bytes where appending it failed.
 pub(crate) fn or_undo(
     out: &mut Vec<u8>,

@@ -5,7 +5,7 @@ use Rattle.der_reader.specs.Number.{IsBytes, number, number_from}
 use Rattle.der_reader.specs.Integer.{IsInteger, IsShortest}
 
 -- numbers in as many bytes that are the same have the same bytes
-same_digits : (m n : ℕ) (a b : List ℕ) → IsBytes a → IsBytes b → length a ≡ length b → number_from m a ≡ number_from n b
+pub same_digits : (m n : ℕ) (a b : List ℕ) → IsBytes a → IsBytes b → length a ≡ length b → number_from m a ≡ number_from n b
     → (m ≡ n) × (a ≡ b)
 same_digits m n [] [] p q l e = (e, refl)
 same_digits m n [] (y ∷ b) p q l e = absurd (omega arith)
@@ -18,19 +18,19 @@ same_digits m n (x ∷ a) (y ∷ b) p q l e =
     (omega (arith, rest.0), rw (head, rest.1) refl)
 
 -- zeros at the front change no number
-abbrev padded : ℕ → List ℕ → List ℕ
+abbrev pub padded : ℕ → List ℕ → List ℕ
 padded zero a = a
 padded (suc k) a = 0 ∷ padded k a
 
-number-padded : (k : ℕ) (a : List ℕ) → number (padded k a) ≡ number a
+pub number-padded : (k : ℕ) (a : List ℕ) → number (padded k a) ≡ number a
 number-padded zero a = refl
 number-padded (suc k) a = number-padded k a
 
-length-padded : (k : ℕ) (a : List ℕ) → length (padded k a) ≡ k + length a
+pub length-padded : (k : ℕ) (a : List ℕ) → length (padded k a) ≡ k + length a
 length-padded zero a = omega arith
 length-padded (suc k) a = let more = length-padded k a in omega (arith, more)
 
-bytes-padded : (k : ℕ) (a : List ℕ) → IsBytes a → IsBytes (padded k a)
+pub bytes-padded : (k : ℕ) (a : List ℕ) → IsBytes a → IsBytes (padded k a)
 bytes-padded zero a h i = h i
 bytes-padded (suc k) a h zero = omega arith
 bytes-padded (suc k) a h (suc i) = bytes-padded k a h i
@@ -49,7 +49,7 @@ one_longer a b n p q s t h =
     let same = same_digits 0 0 (padded (length b - length a) a) b (bytes-padded (length b - length a) a p) q l (number-padded (length b - length a) a ∙ s.value ∙ sym t.value) in
     not_padded (length b - length a) a b same.1 s.positive s.shortest t.shortest
 
-side : (m n : ℕ) (b : Bool) → ltb m n ≡ b → (m ≤ n) ⊎ (n ≤ m)
+pub side : (m n : ℕ) (b : Bool) → ltb m n ≡ b → (m ≤ n) ⊎ (n ≤ m)
 side m n true e = let lt = ltb-true m n e in inl (omega arith)
 side m n false e = inr (ltb-false m n e)
 

@@ -1,32 +1,23 @@
--- Each number has one content, and each content a spelling.
-use Rattle.std.proofs.Common.{◌≡◌, ℕ, zero, suc, ◌+◌, ◌/◌, ◌%◌, ◌<◌, ◌≤◌, ◌^◌, inl, inr, Bool, true, false, ltb, List, [], ◌∷◌, ◌++◌, length, slice_index, refl, subst, arith}
+-- Each number has one content, and each content one spelling.
+use Rattle.std.proofs.Common.{◌≡◌, ℕ, ◌+◌, ◌/◌, ◌%◌, ◌<◌, ◌≤◌, ◌^◌, inl, inr, Bool, true, false, ltb, List, [], ◌∷◌, ◌++◌, length, slice_index, refl, subst, arith}
 use Rattle.std.proofs.lemmas.Bool.{ltb-true, ltb-false}
 use Rattle.der_reader.specs.Number.{IsBytes, number}
+use Rattle.av_base.specs.One.{HasOne}
 use Rattle.der_reader.specs.Value.{IsLength}
 use Rattle.der_reader.specs.Integer.{IsInteger}
-use Rattle.der_reader.specs.Laws.{NoSpellingIsAFrontOfAnother, EachContentIsSpelled, HasSpelling, HasOneContent, EachNumberHasOneContent}
+use Rattle.der_reader.specs.Laws.{NoSpellingIsAFrontOfAnother, IsContentOf, IsSpelling, EachContentHasOneSpelling, EachNumberHasOneContent}
 use Rattle.der_reader.proofs.FrontLemmas.{one_spelling}
 use Rattle.der_reader.proofs.IntegerLemmas.{one_integer}
+use Rattle.der_reader.proofs.BytesLemmas.{no_bytes, one_more, both_bytes}
+use Rattle.der_reader.proofs.LengthLemmas.{one_spelling_of}
 use Rattle.der_reader.proofs.WritingLemmas.{content_1, content_2, content_3, content_4, content_5}
 
 pub no_front : NoSpellingIsAFrontOfAnother
 no_front = one_spelling
 
-one_more : (b : ℕ) (bs : List ℕ) → b < 256 → IsBytes bs → IsBytes (b ∷ bs)
-one_more b bs h more zero = h
-one_more b bs h more (suc i) = more i
-
-no_bytes : IsBytes []
-no_bytes i = omega arith
-
-one_content : (n : ℕ) (content : List ℕ) → IsBytes content → IsInteger content n → HasOneContent n
+one_content : (n : ℕ) (content : List ℕ) → IsBytes content → IsInteger content n → HasOne (IsContentOf n)
 one_content n content bytes is =
-    record { content = content; bytes = bytes; is = is; only = λ other b i. one_integer other content n b bytes i is }
-
-both_bytes : (xs ys : List ℕ) → IsBytes xs → IsBytes ys → IsBytes (xs ++ ys)
-both_bytes [] ys h k i = k i
-both_bytes (x ∷ xs) ys h k zero = h 0
-both_bytes (x ∷ xs) ys h k (suc i) = both_bytes xs ys (λ j. h (suc j)) k i
+    record { one = content; is = record { bytes = bytes; is = is }; only = λ other o. one_integer other content n o.bytes bytes o.is is }
 
 -- the bytes of a length
 record InBytes (n : ℕ) : Type 0 where
@@ -57,7 +48,7 @@ module _ (n a b c d : ℕ) (h : n < 2 ^ 32) (top : a < 256) (high : b < 256) (lo
   bytes_4 = one_more a (b ∷ c ∷ d ∷ []) top bytes_3
 
   content_by_size : (p q r s : Bool) → ltb n 128 ≡ p → ltb n 32768 ≡ q → ltb n 8388608 ≡ r → ltb n 2147483648 ≡ s
-      → HasOneContent n
+      → HasOne (IsContentOf n)
   content_by_size true q r s e f g k =
       one_content n (d ∷ []) bytes_1 (content_1 a b c d n top high low last value (ltb-true _ _ e))
   content_by_size false true r s e f g k =
@@ -84,7 +75,7 @@ module _ (n a b c d : ℕ) (h : n < 2 ^ 32) (top : a < 256) (high : b < 256) (lo
       let more = ltb-false n 16777216 k in
       numeral_length n (a ∷ b ∷ c ∷ d ∷ []) (omega arith) (omega arith) bytes_4 value (omega arith)
 
-  one_content_of : HasOneContent n
+  one_content_of : HasOne (IsContentOf n)
   one_content_of = content_by_size (ltb n 128) (ltb n 32768) (ltb n 8388608) (ltb n 2147483648) refl refl refl refl
 
   some_length_of : InBytes n
@@ -95,16 +86,20 @@ each_number n h =
     one_content_of n (n / 16777216) (n / 65536 % 256) (n / 256 % 256) (n % 256) h (omega arith) (omega arith) (omega arith) (omega arith) (omega arith)
 
 spelled : (tag n : ℕ) (content : List ℕ) → tag < 256 → IsBytes content → n ≡ length content → InBytes n
-    → HasSpelling tag content
-spelled tag n content small bytes e l = record {
-  spelling = tag ∷ l.octets ++ content;
-  bytes = one_more tag (l.octets ++ content) small (both_bytes l.octets content l.bytes bytes);
-  spells = record { octets = l.octets; length_is = subst (λ (m : ℕ). IsLength m l.octets) e l.is; whole = refl };
-}
+    → (spelling : List ℕ) × IsSpelling tag content spelling
+spelled tag n content small bytes e l = (
+  tag ∷ l.octets ++ content,
+  record {
+    bytes = one_more tag (l.octets ++ content) small (both_bytes l.octets content l.bytes bytes);
+    spells = record { octets = l.octets; length_is = subst (λ (m : ℕ). IsLength m l.octets) e l.is; whole = refl };
+  },
+)
 
 some_length : (n : ℕ) → n < 2 ^ 32 → InBytes n
 some_length n h =
     some_length_of n (n / 16777216) (n / 65536 % 256) (n / 256 % 256) (n % 256) h (omega arith) (omega arith) (omega arith) (omega arith) (omega arith)
 
-pub each_content : EachContentIsSpelled
-each_content tag content small bytes h = spelled tag (length content) content small bytes refl (some_length (length content) h)
+pub each_content : EachContentHasOneSpelling
+each_content tag content small bytes h =
+    let found = spelled tag (length content) content small bytes refl (some_length (length content) h) in
+    record { one = found.0; is = found.1; only = λ other o. one_spelling_of tag content other found.0 o.bytes found.1.bytes o.spells found.1.spells }

@@ -19,7 +19,7 @@ mod writing;
 pub use fault::DerFault;
 pub use integer::take_u32;
 pub use laws::{
-    each_content_is_spelled, each_number_has_one_content, no_spelling_is_a_front_of_another,
+    each_content_has_one_spelling, each_number_has_one_content, no_spelling_is_a_front_of_another,
 };
 pub use value::take_value;
 pub use writing::{put_u32, put_value};

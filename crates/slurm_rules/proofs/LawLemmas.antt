@@ -7,10 +7,11 @@ use Rattle.std.specs.declared.result.Result.{Result}
 use Rattle.std.specs.declared.result.Result.TheVariants.{Ok, Err}
 use Rattle.serde_json.specs.Data.{Data, unsigned}
 use Rattle.serde_json.specs.Read.{read}
+use Rattle.av_base.specs.One.{HasOne}
 use Rattle.slurm_rules.specs.Form.{Form, IsFile}
 use Rattle.slurm_rules.specs.Numbers.{IsContent}
 use Rattle.slurm_rules.specs.Reading.{IsTree, HasVersion, IsVersioned, IsFormed, IsReading}
-use Rattle.slurm_rules.specs.Laws.{HasOneReading, EachFileHasOneReading}
+use Rattle.slurm_rules.specs.Laws.{EachFileHasOneReading}
 use Rattle.slurm_rules.specs.declared.slurm.Slurm.{Slurm}
 use Rattle.slurm_rules.specs.declared.draft.Version.{Version as SlurmVersion}
 use Rattle.slurm_rules.specs.declared.draft.Version.TheVariants.{One, Two}
@@ -109,17 +110,17 @@ module _ (bytes : List ℕ) (t : Data) (tree : IsTree bytes t) where
       only_this s is (Err Number) h = absurd (h.2 s (subst (λ (g : Form). IsContent g s) (sym (same_form h.0 h.1)) is))
       only_this s is (Err NoMemory) h = absurd h
 
-      by_content : SomeOrNone (IsContent f) → HasOneReading bytes
-      by_content (inl s) = record { reading = Ok s.0; reads = record { form = f; formed = formed; content = s.1 }; only = only_this s.0 s.1 }
-      by_content (inr none) = record { reading = Err Number; reads = (f, formed, none); only = only_number none }
+      by_content : SomeOrNone (IsContent f) → HasOne (IsReading bytes)
+      by_content (inl s) = record { one = Ok s.0; is = record { form = f; formed = formed; content = s.1 }; only = only_this s.0 s.1 }
+      by_content (inr none) = record { one = Err Number; is = (f, formed, none); only = only_number none }
 
-    by_file : SomeOrNone (IsFile v t) → HasOneReading bytes
+    by_file : SomeOrNone (IsFile v t) → HasOne (IsReading bytes)
     by_file (inl f) = by_content f.0 f.1 (content_or_none f.0)
-    by_file (inr none) = record { reading = Err Member; reads = (v, (t, versioned, none)); only = only_member none }
+    by_file (inr none) = record { one = Err Member; is = (v, (t, versioned, none)); only = only_member none }
 
-  by_version : SomeOrNone (λ v. HasVersion v t) → HasOneReading bytes
+  by_version : SomeOrNone (λ v. HasVersion v t) → HasOne (IsReading bytes)
   by_version (inl v) = by_file v.0 v.1 (file_or_none v.0 t)
-  by_version (inr none) = record { reading = Err Version; reads = (t, tree, none); only = only_version none }
+  by_version (inr none) = record { one = Err Version; is = (t, tree, none); only = only_version none }
 
 -- ---- the tree
 
@@ -128,9 +129,9 @@ tree_or_none bytes false o e f = inr (λ t h. clash _ (is_utf8-from_IsUtf8 bytes
 tree_or_none bytes true None e f = inr (λ t h. none_found (read bytes) t f h.1)
 tree_or_none bytes true (Some t) e f = inl (t, (IsUtf8-from_is_utf8 bytes e, f))
 
-by_tree : (bytes : List ℕ) → SomeOrNone (IsTree bytes) → HasOneReading bytes
+by_tree : (bytes : List ℕ) → SomeOrNone (IsTree bytes) → HasOne (IsReading bytes)
 by_tree bytes (inl t) = by_version bytes t.0 t.1 (version_or_none t.0)
-by_tree bytes (inr none) = record { reading = Err Json; reads = none; only = only_json bytes none }
+by_tree bytes (inr none) = record { one = Err Json; is = none; only = only_json bytes none }
 
 pub each_file : EachFileHasOneReading
 each_file bytes = by_tree bytes (tree_or_none bytes (is_utf8 bytes) (read bytes) refl refl)
