@@ -1,5 +1,5 @@
 //! Links in memory.
-ghost use Rattle.std.specs.Prelude.{◌≡◌, ◌-◌, ◌^◌, ◌<◌, ◌≤◌, [], ◌∷◌, ◌++◌, length, take, drop, map, slice_get, IfOk, OnOk, OnErr, IfSome, IfNone, Some, None, refl};
+ghost use Rattle.std.specs.Prelude.{◌≡◌, ◌-◌, ◌^◌, ◌<◌, ◌≤◌, [], ◌∷◌, ◌++◌, length, take, drop, map, slice_get, is_some, IfOk, OnOk, OnErr, IfSome, IfNone, Some, None, refl};
 ghost use Rattle.std.specs.Result.{result_ok};
 ghost use Rattle.av_base.specs.Connections.{Connects, AddsAttempt, ToldLater, IsUsable, IsOpen, Made, Failed, standing_of, new_standing, to_come_of, sends, receives, breaks, closes, stands_broken, stands_closed};
 ghost use Rattle.av_base.specs.LinksInMemory.{Makes, Keeps, ListsFailed, ReceivesByPlan, SameElse, listed, next_at, nothing_made, puts, standings_of};
@@ -73,6 +73,13 @@ impl MemLinks {
         ensures { IfSome (slice_get self.now.links link) (λ t. result.now ≡ t.sent) }
     {
         self.links[link as usize].sent()
+    }
+
+    /// Whether the attempts are still told: they are until there was no memory to list a failed one.
+    pub fn tells_attempts(&self) -> bool
+        ensures { result ≡ is_some self.now.attempts }
+    {
+        self.attempts.is_some()
     }
 
     // Makes a connection where the plan, the places and memory let it.
