@@ -6,7 +6,8 @@ use Rattle.std.proofs.lemmas.Option.{cond_some, some_pair_parts}
 use Rattle.std.proofs.lemmas.List.{take-append-drop, take_at, drop_at, length-take, length-append}
 use Rattle.std.proofs.lemmas.Bool.Decides.{nat_tests}
 use Rattle.bgp_attrs.specs.Blocks.{IsLength, IsBlock, length_at, counted_at, block_at}
-use Rattle.bgp_attrs.specs.Joined.{Begins, IsReader}
+use Rattle.held_bytes.specs.Units.{Begins}
+use Rattle.bgp_attrs.specs.Joined.{IsReader}
 use Rattle.bgp_attrs.proofs.JoinedLemmas.{and_then_some}
 
 pub length_finds : (extended : Bool) (bytes : List ℕ) (n : ℕ) (rest : List ℕ) → length_at extended bytes ≡ Some (n, rest) → (count : List ℕ) × IsLength extended count n × (bytes ≡ count ++ rest)

@@ -4,7 +4,8 @@ use Rattle.std.specs.Prelude.{nat_le, option_and_then}
 use Rattle.std.proofs.lemmas.Option.{cond_some}
 use Rattle.std.proofs.lemmas.List.{take-append-drop, take_at, drop_at, length-take, length-append}
 use Rattle.std.proofs.lemmas.Bool.Decides.{nat_tests}
-use Rattle.bgp_attrs.specs.Joined.{Begins, IsReader}
+use Rattle.held_bytes.specs.Units.{Begins}
+use Rattle.bgp_attrs.specs.Joined.{IsReader}
 use Rattle.bgp_attrs.proofs.BlockLemmas.{length_finds, length_only}
 use Rattle.bgp_attrs.proofs.JoinedLemmas.{and_then_some}
 use Rattle.bgp_attrs.specs.Attributes.{Field, is_extended, IsField, content_at, field_at}

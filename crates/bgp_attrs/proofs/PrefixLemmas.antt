@@ -5,7 +5,8 @@ use Rattle.std.proofs.lemmas.Option.{cond_some}
 use Rattle.std.proofs.lemmas.List.{take-append-drop, take_at, drop_at, length-take, length-append}
 use Rattle.std.proofs.lemmas.Bool.Decides.{nat_tests}
 use Rattle.path_model.specs.Prefix.{Subnet, cleared}
-use Rattle.bgp_attrs.specs.Joined.{Begins, IsReader}
+use Rattle.held_bytes.specs.Units.{Begins}
+use Rattle.bgp_attrs.specs.Joined.{IsReader}
 use Rattle.bgp_attrs.specs.Prefixes.{addr_of, family_bits, bytes_for, IsPrefix, prefix_at}
 
 both_hold : (a b : Bool) → (a && b) ≡ true → (a ≡ true) × (b ≡ true)

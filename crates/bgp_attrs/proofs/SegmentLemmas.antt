@@ -4,7 +4,8 @@ use Rattle.std.specs.Prelude.{nat_le, nat_lt}
 use Rattle.std.proofs.lemmas.Option.{cond_some}
 use Rattle.std.proofs.lemmas.List.{take-append-drop, take_at, drop_at, length-take, length-append}
 use Rattle.std.proofs.lemmas.Bool.Decides.{nat_tests}
-use Rattle.bgp_attrs.specs.Joined.{Begins, IsReader}
+use Rattle.held_bytes.specs.Units.{Begins}
+use Rattle.bgp_attrs.specs.Joined.{IsReader}
 use Rattle.bgp_attrs.specs.Segments.{numbers_2, numbers_4, ases_of, as_width, is_kind, IsSegment, segment_at}
 
 length-numbers_2 : (n : ℕ) (bytes : List ℕ) → length bytes ≡ 2 * n → length (numbers_2 bytes) ≡ n

@@ -1,12 +1,7 @@
 -- Bytes that are the spellings of items, one after another.
 use Rattle.std.specs.Prelude.{◌≡◌, ℕ, zero, suc, ◌<◌, List, [], ◌∷◌, ◌++◌, length, Some, None, option_map, option_and_then}
 use Rattle.std.specs.declared.option.Option.{Option}
-
--- The bytes begin with a spelling of the item, and the rest follows.
-pub record Begins {A : Type 0} (S : List ℕ → A → Type 0) (bytes : List ℕ) (item : A) (rest : List ℕ) : Type 0 where
-  pub front : List ℕ
-  pub spelled : S front item
-  pub whole : bytes ≡ front ++ rest
+use Rattle.held_bytes.specs.Units.{Begins}
 
 -- The bytes are the spellings of the items, one after another, and nothing else.
 abbrev pub IsJoined : {A : Type 0} → (List ℕ → A → Type 0) → List ℕ → List A → Type 0

@@ -2,7 +2,8 @@
 use Rattle.std.specs.Prelude.{◌≡◌, ℕ, Bool, List, ◌⊎◌}
 use Rattle.path_model.specs.Prefix.{Subnet}
 use Rattle.bgp_attrs.specs.declared.form.Form.{Form}
-use Rattle.bgp_attrs.specs.Joined.{Begins, IsJoined}
+use Rattle.held_bytes.specs.Units.{Begins}
+use Rattle.bgp_attrs.specs.Joined.{IsJoined}
 use Rattle.bgp_attrs.specs.Prefixes.{IsPrefix}
 use Rattle.bgp_attrs.specs.Reading.{Reading, IsRead, IsUnreadable}
 

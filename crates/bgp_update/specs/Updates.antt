@@ -10,7 +10,8 @@ use Rattle.path_model.specs.Prefix.{Subnet}
 use Rattle.path_model.specs.Trail.{Path}
 use Rattle.bgp_attrs.specs.declared.form.Form.TheVariants.{Message}
 use Rattle.bgp_attrs.specs.Blocks.{IsBlock}
-use Rattle.bgp_attrs.specs.Joined.{Begins, IsJoined}
+use Rattle.held_bytes.specs.Units.{Begins}
+use Rattle.bgp_attrs.specs.Joined.{IsJoined}
 use Rattle.bgp_attrs.specs.Merging.{trail_in}
 use Rattle.bgp_attrs.specs.Prefixes.{IsPrefix}
 use Rattle.bgp_attrs.specs.Reading.{Reading, IsRead, IsUnreadable}

@@ -4,7 +4,8 @@ use Rattle.std.specs.Prelude.{nat_lt, option_and_then, option_map}
 use Rattle.std.specs.Int.{w16, from_be_bytes}
 use Rattle.std.proofs.lemmas.List.{take-append-drop, take_at, drop_at, length-take, length-drop, length-append}
 use Rattle.std.proofs.lemmas.Bool.Decides.{nat_tests}
-use Rattle.bgp_attrs.specs.Joined.{Begins, IsReader}
+use Rattle.held_bytes.specs.Units.{Begins}
+use Rattle.bgp_attrs.specs.Joined.{IsReader}
 use Rattle.bgp_attrs.proofs.JoinedLemmas.{and_then_some, option_map_some}
 use Rattle.bgp_attrs.specs.Blocks.{block_at}
 use Rattle.bgp_attrs.proofs.BlockLemmas.{block_reader}

@@ -5,7 +5,7 @@ use Rattle.std.specs.Int.{w16, w32, from_be_bytes}
 use Rattle.std.proofs.lemmas.Option.{same_Some}
 use Rattle.std.proofs.lemmas.List.{take-append-drop, take_at, drop_at, length-take, length-drop, length-append, drop-drop, take-append-le, drop-append-le}
 use Rattle.std.proofs.lemmas.Bool.Decides.{nat_tests}
-use Rattle.bgp_attrs.specs.Joined.{Begins}
+use Rattle.held_bytes.specs.Units.{Begins}
 use Rattle.mrt_reader.specs.Records.{Head, head_at, limit, Recorded, IsRecord}
 use Rattle.mrt_reader.specs.Coming.{IsPartial}
 

@@ -1,6 +1,6 @@
 -- The records of a stream: some, and no others.
 use Rattle.std.proofs.Common.{◌≡◌, ℕ, zero, suc, ◌≤◌, List, [], ◌∷◌, length, refl, sym, subst, ◌∙◌, arith}
-use Rattle.bgp_attrs.specs.Joined.{Begins}
+use Rattle.held_bytes.specs.Units.{Begins}
 use Rattle.mrt_reader.specs.Coming.{AreUnits, Coming, Whole, TooLong, CutShort, End, IsComing}
 use Rattle.mrt_reader.specs.Laws.{OneDivision}
 use Rattle.mrt_reader.specs.Records.{Recorded, IsRecord}

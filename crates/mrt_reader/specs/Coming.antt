@@ -2,7 +2,7 @@
 use Rattle.std.specs.Prelude.{◌≡◌, ◌≢◌, ℕ, ◌+◌, ◌<◌, ◌≤◌, List, [], ◌∷◌, length, None, Some, Ok, Err, IfSome}
 use Rattle.std.specs.declared.option.Option.{Option}
 use Rattle.std.specs.declared.result.Result.{Result}
-use Rattle.bgp_attrs.specs.Joined.{Begins}
+use Rattle.held_bytes.specs.Units.{Begins}
 use Rattle.mrt_reader.specs.declared.fault.FrameFault.{FrameFault}
 use Rattle.mrt_reader.specs.declared.fault.FrameFault.TheVariants as faults
 use Rattle.mrt_reader.specs.declared.framer.Record.{Record}

@@ -2,7 +2,7 @@
 use Rattle.std.specs.Prelude.{◌≡◌, ℕ, List, ◌++◌}
 use Rattle.std.specs.declared.option.Option.{Option}
 use Rattle.path_model.specs.declared.peer.Peer.{Peer}
-use Rattle.bgp_attrs.specs.Joined.{Begins}
+use Rattle.held_bytes.specs.Units.{Begins}
 use Rattle.bgp_update.specs.Laws.{HasOne}
 use Rattle.mrt_reader.specs.Bodies.{IsReading}
 use Rattle.mrt_reader.specs.Coming.{AreUnits, IsComing, IsTooLong}

@@ -5,7 +5,8 @@ use Rattle.std.specs.declared.option.Option.{Option}
 use Rattle.std.specs.Int.{w16, from_be_bytes}
 use Rattle.path_model.specs.Prefix.{Subnet}
 use Rattle.bgp_attrs.specs.Blocks.{IsBlock, block_at}
-use Rattle.bgp_attrs.specs.Joined.{Begins, IsJoined}
+use Rattle.held_bytes.specs.Units.{Begins}
+use Rattle.bgp_attrs.specs.Joined.{IsJoined}
 use Rattle.bgp_attrs.specs.Prefixes.{IsPrefix}
 use Rattle.mrt_reader.specs.Fields.{cut}
 

@@ -3,7 +3,7 @@ use Rattle.std.specs.Prelude.{◌≡◌, ◌≢◌, ℕ, List, [], Some}
 use Rattle.std.specs.declared.option.Option.{Option}
 use Rattle.std.specs.declared.result.Result.{Result}
 use Rattle.path_model.specs.declared.peer.Peer.{Peer}
-use Rattle.bgp_attrs.specs.Joined.{Begins}
+use Rattle.held_bytes.specs.Units.{Begins}
 use Rattle.mrt_reader.specs.declared.body.Body.{Body}
 use Rattle.mrt_reader.specs.declared.fault.BodyFault.{BodyFault}
 use Rattle.mrt_reader.specs.Bodies.{IsOutcome}
