@@ -3,6 +3,7 @@ use Rattle.std.proofs.Common.{◌≡◌, inl, inr, ℕ, ◌<◌, List, [], ◌�
 use Rattle.std.specs.List.{All}
 use Rattle.std.specs.declared.result.Result.{Result}
 use Rattle.std.proofs.lemmas.Bool.{cases_eq, cases_lt}
+use Rattle.av_base.specs.One.{HasOne}
 use Rattle.path_model.proofs.Decide.{Decided, decided_either, decided_both}
 use Rattle.av_text.specs.Words.{words_of}
 use Rattle.script_lines.specs.declared.command.Command.{Command}
@@ -13,7 +14,6 @@ use Rattle.script_lines.specs.declared.command.LineFault.TheVariants.{Long, Comm
 use Rattle.script_lines.specs.Forms.{Fits, SomeNoNumber}
 use Rattle.script_lines.specs.Commands.{name_text, form_of, made_by, SpellsCommand}
 use Rattle.script_lines.specs.Grammar.{IsComment, IsRead, IsPrintable, IsNamed, IsReading}
-use Rattle.script_lines.specs.Laws.{HasOneReading}
 use Rattle.script_lines.proofs.NameLemmas.{name_text_injective, decided_name}
 use Rattle.script_lines.proofs.FormLemmas.{spelled-fits}
 use Rattle.script_lines.proofs.SpellingLemmas.{decided_le, decided_all, decided_fits, spelled_or_lacks, one_command, lacks_none}
@@ -165,7 +165,7 @@ some_reading line =
     ]
 
 -- each line has one reading
-pub one_reading : (line : List ℕ) → HasOneReading line
+pub one_reading : (line : List ℕ) → HasOne (IsReading line)
 one_reading line =
     let found : SomeReading line = some_reading line in
-    record { reading = found.0; reads = found.1; only = λ other reads. IsReading-unique line other found.0 reads found.1 }
+    record { one = found.0; is = found.1; only = λ other reads. IsReading-unique line other found.0 reads found.1 }
