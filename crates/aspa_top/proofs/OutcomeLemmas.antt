@@ -3,12 +3,12 @@ use Rattle.std.proofs.Common.{◌≡◌, ℕ, ◌≤◌, Bool, true, false, nat_
 use Rattle.std.specs.declared.option.Option.{Option}
 use Rattle.std.specs.declared.result.Result.{Result}
 use Rattle.std.proofs.lemmas.Bool.Decides.{nat_tests}
+use Rattle.av_base.specs.One.{HasOne}
 use Rattle.path_model.specs.Rows.{RowMap}
 use Rattle.vap_table.specs.declared.change.TableChange.{TableChange}
 use Rattle.vap_table.specs.declared.change.TableChange.TheVariants.{Replace, Slurm as BySlurm}
 use Rattle.aspa_payload.specs.File.{IsFileReading}
 use Rattle.aspa_payload.specs.Lines.{IsLinesReading}
-use Rattle.aspa_payload.specs.Laws.{HasOneReading}
 use Rattle.aspa_payload.specs.declared.file.FileFault.{FileFault}
 use Rattle.aspa_payload.specs.declared.file.FileFault.TheVariants.{Bad, NoMemory}
 use Rattle.aspa_payload.specs.declared.fault.PayloadFault.{PayloadFault}
@@ -38,26 +38,26 @@ no_both {T} {E} value fault the a b = let same = a ∙ sym b in cc
 
 -- ---- files of payloads; `Due` says how the file reads
 
-module _ (Due : Result RowMap FileFault → Type 0) (the : HasOneReading Due) where
+module _ (Due : Result RowMap FileFault → Type 0) (the : HasOne Due) where
   one_change : (name : List ℕ) (one other : TableChange)
       → (rows : RowMap) × Due (Ok rows) × (one ≡ Replace name rows) → (rows : RowMap) × Due (Ok rows) × (other ≡ Replace name rows)
       → one ≡ other
   one_change name one other a b =
-      let same = same_value a.0 b.0 the.reading (the.only (Ok a.0) a.1) (the.only (Ok b.0) b.1) in
+      let same = same_value a.0 b.0 the.one (the.only (Ok a.0) a.1) (the.only (Ok b.0) b.1) in
       a.2 ∙ ap (λ (rows : RowMap). Replace name rows) same ∙ sym b.2
 
   one_flaw : (one other : Flaw)
       → (fault : PayloadFault) × Due (Err (Bad one.unit fault)) × (one.cause ≡ payload_cause fault)
       → (fault : PayloadFault) × Due (Err (Bad other.unit fault)) × (other.cause ≡ payload_cause fault) → one ≡ other
   one_flaw one other a b =
-      let same = same_fault (Bad one.unit a.0) (Bad other.unit b.0) the.reading (the.only (Err (Bad one.unit a.0)) a.1) (the.only (Err (Bad other.unit b.0)) b.1) in
+      let same = same_fault (Bad one.unit a.0) (Bad other.unit b.0) the.one (the.only (Err (Bad one.unit a.0)) a.1) (the.only (Err (Bad other.unit b.0)) b.1) in
       let unit : one.unit ≡ other.unit = cc in
       let fault : a.0 ≡ b.0 = cc in
       let cause : one.cause ≡ other.cause = a.2 ∙ ap payload_cause fault ∙ sym b.2 in
       λ i. record { unit = unit i; cause = cause i }
 
   no_change_and_flaw : (rows : RowMap) (unit : ℕ) (fault : PayloadFault) → Due (Ok rows) → Due (Err (Bad unit fault)) → ⊥
-  no_change_and_flaw rows unit fault a b = no_both rows (Bad unit fault) the.reading (the.only (Ok rows) a) (the.only (Err (Bad unit fault)) b)
+  no_change_and_flaw rows unit fault a b = no_both rows (Bad unit fault) the.one (the.only (Ok rows) a) (the.only (Err (Bad unit fault)) b)
 
 -- ---- each kind of file makes one change, or fails in one way
 
@@ -66,7 +66,7 @@ makes_one (Payloads name) bytes one other a b = one_change (IsFileReading bytes)
 makes_one (PayloadLines name) bytes one other a b = one_change (IsLinesReading bytes) (each_file_of_lines bytes) name one other a b
 makes_one Slurm bytes one other a b =
     let the = each_slurm_file bytes in
-    let same = same_value a.0 b.0 the.reading (the.only (Ok a.0) a.1) (the.only (Ok b.0) b.1) in
+    let same = same_value a.0 b.0 the.one (the.only (Ok a.0) a.1) (the.only (Ok b.0) b.1) in
     a.2 ∙ ap (λ (s : SlurmContent). BySlurm s.filters s.assertions) same ∙ sym b.2
 
 fails_one : (kind : FileKind) (bytes : List ℕ) (one other : Flaw) → Fails kind bytes one → Fails kind bytes other → one ≡ other
@@ -74,7 +74,7 @@ fails_one (Payloads name) bytes one other a b = one_flaw (IsFileReading bytes) (
 fails_one (PayloadLines name) bytes one other a b = one_flaw (IsLinesReading bytes) (each_file_of_lines bytes) one other a b
 fails_one Slurm bytes one other a b =
     let the = each_slurm_file bytes in
-    let fault = same_fault a.0 b.0 the.reading (the.only (Err a.0) a.1) (the.only (Err b.0) b.1) in
+    let fault = same_fault a.0 b.0 the.one (the.only (Err a.0) a.1) (the.only (Err b.0) b.1) in
     let unit : one.unit ≡ other.unit = a.2 ∙ sym b.2 in
     let cause : one.cause ≡ other.cause = a.3 ∙ ap slurm_cause fault ∙ sym b.3 in
     λ i. record { unit = unit i; cause = cause i }
@@ -84,7 +84,7 @@ makes_or_fails (Payloads name) bytes change flaw a b = no_change_and_flaw (IsFil
 makes_or_fails (PayloadLines name) bytes change flaw a b = no_change_and_flaw (IsLinesReading bytes) (each_file_of_lines bytes) a.0 flaw.unit b.0 a.1 b.1
 makes_or_fails Slurm bytes change flaw a b =
     let the = each_slurm_file bytes in
-    no_both a.0 b.0 the.reading (the.only (Ok a.0) a.1) (the.only (Err b.0) b.1)
+    no_both a.0 b.0 the.one (the.only (Ok a.0) a.1) (the.only (Err b.0) b.1)
 
 -- ---- one outcome
 
@@ -148,11 +148,11 @@ slurm_within bytes within (Err fault) reads =
 some_within : (kind : FileKind) (bytes : List ℕ) → length bytes ≤ 67108864 → (outcome : Outcome) × ComesOf kind (Some bytes) outcome
 some_within (Payloads name) bytes within =
     let the = each_file bytes in
-    rows_within (Payloads name) name bytes (IsFileReading bytes) within (λ rows reads. (rows, reads, refl)) (λ unit fault reads. (fault, reads, refl)) (λ none. none) the.reading the.reads
+    rows_within (Payloads name) name bytes (IsFileReading bytes) within (λ rows reads. (rows, reads, refl)) (λ unit fault reads. (fault, reads, refl)) (λ none. none) the.one the.is
 some_within (PayloadLines name) bytes within =
     let the = each_file_of_lines bytes in
-    rows_within (PayloadLines name) name bytes (IsLinesReading bytes) within (λ rows reads. (rows, reads, refl)) (λ unit fault reads. (fault, reads, refl)) (λ none. none) the.reading the.reads
-some_within Slurm bytes within = let the = each_slurm_file bytes in slurm_within bytes within the.reading the.reads
+    rows_within (PayloadLines name) name bytes (IsLinesReading bytes) within (λ rows reads. (rows, reads, refl)) (λ unit fault reads. (fault, reads, refl)) (λ none. none) the.one the.is
+some_within Slurm bytes within = let the = each_slurm_file bytes in slurm_within bytes within the.one the.is
 
 by_length : (kind : FileKind) (bytes : List ℕ) (fits : Bool) → nat_le (length bytes) 67108864 ≡ fits → (outcome : Outcome) × ComesOf kind (Some bytes) outcome
 by_length kind bytes true is = some_within kind bytes (grind (arith, nat_tests, is))

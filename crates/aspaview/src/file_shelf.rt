@@ -1,10 +1,10 @@
 //! The files of the system as a shelf.
-ghost use Rattle.std.specs.Prelude.{◌≡◌, ◌≢◌, ◌++◌, ◌∷◌, ℕ, ◌+◌, ◌-◌, ◌^◌, ◌<◌, ◌≤◌, [], None, Ok, Some, length, slice_get, IfErr, IfNone, IfOk, IfSome, IsErr, OnErr, OnSome};
+ghost use Rattle.std.specs.Prelude.{◌≡◌, ◌≢◌, ◌++◌, ◌∷◌, ℕ, ◌+◌, ◌-◌, ◌^◌, ◌<◌, ◌≤◌, [], true, false, None, Ok, Some, length, slice_get, IfErr, IfNone, IfOk, IfSome, IsErr, OnErr, OnSome};
 ghost use Rattle.std.specs.Io.KnownBytes.{ReadConsumes};
 ghost use Rattle.std.specs.IoError.{error_kind};
-ghost use Rattle.std.specs.declared.io.ErrorKind.TheVariants.{NotFound};
 ghost use Rattle.av_base.specs.Told.{HasCause};
 ghost use Rattle.aspaview.specs.Known.{left_in};
+ghost use Rattle.aspaview.specs.Missing.{is_missing as says_missing};
 
 use crate::opened_file::OpenedFile;
 use av_base::{Fault, Shelf};
@@ -13,7 +13,7 @@ use std::fs::File;
 use std::io::{self, ErrorKind};
 use std::rt::Files;
 
-/// The files of the system as a shelf, which counts each error but a missing name as a fault. As a shelf it tells no names and no bytes;
+/// The files of the system as a shelf, which counts each error but a name that isn't there as a fault. As a shelf it tells no names and no bytes;
 /// what it does to those that an opened file knows is said by its own clause.
 #[derive(Drop)]
 pub struct FileShelf<R: Files> {
@@ -39,8 +39,8 @@ impl<R: Files> FileShelf<R> {
     /// fault, and so is a file over the 4,294,967,295th and one for which there is no memory.
     pub fn answer(&mut self, opened: io::Result<R::File>) -> Result<Option<u32>, Fault>
         ensures file { IfOk opened (λ _. IfOk result (λ number. number ≡ Some (length self.old.opened.items))) }
-        ensures missing { IfErr opened (λ error. error_kind error ≡ NotFound → result ≡ Ok None) }
-        ensures fault { IfErr opened (λ error. error_kind error ≢ NotFound → IsErr result) }
+        ensures missing { IfErr opened (λ error. says_missing (error_kind error) ≡ true → result ≡ Ok None) }
+        ensures fault { IfErr opened (λ error. says_missing (error_kind error) ≡ false → IsErr result) }
         ensures kept { IfOk opened (λ file. IfOk result (λ _.
             self.new.opened.items ≡ self.old.opened.items ++ record { reader = Some file } ∷ [])) }
         ensures room { IfOk result (λ number. IfSome number (λ _. length self.old.opened.items < 2 ^ 32 - 1)) }
@@ -124,17 +124,43 @@ impl<R: Files> Shelf for FileShelf<R> {
             }
         }
     }
+
+    fn close_file(&mut self, file: u32)
+        requires given { file < length self.old.opened.items }
+        ensures opened { length self.new.opened.items ≡ length self.old.opened.items }
+        ensures faults { self.new.faults ≡ self.old.faults }
+
+        // The file is dropped, so the system lets it go; the others stay as they are.
+        ensures dropped { slice_get self.new.opened.items file ≡ Some (record { reader = None }) }
+        ensures others { (other : ℕ) → other ≢ file
+            → slice_get self.new.opened.items other ≡ slice_get self.old.opened.items other }
+    {
+        self.opened[file as usize].let_go();
+    }
 }
 
 // The file that was opened, or `None` where its name isn't there; each other error is a fault.
 fn found<F: Drop>(opened: io::Result<F>) -> Result<Option<F>, Fault>
     ensures file { IfOk opened (λ file. result ≡ Ok (Some file)) }
-    ensures missing { IfErr opened (λ error. error_kind error ≡ NotFound → result ≡ Ok None) }
-    ensures fault { IfErr opened (λ error. error_kind error ≢ NotFound → IsErr result) }
+    ensures missing { IfErr opened (λ error. says_missing (error_kind error) ≡ true → result ≡ Ok None) }
+    ensures fault { IfErr opened (λ error. says_missing (error_kind error) ≡ false → IsErr result) }
 {
     match opened {
         Ok(file) => Ok(Some(file)),
-        Err(error) if error.kind() == ErrorKind::NotFound => Ok(None),
+        Err(error) if is_missing(error.kind()) => Ok(None),
         Err(_) => Err(Fault),
     }
+}
+
+// Whether such an error says that a name isn't there.
+fn is_missing(kind: ErrorKind) -> bool
+    ensures { result ≡ says_missing kind }
+{
+    matches!(
+        kind,
+        ErrorKind::NotFound
+            | ErrorKind::NotADirectory
+            | ErrorKind::InvalidFilename
+            | ErrorKind::FilesystemLoop
+    )
 }

@@ -1,10 +1,11 @@
 //! Connections to a listener of the test's own: both ends speak in turn over the system's buffers.
 ghost use Rattle.av_base.specs.Connections.{IsUsable};
 
-use crate::tcp_links::TcpLinks;
+use crate::tcp_links::{TcpLinks, dial_any};
 use av_base::{Fault, Links};
 use std::io::{self, ErrorKind, Read, Write};
 use std::net::{OpenStream, Shutdown, TcpListener};
+use std::time::Instant;
 
 // What the other end hears, what this one hears then, and how many bytes each call moved: the last meets the other's end.
 type Heard = ([u8; 4], [u8; 4], [usize; 3]);
@@ -45,6 +46,46 @@ fn a_connection_carries_bytes_both_ways(rt: HostRuntime) -> io::Result<()> {
     assert_eq!(rt; other.read(&mut [0u8; 4]).ok(), Some(0));
     drop(listener);
     assert_eq!(rt; links.connect(place.as_str()), Err(Fault));
-    assert_eq!(rt; links.connect("no such place"), Err(Fault));
+    Ok(())
+}
+
+// A listener waits at each port that these spell in some way, so that a dial would reach it.
+#[test]
+fn a_place_has_one_spelling(rt: HostRuntime) -> io::Result<()> {
+    let listener = TcpListener::bind(&rt, "127.0.0.1:0")?;
+    let port = listener.local_addr()?.port();
+    let mut links = TcpLinks::new(rt.alloc(), &rt);
+    for (before, between) in [
+        ("127.0.0.1", ":0"),
+        ("127.0.0.1", ":+"),
+        ("127.0.0.1", ": "),
+        (" 127.0.0.1", ":"),
+        ("[127.0.0.1]", ":"),
+        ("127.1", ":"),
+        ("0x7f.0.0.1", ":"),
+        ("2130706433", ":"),
+        ("::ffff:127.0.0.1", ":"),
+        ("[::ffff:127.0.0.1%1]", ":"),
+        ("", ":"),
+    ] {
+        let place = format!(in rt.alloc(); "{before}{between}{port}")?;
+        assert_eq!(rt; links.connect(place.as_str()), Err(Fault));
+    }
+    assert_eq!(rt; links.connect("127.0.0.1"), Err(Fault));
+    let place = format!(in rt.alloc(); "127.0.0.1:{port}")?;
+    assert_eq!(rt; links.connect(place.as_str()), Ok(0));
+    Ok(())
+}
+
+// Where the first address of a name refuses, the next one is tried.
+#[test]
+fn each_address_is_tried(rt: HostRuntime) -> io::Result<()> {
+    let gone = TcpListener::bind(&rt, "127.0.0.1:0")?;
+    let refusing = gone.local_addr()?;
+    let listener = TcpListener::bind(&rt, "127.0.0.1:0")?;
+    drop(gone);
+    let addresses = [refusing, listener.local_addr()?];
+    assert!(rt; dial_any(&&rt, Instant::now(&rt)?, &addresses[..1]).is_err());
+    assert!(rt; dial_any(&&rt, Instant::now(&rt)?, &addresses).is_ok());
     Ok(())
 }

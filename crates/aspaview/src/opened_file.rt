@@ -6,7 +6,7 @@ ghost use Rattle.aspaview.specs.Known.{left_in};
 use av_base::Fault;
 use std::io::Read;
 
-/// A file that was opened. It is dropped once its end was met, and gives nothing from then on.
+/// A file that was opened. It is dropped once its end was met or it was let go, and gives nothing from then on.
 #[derive(Drop)]
 pub struct OpenedFile<F: Read> {
     reader: Option<F>,
@@ -46,5 +46,12 @@ impl<F: Read + Drop> OpenedFile<F> {
             Ok(count) => Ok(count),
             Err(_) => Err(Fault),
         }
+    }
+
+    /// Lets the file go. It gives nothing from then on.
+    pub fn let_go(&mut self)
+        ensures { self.new ≡ record { reader = None } }
+    {
+        self.reader = None;
     }
 }

@@ -2,31 +2,35 @@
 ghost use Rattle.std.specs.Prelude.{◌≡◌, ◌≢◌, ◌++◌, ◌∷◌, ℕ, ◌-◌, ◌/◌, ◌^◌, ◌<◌, ◌≤◌, [], None, map, length, slice_get, IfOk, IfSome, IfNone, IsErr, OnOk, OnErr, OnSome};
 ghost use Rattle.std.specs.Duration.{as_nanos};
 ghost use Rattle.std.specs.Io.KnownBytes.{ReadConsumes, WriteAppends};
-ghost use Rattle.av_base.specs.Connections.{IsUsable, stands_broken};
+ghost use Rattle.av_base.specs.Connections.{IsUsable, new_standing, stands_broken};
 ghost use Rattle.av_base.specs.Told.{HasCause};
 ghost use Rattle.av_base.specs.declared.standing.Break.TheVariants.{BySend, ByRecv};
+ghost use Rattle.av_text.specs.HostPort.{IsNoHostPort};
 ghost use Rattle.aspaview.specs.Known.{new_known, standings_of};
 
 use crate::connection::Connection;
 use av_base::{Fault, Links};
-use std::alloc::Global;
+use av_text::read_host_port;
+use std::alloc::{AllocError, Global};
 use std::io::{self, ErrorKind};
 use std::marker::Model;
-use std::net::{Net, TcpStream, ToSocketAddrs};
+use std::net::{Net, SocketAddr, TcpStream, ToSocketAddrs};
 use std::rt::Clock;
 use std::time::{Duration, Instant};
 
 // How many seconds an attempt to connect may take, over all addresses of the place.
 const LIMIT: u64 = 30;
 
-/// TCP connections of the system as links, to places written `HOST:PORT`: a host is a name, an IPv4 address, or an IPv6 address in
-/// brackets. They count each error as a fault, and each attempt that takes over 30 seconds; a receive waits. As links they tell how the
+/// TCP connections of the system as links, to places that `read_host_port` reads: a host is a name, an IPv4 address, or an IPv6 address
+/// in brackets. Another place is a fault, and the system isn't asked. They count each error as a fault, and each attempt that takes over
+/// 30 seconds; a receive waits. As links they tell how the
 /// connections stand, and no bytes and no attempts; what a call does to bytes that a stream knows is said by its own clause.
 #[derive(Drop)]
 pub struct TcpLinks<R: Net + Clock> {
     runtime: R,
     links: Vec<Connection<R::Stream>>,
     faults: u64,
+    alloc: Global,
 }
 
 /// A contract sees the connections and the faults counted.
@@ -47,6 +51,7 @@ impl<R: Net + Clock> TcpLinks<R> {
             runtime,
             links: Vec::new(alloc),
             faults: 0,
+            alloc,
         }
     }
 
@@ -105,8 +110,19 @@ impl<R: Net + Clock> Links for TcpLinks<R> {
     ghost agrees = { λ _. tt };
 
     #[tactic(auto, using(av_base::proofs::LaterLemmas::link_steps))]
-    fn connect(&mut self, place: &str) -> Result<u32, Fault> {
-        let made = dial(&self.runtime, place);
+    fn connect(&mut self, place: &str) -> Result<u32, Fault>
+        ensures number { IfOk result (λ link. link ≡ length (standings_of self.old.links)) }
+        ensures room { OnOk result (length (standings_of self.old.links) < 2 ^ 32 - 1) }
+        ensures ok_standings { OnOk result
+            (standings_of self.new.links ≡ standings_of self.old.links ++ new_standing ∷ []) }
+        ensures err_standings { OnErr result
+            (standings_of self.new.links ≡ standings_of self.old.links) }
+        ensures cause { HasCause self.old.faults self.new.faults result }
+
+        // A place that is no host with a port is reached by nobody.
+        ensures no_place { IsNoHostPort place.now → IsErr result }
+    {
+        let made = reach(self.alloc, &self.runtime, place);
         self.answer(made)
     }
 
@@ -177,18 +193,41 @@ impl<R: Net + Clock> Links for TcpLinks<R> {
     }
 }
 
-// Connects to the first address of a place that answers. Each has an even share of the time that is left when its turn comes.
-fn dial<R: Net + Clock>(runtime: &R, place: &str) -> io::Result<R::Stream> {
+// Connects to a place. The system is asked only where it is a host with a port.
+fn reach<R: Net + Clock>(alloc: Global, runtime: &R, place: &str) -> io::Result<R::Stream>
+    ensures { IsNoHostPort place.now → IsErr result }
+{
+    match read_host_port(place.as_bytes()) {
+        Some(_) => dial(alloc, runtime, place),
+        None => Err(io::Error::from(ErrorKind::InvalidInput)),
+    }
+}
+
+// Connects to the first address of a place that answers.
+fn dial<R: Net + Clock>(alloc: Global, runtime: &R, place: &str) -> io::Result<R::Stream> {
     let start = Instant::now(runtime)?;
-    let addresses = place.to_socket_addrs(runtime)?;
-    let count = addresses.len();
-    for (before, address) in addresses.enumerate() {
+    let addresses: Result<Vec<SocketAddr>, AllocError> = place
+        .to_socket_addrs(runtime)?
+        .collect(alloc);
+    match addresses {
+        Ok(addresses) => dial_any(runtime, start, &addresses),
+        Err(AllocError) => Err(io::Error::from(ErrorKind::OutOfMemory)),
+    }
+}
+
+/// Connects to the first of these addresses that answers. Each has an even share of the time that is left when its turn comes.
+pub fn dial_any<R: Net + Clock>(
+    runtime: &R,
+    start: Instant,
+    addresses: &[SocketAddr],
+) -> io::Result<R::Stream> {
+    for (before, address) in addresses.iter().enumerate() {
         let left = Duration::from_secs(LIMIT).saturating_sub(start.elapsed(runtime)?);
-        let time = share(left, count.saturating_sub(before));
+        let time = share(left, addresses.len() - before);
         if time.is_zero() {
             break;
         }
-        if let Ok(stream) = TcpStream::connect_timeout(runtime, &address, time) {
+        if let Ok(stream) = TcpStream::connect_timeout(runtime, address, time) {
             return Ok(stream);
         }
     }

@@ -161,6 +161,38 @@ fn talk(links: &mut MemLinks, link: u32) -> ((Moved, Moved), u8)
     ((sent, received), buffer[0])
 }
 
+// A file that was let go has nothing left, and the others keep theirs.
+#[test]
+fn a_shelf_lets_a_file_go(rt: HostRuntime) -> Result<(), NoMemory> {
+    let alloc = rt.alloc();
+    let mut shelf = MemShelf::new(alloc, Plan::new(alloc, &[])?);
+    shelf.put("table", &[7, 8, 9])?;
+    let Ok(Some(gone)) = shelf.open_file("table") else {
+        return Err(NoMemory);
+    };
+    let Ok(Some(kept)) = shelf.open_file("table") else {
+        return Err(NoMemory);
+    };
+    shelf.close_file(gone);
+    assert_eq!(rt; read_file(&mut shelf, gone), (Ok(0), [0, 0]));
+    assert_eq!(rt; read_file(&mut shelf, kept), (Ok(2), [7, 8]));
+    Ok(())
+}
+
+// With ample memory the attempts stay told, whatever fails.
+#[test]
+fn attempts_are_told(rt: HostRuntime) -> Result<(), NoMemory> {
+    let alloc = rt.alloc();
+    let mut links = MemLinks::new(alloc, Plan::new(alloc, &[PlanStep::Fail])?);
+    for _ in 0..100 {
+        links.put("cache", &[5])?;
+        assert_eq!(rt; links.connect("nowhere"), Err(Fault));
+        assert!(rt; links.connect("cache").is_ok());
+        assert!(rt; links.tells_attempts());
+    }
+    Ok(())
+}
+
 // A counter of steps costs nothing when the program runs.
 #[test]
 fn steps_take_no_bytes(rt: HostRuntime) {

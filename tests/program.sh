@@ -1,0 +1,126 @@
+#!/usr/bin/env bash
+# Tests of the built program: its statuses, what it says of names that aren't there and of places that are none, and that it lets go of
+# files that it is done with. The last line is 'N passed, M failed', and the status is 0 where none failed.
+set -u
+cd "$(dirname "$0")/.." || exit
+program=$PWD/crates/aspaview/out/aspaview
+work=$(mktemp -d)
+trap 'rm -rf "$work"' EXIT
+passed=0
+failed=0
+
+# check WHAT WANTED GOT
+check() {
+    if [ "$2" = "$3" ]; then
+        passed=$((passed + 1))
+    else
+        failed=$((failed + 1))
+        printf 'failed: %s\nwanted: %s\ngot: %s\n' "$1" "$2" "$3"
+    fi
+}
+
+# runs WHAT STATUS TEXT: the program, over the script that standard input gives, ends with this status and has written this text.
+runs() {
+    local status
+    "$program" run >"$work/out" 2>"$work/err"
+    status=$?
+    check "$1: status" "$2" "$status"
+    check "$1: text" "$3" "$(cat "$work/out")"
+    check "$1: nothing on standard error" '' "$(cat "$work/err")"
+}
+
+# lines TEXT..: each on a line of its own.
+lines() {
+    printf '%s\n' "$@"
+}
+
+# refusals COUNT TEXT: the text of each line up to this one, where TEXT stands for line L with L in place of '%'.
+refusals() {
+    local line
+    for ((line = 1; line <= $1; line++)); do
+        printf '! line %s\n' "${2//%/$line}"
+    done
+}
+
+# The launcher builds the program where it isn't built.
+./aspaview run </dev/null
+check 'the program is built, and an empty script has status 0' 0 $?
+
+# ---- 0 and 1: the whole script was performed
+
+lines 'assert 64500 64501' 'assert 64501 0' 'judge customer 64501 64501 64500' | runs 'all is well' 0 'valid'
+lines 'judge customer 64501 64501' 'no command' 'judge customer 64501 64501' |
+    runs 'a line is refused' 1 "$(lines 'valid' '! line 2 cause 32 Command' 'valid')"
+printf 'judge customer 64501 64501' | runs 'the last line has no line feed' 0 'valid'
+
+# ---- 2: other words
+
+for words in '' 'runs' 'RUN' 'run run' 'demo' 'demo x' 'demo 01' 'demo 1 1' 'demo 4294967296'; do
+    # shellcheck disable=SC2086
+    check "the words '$words'" '2 judge customer 64501 64501' "$(lines 'judge customer 64501 64501' | {
+        "$program" $words
+        printf '%s ' $?
+        cat
+    })"
+done
+check 'words that are no text' 2 "$("$program" $'\xff' </dev/null && echo 0 || echo $?)"
+
+# ---- 3: reading fails
+
+runs 'the script is a folder' 3 '' <"$work"
+lines 'judge customer 64501 64501' "aspa a $work" 'judge customer 64501 64501' | runs 'a file is a folder' 3 'valid'
+lines 'judge customer 64501 64501' "open d $work" 'take d 1' | runs 'a dump is a folder' 3 'valid'
+
+# ---- 4: writing fails
+
+lines 'judge customer 64501 64501' | "$program" run >/dev/full
+check 'nothing can be written' 4 $?
+"$program" demo 1 >/dev/full
+check 'nothing can be written of a workload' 4 $?
+
+# ---- 6: the script is over its limit of 67,108,864 bytes; 'judge customer 64501 64501' and its line feed are 27 of them
+
+# a script of so many bytes: a line of 27, and a comment
+of_bytes() {
+    lines 'judge customer 64501 64501'
+    head -c $(($1 - 27)) /dev/zero | tr '\0' '#'
+}
+of_bytes 67108864 | runs 'a script as long as may be' 0 'valid'
+of_bytes 67108865 | runs 'a script that is too long' 6 'valid'
+
+# ---- names that aren't there
+
+long=$(printf 'x%.0s' {1..300})
+touch "$work/file"
+ln -s round "$work/round"
+ln -s nowhere "$work/dangling"
+for name in nothing file/x "$long" "$long/x" round round/x dangling nothing/x; do
+    lines "aspa a $work/$name" "aspa64 a $work/$name" "slurm $work/$name" "open a $work/$name" |
+        runs "the name $name" 1 "$(refusals 4 '% cause 37 NoFile')"
+done
+
+# ---- files that are done with are let go: more of them than may be open at once, each behind the other
+
+truncate -s 67108865 "$work/long"
+printf '\0\0\0\0\0' >"$work/cut"
+printf '\0\0\0\0\0\15\0\2\377\377\377\377' >"$work/huge"
+ulimit -S -n 20
+for ((i = 1; i <= 24; i++)); do lines "aspa a $work/long"; done |
+    runs 'long files' 1 "$(refusals 24 '% cause 40 FileLong')"
+for dump in 'cut 27 CutShort' 'huge 26 TooLong'; do
+    read -r file cause word <<<"$dump"
+    for ((i = 1; i <= 24; i++)); do lines "open d$i $work/$file" "take d$i 1"; done |
+        runs "dumps that are over by $cause" 1 "$(for ((i = 1; i <= 24; i++)); do
+            printf '! line %s d%s unit 1 cause %s %s\n' $((2 * i)) "$i" "$cause" "$word"
+        done)"
+done
+
+# ---- places that are none
+
+for place in localhost localhost: localhost:0 localhost:65536 localhost:0323 localhost:+323 127.1:323 127.0.0.01:323 0x7f.1:323 \
+    ::1:323 '[127.0.0.1]:323' '[localhost]:323' '[::1%lo]:323' .localhost:323 localhost.:323 'local/host:323'; do
+    lines "feed c $place" | runs "the place $place" 1 '! line 1 c unreachable'
+done
+
+echo "$passed passed, $failed failed"
+[ "$failed" -eq 0 ]
