@@ -3,6 +3,7 @@ pub mod DecideLemmas
 pub mod FieldLemmas
 pub mod JoinedLemmas
 pub mod LawLemmas
+pub mod MergedLawLemmas
 pub mod MergingLemmas
 pub mod PrefixLemmas
 pub mod SegmentLemmas

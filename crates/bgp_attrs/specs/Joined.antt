@@ -1,5 +1,5 @@
 -- Bytes that are the spellings of items, one after another.
-use Rattle.std.specs.Prelude.{◌≡◌, ℕ, zero, suc, ◌<◌, List, [], ◌∷◌, ◌++◌, length, Some, None, option_map, option_and_then}
+use Rattle.std.specs.Prelude.{◌≡◌, ℕ, zero, suc, ◌<◌, List, [], ◌∷◌, length, Some, None, option_map, option_and_then}
 use Rattle.std.specs.declared.option.Option.{Option}
 use Rattle.held_bytes.specs.Units.{Begins}
 

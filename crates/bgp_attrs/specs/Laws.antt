@@ -1,9 +1,11 @@
 -- Laws of readings, each the contract of a public function of the module `laws`.
-use Rattle.std.specs.Prelude.{◌≡◌, ℕ, Bool, List, ◌⊎◌}
+use Rattle.std.specs.Prelude.{◌≡◌, ℕ, ◌<◌, ◌≤◌, ◌↔◌, Bool, List, ◌++◌, length, ◌⊎◌}
 use Rattle.path_model.specs.Prefix.{Subnet}
 use Rattle.bgp_attrs.specs.declared.form.Form.{Form}
-use Rattle.held_bytes.specs.Units.{Begins}
+use Rattle.held_bytes.specs.Divided.{NoneBeginsAnother}
+use Rattle.bgp_attrs.specs.declared.items.Item.{Item}
 use Rattle.bgp_attrs.specs.Joined.{IsJoined}
+use Rattle.bgp_attrs.specs.Merging.{merged}
 use Rattle.bgp_attrs.specs.Prefixes.{IsPrefix}
 use Rattle.bgp_attrs.specs.Reading.{Reading, IsRead, IsUnreadable}
 
@@ -17,8 +19,25 @@ AttributesReadOrNot = (wide : Bool) (form : Form) (bytes : List ℕ) → ((value
 
 -- no prefix's spelling begins another one: what follows, and the prefix itself, are determined
 abbrev pub NoPrefixBeginsAnother : Type 0
-NoPrefixBeginsAnother = (six : Bool) (bytes : List ℕ) (one other : Subnet) (rest more : List ℕ) → Begins (IsPrefix six) bytes one rest → Begins (IsPrefix six) bytes other more → (one ≡ other) × (rest ≡ more)
+NoPrefixBeginsAnother = (six : Bool) → NoneBeginsAnother (IsPrefix six)
 
 -- bytes are the spellings of one list of prefixes, if of any
 abbrev pub PrefixesHaveOneReading : Type 0
 PrefixesHaveOneReading = (six : Bool) (bytes : List ℕ) (ones others : List Subnet) → IsJoined (IsPrefix six) bytes ones → IsJoined (IsPrefix six) bytes others → ones ≡ others
+
+-- a front of AS_PATH with AS4_PATH behind it, which counts as many items as AS_PATH
+pub record IsConstructed (items others path : List Item) : Type 0 where
+  pub leading : List Item
+  pub behind : List Item
+  pub front : items ≡ leading ++ behind
+  pub whole : path ≡ leading ++ others
+  pub count : length path ≡ length items
+
+-- The path of an AS_PATH and an AS4_PATH: an AS4_PATH that counts more items is ignored, and else the path is constructed of both
+-- (RFC 6793, section 4.2.3).
+abbrev pub IsMerged : List Item → List Item → List Item → Type 0
+IsMerged items others path = ((length items < length others) × (path ≡ items)) ⊎ ((length others ≤ length items) × IsConstructed items others path)
+
+-- what AS_PATH and AS4_PATH give together is the one path that the standard constructs
+abbrev pub MergedAsTheStandardSays : Type 0
+MergedAsTheStandardSays = (items others path : List Item) → (path ≡ merged items others) ↔ IsMerged items others path

@@ -30,8 +30,8 @@ pub use fault::Attributes;
 pub use form::Form;
 pub use items::{Item, Items};
 pub use laws::{
-    attributes_have_one_reading, attributes_read_or_not, no_prefix_begins_another,
-    prefixes_have_one_reading,
+    attributes_have_one_reading, attributes_read_or_not, merged_as_the_standard_says,
+    no_prefix_begins_another, prefixes_have_one_reading,
 };
 pub use merging::merge4;
 pub use pieces::{Ases, Prefixes, Segments};

@@ -6,6 +6,7 @@ use Rattle.std.specs.Int.{w16, from_be_bytes}
 use Rattle.std.proofs.lemmas.Bool.Decides.{nat_tests}
 use Rattle.std.proofs.lemmas.List.{take_at, length-append}
 use Rattle.std.proofs.lemmas.Option.{same_Some}
+use Rattle.av_base.specs.One.{HasOne}
 use Rattle.path_model.specs.declared.change.Change.{Change}
 use Rattle.path_model.specs.declared.peer.Peer.{Peer}
 use Rattle.path_model.specs.Prefix.{Subnet}
@@ -21,8 +22,7 @@ use Rattle.bgp_attrs.proofs.PrefixLemmas.{prefix_reader}
 use Rattle.bgp_update.specs.declared.fault.UpdateFault.{UpdateFault}
 use Rattle.bgp_update.specs.declared.fault.UpdateFault.TheVariants as faults
 use Rattle.bgp_update.specs.Frames.{marker, IsFramed}
-use Rattle.bgp_update.specs.Laws.{HasOne}
-use Rattle.bgp_update.specs.Updates.{Update, IsUpdate, IsMessage, IsReading, MakesChanges, AnnouncesWithoutPath, HasPathIfAnnounced, announced_in, changes_of}
+use Rattle.bgp_update.specs.Updates.{Update, IsUpdate, IsMessage, IsMessageReading, MakesChanges, AnnouncesWithoutPath, HasPathIfAnnounced, announced_in, changes_of}
 use Rattle.bgp_update.proofs.FrameLemmas.{frame_rest, no_first, no_second, no_withdrawn, no_announced, update_made, no_message, no_frame, message_same}
 
 -- ---- no two readings
@@ -55,13 +55,13 @@ makes_same wide peer message changes others p q =
     let readings = readings_same wide message p.0 q.0 p.2 q.2 p.1 p.3 q.1 q.3 in
     p.5 ∙ (λ i. changes_of peer (updates i) (readings i)) ∙ sym q.5
 
-changes_same : (wide : Bool) (peer : Peer) (message : List ℕ) (changes others : List Change) → IsReading wide peer message (Ok changes) → IsReading wide peer message (Ok others) → changes ≡ others
+changes_same : (wide : Bool) (peer : Peer) (message : List ℕ) (changes others : List Change) → IsMessageReading wide peer message (Ok changes) → IsMessageReading wide peer message (Ok others) → changes ≡ others
 changes_same wide peer message changes others (inl p) (inl q) = p.1 ∙ sym q.1
 changes_same wide peer message changes others (inl p) (inr q) = absurd (not_both message q.0 p.0 q.1)
 changes_same wide peer message changes others (inr p) (inl q) = absurd (not_both message p.0 q.0 p.1)
 changes_same wide peer message changes others (inr p) (inr q) = makes_same wide peer message changes others p q
 
-pub reading_same : (wide : Bool) (peer : Peer) (message : List ℕ) (one other : Result (List Change) UpdateFault) → IsReading wide peer message one → IsReading wide peer message other → one ≡ other
+pub reading_same : (wide : Bool) (peer : Peer) (message : List ℕ) (one other : Result (List Change) UpdateFault) → IsMessageReading wide peer message one → IsMessageReading wide peer message other → one ≡ other
 reading_same wide peer message (Err faults.NoMemory) other p q = absurd p
 reading_same wide peer message (Err faults.Message) (Err faults.NoMemory) p q = absurd q
 reading_same wide peer message (Err faults.Message) (Err faults.Message) p q = refl
@@ -162,7 +162,7 @@ message_decided message = by_frame message (frame_from message (starts_decided m
 -- ---- the changes
 
 abbrev HasReading : Bool → Peer → List ℕ → Type 0
-HasReading wide peer message = (result : Result (List Change) UpdateFault) × IsReading wide peer message result
+HasReading wide peer message = (result : Result (List Change) UpdateFault) × IsMessageReading wide peer message result
 
 by_path : (wide : Bool) (peer : Peer) (message : List ℕ) (update : Update) → IsMessage message (Some update) → (reading : Reading) → IsRead wide Message update.attributes reading
     → (path : Option (List Segment)) → reading.path ≡ path → (announced : List Subnet) → announced_in update reading ≡ announced → HasReading wide peer message
@@ -179,10 +179,10 @@ by_message wide peer message (inl (None, is)) = (Ok [], inl (is, refl))
 by_message wide peer message (inl (Some update, is)) = by_attributes wide peer message update is (reading_decided wide Message update.attributes)
 by_message wide peer message (inr none) = (Err faults.Message, none)
 
-pub reading_some : (wide : Bool) (peer : Peer) (message : List ℕ) → (result : Result (List Change) UpdateFault) × IsReading wide peer message result
+pub reading_some : (wide : Bool) (peer : Peer) (message : List ℕ) → (result : Result (List Change) UpdateFault) × IsMessageReading wide peer message result
 reading_some wide peer message = by_message wide peer message (message_decided message)
 
-pub one_reading : (wide : Bool) (peer : Peer) (message : List ℕ) → HasOne (IsReading wide peer message)
+pub one_reading : (wide : Bool) (peer : Peer) (message : List ℕ) → HasOne (IsMessageReading wide peer message)
 one_reading wide peer message =
     let some = reading_some wide peer message in
     record { one = some.0; is = some.1; only = λ other is. reading_same wide peer message other some.0 is some.1 }

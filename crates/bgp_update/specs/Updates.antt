@@ -85,17 +85,17 @@ MakesChanges wide peer message changes =
 
 -- What the message says: its changes, or the first fault, by the order of the cases. A case has the readings that the ones before it
 -- deny, so that no two hold at once.
-abbrev pub IsReading : Bool → Peer → List ℕ → Result (List Change) UpdateFault → Type 0
-IsReading wide peer message (Err faults.Message) = (shape : Option Update) → IsMessage message shape → ⊥
-IsReading wide peer message (Err faults.Attributes) = (update : Update) × IsMessage message (Some update) × IsUnreadable wide Message update.attributes
-IsReading wide peer message (Err faults.NoPath) = (update : Update) × IsMessage message (Some update) × (reading : Reading) × IsRead wide Message update.attributes reading × AnnouncesWithoutPath update reading
-IsReading wide peer message (Err faults.NoMemory) = ⊥
-IsReading wide peer message (Ok changes) = (IsMessage message None × (changes ≡ [])) ⊎ MakesChanges wide peer message changes
+abbrev pub IsMessageReading : Bool → Peer → List ℕ → Result (List Change) UpdateFault → Type 0
+IsMessageReading wide peer message (Err faults.Message) = (shape : Option Update) → IsMessage message shape → ⊥
+IsMessageReading wide peer message (Err faults.Attributes) = (update : Update) × IsMessage message (Some update) × IsUnreadable wide Message update.attributes
+IsMessageReading wide peer message (Err faults.NoPath) = (update : Update) × IsMessage message (Some update) × (reading : Reading) × IsRead wide Message update.attributes reading × AnnouncesWithoutPath update reading
+IsMessageReading wide peer message (Err faults.NoMemory) = ⊥
+IsMessageReading wide peer message (Ok changes) = (IsMessage message None × (changes ≡ [])) ⊎ MakesChanges wide peer message changes
 
 -- the answer is what the message says, or want of memory
-abbrev pub IsOutcome : Bool → Peer → List ℕ → Result (List Change) UpdateFault → Type 0
-IsOutcome wide peer message (Err faults.Message) = IsReading wide peer message (Err faults.Message)
-IsOutcome wide peer message (Err faults.Attributes) = IsReading wide peer message (Err faults.Attributes)
-IsOutcome wide peer message (Err faults.NoPath) = IsReading wide peer message (Err faults.NoPath)
-IsOutcome wide peer message (Err faults.NoMemory) = Unit {0}
-IsOutcome wide peer message (Ok changes) = IsReading wide peer message (Ok changes)
+abbrev pub IsMessageOutcome : Bool → Peer → List ℕ → Result (List Change) UpdateFault → Type 0
+IsMessageOutcome wide peer message (Err faults.Message) = IsMessageReading wide peer message (Err faults.Message)
+IsMessageOutcome wide peer message (Err faults.Attributes) = IsMessageReading wide peer message (Err faults.Attributes)
+IsMessageOutcome wide peer message (Err faults.NoPath) = IsMessageReading wide peer message (Err faults.NoPath)
+IsMessageOutcome wide peer message (Err faults.NoMemory) = Unit {0}
+IsMessageOutcome wide peer message (Ok changes) = IsMessageReading wide peer message (Ok changes)

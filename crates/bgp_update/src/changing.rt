@@ -2,7 +2,7 @@
 ghost use Rattle.std.specs.Prelude.{◌≡◌, ◌++◌, [], IsTrue, ◌↔◌, OnOk};
 ghost use Rattle.bgp_attrs.specs.Left.{prefixes_left};
 ghost use Rattle.bgp_update.specs.Outcomes.{IsOutcomeBy, IsOutcomeOf, some_left};
-ghost use Rattle.bgp_update.specs.Updates.{removals, announcements, IsOutcome};
+ghost use Rattle.bgp_update.specs.Updates.{removals, announcements, IsMessageOutcome};
 ghost use Rattle.bgp_update.specs.Views.{update_of};
 
 use crate::fault::UpdateFault;
@@ -18,7 +18,7 @@ use std::alloc::Global;
 /// `wide` says that ASes have four bytes. The refusals are tested over the whole message in this order: 24 Message, 23 Attributes,
 /// 25 NoPath.
 pub fn read(alloc: Global, message: &[u8], wide: bool, peer: Peer) -> Result<Changes, UpdateFault>
-    ensures { IsOutcome wide peer message.now result }
+    ensures { IsMessageOutcome wide peer message.now result }
 {
     match message_parts(message) {
         Ok(Some(parts)) => changes_of(alloc, parts, wide, peer),

@@ -1,7 +1,7 @@
 //! UPDATE messages of BGP, and the changes that they make.
 //!
 //! The layer above uses one contract: [`read`] answers what a message says. Its clause names a reading (`specs/Updates.antt`:
-//! `IsReading`), which each message has exactly once (`laws`); only for want of memory the answer may be another one.
+//! `IsMessageReading`), which each message has exactly once (`laws`); only for want of memory the answer may be another one.
 //!
 //! Begin reading at `specs/Updates.antt`, and at `specs/Frames.antt` for the header of a message. `framing` takes the header off,
 //! `shaping` finds the parts of an UPDATE, `changing` reads the attributes and makes the changes.

@@ -84,8 +84,8 @@ same_shown : (t : Link) (used : List ℕ) (one two : Shown t used) → SameShown
 same_shown t used one two =
     let left = append_cancel_left used one.left two.left (sym one.received ∙ two.received) in
     let next = one_next one.left in
-    let first = next.only one.rest one.answer one.known one.answers in
-    let second = next.only two.rest two.answer two.known (subst (λ (l : List ℕ). Answers l two.rest two.answer) (sym left) two.answers) in
+    let first = next.only one.rest one.answer (one.known, one.answers) in
+    let second = next.only two.rest two.answer (two.known, subst (λ (l : List ℕ). Answers l two.rest two.answer) (sym left) two.answers) in
     record { lefts = left; rests = first.0 ∙ sym second.0; answers = first.1 ∙ sym second.1 }
 
 same_coming : (t : Link) (used : List ℕ) (a b : Coming) → IsComing t used a → IsComing t used b → a ≡ b
@@ -234,10 +234,10 @@ asked_unique t feed (Some query) one other slot last a b = queries_unique t feed
 asks_unique : (t : Link) (feed : Feed) (one other : List Telling) (slot last : Option Feed) → AsksFeed t feed one slot → AsksFeed t feed other last → (one ≡ other) × (slot ≡ last)
 asks_unique t feed one other slot last a b =
     let due = one_query feed.session in
-    let first = due.only a.query a.session a.asks in
-    let second = due.only b.query b.session b.asks in
-    let queries = second.0 ∙ sym first.0 in
-    let sessions = second.1 ∙ sym first.1 in
+    let first = due.only a.session a.query a.asks in
+    let second = due.only b.session b.query b.asks in
+    let sessions = second.0 ∙ sym first.0 in
+    let queries = second.1 ∙ sym first.1 in
     asked_unique t (record feed { session = a.session }) a.query one other slot last a.sends
     (subst (λ (q : Option Query). AsksBy t (record feed { session = a.session }) q other last) queries
     (subst (λ (s : Session). AsksBy t (record feed { session = s }) b.query other last) sessions b.sends))

@@ -17,7 +17,7 @@ use Rattle.rtr_session.specs.declared.act.Delta.{Delta}
 use Rattle.rtr_session.specs.declared.act.Ending.{Ending}
 use Rattle.rtr_session.specs.declared.act.Query.{Query}
 use Rattle.rtr_session.specs.State.{State as Session}
-use Rattle.rtr_session.specs.Client.{Client, code_sent as code_on_end}
+use Rattle.rtr_session.specs.Client.{Client, code_on_end}
 use Rattle.vap_table.specs.declared.change.TableChange.{TableChange}
 use Rattle.rib_store.specs.State.{State as Analysis}
 use Rattle.report_text.specs.declared.feed.FeedEnd.TheVariants.{Lost as LostFeed}

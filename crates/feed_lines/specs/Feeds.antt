@@ -11,7 +11,7 @@ use Rattle.rtr_pdu.specs.declared.pdu.PduFault.{PduFault}
 use Rattle.rtr_pdu.specs.declared.pdu.PduFault.TheVariants.{NoMemory}
 use Rattle.rtr_pdu.specs.Pdus.{IsFrame}
 use Rattle.rtr_pdu.specs.Spelled.{spelled}
-use Rattle.rtr_pdu.specs.Units.{IsPartial, IsRefused, code_sent as code_on_refusal}
+use Rattle.rtr_pdu.specs.Units.{IsPartial, IsRefused, code_on_refusal}
 use Rattle.rtr_session.specs.declared.act.Phase.{Phase}
 use Rattle.rtr_session.specs.declared.act.Phase.TheVariants.{Fresh, AskedWhole, AskedChanges, ReceivingWhole, ReceivingChanges, Ready, Over}
 use Rattle.rtr_session.specs.declared.act.Query.{Query}
@@ -22,7 +22,7 @@ use Rattle.rtr_session.specs.declared.act.Ending.TheVariants.{SessionChanged}
 use Rattle.rtr_session.specs.declared.act.Act.{Act}
 use Rattle.rtr_session.specs.declared.act.Act.TheVariants.{Nothing, Send, Apply, End}
 use Rattle.rtr_session.specs.State.{State as Session}
-use Rattle.rtr_session.specs.Client.{Asks, Client, code_sent as code_on_end}
+use Rattle.rtr_session.specs.Client.{Asks, Client, code_on_end}
 use Rattle.vap_table.specs.declared.change.TableChange.{TableChange}
 use Rattle.vap_table.specs.declared.change.TableChange.TheVariants.{Replace, Patch}
 use Rattle.rib_store.specs.State.{State as Analysis}

@@ -1,25 +1,16 @@
 -- The first entry is read exactly where the bytes begin with one.
-use Rattle.std.proofs.Common.{◌≡◌, ℕ, ◌≤◌, Bool, true, false, cond, List, ◌++◌, length, take, drop, Some, None, refl, sym, ap, subst, ◌∙◌, append_assoc, arith}
+use Rattle.std.proofs.Common.{◌≡◌, ℕ, List, ◌++◌, length, take, drop, Some, refl, sym, ap, subst, ◌∙◌, append_assoc, arith}
 use Rattle.std.specs.Prelude.{nat_lt, option_and_then, option_map}
 use Rattle.std.specs.Int.{w16, from_be_bytes}
-use Rattle.std.proofs.lemmas.List.{take-append-drop, take_at, drop_at, length-take, length-drop, length-append}
-use Rattle.std.proofs.lemmas.Bool.Decides.{nat_tests}
+use Rattle.std.proofs.lemmas.List.{take-append-drop, take_at, length-take, length-drop, length-append}
 use Rattle.held_bytes.specs.Units.{Begins}
 use Rattle.bgp_attrs.specs.Joined.{IsReader}
 use Rattle.bgp_attrs.proofs.JoinedLemmas.{and_then_some, option_map_some}
 use Rattle.bgp_attrs.specs.Blocks.{block_at}
 use Rattle.bgp_attrs.proofs.BlockLemmas.{block_reader}
-use Rattle.mrt_reader.specs.Fields.{cut}
+use Rattle.mrt_reader.specs.Readers.{cut}
 use Rattle.mrt_reader.specs.Ribs.{Entry, IsEntry, entry_at}
-
-cut_some : (b : Bool) (n : ℕ) (bytes : List ℕ) (x : List ℕ × List ℕ) → nat_lt (length bytes) n ≡ b → cond b None (Some (take n bytes, drop n bytes)) ≡ Some x → (n ≤ length bytes) × ((take n bytes, drop n bytes) ≡ x)
-cut_some true n bytes x t e = absurd cc
-cut_some false n bytes x t e = (grind (arith, nat_tests), cc)
-
-cut_at : (n : ℕ) (front rest : List ℕ) → length front ≡ n → cut n (front ++ rest) ≡ Some (front, rest)
-cut_at n front rest e =
-    let test : nat_lt (length (front ++ rest)) n ≡ false = (let long : n ≤ length (front ++ rest) = omega (arith, length-append front rest) in grind (arith, nat_tests)) in
-    rw (test, take_at front rest n e, drop_at front rest n e) refl
+use Rattle.mrt_reader.proofs.FieldLemmas.{cut_at, cut_some}
 
 abbrev entry_with : List ℕ → List ℕ × List ℕ → Entry × List ℕ
 entry_with head y = (record { index = from_be_bytes w16 (take 2 head); attributes = y.0 }, y.1)

@@ -5,8 +5,8 @@ use Rattle.std.specs.declared.option.Option.{Option}
 use Rattle.std.proofs.lemmas.Option.{same_Some}
 use Rattle.std.proofs.lemmas.List.{take-append-drop, length-take}
 use Rattle.std.proofs.lemmas.Bool.Decides.{nat_tests}
+use Rattle.av_base.specs.One.{HasOne}
 use Rattle.held_bytes.specs.Units.{Begins}
-use Rattle.bgp_update.specs.Laws.{HasOne}
 use Rattle.mrt_reader.specs.Coming.{Coming, Whole, TooLong, CutShort, End, IsComing, IsTooLong, IsPartial}
 use Rattle.mrt_reader.specs.Records.{Recorded, IsRecord, Head, head_at, limit}
 use Rattle.mrt_reader.proofs.RecordLemmas.{head_front, head_long, record_head, record_made, partial_short, partial_cut, one_record}

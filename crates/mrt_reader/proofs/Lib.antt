@@ -1,10 +1,15 @@
+pub mod DumpLemmas
 pub mod EntryLemmas
+pub mod FieldLemmas
+pub mod FormLemmas
 pub mod LawLemmas
 pub mod MemoryLemmas
 pub mod PeerLemmas
 pub mod RecordLemmas
 pub mod RouteLemmas
 pub mod SameLemmas
+pub mod SessionLemmas
 pub mod ShapeLemmas
 pub mod SomeLemmas
+pub mod TableLemmas
 pub mod UnitLemmas

@@ -1,9 +1,9 @@
 -- Whole records at the front of a stream.
-use Rattle.std.proofs.Common.{◌≡◌, ℕ, ◌+◌, ◌<◌, ◌≤◌, Bool, true, false, cond, List, ◌++◌, length, take, drop, Some, None, refl, sym, ap, subst, ◌∙◌, append_assoc, arith}
+use Rattle.std.proofs.Common.{◌≡◌, ℕ, ◌+◌, ◌-◌, ◌<◌, ◌≤◌, Bool, true, false, cond, List, ◌++◌, length, take, drop, Some, None, refl, sym, ap, subst, ◌∙◌, append_assoc, arith}
 use Rattle.std.specs.Prelude.{nat_lt}
 use Rattle.std.specs.Int.{w16, w32, from_be_bytes}
 use Rattle.std.proofs.lemmas.Option.{same_Some}
-use Rattle.std.proofs.lemmas.List.{take-append-drop, take_at, drop_at, length-take, length-drop, length-append, drop-drop, take-append-le, drop-append-le}
+use Rattle.std.proofs.lemmas.List.{take-append-drop, take_at, drop_at, length-take, length-drop, length-append, drop-drop, drop-take, take-append-le, drop-append-le}
 use Rattle.std.proofs.lemmas.Bool.Decides.{nat_tests}
 use Rattle.held_bytes.specs.Units.{Begins}
 use Rattle.mrt_reader.specs.Records.{Head, head_at, limit, Recorded, IsRecord}
@@ -86,18 +86,23 @@ partial_cut bytes head e allowed cut = record {
   short = omega arith;
 }
 
--- the record at a place in what is kept
-pub next_record : (items : List ℕ) (at : ℕ) (old held body : List ℕ) (head : Head) → drop at items ≡ old → held ≡ drop at items → head_at held ≡ Some head → head.size ≤ limit → 12 + head.size ≤ length held
-    → body ≡ take head.size (drop (at + 12) items) → Begins IsRecord old (record { stamp = head.stamp; kind = head.kind; subkind = head.subkind; body = body }) (drop (at + 12 + head.size) items)
-next_record items at old held body head old-is held-is e allowed long body-is =
-    let same : held ≡ old = held-is ∙ old-is in
-    let made = record_made held head e allowed long in
-    let behind : drop 12 held ≡ drop (at + 12) items = ap (drop 12) held-is ∙ drop-drop 12 at items in
-    let body-same : take head.size (drop 12 held) ≡ body = ap (take head.size) behind ∙ sym body-is in
-    let rest-same : drop head.size (drop 12 held) ≡ drop (at + 12 + head.size) items = ap (drop head.size) behind ∙ drop-drop head.size (at + 12) items in
-    let a = subst (λ (b : List ℕ). Begins IsRecord held (record { stamp = head.stamp; kind = head.kind; subkind = head.subkind; body = b }) (drop head.size (drop 12 held))) body-same made in
-    let b = subst (λ (r : List ℕ). Begins IsRecord held (record { stamp = head.stamp; kind = head.kind; subkind = head.subkind; body = body }) r) rest-same a in
-    subst (λ (bytes : List ℕ). Begins IsRecord bytes (record { stamp = head.stamp; kind = head.kind; subkind = head.subkind; body = body }) (drop (at + 12 + head.size) items)) same b
+-- the body of a record that was taken off ends what was taken
+pub taken_body : (taken old : List ℕ) (size : ℕ) → 12 + size ≤ length old → drop (length (taken ++ take (12 + size) old) - size) (taken ++ take (12 + size) old) ≡ take size (drop 12 old)
+taken_body taken old size long =
+    let front = take (12 + size) old in
+    let whole : length front ≡ 12 + size = omega (arith, length-take (12 + size) old) in
+    let place : length (taken ++ front) - size ≡ length taken + 12 = omega (arith, length-append taken front) in
+    ap (λ (n : ℕ). drop n (taken ++ front)) place ∙ sym (drop-drop 12 (length taken) (taken ++ front)) ∙ ap (drop 12) (drop_at taken front (length taken) refl) ∙ drop-take 12 size old
+
+-- the record that was taken off
+pub next_record : (taken old body : List ℕ) (head : Head) → head_at old ≡ Some head → head.size ≤ limit → 12 + head.size ≤ length old
+    → body ≡ drop (length (taken ++ take (12 + head.size) old) - head.size) (taken ++ take (12 + head.size) old)
+    → Begins IsRecord old (record { stamp = head.stamp; kind = head.kind; subkind = head.subkind; body = body }) (drop (12 + head.size) old)
+next_record taken old body head e allowed long body-is =
+    let made = record_made old head e allowed long in
+    let body-same : take head.size (drop 12 old) ≡ body = sym (taken_body taken old head.size long) ∙ sym body-is in
+    let a = subst (λ (b : List ℕ). Begins IsRecord old (record { stamp = head.stamp; kind = head.kind; subkind = head.subkind; body = b }) (drop head.size (drop 12 old))) body-same made in
+    subst (λ (r : List ℕ). Begins IsRecord old (record { stamp = head.stamp; kind = head.kind; subkind = head.subkind; body = body }) r) (drop-drop head.size 12 old) a
 
 -- ---- the records of a stream are determined by it
 

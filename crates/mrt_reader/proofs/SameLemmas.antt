@@ -24,15 +24,20 @@ use Rattle.mrt_reader.specs.declared.fault.BodyFault.{BodyFault}
 use Rattle.mrt_reader.specs.declared.fault.BodyFault.TheVariants as faults
 use Rattle.mrt_reader.specs.declared.layout.Layout.{Layout}
 use Rattle.mrt_reader.specs.declared.layout.Layout.TheVariants as layouts
-use Rattle.mrt_reader.specs.Bodies.{TableSays, HasEntries, RibSays, RouteSays, raised, MessageSays, StateSays, LayoutSays, IsReading}
-use Rattle.mrt_reader.specs.Dumps.{Dumped, dump_at}
+use Rattle.mrt_reader.specs.Bodies.{TableSays, HasEntries, RibSays, raised, MessageSays, StateSays, LayoutSays, IsReading}
+use Rattle.mrt_reader.specs.Dumps.{Dumped, IsTableDump}
 use Rattle.mrt_reader.specs.Layouts.{layout_of}
-use Rattle.mrt_reader.specs.Peers.{table_at}
+use Rattle.mrt_reader.specs.Peers.{IsPeerTable}
+use Rattle.mrt_reader.specs.Readers.{dump_at, message_at, state_at, table_at}
 use Rattle.mrt_reader.specs.Records.{Recorded}
 use Rattle.mrt_reader.specs.Ribs.{Entry, Rib, IsCounted, IsRib}
 use Rattle.mrt_reader.specs.Routes.{AnyOf, LacksPath, GivesPath, IsWithin, IsBeyond, EntryReadable, EntryUnreadable, EntryLacksPath, IsRoute, AreRoutes, EntriesSay, DumpSays}
-use Rattle.mrt_reader.specs.Sessions.{message_at, state_at}
+use Rattle.mrt_reader.specs.Sessions.{IsRecordedMessage, IsStateChange}
+use Rattle.mrt_reader.proofs.DumpLemmas.{dump_reads}
 use Rattle.mrt_reader.proofs.EntryLemmas.{entry_reader}
+use Rattle.mrt_reader.proofs.FormLemmas.{form_same}
+use Rattle.mrt_reader.proofs.SessionLemmas.{message_reads, state_reads}
+use Rattle.mrt_reader.proofs.TableLemmas.{table_reads}
 use Rattle.mrt_reader.proofs.ShapeLemmas.{read_prefix, counted_of, counted_long}
 
 -- ---- attributes
@@ -224,30 +229,22 @@ dumps_say_same dumped one other (inr (inr p)) (inl q) = absurd (gives_lacks fals
 dumps_say_same dumped one other (inr (inr p)) (inr (inl q)) = absurd (q.0 p.0.0 p.0.1)
 dumps_say_same dumped one other (inr (inr p)) (inr (inr q)) = p.1 ∙ sym q.1
 
-route_says_same : (dumped : Option Dumped) (one other : Result Body BodyFault) → RouteSays dumped one → RouteSays dumped other → one ≡ other
-route_says_same None one other p q = p ∙ sym q
-route_says_same (Some dumped) one other p q = dumps_say_same dumped one other (dump_case dumped one p) (dump_case dumped other q)
+dump_says_same : (dumped : Dumped) (one other : Result Body BodyFault) → DumpSays dumped one → DumpSays dumped other → one ≡ other
+dump_says_same dumped one other p q = dumps_say_same dumped one other (dump_case dumped one p) (dump_case dumped other q)
 
 -- ---- all layouts
 
-table_says_same : (table : Option (List Peer)) (one other : Result Body BodyFault) → TableSays table one → TableSays table other → one ≡ other
-table_says_same None one other p q = p ∙ sym q
-table_says_same (Some peers) one other p q = p ∙ sym q
-
-message_says_same : (as4 : Bool) (message : Option (Peer × List ℕ)) (one other : Result Body BodyFault) → MessageSays as4 message one → MessageSays as4 message other → one ≡ other
-message_says_same as4 None one other p q = p ∙ sym q
-message_says_same as4 (Some (peer, message)) one other p q = p.2 ∙ ap raised (messages.reading_same as4 peer message p.0 q.0 p.1 q.1) ∙ sym q.2
-
-state_says_same : (state : Option (Peer × ℕ)) (one other : Result Body BodyFault) → StateSays state one → StateSays state other → one ≡ other
-state_says_same None one other p q = p ∙ sym q
-state_says_same (Some (peer, state)) one other p q = p ∙ sym q
+message_says_same : (as4 : Bool) (it : Peer × List ℕ) (one other : Result Body BodyFault) → MessageSays as4 it one → MessageSays as4 it other → one ≡ other
+message_says_same as4 (peer, message) one other p q = p.2 ∙ ap raised (messages.reading_same as4 peer message p.0 q.0 p.1 q.1) ∙ sym q.2
 
 layout_says_same : (layout : Layout) (peers : Option (List Peer)) (body : List ℕ) (one other : Result Body BodyFault) → LayoutSays layout peers body one → LayoutSays layout peers body other → one ≡ other
-layout_says_same layouts.PeerIndex peers body one other p q = table_says_same (table_at body) one other p q
+layout_says_same layouts.PeerIndex peers body one other p q = form_same (IsPeerTable body) TableSays (table_at body) one other (table_reads body) (λ peers a b. a ∙ sym b) p q
 layout_says_same (layouts.Rib six) peers body one other p q = ribs_say_same six peers body one other (rib_case six peers body one p) (rib_case six peers body other q)
-layout_says_same (layouts.Dump six) peers body one other p q = route_says_same (dump_at six body) one other p q
-layout_says_same (layouts.Message timed as4) peers body one other p q = message_says_same as4 (message_at timed as4 body) one other p q
-layout_says_same (layouts.State timed as4) peers body one other p q = state_says_same (state_at timed as4 body) one other p q
+layout_says_same (layouts.Dump six) peers body one other p q = form_same (IsTableDump six body) DumpSays (dump_at six body) one other (dump_reads six body) (λ dumped a b. dump_says_same dumped one other a b) p q
+layout_says_same (layouts.Message timed as4) peers body one other p q =
+    form_same (λ (it : Peer × List ℕ). IsRecordedMessage timed as4 body it.0 it.1) (MessageSays as4) (message_at timed as4 body) one other (message_reads timed as4 body) (λ it a b. message_says_same as4 it one other a b) p q
+layout_says_same (layouts.State timed as4) peers body one other p q =
+    form_same (λ (it : Peer × ℕ). IsStateChange timed as4 body it.0 it.1) StateSays (state_at timed as4 body) one other (state_reads timed as4 body) (λ it a b. a ∙ sym b) p q
 layout_says_same layouts.Other peers body one other p q = p ∙ sym q
 
 pub reading_same : (it : Recorded) (peers : Option (List Peer)) (one other : Result Body BodyFault) → IsReading it peers one → IsReading it peers other → one ≡ other

@@ -5,7 +5,7 @@ use Rattle.std.specs.Int.{w16, from_be_bytes}
 use Rattle.std.specs.List.{AllByRecursion}
 use Rattle.std.proofs.lemmas.Bool.Decides.{nat_tests}
 use Rattle.std.specs.declared.option.Option.{Option}
-use Rattle.std.specs.declared.result.Result.{Result}
+use Rattle.av_base.specs.One.{HasOne}
 use Rattle.path_model.specs.declared.change.Change.{Change}
 use Rattle.path_model.specs.declared.change.Change.TheVariants.{Announce}
 use Rattle.path_model.specs.declared.peer.Peer.{Peer}
@@ -19,24 +19,26 @@ use Rattle.bgp_attrs.specs.Reading.{Reading, IsRead}
 use Rattle.bgp_attrs.specs.Segments.{Segment}
 use Rattle.bgp_attrs.proofs.DecideLemmas.{SomeOrNone, joined_decided, reading_decided}
 use Rattle.bgp_attrs.proofs.JoinedLemmas.{joined_same}
-use Rattle.bgp_update.specs.Laws.{HasOne}
 use Rattle.bgp_update.specs.Updates.{key_of}
 use Rattle.bgp_update.proofs.MessageLemmas as messages
-use Rattle.mrt_reader.specs.declared.body.Body.{Body}
 use Rattle.mrt_reader.specs.declared.body.Body.TheVariants as bodies
-use Rattle.mrt_reader.specs.declared.fault.BodyFault.{BodyFault}
 use Rattle.mrt_reader.specs.declared.fault.BodyFault.TheVariants as faults
 use Rattle.mrt_reader.specs.declared.layout.Layout.{Layout}
 use Rattle.mrt_reader.specs.declared.layout.Layout.TheVariants as layouts
-use Rattle.mrt_reader.specs.Bodies.{TableSays, RibSays, RouteSays, raised, MessageSays, StateSays, changes_at, LayoutSays, IsReading}
-use Rattle.mrt_reader.specs.Dumps.{Dumped, dump_at}
+use Rattle.mrt_reader.specs.Bodies.{TableSays, RibSays, raised, MessageSays, StateSays, changes_at, LayoutSays, IsReading}
+use Rattle.mrt_reader.specs.Dumps.{Dumped, IsTableDump}
 use Rattle.mrt_reader.specs.Layouts.{layout_of}
-use Rattle.mrt_reader.specs.Peers.{table_at}
+use Rattle.mrt_reader.specs.Peers.{IsPeerTable}
+use Rattle.mrt_reader.specs.Readers.{dump_at, message_at, state_at, table_at}
 use Rattle.mrt_reader.specs.Records.{Recorded}
 use Rattle.mrt_reader.specs.Ribs.{Entry, IsEntry, IsCounted, IsRib}
 use Rattle.mrt_reader.specs.Routes.{AnyOf, LacksPath, GivesPath, IsWithin, IsBeyond, EntryReadable, EntryUnreadable, EntryLacksPath, AreRoutes, EntriesSay, DumpSays}
-use Rattle.mrt_reader.specs.Sessions.{message_at, state_at}
+use Rattle.mrt_reader.specs.Sessions.{IsRecordedMessage, IsStateChange}
+use Rattle.mrt_reader.proofs.DumpLemmas.{dump_reads}
 use Rattle.mrt_reader.proofs.EntryLemmas.{entry_reader}
+use Rattle.mrt_reader.proofs.FormLemmas.{Says, form_some}
+use Rattle.mrt_reader.proofs.SessionLemmas.{message_reads, state_reads}
+use Rattle.mrt_reader.proofs.TableLemmas.{table_reads}
 use Rattle.mrt_reader.proofs.RouteLemmas.{rib_from}
 use Rattle.mrt_reader.proofs.SameLemmas.{reading_same}
 use Rattle.mrt_reader.proofs.ShapeLemmas.{counted_of, counted_long, rib_long, rib_no_prefix, rib_no_entries, rib_made}
@@ -125,9 +127,6 @@ routes_some peers prefix (entry ∷ entries) within give =
     let change = Announce (key_of peer.0 prefix) give.0.0 in
     (change ∷ others.0, (change, others.0, refl, record { peer = peer.0; trail = give.0.0; is_peer = peer.1; gives = give.0.1; is_change = refl }, others.1))
 
-abbrev Says : (Result Body BodyFault → Type 0) → Type 0
-Says P = (reading : Result Body BodyFault) × P reading
-
 entries_by : (peers : List Peer) (prefix : Subnet) (entries : List Entry) → AllByRecursion (IsWithin peers) entries → AllByRecursion EntryReadable entries ⊎ AnyOf EntryUnreadable entries → Says (EntriesSay peers prefix entries)
 entries_by peers prefix entries within (inr any) = (Err faults.Attributes, (within, any))
 entries_by peers prefix entries within (inl read) = with_paths (paths_or_none entries read)
@@ -157,28 +156,20 @@ dump_by dumped (inl x) = with_path (path_or_none false dumped.attributes x.0 x.1
     with_path (inl give) = (Ok (bodies.Routes (Announce (key_of dumped.peer dumped.prefix) give.0 ∷ [])), (give.0, give.1, refl))
     with_path (inr lacks) = (Err faults.NoPath, lacks)
 
-route_some : (dumped : Option Dumped) → Says (RouteSays dumped)
-route_some None = (Err faults.Body, refl)
-route_some (Some dumped) = dump_by dumped (reading_decided false Table dumped.attributes)
+message_some : (as4 : Bool) (it : Peer × List ℕ) → Says (MessageSays as4 it)
+message_some as4 (peer, message) = let inner = messages.reading_some as4 peer message in (raised inner.0, (inner.0, inner.1, refl))
 
-table_some : (table : Option (List Peer)) → Says (TableSays table)
-table_some None = (Err faults.Body, refl)
-table_some (Some peers) = (Ok (bodies.Peers peers), refl)
-
-message_some : (as4 : Bool) (message : Option (Peer × List ℕ)) → Says (MessageSays as4 message)
-message_some as4 None = (Err faults.Body, refl)
-message_some as4 (Some (peer, message)) = let inner = messages.reading_some as4 peer message in (raised inner.0, (inner.0, inner.1, refl))
-
-state_some : (state : Option (Peer × ℕ)) → Says (StateSays state)
-state_some None = (Err faults.Body, refl)
-state_some (Some (peer, state)) = (Ok (bodies.Routes (changes_at peer state)), refl)
+state_some : (it : Peer × ℕ) → Says (StateSays it)
+state_some (peer, state) = (Ok (bodies.Routes (changes_at peer state)), refl)
 
 layout_some : (layout : Layout) (peers : Option (List Peer)) (body : List ℕ) → Says (LayoutSays layout peers body)
-layout_some layouts.PeerIndex peers body = table_some (table_at body)
+layout_some layouts.PeerIndex peers body = form_some (IsPeerTable body) TableSays (table_at body) (table_reads body) (λ table. (Ok (bodies.Peers table), refl))
 layout_some (layouts.Rib six) peers body = rib_some six peers body (rib_decided six body)
-layout_some (layouts.Dump six) peers body = route_some (dump_at six body)
-layout_some (layouts.Message timed as4) peers body = message_some as4 (message_at timed as4 body)
-layout_some (layouts.State timed as4) peers body = state_some (state_at timed as4 body)
+layout_some (layouts.Dump six) peers body = form_some (IsTableDump six body) DumpSays (dump_at six body) (dump_reads six body) (λ dumped. dump_by dumped (reading_decided false Table dumped.attributes))
+layout_some (layouts.Message timed as4) peers body =
+    form_some (λ (it : Peer × List ℕ). IsRecordedMessage timed as4 body it.0 it.1) (MessageSays as4) (message_at timed as4 body) (message_reads timed as4 body) (message_some as4)
+layout_some (layouts.State timed as4) peers body =
+    form_some (λ (it : Peer × ℕ). IsStateChange timed as4 body it.0 it.1) StateSays (state_at timed as4 body) (state_reads timed as4 body) state_some
 layout_some layouts.Other peers body = (Ok bodies.Passed, refl)
 
 pub one_reading : (it : Recorded) (peers : Option (List Peer)) → HasOne (IsReading it peers)

@@ -1,5 +1,5 @@
 -- What the body of a record says, by the peer table before it. Begin reading at `IsReading`, at the end.
-use Rattle.std.specs.Prelude.{◌≡◌, ℕ, ◌==◌, Bool, if◌then◌else◌, List, [], ◌∷◌, Some, None, Ok, Err}
+use Rattle.std.specs.Prelude.{◌≡◌, ℕ, ◌==◌, ◌⊎◌, Bool, if◌then◌else◌, List, [], ◌∷◌, Some, None, Ok, Err}
 use Rattle.std.specs.declared.option.Option.{Option}
 use Rattle.std.specs.declared.result.Result.{Result}
 use Rattle.path_model.specs.declared.change.Change.{Change}
@@ -14,18 +14,21 @@ use Rattle.mrt_reader.specs.declared.fault.BodyFault.{BodyFault}
 use Rattle.mrt_reader.specs.declared.fault.BodyFault.TheVariants as faults
 use Rattle.mrt_reader.specs.declared.layout.Layout.{Layout}
 use Rattle.mrt_reader.specs.declared.layout.Layout.TheVariants as layouts
-use Rattle.mrt_reader.specs.Dumps.{Dumped, dump_at}
+use Rattle.mrt_reader.specs.Dumps.{IsTableDump}
 use Rattle.mrt_reader.specs.Layouts.{layout_of}
-use Rattle.mrt_reader.specs.Peers.{table_at}
+use Rattle.mrt_reader.specs.Peers.{IsPeerTable}
 use Rattle.mrt_reader.specs.Records.{Recorded}
 use Rattle.mrt_reader.specs.Ribs.{Rib, IsRib}
 use Rattle.mrt_reader.specs.Routes.{EntriesSay, DumpSays}
-use Rattle.mrt_reader.specs.Sessions.{message_at, state_at}
+use Rattle.mrt_reader.specs.Sessions.{IsRecordedMessage, IsStateChange}
 
--- a peer table: the peers, or the body is out of form
-abbrev pub TableSays : Option (List Peer) → Result Body BodyFault → Type 0
-TableSays None reading = reading ≡ Err faults.Body
-TableSays (Some peers) reading = reading ≡ Ok (bodies.Peers peers)
+-- the body has no such form, and that is the fault; or it has, and the reading is what its value says
+abbrev pub ByForm : {A : Type 0} → (A → Type 0) → (A → Result Body BodyFault → Type 0) → Result Body BodyFault → Type 0
+ByForm {A} HasForm Says reading = (((value : A) → HasForm value → ⊥) × (reading ≡ Err faults.Body)) ⊎ ((value : A) × HasForm value × Says value reading)
+
+-- a peer table says its peers
+abbrev pub TableSays : List Peer → Result Body BodyFault → Type 0
+TableSays peers reading = reading ≡ Ok (bodies.Peers peers)
 
 -- a RIB record with a table before it: what its entries say
 abbrev pub HasEntries : Bool → Option (List Peer) → List ℕ → Result Body BodyFault → Type 0
@@ -44,11 +47,6 @@ RibSays six peers body (Ok (bodies.Routes changes)) = HasEntries six peers body 
 RibSays six peers body (Ok (bodies.Peers table)) = ⊥
 RibSays six peers body (Ok bodies.Passed) = ⊥
 
--- a TABLE_DUMP record: the body is out of form, or what its route says
-abbrev pub RouteSays : Option Dumped → Result Body BodyFault → Type 0
-RouteSays None reading = reading ≡ Err faults.Body
-RouteSays (Some dumped) reading = DumpSays dumped reading
-
 -- a message's fault as a record's
 abbrev pub fault_of : UpdateFault → BodyFault
 fault_of update_faults.Message = faults.Message
@@ -61,27 +59,25 @@ abbrev pub raised : Result (List Change) UpdateFault → Result Body BodyFault
 raised (Ok changes) = Ok (bodies.Routes changes)
 raised (Err fault) = Err (fault_of fault)
 
--- a recorded message: the fields before it are cut, or what the message says
-abbrev pub MessageSays : Bool → Option (Peer × List ℕ) → Result Body BodyFault → Type 0
-MessageSays as4 None reading = reading ≡ Err faults.Body
-MessageSays as4 (Some (peer, message)) reading = (inner : Result (List Change) UpdateFault) × updates.IsReading as4 peer message inner × (reading ≡ raised inner)
+-- a recorded message with a peer: what the message says
+abbrev pub MessageSays : Bool → Peer × List ℕ → Result Body BodyFault → Type 0
+MessageSays as4 (peer, message) reading = (inner : Result (List Change) UpdateFault) × updates.IsMessageReading as4 peer message inner × (reading ≡ raised inner)
 
 -- the session of the peer is up (6 Established), or the peer's routes are gone
 abbrev pub changes_at : Peer → ℕ → List Change
 changes_at peer state = if state == 6 then [] else RemovePeer peer ∷ []
 
--- a state change: the body is out of form, or what the new state does
-abbrev pub StateSays : Option (Peer × ℕ) → Result Body BodyFault → Type 0
-StateSays None reading = reading ≡ Err faults.Body
-StateSays (Some (peer, state)) reading = reading ≡ Ok (bodies.Routes (changes_at peer state))
+-- a state change of a peer: what the new state does
+abbrev pub StateSays : Peer × ℕ → Result Body BodyFault → Type 0
+StateSays (peer, state) reading = reading ≡ Ok (bodies.Routes (changes_at peer state))
 
 -- the body of each layout; the bodies of all other types and subtypes are passed over unread
 abbrev pub LayoutSays : Layout → Option (List Peer) → List ℕ → Result Body BodyFault → Type 0
-LayoutSays layouts.PeerIndex peers body reading = TableSays (table_at body) reading
+LayoutSays layouts.PeerIndex peers body reading = ByForm (IsPeerTable body) TableSays reading
 LayoutSays (layouts.Rib six) peers body reading = RibSays six peers body reading
-LayoutSays (layouts.Dump six) peers body reading = RouteSays (dump_at six body) reading
-LayoutSays (layouts.Message timed as4) peers body reading = MessageSays as4 (message_at timed as4 body) reading
-LayoutSays (layouts.State timed as4) peers body reading = StateSays (state_at timed as4 body) reading
+LayoutSays (layouts.Dump six) peers body reading = ByForm (IsTableDump six body) DumpSays reading
+LayoutSays (layouts.Message timed as4) peers body reading = ByForm (λ (it : Peer × List ℕ). IsRecordedMessage timed as4 body it.0 it.1) (MessageSays as4) reading
+LayoutSays (layouts.State timed as4) peers body reading = ByForm (λ (it : Peer × ℕ). IsStateChange timed as4 body it.0 it.1) StateSays reading
 LayoutSays layouts.Other peers body reading = reading ≡ Ok bodies.Passed
 
 -- What the record says, or the first fault in the order Body, NoPeerTable, PeerIndex, Message, Attributes, NoPath, each over the

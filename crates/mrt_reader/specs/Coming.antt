@@ -1,8 +1,8 @@
 -- What comes next in a stream.
-use Rattle.std.specs.Prelude.{◌≡◌, ◌≢◌, ℕ, ◌+◌, ◌<◌, ◌≤◌, List, [], ◌∷◌, length, None, Some, Ok, Err, IfSome}
+use Rattle.std.specs.Prelude.{◌≡◌, ◌≢◌, ℕ, ◌+◌, ◌<◌, ◌≤◌, List, [], length, None, Some, Ok, Err, IfSome}
 use Rattle.std.specs.declared.option.Option.{Option}
 use Rattle.std.specs.declared.result.Result.{Result}
-use Rattle.held_bytes.specs.Units.{Begins}
+use Rattle.held_bytes.specs.Units.{Begins, BeginsWithNone}
 use Rattle.mrt_reader.specs.declared.fault.FrameFault.{FrameFault}
 use Rattle.mrt_reader.specs.declared.fault.FrameFault.TheVariants as faults
 use Rattle.mrt_reader.specs.declared.framer.Record.{Record}
@@ -16,18 +16,9 @@ recorded r = record { stamp = r.stamp; kind = r.kind; subkind = r.subkind; body 
 abbrev pub IsTooLong : List ℕ → Type 0
 IsTooLong bytes = (head : Head) × (head_at bytes ≡ Some head) × (limit < head.size)
 
--- no whole record is in front
-abbrev pub BeginsWithNone : List ℕ → Type 0
-BeginsWithNone bytes = (it : Recorded) (rest : List ℕ) → Begins IsRecord bytes it rest → ⊥
-
--- a stream is these records, one behind another, and a rest that begins with none
-abbrev pub AreUnits : List ℕ → List Recorded → List ℕ → Type 0
-AreUnits stream [] rest = (stream ≡ rest) × BeginsWithNone rest
-AreUnits stream (it ∷ more) rest = (left : List ℕ) × Begins IsRecord stream it left × AreUnits left more rest
-
 -- No whole record, and no length over the limit. So the bytes are fewer than the longest record has.
 pub record IsPartial (bytes : List ℕ) : Type 0 where
-  pub no_record : BeginsWithNone bytes
+  pub no_record : BeginsWithNone IsRecord bytes
   pub allowed : IfSome (head_at bytes) (λ head. head.size ≤ limit)
   pub short : length bytes < 12 + limit
 

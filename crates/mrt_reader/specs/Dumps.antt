@@ -1,10 +1,10 @@
 -- The body of a TABLE_DUMP record: one route (RFC 6396, section 4.2).
-use Rattle.std.specs.Prelude.{ℕ, Bool, false, List, Some}
-use Rattle.std.specs.declared.option.Option.{Option}
+use Rattle.std.specs.Prelude.{◌≡◌, ℕ, Bool, false, List, ◌∷◌, ◌++◌, length, Some}
+use Rattle.path_model.specs.declared.addr.Addr.{Addr}
 use Rattle.path_model.specs.declared.peer.Peer.{Peer}
 use Rattle.path_model.specs.Prefix.{Subnet, prefix_of}
-use Rattle.bgp_attrs.specs.Blocks.{block_at}
-use Rattle.mrt_reader.specs.Fields.{◌>>=◌, cut, byte_at, asn_at, addr_at, ends}
+use Rattle.bgp_attrs.specs.Blocks.{IsBlock}
+use Rattle.mrt_reader.specs.Fields.{SpellsAsn, SpellsAddr}
 
 -- a route as it is recorded
 pub record Dumped : Type 0 where
@@ -12,27 +12,22 @@ pub record Dumped : Type 0 where
   pub peer : Peer
   pub attributes : List ℕ
 
--- a block behind its length, and nothing more
-unfoldable pub last_block : List ℕ → Option (List ℕ)
-last_block bytes = do
-  block ← block_at bytes
-  ends block.0 block.1
-
--- behind the prefix: status and time, the peer's address and AS, the attributes behind their length
-unfoldable pub route_at : Bool → List ℕ → Option (Peer × List ℕ)
-route_at six bytes = do
-  time ← cut 5 bytes
-  addr ← addr_at six time.1
-  asn ← asn_at false addr.1
-  attributes ← last_block asn.1
-  Some (record { addr = addr.0; asn = asn.0 }, attributes)
-
--- view and sequence, the prefix's address and length, the route
-unfoldable pub dump_at : Bool → List ℕ → Option Dumped
-dump_at six body = do
-  sequence ← cut 4 body
-  addr ← addr_at six sequence.1
-  len ← byte_at addr.1
-  prefix ← prefix_of addr.0 len.0
-  route ← route_at six len.1
-  Some (record { prefix = prefix; peer = route.0; attributes = route.1 })
+-- The body: two bytes of view and two of sequence, the prefix's address and its length, a byte of status and four of time, the peer's
+-- address and its AS of two bytes, and the attributes behind their length.
+pub record IsTableDump (six : Bool) (body : List ℕ) (dumped : Dumped) : Type 0 where
+  pub sequence : List ℕ
+  pub addr : List ℕ
+  pub len : ℕ
+  pub time : List ℕ
+  pub peer_addr : List ℕ
+  pub peer_asn : List ℕ
+  pub block : List ℕ
+  pub four : length sequence ≡ 4
+  pub prefix_addr : Addr
+  pub is_addr : SpellsAddr six addr prefix_addr
+  pub is_prefix : prefix_of prefix_addr len ≡ Some dumped.prefix
+  pub five : length time ≡ 5
+  pub is_peer_addr : SpellsAddr six peer_addr dumped.peer.addr
+  pub is_peer_asn : SpellsAsn false peer_asn dumped.peer.asn
+  pub is_block : IsBlock block dumped.attributes
+  pub whole : body ≡ sequence ++ (addr ++ (len ∷ (time ++ (peer_addr ++ (peer_asn ++ block)))))

@@ -2,6 +2,7 @@
 use Rattle.std.specs.Prelude.{◌≡◌, Some, None, Ok, Err}
 use Rattle.std.specs.declared.option.Option.{Option}
 use Rattle.std.specs.declared.result.Result.{Result}
+use Rattle.mrt_reader.specs.declared.body.Body.{Body}
 use Rattle.mrt_reader.specs.declared.fault.BodyFault.{BodyFault}
 use Rattle.mrt_reader.specs.declared.fault.BodyFault.TheVariants as faults
 
@@ -14,3 +15,8 @@ Gives view (Err faults.Message) read = ⊥
 Gives view (Err faults.Attributes) read = ⊥
 Gives view (Err faults.NoPath) read = ⊥
 Gives view (Err faults.NoMemory) read = Unit {0}
+
+-- what the parts say, or that there are none
+abbrev pub ByParts : {A : Type 0} → Option A → (A → Result Body BodyFault → Type 0) → Result Body BodyFault → Type 0
+ByParts None Says reading = reading ≡ Err faults.Body
+ByParts (Some parts) Says reading = Says parts reading

@@ -8,6 +8,7 @@ pub mod Laws
 pub mod Layouts
 pub mod Left
 pub mod Peers
+pub mod Readers
 pub mod Records
 pub mod Ribs
 pub mod Routes

@@ -8,7 +8,7 @@ use Rattle.bgp_attrs.specs.Blocks.{IsBlock, block_at}
 use Rattle.held_bytes.specs.Units.{Begins}
 use Rattle.bgp_attrs.specs.Joined.{IsJoined}
 use Rattle.bgp_attrs.specs.Prefixes.{IsPrefix}
-use Rattle.mrt_reader.specs.Fields.{cut}
+use Rattle.mrt_reader.specs.Readers.{cut}
 
 -- a peer's index and the attributes of its route
 pub record Entry : Type 0 where

@@ -1,42 +1,50 @@
 -- The bodies of recorded messages and state changes (RFC 6396, section 4.4; extended timestamps: section 3).
-use Rattle.std.specs.Prelude.{ℕ, ◌==◌, Bool, true, false, if◌then◌else◌, List, Some, None}
-use Rattle.std.specs.declared.option.Option.{Option}
+use Rattle.std.specs.Prelude.{◌≡◌, ℕ, Bool, true, false, List, ◌++◌, length}
 use Rattle.path_model.specs.declared.peer.Peer.{Peer}
-use Rattle.mrt_reader.specs.Fields.{◌>>=◌, cut, two_at, asn_at, addr_at, ends}
+use Rattle.mrt_reader.specs.Fields.{SpellsTwo, SpellsAsn, asn_size, SpellsAddr, addr_size}
 
--- whether an address family is IPv6's, or None where it is neither's
-abbrev pub six_of : ℕ → Option Bool
-six_of afi = if afi == 2 then Some true else (if afi == 1 then Some false else None)
+-- the number of the address family of IPv6, or of IPv4
+abbrev pub family_number : Bool → ℕ
+family_number true = 2
+family_number false = 1
 
--- the bytes behind four bytes of microseconds, where they are there
-abbrev pub behind_time : Bool → List ℕ → Option (List ℕ)
-behind_time false body = Some body
-behind_time true body = do
-  time ← cut 4 body
-  Some time.1
+-- how many bytes of microseconds stand in front: with an extended timestamp four
+abbrev pub time_size : Bool → ℕ
+time_size true = 4
+time_size false = 0
 
--- the peer's AS and the local AS, interface, family, the peer's address and the local address
-unfoldable pub session_at : Bool → List ℕ → Option (Peer × List ℕ)
-session_at as4 bytes = do
-  asn ← asn_at as4 bytes
-  local ← asn_at as4 asn.1
-  interface ← two_at local.1
-  afi ← two_at interface.1
-  six ← six_of afi.0
-  addr ← addr_at six afi.1
-  other ← addr_at six addr.1
-  Some (record { addr = addr.0; asn = asn.0 }, other.1)
+-- The fields of a session: the peer's AS and the local AS, two bytes of interface, the address family, the peer's address and the local
+-- address.
+pub record AreSessionFields (as4 : Bool) (bytes : List ℕ) (peer : Peer) : Type 0 where
+  pub asn : List ℕ
+  pub local_asn : List ℕ
+  pub interface : List ℕ
+  pub family : List ℕ
+  pub addr : List ℕ
+  pub local_addr : List ℕ
+  pub six : Bool
+  pub is_asn : SpellsAsn as4 asn peer.asn
+  pub as_long : length local_asn ≡ asn_size as4
+  pub two : length interface ≡ 2
+  pub is_family : SpellsTwo family (family_number six)
+  pub is_addr : SpellsAddr six addr peer.addr
+  pub also_long : length local_addr ≡ addr_size six
+  pub whole : bytes ≡ asn ++ (local_asn ++ (interface ++ (family ++ (addr ++ local_addr))))
 
--- a recorded message: its peer and the message, which is all the rest
-unfoldable pub message_at : Bool → Bool → List ℕ → Option (Peer × List ℕ)
-message_at timed as4 body = do
-  fields ← behind_time timed body
-  session_at as4 fields
+-- A recorded message: microseconds, if there are some, the fields of the session with this peer, and the message, which is all the rest.
+pub record IsRecordedMessage (timed as4 : Bool) (body : List ℕ) (peer : Peer) (message : List ℕ) : Type 0 where
+  pub time : List ℕ
+  pub session : List ℕ
+  pub is_time : length time ≡ time_size timed
+  pub fields : AreSessionFields as4 session peer
+  pub whole : body ≡ time ++ (session ++ message)
 
--- a state change: its peer and the new state, behind the old one
-unfoldable pub state_at : Bool → Bool → List ℕ → Option (Peer × ℕ)
-state_at timed as4 body = do
-  session ← message_at timed as4 body
-  old ← two_at session.1
-  new ← two_at old.1
-  ends (session.0, new.0) new.1
+-- A state change: where a message would stand, two bytes of the old state and two of the new one.
+pub record IsStateChange (timed as4 : Bool) (body : List ℕ) (peer : Peer) (state : ℕ) : Type 0 where
+  pub behind : List ℕ
+  pub session : IsRecordedMessage timed as4 body peer behind
+  pub old : List ℕ
+  pub new : List ℕ
+  pub two : length old ≡ 2
+  pub is_new : SpellsTwo new state
+  pub whole : behind ≡ old ++ new

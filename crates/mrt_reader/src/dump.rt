@@ -1,8 +1,9 @@
 //! Bodies of TABLE_DUMP records.
 ghost use Rattle.std.specs.Prelude.{◌≡◌, option_map};
-ghost use Rattle.mrt_reader.specs.Bodies.{OrNoMemory, RouteSays};
-ghost use Rattle.mrt_reader.specs.Dumps.{dump_at, route_at, last_block as block_in};
+ghost use Rattle.mrt_reader.specs.Bodies.{OrNoMemory};
+ghost use Rattle.mrt_reader.specs.Gathering.{ByParts};
 ghost use Rattle.mrt_reader.specs.Left.{dumped_of};
+ghost use Rattle.mrt_reader.specs.Readers.{dump_at, route_at, last_block as block_in};
 ghost use Rattle.mrt_reader.specs.Routes.{DumpSays};
 
 use crate::body::Body;
@@ -16,7 +17,7 @@ use std::alloc::Global;
 
 // The route of a whole body.
 pub(crate) fn read_dump(alloc: Global, body: &[u8], six: bool) -> Result<Body, BodyFault>
-    ensures { OrNoMemory (RouteSays (dump_at six body.now)) result }
+    ensures { OrNoMemory (ByParts (dump_at six body.now) DumpSays) result }
 {
     match dump_parts(body, six) {
         Some(parts) => route_of(alloc, parts),
@@ -25,7 +26,7 @@ pub(crate) fn read_dump(alloc: Global, body: &[u8], six: bool) -> Result<Body, B
 }
 
 // The parts of a body, where it is in form.
-#[tactic(auto, unfolding(crate::specs::Dumps::dump_at))]
+#[tactic(auto, unfolding(crate::specs::Readers::dump_at))]
 fn dump_parts(body: &[u8], six: bool) -> Option<DumpParts<'_>>
     ensures { option_map dumped_of result ≡ dump_at six body.now }
 {
@@ -41,7 +42,7 @@ fn dump_parts(body: &[u8], six: bool) -> Option<DumpParts<'_>>
 }
 
 // The peer and the attributes, behind the prefix.
-#[tactic(auto, unfolding(crate::specs::Dumps::route_at))]
+#[tactic(auto, unfolding(crate::specs::Readers::route_at))]
 fn take_route(bytes: &[u8], six: bool) -> Option<(Peer, &[u8])>
     ensures { option_map (λ x. (x.0, x.1.now)) result ≡ route_at six bytes.now }
 {
@@ -53,7 +54,7 @@ fn take_route(bytes: &[u8], six: bool) -> Option<(Peer, &[u8])>
 }
 
 // A block that fills the bytes.
-#[tactic(auto, unfolding(crate::specs::Dumps::last_block))]
+#[tactic(auto, unfolding(crate::specs::Readers::last_block))]
 fn last_block(bytes: &[u8]) -> Option<&[u8]>
     ensures { option_map (λ x. x.now) result ≡ block_in bytes.now }
 {

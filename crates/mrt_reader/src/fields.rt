@@ -1,7 +1,8 @@
 //! Fields of fixed sizes at the front of bytes.
 ghost use Rattle.std.specs.Prelude.{◌≡◌, option_map, length};
 ghost use Rattle.bgp_attrs.specs.Prefixes.{addr_of};
-ghost use Rattle.mrt_reader.specs.Fields.{cut, byte_at, two_at, four_at, asn_at, addr_size, addr_at};
+ghost use Rattle.mrt_reader.specs.Fields.{addr_size};
+ghost use Rattle.mrt_reader.specs.Readers.{cut, byte_at, two_at, four_at, asn_at, addr_at};
 
 use path_model::Addr;
 
@@ -26,7 +27,7 @@ pub(crate) fn take_byte(bytes: &[u8]) -> Option<(u8, &[u8])>
 }
 
 // A number of two bytes.
-#[tactic(auto, unfolding(crate::specs::Fields::two_at))]
+#[tactic(auto, unfolding(crate::specs::Readers::two_at))]
 pub(crate) fn take_two(bytes: &[u8]) -> Option<(u16, &[u8])>
     ensures { option_map (λ x. (x.0, x.1.now)) result ≡ two_at bytes.now }
 {
@@ -37,7 +38,7 @@ pub(crate) fn take_two(bytes: &[u8]) -> Option<(u16, &[u8])>
 }
 
 // A number of four bytes.
-#[tactic(auto, unfolding(crate::specs::Fields::four_at))]
+#[tactic(auto, unfolding(crate::specs::Readers::four_at))]
 fn take_four(bytes: &[u8]) -> Option<(u32, &[u8])>
     ensures { option_map (λ x. (x.0, x.1.now)) result ≡ four_at bytes.now }
 {
@@ -60,7 +61,7 @@ pub(crate) fn take_asn(bytes: &[u8], wide: bool) -> Option<(u32, &[u8])>
 }
 
 // An address of IPv6, or else of IPv4.
-#[tactic(auto, unfolding(crate::specs::Fields::addr_at))]
+#[tactic(auto, unfolding(crate::specs::Readers::addr_at))]
 pub(crate) fn take_addr(bytes: &[u8], six: bool) -> Option<(Addr, &[u8])>
     ensures { option_map (λ x. (x.0, x.1.now)) result ≡ addr_at six bytes.now }
 {

@@ -6,6 +6,7 @@ ghost use Rattle.std.specs.Io.BufRead.{Rests};
 use crate::fault::FrameFault;
 use crate::heading::whole_head;
 use av_base::NoMemory;
+use held_bytes::HeldBytes;
 use std::alloc::Global;
 use std::marker::Model;
 
@@ -28,19 +29,15 @@ pub struct Record<'a> {
 /// before that, or after 26 TooLong, it grows by each piece.
 #[derive(Debug, Drop)]
 pub struct Framer {
-    held: Vec<u8>,
-    // how many bytes of `held` were taken already
-    at: usize,
+    held: HeldBytes,
 }
 
 impl Model for Framer {
-    ghost use Rattle.std.specs.Prelude.{List, ℕ, ◌≤◌, length, drop};
+    ghost use Rattle.std.specs.Prelude.{List, ℕ};
 
     ghost Value = { List ℕ };
 
-    ghost view = { λ f. drop f.at f.held.items };
-
-    ghost invariant = { λ f. f.at ≤ length f.held.items };
+    ghost view = { λ f. f.held.left };
 }
 
 impl Framer {
@@ -52,32 +49,18 @@ impl Framer {
         ensures { result ≡ [] }
     {
         Framer {
-            held: Vec::new(alloc),
-            at: 0,
+            held: HeldBytes::new(alloc),
         }
     }
 
-    /// Appends a piece of the stream. What was taken before is dropped here, so that a byte of a record is moved at most once for each
+    /// Appends a piece of the stream. What was taken before is let go here, so that a byte of a record is moved at most once for each
     /// piece that comes before the record is whole.
-    pub fn feed(mut self, piece: &[u8]) -> Result<Framer, NoMemory>
+    pub fn feed(self, piece: &[u8]) -> Result<Framer, NoMemory>
         ensures { IfOk result (λ framer. framer ≡ self ++ piece.now) }
     {
-        self.forget_taken();
-        self.held.extend_from_slice(piece)?;
-        Ok(self)
-    }
-
-    // Drops what was taken.
-    fn forget_taken(&mut self)
-        ensures { self.new ≡ self.old }
-    {
-        if self.at == 0 {
-            return;
-        }
-        let left = self.held.len() - self.at;
-        self.held.copy_within(self.at.., 0);
-        self.held.truncate(left);
-        self.at = 0;
+        let Framer { held } = self;
+        let held = held.feed(piece)?;
+        Ok(Framer { held })
     }
 
     /// Takes the first record off and lends its body. It takes no memory and moves no byte.
@@ -89,13 +72,11 @@ impl Framer {
         ensures* taken { sem 𝓛 (Rests the_row self.entry
             (λ new. Answers self.old new result)) }
     {
-        let (_, held) = self.held.as_slice().split_at(self.at);
-        match whole_head(held) {
+        match whole_head(self.held.front()) {
             Ok(Some(head)) => {
-                let start = self.at + 12;
-                self.at = start + head.size;
-                let (_, rest) = self.held.as_slice().split_at(start);
-                let (body, _) = rest.split_at(head.size);
+                self.held.drop_front(12 + head.size);
+                let taken = self.held.taken();
+                let (_, body) = taken.split_at(taken.len() - head.size);
                 Ok(Some(Record {
                     body,
                     stamp: head.stamp,
@@ -115,7 +96,7 @@ impl Framer {
         ensures err { OnErr result (self.now ≢ []) }
         ensures cause { IsErrOf result FrameFault.TooLong → ⊥ }
     {
-        if self.at < self.held.len() {
+        if !self.held.front().is_empty() {
             return Err(FrameFault::CutShort);
         }
         Ok(())

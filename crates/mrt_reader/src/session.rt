@@ -1,7 +1,8 @@
 //! Bodies of recorded messages and state changes.
 ghost use Rattle.std.specs.Prelude.{◌≡◌, option_map};
 ghost use Rattle.mrt_reader.specs.Bodies.{OrNoMemory, MessageSays, StateSays, fault_of};
-ghost use Rattle.mrt_reader.specs.Sessions.{six_of, behind_time, session_at, message_at, state_at};
+ghost use Rattle.mrt_reader.specs.Gathering.{ByParts};
+ghost use Rattle.mrt_reader.specs.Readers.{six_of, behind_time, session_at, message_at, state_at};
 
 use crate::body::Body;
 use crate::fault::BodyFault;
@@ -19,7 +20,7 @@ pub(crate) fn read_message(
     timed: bool,
     as4: bool,
 ) -> Result<Body, BodyFault>
-    ensures { OrNoMemory (MessageSays as4 (message_at timed as4 body.now)) result }
+    ensures { OrNoMemory (ByParts (message_at timed as4 body.now) (MessageSays as4)) result }
 {
     match take_message(body, timed, as4) {
         Some((peer, message)) => changes_of(alloc, message, as4, peer),
@@ -28,7 +29,7 @@ pub(crate) fn read_message(
 }
 
 fn changes_of(alloc: Global, message: &[u8], as4: bool, peer: Peer) -> Result<Body, BodyFault>
-    ensures { OrNoMemory (MessageSays as4 (Some (peer, message.now))) result }
+    ensures { OrNoMemory (MessageSays as4 (peer, message.now)) result }
 {
     match bgp_update::read(alloc, message, as4, peer) {
         Ok(changes) => Ok(Body::Routes(changes)),
@@ -46,7 +47,7 @@ pub(crate) fn read_state(
     timed: bool,
     as4: bool,
 ) -> Result<Body, BodyFault>
-    ensures { OrNoMemory (StateSays (state_at timed as4 body.now)) result }
+    ensures { OrNoMemory (ByParts (state_at timed as4 body.now) StateSays) result }
 {
     match take_state(body, timed, as4) {
         Some((peer, state)) => change_at(alloc, peer, state),
@@ -56,7 +57,7 @@ pub(crate) fn read_state(
 
 // Where the session isn't up, all routes of the peer are gone.
 fn change_at(alloc: Global, peer: Peer, state: u16) -> Result<Body, BodyFault>
-    ensures { OrNoMemory (StateSays (Some (peer, state))) result }
+    ensures { OrNoMemory (StateSays (peer, state)) result }
 {
     let mut changes = Changes::new(alloc);
     if state != ESTABLISHED {
@@ -66,7 +67,7 @@ fn change_at(alloc: Global, peer: Peer, state: u16) -> Result<Body, BodyFault>
 }
 
 // The peer and the new state.
-#[tactic(auto, unfolding(crate::specs::Sessions::state_at))]
+#[tactic(auto, unfolding(crate::specs::Readers::state_at))]
 fn take_state(body: &[u8], timed: bool, as4: bool) -> Option<(Peer, u16)>
     ensures { result ≡ state_at timed as4 body.now }
 {
@@ -80,7 +81,7 @@ fn take_state(body: &[u8], timed: bool, as4: bool) -> Option<(Peer, u16)>
 }
 
 // The peer and the bytes behind the fields of the session.
-#[tactic(auto, unfolding(crate::specs::Sessions::message_at))]
+#[tactic(auto, unfolding(crate::specs::Readers::message_at))]
 fn take_message(body: &[u8], timed: bool, as4: bool) -> Option<(Peer, &[u8])>
     ensures { option_map (λ x. (x.0, x.1.now)) result ≡ message_at timed as4 body.now }
 {
@@ -99,7 +100,7 @@ fn fields_of(body: &[u8], timed: bool) -> Option<&[u8]>
     }
 }
 
-#[tactic(auto, unfolding(crate::specs::Sessions::session_at))]
+#[tactic(auto, unfolding(crate::specs::Readers::session_at))]
 fn take_session(bytes: &[u8], as4: bool) -> Option<(Peer, &[u8])>
     ensures { option_map (λ x. (x.0, x.1.now)) result ≡ session_at as4 bytes.now }
 {

@@ -2,8 +2,8 @@
 ghost use Rattle.std.specs.Prelude.{◌≡◌, option_map, OnOk, ◌++◌, ◌∷◌, []};
 ghost use Rattle.bgp_attrs.specs.Joined.{items_of};
 ghost use Rattle.mrt_reader.specs.Bodies.{OrNoMemory, TableSays};
-ghost use Rattle.mrt_reader.specs.Gathering.{Gives};
-ghost use Rattle.mrt_reader.specs.Peers.{peer_at, counted_part, table_at};
+ghost use Rattle.mrt_reader.specs.Gathering.{ByParts, Gives};
+ghost use Rattle.mrt_reader.specs.Readers.{peer_at, counted_part, table_at};
 
 use crate::body::Body;
 use crate::fault::BodyFault;
@@ -15,9 +15,9 @@ use path_model::Peer;
 use std::alloc::Global;
 
 // The peers of a whole body.
-#[tactic(auto, unfolding(crate::specs::Peers::table_at))]
+#[tactic(auto, unfolding(crate::specs::Readers::table_at))]
 pub(crate) fn read_table(alloc: Global, body: &[u8]) -> Result<Body, BodyFault>
-    ensures { OrNoMemory (TableSays (table_at body.now)) result }
+    ensures { OrNoMemory (ByParts (table_at body.now) TableSays) result }
 {
     match counted_bytes(body) {
         Some((count, rest)) => {
@@ -66,7 +66,7 @@ fn put_peer(peers: &mut Vec<Peer>, peer: Peer) -> Result<(), NoMemory>
     Ok(())
 }
 
-#[tactic(auto, unfolding(crate::specs::Peers::peer_at))]
+#[tactic(auto, unfolding(crate::specs::Readers::peer_at))]
 fn take_peer(bytes: &[u8]) -> Option<(Peer, &[u8])>
     ensures { option_map (λ x. (x.0, x.1.now)) result ≡ peer_at bytes.now }
 {

@@ -5,15 +5,16 @@ use Rattle.std.proofs.lemmas.Bool.Decides.{eqb_tells, leb_tells}
 use Rattle.std.proofs.lemmas.List.{length-drop}
 use Rattle.std.specs.declared.option.Option.{Option}
 use Rattle.std.specs.declared.result.Result.{Result}
+use Rattle.av_base.specs.One.{HasOnePair}
+use Rattle.held_bytes.specs.Units.{BeginsWithNone}
 use Rattle.rtr_pdu.specs.declared.kind.Kind.{Kind}
 use Rattle.rtr_pdu.specs.declared.kind.Kind.TheVariants.{SerialNotify, SerialQuery as SerialQueryKind, ResetQuery as ResetQueryKind, CacheResponse as CacheResponseKind, Ipv4Prefix, Ipv6Prefix, EndOfData as EndOfDataKind, CacheReset as CacheResetKind, RouterKey, ErrorReport as ErrorReportKind, Aspa as AspaKind}
 use Rattle.rtr_pdu.specs.declared.pdu.Pdu.{Pdu}
 use Rattle.rtr_pdu.specs.declared.pdu.Pdu.TheVariants.{Notify, SerialQuery, ResetQuery, CacheResponse, Passed, EndOfData, CacheReset, ErrorReport, Aspa}
 use Rattle.rtr_pdu.specs.declared.pdu.PduFault.{PduFault}
 use Rattle.rtr_pdu.specs.declared.pdu.PduFault.TheVariants.{PduVersion, PduLength, PduType, NoProviders, NoMemory}
-use Rattle.rtr_pdu.specs.Laws.{OneNext}
 use Rattle.rtr_pdu.specs.Pdus.{IsHeader, IsFrame, IsReport, IsAnnounce, IsAnyLength, Says, FitsLength, u16_at, u32_at, length_in, code_of}
-use Rattle.rtr_pdu.specs.Units.{Answers, BeginsWithNone, HasVersion, HasWhole, IsPartial, IsRefused}
+use Rattle.rtr_pdu.specs.Units.{Answers, AnswersKnown, HasVersion, HasWhole, IsPartial, IsRefused}
 use Rattle.rtr_pdu.proofs.FrameLemmas.{IsHeader-more, IsHeader-take, whole_of}
 use Rattle.rtr_pdu.proofs.KindLemmas.{kind_at, some_kind, fits_or_not}
 use Rattle.rtr_pdu.proofs.LawLemmas.{prefix_free, same_front}
@@ -205,24 +206,23 @@ one_answer held left other_left (Err fault) (Ok (Some q)) known known' a b = abs
 one_answer held left other_left (Err one) (Err other) known known' a b =
     (b.1 ∙ sym a.1, ap Err (refused_once held other one (known_fault other known') (known_fault one known) b.0 a.0))
 
-pub one_next : (held : List ℕ) → OneNext held
+pub one_next : (held : List ℕ) → HasOnePair (AnswersKnown held)
 one_next held =
     let some = some_next held in
     record {
-      left = some.left;
-      answer = some.answer;
-      known = some.known;
-      is = some.is;
-      only = λ other_left other known is. one_answer held some.left other_left some.answer other some.known known some.is is;
+      one = some.left;
+      its = some.answer;
+      is = (some.known, some.is);
+      only = λ other_left other is. one_answer held some.left other_left some.answer other some.known is.0 some.is is.1;
     }
 
 -- ---- none begins
 
-pub partial_none : (held : List ℕ) → IsPartial held → BeginsWithNone held
-partial_none held is = λ bytes more pdu whole frame. partial_framed held bytes more pdu is whole frame
+pub partial_none : (held : List ℕ) → IsPartial held → BeginsWithNone IsFrame held
+partial_none held is = λ pdu rest begins. partial_framed held begins.front rest pdu is begins.whole begins.spelled
 
-pub refused_none : (held : List ℕ) (fault : PduFault) → refusal fault ≢ refusal NoMemory → IsRefused held fault → BeginsWithNone held
-refused_none held fault known is = λ bytes more pdu whole frame. framed_refused held bytes more pdu fault (known_fault fault known) whole frame is
+pub refused_none : (held : List ℕ) (fault : PduFault) → refusal fault ≢ refusal NoMemory → IsRefused held fault → BeginsWithNone IsFrame held
+refused_none held fault known is = λ pdu rest begins. framed_refused held begins.front rest pdu fault (known_fault fault known) begins.whole begins.spelled is
 
 pub partial_short : (held : List ℕ) → IsPartial held → length held < 262144
 partial_short held (inl short) = omega (arith, short)

@@ -8,7 +8,7 @@ use Rattle.rtr_pdu.specs.declared.kind.Kind.TheVariants.{ErrorReport, Aspa}
 use Rattle.rtr_pdu.specs.declared.pdu.PduFault.{PduFault}
 use Rattle.rtr_pdu.specs.declared.pdu.PduFault.TheVariants.{PduVersion, PduLength, PduType, NoProviders, NoMemory}
 use Rattle.rtr_pdu.specs.Pdus.{IsHeader, FitsLength, code_of}
-use Rattle.rtr_pdu.specs.Units.{Answers, IsRefused, IsRefusedNow, HasWhole, HasWrongLength, code_sent, code_for}
+use Rattle.rtr_pdu.specs.Units.{Answers, IsRefused, IsRefusedNow, HasWhole, HasWrongLength, code_on_refusal, code_for}
 use Rattle.rtr_pdu.proofs.FrameLemmas.{IsHeader-more}
 use Rattle.rtr_pdu.proofs.KindLemmas.{kind_at}
 
@@ -57,12 +57,12 @@ refused_once held PduType NoProviders known known' a b = absurd (not_typed held 
 refused_once held NoProviders PduType known known' a b = absurd (not_typed held Aspa _ (whole_header held Aspa a.0) b)
 
 -- the code of whatever refusal it is
-pub codes_same : (held : List ℕ) (one : PduFault) (byte : nat_eq (slice_index held 1) 10 ≡ false) → one ≢ NoMemory → IsRefused held one → (fault : PduFault) → fault ≢ NoMemory → IsRefused held fault → Some (code_for one) ≡ code_sent held fault
+pub codes_same : (held : List ℕ) (one : PduFault) (byte : nat_eq (slice_index held 1) 10 ≡ false) → one ≢ NoMemory → IsRefused held one → (fault : PduFault) → fault ≢ NoMemory → IsRefused held fault → Some (code_for one) ≡ code_on_refusal held fault
 codes_same held one byte known refused fault known' refused' =
     rw byte (ap (λ (f : PduFault). Some (code_for f)) (refused_once held one fault known known' refused refused'))
 
 -- a header that is allowed belongs to a PDU refused for its body
-pub codes_whole : (held : List ℕ) (kind : Kind) (len : ℕ) (byte : nat_eq (slice_index held 1) 10 ≡ false) → IsHeader held kind len → (fault : PduFault) → fault ≢ NoMemory → IsRefused held fault → Some 0 ≡ code_sent held fault
+pub codes_whole : (held : List ℕ) (kind : Kind) (len : ℕ) (byte : nat_eq (slice_index held 1) 10 ≡ false) → IsHeader held kind len → (fault : PduFault) → fault ≢ NoMemory → IsRefused held fault → Some 0 ≡ code_on_refusal held fault
 codes_whole held kind len byte header PduVersion known refused = absurd (refused.1 header.version)
 codes_whole held kind len byte header PduLength known refused = rw byte refl
 codes_whole held kind len byte header PduType known refused = absurd (not_typed held kind len header refused)

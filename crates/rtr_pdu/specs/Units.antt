@@ -1,5 +1,5 @@
--- The units of a stream, and what is said of its first bytes.
-use Rattle.std.specs.Prelude.{cond, nat_eq, ◌≡◌, ◌≢◌, ℕ, ◌<◌, ◌≤◌, ◌⊎◌, List, [], ◌∷◌, ◌++◌, length, slice_index}
+-- What a stream begins with: a PDU, one that isn't whole yet, or one that is refused.
+use Rattle.std.specs.Prelude.{cond, nat_eq, ◌≡◌, ◌≢◌, ℕ, ◌<◌, ◌≤◌, ◌⊎◌, List, ◌++◌, length, slice_index}
 use Rattle.std.specs.declared.option.Option.{Option}
 use Rattle.std.specs.declared.option.Option.TheVariants.{Some, None}
 use Rattle.std.specs.declared.result.Result.{Result}
@@ -10,15 +10,6 @@ use Rattle.rtr_pdu.specs.declared.pdu.Pdu.{Pdu}
 use Rattle.rtr_pdu.specs.declared.pdu.PduFault.{PduFault}
 use Rattle.rtr_pdu.specs.declared.pdu.PduFault.TheVariants.{PduVersion, PduLength, PduType, NoProviders, NoMemory}
 use Rattle.rtr_pdu.specs.Pdus.{IsHeader, IsReport, IsAnnounce, IsAnyLength, FitsLength, IsFrame, code_of, length_in}
-
--- bytes that begin with no whole PDU
-abbrev pub BeginsWithNone : List ℕ → Type 0
-BeginsWithNone rest = (bytes more : List ℕ) (pdu : Pdu) → rest ≡ bytes ++ more → IsFrame bytes pdu → ⊥
-
--- a stream is these PDUs, one behind another, and a rest that begins with none
-abbrev pub AreUnits : List ℕ → List Pdu → List ℕ → Type 0
-AreUnits stream [] rest = (stream ≡ rest) × BeginsWithNone rest
-AreUnits stream (pdu ∷ more) rest = (bytes : List ℕ) × (left : List ℕ) × (stream ≡ bytes ++ left) × IsFrame bytes pdu × AreUnits left more rest
 
 -- no header is held yet, or it is allowed and the PDU isn't whole
 abbrev pub IsPartial : List ℕ → Type 0
@@ -54,6 +45,10 @@ Answers old new (Ok None) = IsPartial old × (new ≡ old)
 Answers old new (Ok (Some pdu)) = (bytes : List ℕ) × (old ≡ bytes ++ new) × IsFrame bytes pdu
 Answers old new (Err fault) = IsRefused old fault × (new ≡ old)
 
+-- the answer, beside want of memory
+abbrev pub AnswersKnown : List ℕ → List ℕ → Result (Option Pdu) PduFault → Type 0
+AnswersKnown old new answer = (answer ≢ Err NoMemory) × Answers old new answer
+
 -- what is held begins with a refused PDU
 pub record IsRefusedNow (held : List ℕ) : Type 0 where
   pub fault : PduFault
@@ -69,9 +64,9 @@ code_for NoProviders = 0
 code_for NoMemory = 0
 
 -- no report is sent on an error report
-abbrev pub code_sent : List ℕ → PduFault → Option ℕ
-code_sent held fault = cond (nat_eq (slice_index held 1) 10) None (Some (code_for fault))
+abbrev pub code_on_refusal : List ℕ → PduFault → Option ℕ
+code_on_refusal held fault = cond (nat_eq (slice_index held 1) 10) None (Some (code_for fault))
 
 -- the code that a refused PDU is answered with, whichever refusal it is
 abbrev pub IsReportFor : List ℕ → Option ℕ → Type 0
-IsReportFor held code = (fault : PduFault) → fault ≢ NoMemory → IsRefused held fault → code ≡ code_sent held fault
+IsReportFor held code = (fault : PduFault) → fault ≢ NoMemory → IsRefused held fault → code ≡ code_on_refusal held fault

@@ -6,6 +6,7 @@ use crate::header::{HEADER, read_header};
 use crate::pdu::{Pdu, PduFault};
 use crate::reading::read_pdu;
 use av_base::NoMemory;
+use held_bytes::HeldBytes;
 use std::alloc::Global;
 use std::marker::Model;
 
@@ -16,21 +17,17 @@ const ERROR_REPORT: u8 = 10;
 /// memory of a piece and of one PDU.
 #[derive(Drop)]
 pub struct Framer {
-    held: Vec<u8>,
-    // how many of them were taken
-    at: usize,
+    held: HeldBytes,
     alloc: Global,
 }
 
 /// A contract sees the bytes that are held and weren't taken.
 impl Model for Framer {
-    ghost use Rattle.std.specs.Prelude.{List, ℕ, ◌≤◌, length, drop};
+    ghost use Rattle.std.specs.Prelude.{List, ℕ};
 
     ghost Value = { List ℕ };
 
-    ghost view = { λ f. drop f.at f.held.items };
-
-    ghost invariant = { λ f. f.at ≤ length f.held.items };
+    ghost view = { λ f. f.held.left };
 }
 
 impl Framer {
@@ -39,28 +36,18 @@ impl Framer {
         ensures { result ≡ [] }
     {
         Framer {
-            held: Vec::new(alloc),
-            at: 0,
+            held: HeldBytes::new(alloc),
             alloc,
         }
     }
 
     /// Adds a piece to what is held. The bytes of the PDUs that were taken are let go here, once for all of them.
-    pub fn feed(mut self, piece: &[u8]) -> Result<Framer, NoMemory>
+    pub fn feed(self, piece: &[u8]) -> Result<Framer, NoMemory>
         ensures { IfOk result (λ framer. framer ≡ self ++ piece.now) }
     {
-        self.let_go();
-        self.held.extend_from_slice(piece)?;
-        Ok(self)
-    }
-
-    fn let_go(&mut self)
-        ensures { self.new ≡ self.old }
-    {
-        if self.at > 0 {
-            self.held.drain(..self.at);
-            self.at = 0;
-        }
+        let Framer { held, alloc } = self;
+        let held = held.feed(piece)?;
+        Ok(Framer { held, alloc })
     }
 
     /// Takes the next PDU. `None` says that the bytes begin with a PDU that isn't whole yet. A refused PDU stays held, so each later
@@ -69,7 +56,7 @@ impl Framer {
         ensures next { Answers self.old self.new result }
         ensures partial { IfOk result (λ pdu. IfNone pdu (length self.new < 262144)) }
     {
-        let (_, held) = self.held.split_at(self.at);
+        let held = self.held.front();
         if held.len() < HEADER {
             return Ok(None);
         }
@@ -79,7 +66,7 @@ impl Framer {
         }
         let (bytes, _) = held.split_at(length);
         let pdu = read_pdu(self.alloc, kind, bytes)?;
-        self.at += length;
+        self.held.drop_front(length);
         Ok(Some(pdu))
     }
 
@@ -89,7 +76,7 @@ impl Framer {
         requires { IsRefusedNow self.now }
         ensures { IsReportFor self.now result }
     {
-        let (_, held) = self.held.split_at(self.at);
+        let held = self.held.front();
         if held[1] == ERROR_REPORT {
             return None;
         }

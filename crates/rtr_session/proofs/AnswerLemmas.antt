@@ -1,5 +1,5 @@
 -- What an answer that a session receives makes of its rows.
-use Rattle.std.proofs.Common.{◌≡◌, ◌≢◌, ℕ, ◌⊎◌, ◌↔◌, inl, inr, Bool, true, false, cond, List, [], ◌∷◌, refl, sym, ap, subst, ◌∙◌, arith}
+use Rattle.std.proofs.Common.{◌≡◌, ◌≢◌, ℕ, ◌⊎◌, ◌↔◌, inl, inr, Bool, true, false, cond, List, [], ◌∷◌, ◌++◌, refl, sym, ap, subst, ◌∙◌, arith}
 use Rattle.std.specs.Prelude.{IsSome}
 use Rattle.std.specs.declared.option.Option.{Option}
 use Rattle.std.specs.declared.option.Option.TheVariants.{Some, None}
@@ -19,7 +19,7 @@ use Rattle.rtr_session.specs.declared.act.Phase.{Phase}
 use Rattle.rtr_session.specs.declared.act.Phase.TheVariants.{AskedWhole, AskedChanges, ReceivingWhole, ReceivingChanges}
 use Rattle.rtr_session.specs.State.{State}
 use Rattle.rtr_session.specs.Client.{Announces, Client, Goes, OnAnnounce, OnEnd, OnNotify, OnPassed, OnReset, OnResponse, OnWithdraw, Withdraws, named}
-use Rattle.rtr_session.specs.Laws.{AnswersChanges, AnswersWhole, AreNamed, IsPatchOf, Names, Receives, patched}
+use Rattle.rtr_session.specs.Laws.{AnswersChanges, AnswersWhole, AreNamed, GivesRow, IsPatchOf, IsWholeAnswer, Names, Receives, patched}
 
 IsReceiving : Phase → Type 0
 IsReceiving phase = (phase ≡ ReceivingWhole) ⊎ (phase ≡ ReceivingChanges)
@@ -34,6 +34,7 @@ record Does (old new : State) (names : ℕ → Type 0) : Type 0 where
   pub named : (q : ℕ) → IsSome (map.get new.changes q) ↔ (IsSome (map.get old.changes q) ⊎ names q)
   pub rows : (q : ℕ) → IsSome (map.get new.rows q) → IsSome (map.get old.rows q) ⊎ names q
   pub tracks : (kept : RowMap) → Tracks kept old → Tracks kept new
+  pub keeps : (q : ℕ) → (names q → ⊥) → map.get new.rows q ≡ map.get old.rows q
 
 -- ---- one PDU
 
@@ -46,6 +47,7 @@ unnamed old next same = subst (λ (st : State). Does old st (λ q. ⊥)) (sym sa
   named = λ q. (λ some. inl some, λ h. elim h [ inl some ↦ some | inr never ↦ absurd never ]);
   rows = λ q some. inl some;
   tracks = λ kept t. t;
+  keeps = λ q none. refl;
 })
 
 same_key : (q k : ℕ) → is_at (nat_cmp q) k ≡ true → k ≡ q
@@ -70,6 +72,11 @@ gone_tracks : (b : Bool) (had : Option (List ℕ)) (change : Option (Option (Lis
 gone_tracks true had change kept t = refl
 gone_tracks false had change kept t = t
 
+-- what is at another key stays
+other_key : {X : Type 0} (b : Bool) (value had : Option X) (k q : ℕ) → (b ≡ true → k ≡ q) → (k ≡ q → ⊥) → cond b value had ≡ had
+other_key true value had k q to none = absurd (none (to refl))
+other_key false value had k q to none = refl
+
 names_put : (old : State) (k : ℕ) (row : List ℕ) → Does old (named old k (Some row)) (λ q. k ≡ q)
 names_put old k row = record {
   phase = refl;
@@ -79,6 +86,7 @@ names_put old k row = record {
   tracks = λ kept t q. map.get-insert nat_cmp_total old.rows k row q
       ∙ put_tracks (is_at (nat_cmp q) k) row (map.get old.rows q) (map.get old.changes q) (map.get kept q) (t q)
       ∙ ap (λ (o : Option (Option (List ℕ))). patched o (map.get kept q)) (sym (map.get-insert nat_cmp_total old.changes k (Some row) q));
+  keeps = λ q none. map.get-insert nat_cmp_total old.rows k row q ∙ other_key (is_at (nat_cmp q) k) (Some row) (map.get old.rows q) k q (same_key q k) none;
 }
 
 names_gone : (old : State) (k : ℕ) → Does old (named old k None) (λ q. k ≡ q)
@@ -90,6 +98,7 @@ names_gone old k = record {
   tracks = λ kept t q. map.get-remove nat_cmp_total old.rows k q
       ∙ gone_tracks (is_at (nat_cmp q) k) (map.get old.rows q) (map.get old.changes q) (map.get kept q) (t q)
       ∙ ap (λ (o : Option (Option (List ℕ))). patched o (map.get kept q)) (sym (map.get-insert nat_cmp_total old.changes k None q));
+  keeps = λ q none. map.get-remove nat_cmp_total old.rows k q ∙ other_key (is_at (nat_cmp q) k) None (map.get old.rows q) k q (same_key q k) none;
 }
 
 to_new : {old next : State} (st : State) {names : ℕ → Type 0} → next ≡ st → Does old st names → Does old next names
@@ -136,6 +145,7 @@ both old mid new first more a b = record {
   );
   rows = λ q some. elim (b.rows q some) [ inl mid_some ↦ elim (a.rows q mid_some) [ inl was ↦ inl was | inr is ↦ inr (inl is) ] | inr is ↦ inr (inr is) ];
   tracks = λ kept t. b.tracks kept (a.tracks kept t);
+  keeps = λ q none. b.keeps q (λ is. none (inr is)) ∙ a.keeps q (λ is. none (inl is));
 }
 
 still : (old next : State) → next.phase ≡ old.phase → IsReceiving old.phase → IsReceiving next.phase
@@ -146,6 +156,39 @@ received [] old new at h = unnamed old new h
 received (pdu ∷ more) old new at h =
     let first = step old h.0 pdu at h.1 in
     both old h.0 new (λ q. Names pdu q) (λ q. AreNamed more q) first (received more h.0 new (still old h.0 first.phase at) h.2)
+
+-- ---- the last PDU that names a customer
+
+at_key : {X : Type 0} (b : Bool) (value had : Option X) → b ≡ true → cond b value had ≡ value
+at_key true value had e = refl
+at_key false value had e = let never : ⊥ = cc in absurd never
+
+gives_announced : (old next : State) (k q : ℕ) (providers : List ℕ) → k ≡ q → Announces k providers old Nothing next → GivesRow (Aspa true k providers) (map.get next.rows q)
+gives_announced old next k q providers same a =
+    (a.row, a.is_set, ap (λ (s : State). map.get s.rows q) a.goes.new_is ∙ map.get-insert nat_cmp_total old.rows k a.row q ∙ at_key (is_at (nat_cmp q) k) (Some a.row) (map.get old.rows q) (own_key q k same))
+
+gives_withdrawn : (old next : State) (k q : ℕ) → k ≡ q → Withdraws k old Nothing next → map.get next.rows q ≡ None
+gives_withdrawn old next k q same (inl there) = ap (λ (s : State). map.get s.rows q) there.1.new_is ∙ map.get-remove nat_cmp_total old.rows k q ∙ at_key (is_at (nat_cmp q) k) None (map.get old.rows q) (own_key q k same)
+gives_withdrawn old next k q same (inr none) = absurd (nothing_else none.1 (λ e. let never : ⊥ = cc in never))
+
+gives : (old next : State) (last : Pdu) (q : ℕ) → IsReceiving old.phase → Client old last Nothing next → Names last q → GivesRow last (map.get next.rows q)
+gives old next (Notify session serial) q at h names = absurd names
+gives old next (SerialQuery session serial) q at h names = absurd names
+gives old next ResetQuery q at h names = absurd names
+gives old next (CacheResponse session) q at h names = absurd names
+gives old next (Passed kind) q at h names = absurd names
+gives old next (EndOfData session serial) q at h names = absurd names
+gives old next CacheReset q at h names = absurd names
+gives old next (ErrorReport code) q at h names = absurd names
+gives old next (Aspa true k providers) q at h names = at_phase (λ p. OnAnnounce p k providers old Nothing next) (GivesRow (Aspa true k providers) (map.get next.rows q)) old.phase at h (gives_announced old next k q providers names) (gives_announced old next k q providers names)
+gives old next (Aspa false k providers) q at h names = at_phase (λ p. OnWithdraw p k old Nothing next) (map.get next.rows q ≡ None) old.phase at h (gives_withdrawn old next k q names) (gives_withdrawn old next k q names)
+
+last_gives : (front behind : List Pdu) (last : Pdu) (old new : State) (q : ℕ) → IsReceiving old.phase → Receives old (front ++ last ∷ behind) new → Names last q → (AreNamed behind q → ⊥) → GivesRow last (map.get new.rows q)
+last_gives [] behind last old new q at h names none =
+    let first = step old h.0 last at h.1 in
+    let same = (received behind h.0 new (still old h.0 first.phase at) h.2).keeps q none in
+    subst (λ (row : Option (List ℕ)). GivesRow last row) (sym same) (gives old h.0 last q at h.1 names)
+last_gives (pdu ∷ front) behind last old new q at h names none = last_gives front behind last h.0 new q (still old h.0 (step old h.0 pdu at h.1).phase at) h.2 names none
 
 -- ---- the laws
 
@@ -208,15 +251,19 @@ ended_whole whole done session serial rows phase h = elim (subst (λ (p : Phase)
   | inr not ↦ let never : ⊥ = (let e = not.1.act_is in cc) in absurd never
 ]
 
-pub whole_announced : (asked done : State) (pdus : List Pdu) (rows : RowMap) → AnswersWhole asked pdus rows done → (done.rows ≡ rows) × ((q : ℕ) → IsSome (map.get rows q) → AreNamed pdus q)
+pub whole_announced : (asked done : State) (pdus : List Pdu) (rows : RowMap) → AnswersWhole asked pdus rows done → IsWholeAnswer pdus rows done.rows
 unfolding IsReceiving
 whole_announced asked done pdus rows a =
     let begun = begun_whole asked a.begun a.session a.phase a.begins in
-    let does = received pdus a.begun a.whole (inl begun.0) a.comes in
-    let ended = ended_whole a.whole done a.last_session a.serial rows (does.phase ∙ begun.0) a.ends in (
-      ended.1 ∙ sym ended.0,
-      λ q some. elim (does.rows q (subst (λ (m : RowMap). IsSome (map.get m q)) ended.0 some)) [
+    let at : IsReceiving a.begun.phase = inl begun.0 in
+    let does = received pdus a.begun a.whole at a.comes in
+    let ended = ended_whole a.whole done a.last_session a.serial rows (does.phase ∙ begun.0) a.ends in
+    record {
+      kept_is = ended.1 ∙ sym ended.0;
+      each = λ q last is. subst (λ (m : RowMap). GivesRow last (map.get m q)) (sym ended.0)
+          (last_gives is.front is.behind last a.begun a.whole q at (subst (λ (l : List Pdu). Receives a.begun l a.whole) is.whole a.comes) is.names is.no_more);
+      only = λ q some. elim (does.rows q (subst (λ (m : RowMap). IsSome (map.get m q)) ended.0 some)) [
         | inl was ↦ absurd (none_some (map.get a.begun.rows q) (ap (λ (m : RowMap). map.get m q) begun.1 ∙ map.get-empty nat_cmp q) was)
         | inr is ↦ is
-      ],
-    )
+      ];
+    }

@@ -5,6 +5,7 @@ use Rattle.std.specs.declared.option.Option.{Option}
 use Rattle.std.specs.declared.option.Option.TheVariants.{Some, None}
 use Rattle.std.specs.FinMap as map
 use Rattle.std.proofs.lemmas.Bool.Decides.{eqb_tells}
+use Rattle.av_base.specs.One.{HasOnePair}
 use Rattle.path_model.specs.ComputedTable.{ascending_of}
 use Rattle.rtr_pdu.specs.declared.pdu.Pdu.{Pdu}
 use Rattle.rtr_pdu.specs.declared.pdu.Pdu.TheVariants.{Notify, SerialQuery, ResetQuery, CacheResponse, Passed, EndOfData, CacheReset, ErrorReport, Aspa}
@@ -18,48 +19,40 @@ use Rattle.rtr_session.specs.declared.act.Query.{Query}
 use Rattle.rtr_session.specs.declared.act.Query.TheVariants.{Reset, Serial}
 use Rattle.rtr_session.specs.State.{State}
 use Rattle.rtr_session.specs.Client.{Announces, Asks, BySession, Client, Goes, OnAnnounce, OnEnd, OnNotify, OnPassed, OnReset, OnResponse, OnWithdraw, Withdraws, named, without_zero}
-use Rattle.rtr_session.specs.Laws.{OneCase, OneQuery}
 use Rattle.rtr_session.proofs.SetLemmas.{IsSetOf-unique, some_set}
 
--- one act and one state have this
-pub record One (case : Act → State → Type 0) : Type 0 where
-  pub act : Act
-  pub new : State
-  pub is : case act new
-  pub only : (other_act : Act) (other : State) → case other_act other → (other_act ≡ act) × (other ≡ new)
+goes : (old : State) (does : Act) (to : State) → HasOnePair (λ act new. Goes old act new does to)
+goes old does to = record { one = does; its = to; is = record { act_is = refl; new_is = refl }; only = λ act new g. (g.act_is, g.new_is) }
 
-goes : (old : State) (does : Act) (to : State) → One (λ act new. Goes old act new does to)
-goes old does to = record { act = does; new = to; is = record { act_is = refl; new_is = refl }; only = λ act new g. (g.act_is, g.new_is) }
-
-stays : (old : State) → One (λ act new. Goes old act new Nothing old)
+stays : (old : State) → HasOnePair (λ act new. Goes old act new Nothing old)
 stays old = goes old Nothing old
 
-unexpected : (old : State) → One (λ act new. Goes old act new (End Unexpected) (record old { phase = Over }))
+unexpected : (old : State) → HasOnePair (λ act new. Goes old act new (End Unexpected) (record old { phase = Over }))
 unexpected old = goes old (End Unexpected) (record old { phase = Over })
 
 -- one of two by the session: the first is to do this, the second ends
-by_session : (one : ℕ) (old : State) (does : Act) (to : State) → One (λ act new. BySession one old.session (Goes old act new does to) (Goes old act new (End SessionChanged) (record old { phase = Over })))
+by_session : (one : ℕ) (old : State) (does : Act) (to : State) → HasOnePair (λ act new. BySession one old.session (Goes old act new does to) (Goes old act new (End SessionChanged) (record old { phase = Over })))
 by_session one old does to = elim (eqb_tells one old.session) [
   | inl same ↦ record {
-    act = does;
-    new = to;
+    one = does;
+    its = to;
     is = inl (same.1, record { act_is = refl; new_is = refl });
     only = λ act new h. elim h [ inl is ↦ (is.1.act_is, is.1.new_is) | inr not ↦ absurd (not.0 same.1) ];
   }
   | inr differs ↦ record {
-    act = End SessionChanged;
-    new = record old { phase = Over };
+    one = End SessionChanged;
+    its = record old { phase = Over };
     is = inr (differs.1, record { act_is = refl; new_is = refl });
     only = λ act new h. elim h [ inl is ↦ absurd (differs.1 is.0) | inr not ↦ (not.1.act_is, not.1.new_is) ];
   }
 ]
 
-announces : (customer : ℕ) (providers : List ℕ) (old : State) → One (λ act new. Announces customer providers old act new)
+announces : (customer : ℕ) (providers : List ℕ) (old : State) → HasOnePair (λ act new. Announces customer providers old act new)
 announces customer providers old =
     let row = ascending_of (without_zero providers) in
     record {
-      act = Nothing;
-      new = named old customer (Some row);
+      one = Nothing;
+      its = named old customer (Some row);
       is = record { row = row; is_set = some_set (without_zero providers); goes = record { act_is = refl; new_is = refl } };
       only = λ act new a. (a.goes.act_is, a.goes.new_is ∙ ap (λ (r : List ℕ). named old customer (Some r)) (IsSetOf-unique (without_zero providers) a.row row a.is_set (some_set (without_zero providers))));
     }
@@ -68,26 +61,26 @@ none_is_some : {X : Type 0} (o : Option X) → o ≡ None → IsSome o → ⊥
 none_is_some None e some = let never : ⊥ = cc in never
 none_is_some (Some x) e some = let never : ⊥ = cc in never
 
-withdraws_at : (customer : ℕ) (old : State) (had : Option (List ℕ)) → map.get old.rows customer ≡ had → One (λ act new. Withdraws customer old act new)
+withdraws_at : (customer : ℕ) (old : State) (had : Option (List ℕ)) → map.get old.rows customer ≡ had → HasOnePair (λ act new. Withdraws customer old act new)
 withdraws_at customer old (Some row) is = record {
-  act = Nothing;
-  new = named old customer None;
+  one = Nothing;
+  its = named old customer None;
   is = inl (rw is refl, record { act_is = refl; new_is = refl });
   only = λ act new h. elim h [ inl there ↦ (there.1.act_is, there.1.new_is) | inr gone ↦ absurd (none_is_some (map.get old.rows customer) gone.0 (rw is refl)) ];
 }
 withdraws_at customer old None is = record {
-  act = End UnknownWithdrawal;
-  new = record old { phase = Over };
+  one = End UnknownWithdrawal;
+  its = record old { phase = Over };
   is = inr (is, record { act_is = refl; new_is = refl });
   only = λ act new h. elim h [ inl there ↦ absurd (none_is_some (map.get old.rows customer) is there.0) | inr gone ↦ (gone.1.act_is, gone.1.new_is) ];
 }
 
-withdraws : (customer : ℕ) (old : State) → One (λ act new. Withdraws customer old act new)
+withdraws : (customer : ℕ) (old : State) → HasOnePair (λ act new. Withdraws customer old act new)
 withdraws customer old = withdraws_at customer old (map.get old.rows customer) refl
 
 -- ---- one for each PDU
 
-on_notify : (phase : Phase) (session : ℕ) (old : State) → One (λ act new. OnNotify phase session old act new)
+on_notify : (phase : Phase) (session : ℕ) (old : State) → HasOnePair (λ act new. OnNotify phase session old act new)
 on_notify Fresh session old = stays old
 on_notify AskedWhole session old = stays old
 on_notify AskedChanges session old = stays old
@@ -96,7 +89,7 @@ on_notify ReceivingChanges session old = stays old
 on_notify Ready session old = by_session session old Nothing old
 on_notify Over session old = stays old
 
-on_response : (phase : Phase) (session : ℕ) (old : State) → One (λ act new. OnResponse phase session old act new)
+on_response : (phase : Phase) (session : ℕ) (old : State) → HasOnePair (λ act new. OnResponse phase session old act new)
 on_response Fresh session old = unexpected old
 on_response AskedWhole session old = goes old Nothing (record old { phase = ReceivingWhole; session = session; rows = map.empty; changes = map.empty })
 on_response AskedChanges session old = by_session session old Nothing (record old { phase = ReceivingChanges; changes = map.empty })
@@ -105,7 +98,7 @@ on_response ReceivingChanges session old = unexpected old
 on_response Ready session old = unexpected old
 on_response Over session old = unexpected old
 
-on_announce : (phase : Phase) (customer : ℕ) (providers : List ℕ) (old : State) → One (λ act new. OnAnnounce phase customer providers old act new)
+on_announce : (phase : Phase) (customer : ℕ) (providers : List ℕ) (old : State) → HasOnePair (λ act new. OnAnnounce phase customer providers old act new)
 on_announce Fresh customer providers old = unexpected old
 on_announce AskedWhole customer providers old = unexpected old
 on_announce AskedChanges customer providers old = unexpected old
@@ -114,7 +107,7 @@ on_announce ReceivingChanges customer providers old = announces customer provide
 on_announce Ready customer providers old = unexpected old
 on_announce Over customer providers old = unexpected old
 
-on_withdraw : (phase : Phase) (customer : ℕ) (old : State) → One (λ act new. OnWithdraw phase customer old act new)
+on_withdraw : (phase : Phase) (customer : ℕ) (old : State) → HasOnePair (λ act new. OnWithdraw phase customer old act new)
 on_withdraw Fresh customer old = unexpected old
 on_withdraw AskedWhole customer old = unexpected old
 on_withdraw AskedChanges customer old = unexpected old
@@ -123,7 +116,7 @@ on_withdraw ReceivingChanges customer old = withdraws customer old
 on_withdraw Ready customer old = unexpected old
 on_withdraw Over customer old = unexpected old
 
-on_passed : (phase : Phase) (old : State) → One (λ act new. OnPassed phase old act new)
+on_passed : (phase : Phase) (old : State) → HasOnePair (λ act new. OnPassed phase old act new)
 on_passed Fresh old = unexpected old
 on_passed AskedWhole old = unexpected old
 on_passed AskedChanges old = unexpected old
@@ -132,7 +125,7 @@ on_passed ReceivingChanges old = stays old
 on_passed Ready old = unexpected old
 on_passed Over old = unexpected old
 
-on_end : (phase : Phase) (session : ℕ) (serial : ℕ) (old : State) → One (λ act new. OnEnd phase session serial old act new)
+on_end : (phase : Phase) (session : ℕ) (serial : ℕ) (old : State) → HasOnePair (λ act new. OnEnd phase session serial old act new)
 on_end Fresh session serial old = unexpected old
 on_end AskedWhole session serial old = unexpected old
 on_end AskedChanges session serial old = unexpected old
@@ -141,7 +134,7 @@ on_end ReceivingChanges session serial old = by_session session old (Apply (Part
 on_end Ready session serial old = unexpected old
 on_end Over session serial old = unexpected old
 
-on_reset : (phase : Phase) (old : State) → One (λ act new. OnReset phase old act new)
+on_reset : (phase : Phase) (old : State) → HasOnePair (λ act new. OnReset phase old act new)
 on_reset Fresh old = unexpected old
 on_reset AskedWhole old = unexpected old
 on_reset AskedChanges old = goes old (Send Reset) (record old { phase = AskedWhole })
@@ -150,7 +143,7 @@ on_reset ReceivingChanges old = unexpected old
 on_reset Ready old = unexpected old
 on_reset Over old = unexpected old
 
-some_case : (old : State) (pdu : Pdu) → One (λ act new. Client old pdu act new)
+some_case : (old : State) (pdu : Pdu) → HasOnePair (λ act new. Client old pdu act new)
 some_case old (Notify session serial) = on_notify old.phase session old
 some_case old (SerialQuery session serial) = unexpected old
 some_case old ResetQuery = unexpected old
@@ -162,19 +155,23 @@ some_case old (ErrorReport code) = goes old (End PeerReported) (record old { pha
 some_case old (Aspa true customer providers) = on_announce old.phase customer providers old
 some_case old (Aspa false customer providers) = on_withdraw old.phase customer old
 
-pub one_case : (old : State) (pdu : Pdu) → OneCase old pdu
-one_case old pdu = let one = some_case old pdu in record { act = one.act; new = one.new; is = one.is; only = one.only }
+pub one_case : (old : State) (pdu : Pdu) → HasOnePair (Client old pdu)
+one_case old pdu = some_case old pdu
 
 -- ---- asking
 
-asked_at : (phase : Phase) (old : State) → (query : Option Query) × (new : State) × Asks phase old new query × ((other_query : Option Query) (other : State) → Asks phase old other other_query → (other_query ≡ query) × (other ≡ new))
-asked_at Fresh old = (Some Reset, record old { phase = AskedWhole }, (refl, refl), λ other_query other h. h)
-asked_at AskedWhole old = (None, old, (refl, refl), λ other_query other h. h)
-asked_at AskedChanges old = (None, old, (refl, refl), λ other_query other h. h)
-asked_at ReceivingWhole old = (None, old, (refl, refl), λ other_query other h. h)
-asked_at ReceivingChanges old = (None, old, (refl, refl), λ other_query other h. h)
-asked_at Ready old = (Some (Serial old.session old.serial), record old { phase = AskedChanges }, (refl, refl), λ other_query other h. h)
-asked_at Over old = (None, old, (refl, refl), λ other_query other h. h)
+-- this query, and this state then
+asks : (old to : State) (due : Option Query) → HasOnePair (λ new query. (query ≡ due) × (new ≡ to))
+asks old to due = record { one = to; its = due; is = (refl, refl); only = λ new query h. (h.1, h.0) }
 
-pub one_query : (old : State) → OneQuery old
-one_query old = let one = asked_at old.phase old in record { query = one.0; new = one.1; is = one.2; only = one.3 }
+asked_at : (phase : Phase) (old : State) → HasOnePair (Asks phase old)
+asked_at Fresh old = asks old (record old { phase = AskedWhole }) (Some Reset)
+asked_at AskedWhole old = asks old old None
+asked_at AskedChanges old = asks old old None
+asked_at ReceivingWhole old = asks old old None
+asked_at ReceivingChanges old = asks old old None
+asked_at Ready old = asks old (record old { phase = AskedChanges }) (Some (Serial old.session old.serial))
+asked_at Over old = asks old old None
+
+pub one_query : (old : State) → HasOnePair (Asks old.phase old)
+one_query old = asked_at old.phase old

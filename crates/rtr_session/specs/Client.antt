@@ -18,11 +18,11 @@ use Rattle.rtr_session.specs.declared.act.Act.TheVariants.{Nothing, Send, Apply,
 use Rattle.rtr_session.specs.State.{State}
 
 -- the code of the error report that an ending sends (draft-ietf-sidrops-8210bis, section 12)
-abbrev pub code_sent : Ending → Option ℕ
-code_sent Unexpected = Some 0
-code_sent UnknownWithdrawal = Some 6
-code_sent SessionChanged = Some 0
-code_sent PeerReported = None
+abbrev pub code_on_end : Ending → Option ℕ
+code_on_end Unexpected = Some 0
+code_on_end UnknownWithdrawal = Some 6
+code_on_end SessionChanged = Some 0
+code_on_end PeerReported = None
 
 -- the providers that are written, less 0
 abbrev pub without_zero : List ℕ → List ℕ

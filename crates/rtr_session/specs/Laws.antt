@@ -1,38 +1,28 @@
 -- Laws of the client.
-use Rattle.std.specs.Prelude.{◌≡◌, ℕ, ◌↔◌, ◌⊎◌, List, [], ◌∷◌, IsSome}
+use Rattle.std.specs.Prelude.{◌≡◌, ℕ, ◌↔◌, ◌⊎◌, true, false, List, [], ◌∷◌, ◌++◌, IsSome}
 use Rattle.std.specs.declared.option.Option.{Option}
 use Rattle.std.specs.declared.option.Option.TheVariants.{Some, None}
 use Rattle.std.specs.FinMap as map
+use Rattle.av_base.specs.One.{HasOnePair}
 use Rattle.path_model.specs.Rows.{RowMap, PatchMap}
+use Rattle.path_model.specs.Sets.{IsSetOf}
 use Rattle.rtr_pdu.specs.declared.pdu.Pdu.{Pdu}
 use Rattle.rtr_pdu.specs.declared.pdu.Pdu.TheVariants.{CacheResponse, EndOfData, Aspa}
-use Rattle.rtr_session.specs.declared.act.Act.{Act}
 use Rattle.rtr_session.specs.declared.act.Act.TheVariants.{Nothing, Apply}
 use Rattle.rtr_session.specs.declared.act.Delta.TheVariants.{Whole, Part}
 use Rattle.rtr_session.specs.declared.act.Phase.TheVariants.{AskedWhole, AskedChanges}
-use Rattle.rtr_session.specs.declared.act.Query.{Query}
 use Rattle.rtr_session.specs.State.{State}
-use Rattle.rtr_session.specs.Client.{Client, Asks}
+use Rattle.rtr_session.specs.Client.{Client, Asks, without_zero}
 
 -- ---- one case
 
-pub record OneCase (old : State) (pdu : Pdu) : Type 0 where
-  pub act : Act
-  pub new : State
-  pub is : Client old pdu act new
-  pub only : (other_act : Act) (other : State) → Client old pdu other_act other → (other_act ≡ act) × (other ≡ new)
-
+-- each PDU has one case in each state: one act, and one state behind it
 abbrev pub EachPduHasOneCase : Type 0
-EachPduHasOneCase = (old : State) (pdu : Pdu) → OneCase old pdu
+EachPduHasOneCase = (old : State) (pdu : Pdu) → HasOnePair (Client old pdu)
 
-pub record OneQuery (old : State) : Type 0 where
-  pub query : Option Query
-  pub new : State
-  pub is : Asks old.phase old new query
-  pub only : (other_query : Option Query) (other : State) → Asks old.phase old other other_query → (other_query ≡ query) × (other ≡ new)
-
+-- each state has one query or none, and one state behind it
 abbrev pub EachStateHasOneQuery : Type 0
-EachStateHasOneQuery = (old : State) → OneQuery old
+EachStateHasOneQuery = (old : State) → HasOnePair (Asks old.phase old)
 
 -- ---- whole answers
 
@@ -88,6 +78,26 @@ pub record AnswersWhole (asked : State) (pdus : List Pdu) (rows : RowMap) (done 
   pub serial : ℕ
   pub ends : Client whole (EndOfData last_session serial) (Apply (Whole rows)) done
 
--- the rows handed out are those kept then, and only customers of these PDUs have one
+-- the last of these PDUs that names the customer
+pub record IsLast (pdus : List Pdu) (customer : ℕ) (last : Pdu) : Type 0 where
+  pub front : List Pdu
+  pub behind : List Pdu
+  pub whole : pdus ≡ front ++ last ∷ behind
+  pub names : Names last customer
+  pub no_more : AreNamed behind customer → ⊥
+
+-- the row that a PDU gives the customer that it names: the set of the announced providers less 0, or none where it withdraws
+abbrev pub GivesRow : Pdu → Option (List ℕ) → Type 0
+GivesRow (Aspa true customer providers) row = (set : List ℕ) × IsSetOf (without_zero providers) set × (row ≡ Some set)
+GivesRow (Aspa false customer providers) row = row ≡ None
+GivesRow pdu row = ⊥
+
+-- The rows handed out are those kept then. Each customer has the row of the last PDU that names it, whatever came between; one that is
+-- named by none has no row.
+pub record IsWholeAnswer (pdus : List Pdu) (rows kept : RowMap) : Type 0 where
+  pub kept_is : kept ≡ rows
+  pub each : (q : ℕ) (last : Pdu) → IsLast pdus q last → GivesRow last (map.get rows q)
+  pub only : (q : ℕ) → IsSome (map.get rows q) → AreNamed pdus q
+
 abbrev pub WholeAnswerIsWhatWasAnnounced : Type 0
-WholeAnswerIsWhatWasAnnounced = (asked done : State) (pdus : List Pdu) (rows : RowMap) → AnswersWhole asked pdus rows done → (done.rows ≡ rows) × ((q : ℕ) → IsSome (map.get rows q) → AreNamed pdus q)
+WholeAnswerIsWhatWasAnnounced = (asked done : State) (pdus : List Pdu) (rows : RowMap) → AnswersWhole asked pdus rows done → IsWholeAnswer pdus rows done.rows

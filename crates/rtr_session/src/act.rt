@@ -1,6 +1,6 @@
 //! The phases of a client, and what it does.
 ghost use Rattle.std.specs.Prelude.{◌≡◌};
-ghost use Rattle.rtr_session.specs.Client.{code_sent};
+ghost use Rattle.rtr_session.specs.Client.{code_on_end};
 
 use path_model::{Patch, Rows};
 use std::error::Error;
@@ -69,7 +69,7 @@ pub enum Act {
 impl Ending {
     /// The code of the error report that is due (draft-ietf-sidrops-8210bis, section 12); `None` exactly for `PeerReported`.
     pub fn report(self) -> Option<u16>
-        ensures { result ≡ code_sent self }
+        ensures { result ≡ code_on_end self }
     {
         match self {
             Ending::Unexpected => Some(0),

@@ -16,7 +16,8 @@ pub fn patch_is_what_was_named()
     ensures { PatchIsWhatWasNamed }
 {}
 
-/// An answer with everything gives rows for customers that it named alone, whatever was kept before.
+/// An answer with everything gives each customer that it named the row of the last PDU that names it, and no other customer one,
+/// whatever was kept before.
 pub fn whole_answer_is_what_was_announced()
     ensures { WholeAnswerIsWhatWasAnnounced }
 {}

@@ -1,5 +1,5 @@
 use Rattle.std.proofs.Common.{sym, ap, ◌∙◌, rules}
-use Rattle.mrt_reader.specs.Peers.{peer_at}
+use Rattle.mrt_reader.specs.Readers.{peer_at}
 use Rattle.mrt_reader.proofs.PeerLemmas.{with_front, front-step, front-end, front-none, peer_shortens}
 use Rattle.bgp_attrs.specs.Joined.{items_of}
 use Rattle.mrt_reader.proofs.table.peers_of.Goals as goal

@@ -1,6 +1,6 @@
 use Rattle.std.proofs.Common.{◌≡◌, [], length}
 use Rattle.bgp_attrs.specs.Joined.{items_of}
-use Rattle.mrt_reader.specs.Peers.{peer_at}
+use Rattle.mrt_reader.specs.Readers.{peer_at}
 use Rattle.mrt_reader.proofs.PeerLemmas.{with_front}
 use Rattle.mrt_reader.proofs.table.peers_of.Given as goal
 

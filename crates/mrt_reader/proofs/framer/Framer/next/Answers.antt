@@ -1,20 +1,28 @@
-use Rattle.std.proofs.Common.{◌+◌, take, drop, Some, Ok, subst, refl, ap, ◌∙◌}
-use Rattle.mrt_reader.specs.Headed.{head_of, IsHeaded}
+use Rattle.std.proofs.Common.{List, ℕ, ◌≡◌, ◌+◌, ◌-◌, ◌++◌, length, take, drop, Some, Ok, subst, sym, refl, ap, ◌∙◌}
 use Rattle.std.specs.declared.option.Option.{Option}
+use Rattle.held_bytes.specs.Units.{Begins}
+use Rattle.mrt_reader.specs.Headed.{head_of, IsHeaded}
 use Rattle.mrt_reader.specs.declared.heading.Heading.{Heading}
+use Rattle.mrt_reader.specs.Records.{IsRecord}
 use Rattle.mrt_reader.proofs.RecordLemmas.{next_record}
 use Rattle.mrt_reader.proofs.framer.Framer.next.Goals as goal
 
 pub returns-in-Ok-Some : goal.returns-in-Ok-Some
 returns-in-Ok-Some c =
-    let body = c.split_at-in-Ok-Some-2.ensures.front ∙ ap (take c.in-Ok-Some.head.size) (c.split_at-in-Ok-Some.ensures.back ∙ ap (drop (c.self.inside.at + 12)) c.as_slice-in-Ok-Some.ensures.value) in
-    let held = c.split_at.ensures.back ∙ ap (drop c.self.inside.at) c.as_slice.ensures.value in
-    let is : IsHeaded c.split_at.result.1.now (Ok (Some c.in-Ok-Some.head)) = subst (λ (o : Option Heading). IsHeaded c.split_at.result.1.now (Ok o)) c.in-Ok-Some.field-0-is c.in-Ok-Some.ensures in (
+    let head = c.in-Ok-Some.head in
+    let old = c.args.self.now in
+    let kept = c.self.inside.held.taken in
+    let held : c.front.result.now ≡ old = c.front.ensures ∙ c.self.view_is in
+    let is : IsHeaded c.front.result.now (Ok (Some head)) = subst (λ (o : Option Heading). IsHeaded c.front.result.now (Ok o)) c.in-Ok-Some.field-0-is c.in-Ok-Some.ensures in
+    let here : IsHeaded old (Ok (Some head)) = subst (λ (l : List ℕ). IsHeaded l (Ok (Some head))) held is in
+    let taken = c.taken-taken.ensures ∙ c.drop_front.ensures.taken ∙ ap (λ (l : List ℕ). kept ++ take (12 + head.size) l) c.self.view_is in
+    let body = c.split_at.ensures.back ∙ ap (λ (t : List ℕ). drop (length t - head.size) t) taken in
+    let left = c.drop_front.ensures.left ∙ ap (λ (l : List ℕ). drop (12 + head.size) l) c.self.view_is in
+    let begins = next_record kept old c.split_at.result.1.now (head_of head) here.0 here.1 here.2 body in (
       (
         refl,
         λ _. tt,
-        next_record c.self.inside.held.items c.self.inside.at c.args.self.now c.split_at.result.1.now c.split_at-in-Ok-Some-2.result.0.now (head_of c.in-Ok-Some.head)
-            c.self.view_is held is.0 is.1 is.2 body,
+        subst (λ (rest : List ℕ). Begins IsRecord old (record { stamp = head.stamp; kind = head.kind; subkind = head.subkind; body = c.split_at.result.1.now }) rest) (sym left) begins,
       ),
       record { taken = tt },
     )

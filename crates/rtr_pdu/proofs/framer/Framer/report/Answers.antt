@@ -1,20 +1,20 @@
 use Rattle.std.proofs.Common.{Some, rules, ◌≡◌, List, ℕ, false, nat_eq, sym, subst}
 use Rattle.std.specs.Prelude.{slice_index}
 use Rattle.rtr_pdu.specs.declared.pdu.PduFault.TheVariants.{PduType, NoProviders}
-use Rattle.rtr_pdu.specs.Units.{IsRefused, code_sent}
+use Rattle.rtr_pdu.specs.Units.{IsRefused, code_on_refusal}
 use Rattle.rtr_pdu.proofs.RefusalLemmas.{codes_same}
 use Rattle.rtr_pdu.proofs.framer.Framer.report.Goals as goal
 
 pub returns-in-Err-PduType : goal.returns-in-Err-PduType
 returns-in-Err-PduType c =
-    let same : c.split_at.result.1.now ≡ c.args.self.now = search rules in
-    let byte : nat_eq (slice_index c.split_at.result.1.now 1) 10 ≡ false = search rules in
-    let err : IsRefused c.split_at.result.1.now PduType = (rw c.in-Err-PduType.field-0-is at c.in-Err-PduType.ensures.err).0 in
-    λ fault known refused. subst (λ (l : List ℕ). Some 5 ≡ code_sent l fault) same (codes_same c.split_at.result.1.now PduType byte (λ e. let none : ⊥ = cc in none) err fault known (subst (λ (l : List ℕ). IsRefused l fault) (sym same) refused))
+    let same : c.front-held.result.now ≡ c.args.self.now = search rules in
+    let byte : nat_eq (slice_index c.front-held.result.now 1) 10 ≡ false = search rules in
+    let err : IsRefused c.front-held.result.now PduType = (rw c.in-Err-PduType.field-0-is at c.in-Err-PduType.ensures.err).0 in
+    λ fault known refused. subst (λ (l : List ℕ). Some 5 ≡ code_on_refusal l fault) same (codes_same c.front-held.result.now PduType byte (λ e. let none : ⊥ = cc in none) err fault known (subst (λ (l : List ℕ). IsRefused l fault) (sym same) refused))
 
 pub returns-in-Err-NoProviders : goal.returns-in-Err-NoProviders
 returns-in-Err-NoProviders c =
-    let same : c.split_at.result.1.now ≡ c.args.self.now = search rules in
-    let byte : nat_eq (slice_index c.split_at.result.1.now 1) 10 ≡ false = search rules in
-    let err : IsRefused c.split_at.result.1.now NoProviders = (rw c.in-Err-NoProviders.field-0-is at c.in-Err-NoProviders.ensures.err).0 in
-    λ fault known refused. subst (λ (l : List ℕ). Some 0 ≡ code_sent l fault) same (codes_same c.split_at.result.1.now NoProviders byte (λ e. let none : ⊥ = cc in none) err fault known (subst (λ (l : List ℕ). IsRefused l fault) (sym same) refused))
+    let same : c.front-held.result.now ≡ c.args.self.now = search rules in
+    let byte : nat_eq (slice_index c.front-held.result.now 1) 10 ≡ false = search rules in
+    let err : IsRefused c.front-held.result.now NoProviders = (rw c.in-Err-NoProviders.field-0-is at c.in-Err-NoProviders.ensures.err).0 in
+    λ fault known refused. subst (λ (l : List ℕ). Some 0 ≡ code_on_refusal l fault) same (codes_same c.front-held.result.now NoProviders byte (λ e. let none : ⊥ = cc in none) err fault known (subst (λ (l : List ℕ). IsRefused l fault) (sym same) refused))
