@@ -1,8 +1,10 @@
 //! The cases.
-ghost use Rattle.std.specs.Prelude.{◌≡◌, ◌≤◌, ◌+◌, ℕ, true, false, [], None, Some, IfOk, IfNone, IfSome, OnOk};
-ghost use Rattle.shared_cases.specs.Cases.{at, verdict_or, marked_or, marked_now, Rewrites, IsAbsent, IsStoredAs, AreDistinct, IsIndexOf, IsShown};
-ghost use Rattle.shared_cases.specs.Differed.{AreSettledOrDiffered};
-ghost use Rattle.shared_cases.specs.Grounds.{grounds};
+ghost use Rattle.std.specs.Prelude.{◌≡◌, ◌≤◌, ◌+◌, ℕ, true, false, [], length, None, Some, IfOk, IfNone, IfSome, OnOk};
+ghost use Rattle.std.specs.List.Sorted.{IsStrictlySortedBy};
+ghost use Rattle.std.specs.Ordering.{nat_cmp};
+ghost use Rattle.shared_cases.specs.Cases.{at, verdict_or, marked_or, marked_now, AreSameCases, Rewrites, IsAbsent, IsStoredAs, AreDistinct, IsIndexOf, IsShown};
+ghost use Rattle.shared_cases.specs.Differed.{AreNewlyDiffering, AreSettledOrDiffered, HaveDiffered};
+ghost use Rattle.shared_cases.specs.Grounds.{grounds, IsJudged};
 ghost use Rattle.shared_cases.specs.Names.{name_of};
 ghost use Rattle.shared_cases.specs.Numbers.{has};
 ghost use Rattle.shared_cases.specs.Taking.{is_shared, left, lowered, raised, new_case, Takes};
@@ -13,6 +15,7 @@ use crate::hints::Hints;
 use crate::names::Names;
 use crate::numbers::CaseNumbers;
 use crate::peers::Peers;
+use crate::rejudging::rejudge_all;
 use crate::slots;
 use av_base::{NoMemory, Steps};
 use hop_index::HopIndex;
@@ -27,7 +30,6 @@ use vap_table::Vaps;
 
 /// The cases that routes share, each under a number below 2^32 for as long as some route has it. A case takes about 140 bytes, 4 for
 /// each AS of its path, and what its hops take in the index; one that got another verdict since the last mark, 8 to 18 bytes more.
-#[derive(Drop)]
 pub struct SharedCases {
     pub(crate) alloc: Global,
     pub(crate) slab: Slab<StoredCase>,
@@ -38,6 +40,21 @@ pub struct SharedCases {
     pub(crate) differed: CaseNumbers,
     // where a case is looked for first
     pub(crate) hints: Hints,
+}
+
+/// A function of its own, so that what lets the cases go needn't say how.
+impl Drop for SharedCases {
+    fn drop(self) {
+        let SharedCases {
+            alloc: _alloc,
+            slab: _slab,
+            names: _names,
+            index: _index,
+            peers: _peers,
+            differed: _differed,
+            hints: _hints,
+        } = self;
+    }
 }
 
 impl Model for SharedCases {
@@ -190,6 +207,47 @@ impl SharedCases {
             differed: CaseNumbers::new(alloc),
             hints,
         }
+    }
+
+    // These cases are judged anew, once each.
+    pub(crate) fn rejudge<L: Ledger>(
+        self,
+        touched: &CaseNumbers,
+        table: &Vaps,
+        roles: &Roles,
+        steps: &mut Steps<L>,
+    ) -> Result<(SharedCases, CaseNumbers), NoMemory>
+        ensures judged { IfOk result (λ r. (n : ℕ) → has touched.now n ≡ true
+            → IsJudged (grounds table.now roles.now) (at r.0 n)) }
+        ensures others { IfOk result (λ r. (n : ℕ) → has touched.now n ≡ false
+            → at r.0 n ≡ at self n) }
+        ensures same { IfOk result (λ r. AreSameCases self r.0) }
+        ensures differed { IfOk result (λ r. HaveDiffered self r.0) }
+        ensures newly { IfOk result (λ r. AreNewlyDiffering self r.0 r.1) }
+        ensures rising { IsStrictlySortedBy nat_cmp touched.now }
+        ensures ticks { steps.new ≤ steps.old + length touched.now }
+    {
+        let SharedCases {
+            alloc,
+            mut slab,
+            names,
+            index,
+            peers,
+            mut differed,
+            hints,
+        } = self;
+        let newly = rejudge_all(alloc, &mut slab, touched, table, roles, steps)?;
+        differed.insert_all(&newly)?;
+        let cases = SharedCases {
+            alloc,
+            slab,
+            names,
+            index,
+            peers,
+            differed,
+            hints,
+        };
+        Ok((cases, newly))
     }
 
     // The hint, if it is the number of the case of this name.

@@ -100,51 +100,10 @@ impl SharedCases {
         let (cases, newly) = self.rejudge(&touched, table, roles, steps)?;
         Ok((cases, newly))
     }
-
-    // These cases are judged anew, once each.
-    fn rejudge<L: Ledger>(
-        self,
-        touched: &CaseNumbers,
-        table: &Vaps,
-        roles: &Roles,
-        steps: &mut Steps<L>,
-    ) -> Result<(SharedCases, CaseNumbers), NoMemory>
-        ensures judged { IfOk result (λ r. (n : ℕ) → has touched.now n ≡ true
-            → IsJudged (grounds table.now roles.now) (at r.0 n)) }
-        ensures others { IfOk result (λ r. (n : ℕ) → has touched.now n ≡ false
-            → at r.0 n ≡ at self n) }
-        ensures same { IfOk result (λ r. AreSameCases self r.0) }
-        ensures differed { IfOk result (λ r. HaveDiffered self r.0) }
-        ensures newly { IfOk result (λ r. AreNewlyDiffering self r.0 r.1) }
-        ensures rising { IsStrictlySortedBy nat_cmp touched.now }
-        ensures ticks { steps.new ≤ steps.old + length touched.now }
-    {
-        let SharedCases {
-            alloc,
-            mut slab,
-            names,
-            index,
-            peers,
-            mut differed,
-            hints,
-        } = self;
-        let newly = rejudge_all(alloc, &mut slab, touched, table, roles, steps)?;
-        differed.insert_all(&newly)?;
-        let cases = SharedCases {
-            alloc,
-            slab,
-            names,
-            index,
-            peers,
-            differed,
-            hints,
-        };
-        Ok((cases, newly))
-    }
 }
 
 // These cases are judged anew, and the answer is which of them differ from now on and hadn't before.
-fn rejudge_all<L: Ledger>(
+pub(crate) fn rejudge_all<L: Ledger>(
     alloc: Global,
     slab: &mut Slab<StoredCase>,
     touched: &CaseNumbers,

@@ -23,13 +23,23 @@ use std::marker::Model;
 
 /// The table of validated ASPA payloads (draft-ietf-sidrops-aspa-verification) with all its parts: named sources, the filters and assertions of
 /// a SLURM file (in the manner of RFC 8416), and those by hand. As a [`Table`] it is the current table of these parts.
-#[derive(Drop)]
 pub struct Vaps {
     parts: HeldParts,
     // the current rows, made from the parts
     current: Current,
     // the tally of each customer of which something has a row, made from the parts
     tallies: Tallies,
+}
+
+/// A function of its own, so that what lets a table go needn't say how.
+impl Drop for Vaps {
+    fn drop(self) {
+        let Vaps {
+            parts: _parts,
+            current: _current,
+            tallies: _tallies,
+        } = self;
+    }
 }
 
 impl Model for Vaps {
