@@ -1,69 +1,66 @@
-//! A run over the forms in memory, from its script and files to its status and text.
+//! A run over the forms in memory, from what it is given to what it wrote and sent.
 ghost use Rattle.std.specs.Prelude.{◌≡◌};
 
+use crate::given::Given;
+use crate::vectors::Named;
 use aspa_top::run;
-use av_base::{MemShelf, MemSink, MemSource, NoLinks, NoMemory, Plan, PlanStep, Steps};
+use av_base::{Links, MemLinks, MemShelf, MemSink, MemSource, NoMemory, Plan, PlanStep, Steps};
 use std::alloc::Global;
 use std::marker::Brand;
 use std::sync::ledger::{Blank, Ledger};
 
-/// Names on a shelf, each with the pieces that its bytes are made of.
-pub type Files<'a> = &'a [(&'a str, &'a [&'a [u8]])];
-
-/// What the calls of each form do in turn. Behind the end of a plan each call moves all that it can.
-#[derive(Clone, Copy)]
-pub struct Plans<'a> {
-    pub script: &'a [PlanStep],
-    pub shelf: &'a [PlanStep],
-    pub sink: &'a [PlanStep],
+/// How a run ended: its status, what it wrote, and what it sent on each of its connections.
+#[derive(Drop)]
+pub struct Ended {
+    pub status: u8,
+    pub text: Vec<u8>,
+    pub sent: Vec<Vec<u8>>,
 }
 
-/// No call fails.
-pub const SOUND: Plans<'static> = Plans {
-    script: &[],
-    shelf: &[],
-    sink: &[],
-};
-
-/// The status of a run of a script over these files, and what was written.
-pub fn outcome(
-    alloc: Global,
-    words: &[&str],
-    script: &[u8],
-    files: Files<'_>,
-    plans: Plans<'_>,
-) -> Result<(u8, Vec<u8>), NoMemory> {
-    let words = owned(alloc, words)?;
-    let mut source = MemSource::new(alloc, script, Plan::new(alloc, plans.script)?)?;
-    let mut shelf = shelf_of(alloc, files, plans.shelf)?;
-    let mut sink = MemSink::new(alloc, Plan::new(alloc, plans.sink)?);
-    let status = status_of(alloc, &words, &mut source, &mut shelf, &mut sink);
-    Ok((status, Vec::from_slice(alloc, sink.written())?))
+/// Makes a run.
+pub fn outcome(alloc: Global, given: &Given) -> Result<Ended, NoMemory> {
+    let plans = &given.plans;
+    let mut source = MemSource::new(alloc, &given.script, Plan::new(alloc, &plans.script)?)?;
+    let mut shelf = shelf_of(alloc, &given.files, &plans.shelf)?;
+    let mut links = links_of(alloc, &given.coming, &plans.links)?;
+    let mut sink = MemSink::new(alloc, Plan::new(alloc, &plans.sink)?);
+    let words = &given.words;
+    let status = status_of(alloc, words, &mut source, &mut shelf, &mut links, &mut sink);
+    Ok(Ended {
+        status,
+        text: Vec::from_slice(alloc, sink.written())?,
+        sent: sent_on(alloc, &mut links)?,
+    })
 }
 
-fn owned(alloc: Global, words: &[&str]) -> Result<Vec<String>, NoMemory> {
-    let mut all = Vec::new(alloc);
-    for word in words {
-        all.push(String::from_str(alloc, word)?)?;
-    }
-    Ok(all)
-}
-
-fn shelf_of(alloc: Global, files: Files<'_>, steps: &[PlanStep]) -> Result<MemShelf, NoMemory> {
-    let mut shelf = MemShelf::new(alloc, Plan::new(alloc, steps)?);
-    for (name, pieces) in files {
-        shelf.put(name, &joined(alloc, pieces)?)?;
+fn shelf_of(alloc: Global, files: &[Named], plan: &[PlanStep]) -> Result<MemShelf, NoMemory> {
+    let mut shelf = MemShelf::new(alloc, Plan::new(alloc, plan)?);
+    for file in files {
+        shelf.put(file.name.as_str(), &file.bytes)?;
     }
     Ok(shelf)
 }
 
-/// These pieces one after another.
-pub fn joined(alloc: Global, pieces: &[&[u8]]) -> Result<Vec<u8>, NoMemory> {
-    let mut bytes = Vec::new(alloc);
-    for piece in pieces {
-        bytes.extend_from_slice(piece)?;
+fn links_of(alloc: Global, coming: &[Named], plan: &[PlanStep]) -> Result<MemLinks, NoMemory> {
+    let mut links = MemLinks::new(alloc, Plan::new(alloc, plan)?);
+    for next in coming {
+        links.put(next.name.as_str(), &next.bytes)?;
     }
-    Ok(bytes)
+    Ok(links)
+}
+
+// What was sent on each connection. One more of them is made, since its number tells how many there were; behind a plan's end that can't
+// fail but for want of memory.
+fn sent_on(alloc: Global, links: &mut MemLinks) -> Result<Vec<Vec<u8>>, NoMemory> {
+    links.put("", b"")?;
+    let Ok(count) = links.connect("") else {
+        return Err(NoMemory);
+    };
+    let mut all = Vec::new(alloc);
+    for link in 0..count {
+        all.push(Vec::from_slice(alloc, links.sent(link))?)?;
+    }
+    Ok(all)
 }
 
 // Runs with a counter that is made here.
@@ -72,9 +69,10 @@ fn status_of(
     words: &Vec<String>,
     script: &mut MemSource,
     shelf: &mut MemShelf,
+    links: &mut MemLinks,
     sink: &mut MemSink,
 ) -> u8 {
-    run_counted::<Brand>(alloc, words, script, shelf, sink, Blank::new(1))
+    run_counted::<Brand>(alloc, words, script, shelf, links, sink, Blank::new(1))
 }
 
 // Runs with a counter of steps of its own.
@@ -83,6 +81,7 @@ fn run_counted<L: Ledger>(
     words: &Vec<String>,
     script: &mut MemSource,
     shelf: &mut MemShelf,
+    links: &mut MemLinks,
     sink: &mut MemSink,
     blank: Blank,
 ) -> u8
@@ -91,6 +90,5 @@ fn run_counted<L: Ledger>(
     requires one { L.parts ≡ 1 }
 {
     let mut steps = Steps::<L>::new(blank);
-    let mut links = NoLinks::new();
-    run(alloc, words, script, shelf, &mut links, sink, &mut steps)
+    run(alloc, words, script, shelf, links, sink, &mut steps)
 }

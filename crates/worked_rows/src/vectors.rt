@@ -1,56 +1,132 @@
-//! Payloads, a SLURM file, and records of dumps, byte by byte.
+//! Bytes that have names, and pieces of them.
+use crate::spelling::{number_of, parted, put_text};
+use crate::trouble::Trouble;
+use std::alloc::Global;
 
-/// Customer 64496 attests the provider 64497.
-pub const ONE: &[u8] =
-    b"\x30\x11\xa0\x03\x02\x01\x01\x02\x03\x00\xfb\xf0\x30\x05\x02\x03\x00\xfb\xf1";
+/// A name, and bytes: of a vector, of a file, or those that a connection to a place receives.
+#[derive(Drop)]
+pub struct Named {
+    pub name: String,
+    pub bytes: Vec<u8>,
+}
 
-/// The same customer attests 64498.
-pub const OTHER: &[u8] =
-    b"\x30\x11\xa0\x03\x02\x01\x01\x02\x03\x00\xfb\xf0\x30\x05\x02\x03\x00\xfb\xf2";
+/// Which turn of a row it is, and how many bytes the sink's calls before that one move.
+#[derive(Clone, Copy)]
+pub struct Turn {
+    pub number: usize,
+    pub moved: usize,
+}
 
-/// The first again, with a needless zero byte in front of its customer.
-pub const LONG_NUMBER: &[u8] =
-    b"\x30\x12\xa0\x03\x02\x01\x01\x02\x04\x00\x00\xfb\xf0\x30\x05\x02\x03\x00\xfb\xf1";
+impl Turn {
+    /// The first turn, before which nothing is moved.
+    pub const FIRST: Turn = Turn {
+        number: 1,
+        moved: 0,
+    };
+}
 
-/// A SLURM file that filters customer 64496 and asserts its provider 64499.
-pub const SLURM: &[u8] =
-    b"{\"slurmVersion\":2,\"validationOutputFilters\":{\"prefixFilters\":[],\"bgpsecFilters\":[],\"aspaFilters\":[{\"customerAsn\":64496}]},\"locallyAddedAssertions\":{\"prefixAssertions\":[],\"bgpsecAssertions\":[],\"aspaAssertions\":[{\"customerAsn\":64496,\"providerAsns\":[64499]}]}}";
+/// All vectors, each under a name of its own.
+#[derive(Drop)]
+pub struct Vectors {
+    alloc: Global,
+    all: Vec<Named>,
+}
 
-/// A peer table: 192.0.2.1 in AS 64501 and 192.0.2.2 in AS 64502.
-pub const PEERS: &[u8] =
-    b"\x00\x00\x00\x00\x00\x0d\x00\x01\x00\x00\x00\x22\xc0\x00\x02\xfe\x00\x00\x00\x02\x02\x0a\x00\x00\x01\xc0\x00\x02\x01\x00\x00\xfb\xf5\x02\x0a\x00\x00\x02\xc0\x00\x02\x02\x00\x00\xfb\xf6";
+impl Vectors {
+    /// None yet.
+    pub fn new(alloc: Global) -> Vectors {
+        Vectors {
+            alloc,
+            all: Vec::new(alloc),
+        }
+    }
 
-/// 198.51.100.0/24 from the first peer, by 64501 and then 64500.
-pub const ROUTE: &[u8] =
-    b"\x00\x00\x00\x00\x00\x0d\x00\x02\x00\x00\x00\x1f\x00\x00\x00\x00\x18\xc6\x33\x64\x00\x01\x00\x00\x00\x00\x00\x00\x00\x0d\x40\x02\x0a\x02\x02\x00\x00\xfb\xf5\x00\x00\xfb\xf4";
+    /// Adds a vector, under a name that none has.
+    pub fn add(&mut self, vector: Named) -> Result<(), Trouble> {
+        if self.find(vector.name.as_str()).is_ok() {
+            return Err(Trouble::Line);
+        }
+        self.all.push(vector)?;
+        Ok(())
+    }
 
-/// 203.0.113.0/24 from the first peer, the second, and the sixth, which the table doesn't have.
-pub const BAD_INDEX: &[u8] =
-    b"\x00\x00\x00\x00\x00\x0d\x00\x02\x00\x00\x00\x49\x00\x00\x00\x01\x18\xcb\x00\x71\x00\x03\x00\x00\x00\x00\x00\x00\x00\x0d\x40\x02\x0a\x02\x02\x00\x00\xfb\xf5\x00\x00\xfb\xf4\x00\x01\x00\x00\x00\x00\x00\x0d\x40\x02\x0a\x02\x02\x00\x00\xfb\xf5\x00\x00\xfb\xf4\x00\x05\x00\x00\x00\x00\x00\x0d\x40\x02\x0a\x02\x02\x00\x00\xfb\xf5\x00\x00\xfb\xf4";
+    /// Adds a vector: its name, a blank, and its text.
+    pub fn define(&mut self, definition: &str) -> Result<(), Trouble> {
+        let (name, text) = parted(definition, ' ')?;
+        let mut bytes = Vec::new(self.alloc);
+        put_text(&mut bytes, text)?;
+        self.add(Named {
+            name: String::from_str(self.alloc, name)?,
+            bytes,
+        })
+    }
 
-/// The first peer withdraws 198.51.100.0/24.
-pub const WITHDRAWAL: &[u8] =
-    b"\x00\x00\x00\x00\x00\x10\x00\x04\x00\x00\x00\x2f\x00\x00\xfb\xf5\x00\x00\xfb\xff\x00\x00\x00\x01\xc0\x00\x02\x01\xc0\x00\x02\xfe\xff\xff\xff\xff\xff\xff\xff\xff\xff\xff\xff\xff\xff\xff\xff\xff\x00\x1b\x02\x00\x04\x18\xc6\x33\x64\x00\x00";
+    /// Adds a vector: its name, and pieces that don't depend on a turn.
+    pub fn join(&mut self, definition: &str) -> Result<(), Trouble> {
+        let vector = self.named(definition, Turn::FIRST)?;
+        self.add(vector)
+    }
 
-/// The first peer's session goes from Established to Idle.
-pub const SESSION_END: &[u8] =
-    b"\x00\x00\x00\x00\x00\x10\x00\x05\x00\x00\x00\x18\x00\x00\xfb\xf5\x00\x00\xfb\xff\x00\x00\x00\x01\xc0\x00\x02\x01\xc0\x00\x02\xfe\x00\x06\x00\x01";
+    /// A name, and the pieces behind it.
+    pub fn named(&self, text: &str, turn: Turn) -> Result<Named, Trouble> {
+        let (name, pieces) = text.split_once(' ').unwrap_or((text, ""));
+        Ok(Named {
+            name: String::from_str(self.alloc, name)?,
+            bytes: self.joined(pieces, turn)?,
+        })
+    }
 
-/// The first peer announces 2001:db8::/32.
-pub const ANNOUNCEMENT: &[u8] =
-    b"\x00\x00\x00\x00\x00\x10\x00\x04\x00\x00\x00\x55\x00\x00\xfb\xf5\x00\x00\xfb\xff\x00\x00\x00\x01\xc0\x00\x02\x01\xc0\x00\x02\xfe\xff\xff\xff\xff\xff\xff\xff\xff\xff\xff\xff\xff\xff\xff\xff\xff\x00\x41\x02\x00\x00\x00\x2a\x40\x02\x0a\x02\x02\x00\x00\xfb\xf5\x00\x00\xfb\xf4\x80\x0e\x1a\x00\x02\x01\x10\x20\x01\x0d\xb8\x00\x00\x00\x00\x00\x00\x00\x00\x00\x00\x00\x01\x00\x20\x20\x01\x0d\xb8";
+    /// The bytes of pieces.
+    pub fn joined(&self, pieces: &str, turn: Turn) -> Result<Vec<u8>, Trouble> {
+        let mut bytes = Vec::new(self.alloc);
+        self.put_pieces(&mut bytes, pieces, turn)?;
+        Ok(bytes)
+    }
 
-/// 198.51.100.0/24 from the first peer, in the format before peer tables.
-pub const OLD_ROUTE: &[u8] =
-    b"\x00\x00\x00\x00\x00\x0c\x00\x01\x00\x00\x00\x1f\x00\x00\x00\x00\xc6\x33\x64\x00\x18\x01\x00\x00\x00\x00\xc0\x00\x02\x01\xfb\xf5\x00\x09\x40\x02\x06\x02\x02\xfb\xf5\xfb\xf4";
+    /// Appends the bytes of pieces, which blanks part.
+    pub fn put_pieces(&self, out: &mut Vec<u8>, pieces: &str, turn: Turn) -> Result<(), Trouble> {
+        for piece in pieces.split_whitespace() {
+            self.put_piece(out, piece, turn)?;
+        }
+        Ok(())
+    }
 
-/// The end of the session once more, with microseconds.
-pub const TIMED_END: &[u8] =
-    b"\x00\x00\x00\x00\x00\x11\x00\x05\x00\x00\x00\x1c\x00\x00\x00\x01\x00\x00\xfb\xf5\x00\x00\xfb\xff\x00\x00\x00\x01\xc0\x00\x02\x01\xc0\x00\x02\xfe\x00\x06\x00\x01";
+    // `NAME`, and `COUNT*` before it for how many times it stands there, or `:LENGTH` behind it for how many of its first bytes do.
+    fn put_piece(&self, out: &mut Vec<u8>, piece: &str, turn: Turn) -> Result<(), Trouble> {
+        let (count, piece) = match piece.split_once('*') {
+            Some((count, piece)) => (number_of(count)?, piece),
+            None => (1, piece),
+        };
+        let (name, length) = match piece.split_once(':') {
+            Some((name, length)) => (name, length_of(length, turn)?),
+            None => (piece, usize::MAX),
+        };
+        let bytes = self.find(name)?;
+        let (front, _) = bytes.split_at(length.min(bytes.len()));
+        for _ in 0..count {
+            out.extend_from_slice(front)?;
+        }
+        Ok(())
+    }
 
-/// The announcement without its AS_PATH.
-pub const PATHLESS: &[u8] =
-    b"\x00\x00\x00\x00\x00\x10\x00\x04\x00\x00\x00\x48\x00\x00\xfb\xf5\x00\x00\xfb\xff\x00\x00\x00\x01\xc0\x00\x02\x01\xc0\x00\x02\xfe\xff\xff\xff\xff\xff\xff\xff\xff\xff\xff\xff\xff\xff\xff\xff\xff\x00\x34\x02\x00\x00\x00\x1d\x80\x0e\x1a\x00\x02\x01\x10\x20\x01\x0d\xb8\x00\x00\x00\x00\x00\x00\x00\x00\x00\x00\x00\x01\x00\x20\x20\x01\x0d\xb8";
+    fn find(&self, name: &str) -> Result<&[u8], Trouble> {
+        for vector in self.all.iter() {
+            if vector.name.as_str() == name {
+                return Ok(vector.bytes.as_slice());
+            }
+        }
+        Err(Trouble::Line)
+    }
+}
 
-/// A header whose body would have 4,194,305 bytes.
-pub const TOO_LONG: &[u8] = b"\x00\x00\x00\x00\x00\x0d\x00\x02\x00\x40\x00\x01";
+// A number, `k` for the turn's, `k-NUMBER` for so many less, or `moved` for what is moved before it.
+fn length_of(text: &str, turn: Turn) -> Result<usize, Trouble> {
+    match text {
+        "moved" => Ok(turn.moved),
+        "k" => Ok(turn.number),
+        _ => match text.strip_prefix("k-") {
+            Some(less) => Ok(turn.number.saturating_sub(number_of(less)?)),
+            None => number_of(text),
+        },
+    }
+}
