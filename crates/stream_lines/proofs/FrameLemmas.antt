@@ -3,7 +3,8 @@ use Rattle.std.proofs.Common.{◌≡◌, ◌≢◌, ℕ, ◌<◌, List, [], ◌�
 use Rattle.std.specs.Prelude.{slice_get}
 use Rattle.std.specs.Option.{option_map}
 use Rattle.std.specs.declared.option.Option.{Option}
-use Rattle.av_base.specs.Files.{Files, Opens, left_of, reads, opens}
+use Rattle.av_base.specs.Files.{Files, Opens, closes, left_of, reads, opens}
+use Rattle.av_base.proofs.FilesLemmas.{left_of-closes_other, named-closes}
 use Rattle.av_base.proofs.PlacesLemmas.{get-change_other}
 use Rattle.stream_lines.specs.Frames.{names_of, Leaves}
 
@@ -23,6 +24,17 @@ reads_names file n (Some told) = refl
 reads_others : (file n : ℕ) (old : Option Files) (other : ℕ) → other ≢ file → left_of (option_map (reads file n) old) other ≡ left_of old other
 reads_others file n None other differ = refl
 reads_others file n (Some told) other differ = get-change_other (drop n) file other told.left differ
+
+closes_others : (file : ℕ) (old : Option Files) (other : ℕ) → other ≢ file → left_of (option_map (closes file) old) other ≡ left_of old other
+closes_others file old other differ = left_of-closes_other old file other differ
+
+closes_names : (file : ℕ) (old : Option Files) → names_of (option_map (closes file) old) ≡ names_of old
+closes_names file old = named-closes old file
+
+-- a file that is let go leaves all others
+pub Leaves-closes : (file : ℕ) (old new : Option Files) → new ≡ option_map (closes file) old → Leaves (λ other. other ≢ file) old new
+Leaves-closes file old new is =
+    subst (λ (files : Option Files). Leaves (λ other. other ≢ file) old files) (sym is) (record { names = closes_names file old; files = closes_others file old })
 
 -- a read leaves all but its own file
 pub Leaves-reads : (file n : ℕ) (old new : Option Files) → new ≡ option_map (reads file n) old → Leaves (λ other. other ≢ file) old new

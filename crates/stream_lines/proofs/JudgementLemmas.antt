@@ -111,8 +111,8 @@ pub ticks_body : (asking : Asking) (dump : HeldDump) (progress : Progress) (file
     → (body : Body) (before after : ℕ) → next ≡ Record (Ok body) → after ≤ before + judged_by body → TicksWithinUnit asking dump progress files_old before after
 ticks_body asking dump progress files_old files_new held next comes body before after is few = record {
   within = λ open_yet old new text stands takes.
-      let came = (rw is at comes) old.dump.left stands.holds.left in
-      let reads : IsReading came.it old.dump.peers (Ok body) = subst (λ (p : Option (List Peer)). IsReading came.it p (Ok body)) stands.holds.peers came.reads in
+      let came = (rw is at comes) old.dump.left (stands.holds.left open_yet) in
+      let reads : IsReading came.it old.dump.peers (Ok body) = subst (λ (p : Option (List Peer)). IsReading came.it p (Ok body)) (stands.holds.peers open_yet) came.reads in
       let cost = unit_costs asking old new text came.it came.rest body (sym stands.holds.over ∙ open_yet) came.begins reads takes in
       more_steps before after old.judgements new.judgements (judged_by body) few cost;
 }

@@ -1,5 +1,6 @@
 pub mod ChangesLemmas
 pub mod FrameLemmas
+pub mod HoldingLemmas
 pub mod JudgementLemmas
 pub mod LawLemmas
 pub mod NextLemmas

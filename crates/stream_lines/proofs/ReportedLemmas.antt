@@ -24,14 +24,14 @@ use Rattle.stream_lines.specs.Rows.{rows_text, Reports, ReportsFront}
 
 -- ---- rows
 
-abbrev line_of : Key × Verdict → List ℕ
+abbrev pub line_of : Key × Verdict → List ℕ
 line_of row = row_line row.0 row.1
 
-rows_are_lines : (rows : List (Key × Verdict)) → rows_text rows ≡ lines_text (map line_of rows)
+pub rows_are_lines : (rows : List (Key × Verdict)) → rows_text rows ≡ lines_text (map line_of rows)
 rows_are_lines [] = refl
 rows_are_lines (row ∷ rows) = ap (λ (t : List ℕ). row_text row.0 row.1 ++ t) (rows_are_lines rows)
 
-rows_answer : (rows : List (Key × Verdict)) → All IsAnswerLine (map line_of rows)
+pub rows_answer : (rows : List (Key × Verdict)) → All IsAnswerLine (map line_of rows)
 rows_answer rows = All-map IsAnswerLine line_of rows (λ k row within. row_is_one_line _ _)
 
 pub rows_reported : (state : State) (old new : Option (List ℕ)) → Reports state old new → AddsQuiet old new
@@ -44,14 +44,14 @@ rows_reported_front state old new reports faults =
 
 -- ---- changes
 
-abbrev line_of_change : ChangedKey → List ℕ
+abbrev pub line_of_change : ChangedKey → List ℕ
 line_of_change change = change_line change.key change.before change.after
 
-changes_are_lines : (changes : List ChangedKey) → changes_text changes ≡ lines_text (map line_of_change changes)
+pub changes_are_lines : (changes : List ChangedKey) → changes_text changes ≡ lines_text (map line_of_change changes)
 changes_are_lines [] = refl
 changes_are_lines (change ∷ changes) = ap (λ (t : List ℕ). (line_of_change change ++ 10 ∷ []) ++ t) (changes_are_lines changes)
 
-changes_answer : (changes : List ChangedKey) → All IsAnswerLine (map line_of_change changes)
+pub changes_answer : (changes : List ChangedKey) → All IsAnswerLine (map line_of_change changes)
 changes_answer changes = All-map IsAnswerLine line_of_change changes (λ k change within. change_is_one_line _ _ _)
 
 pub changes_reported : (state : State) (old new : Option (List ℕ)) → Lists state old new → AddsQuiet old new

@@ -1,5 +1,5 @@
 -- Units taken one after another.
-use Rattle.std.proofs.Common.{◌≡◌, ℕ, ◌+◌, true, false, List, [], ◌++◌, Some, Ok, Err, refl, sym, ◌∙◌, ap, subst, append-nil}
+use Rattle.std.proofs.Common.{◌≡◌, ℕ, ◌+◌, true, false, List, [], ◌++◌, None, Some, Ok, Err, refl, sym, ◌∙◌, ap, subst, append-nil}
 use Rattle.std.specs.Io.KnownBytes.{prepend_known}
 use Rattle.std.specs.declared.option.Option.{Option}
 use Rattle.av_base.specs.Files.{Files, left_of}
@@ -40,6 +40,10 @@ reads_fault it peers Attributes cause known reads = reads
 reads_fault it peers NoPath cause known reads = reads
 reads_fault it peers NoMemory cause known reads = let none : ⊥ = cc in absurd none
 
+-- a dump that is over isn't open
+no_more : {A : Type 0} → true ≡ false → A
+no_more e = absurd (let never : ⊥ = cc in never)
+
 -- ---- one unit: what came next, with `held` held behind it
 
 module _ (asking : Asking) (dump : HeldDump) (progress : Progress) (files_old files_new : Option Files) (held : List ℕ) (next : Next)
@@ -49,25 +53,25 @@ module _ (asking : Asking) (dump : HeldDump) (progress : Progress) (files_old fi
       → mid ≡ record dump { held = held } → TookBody body mid new progress after → text_new ≡ text_old
       → TookUnit asking dump new progress files_old files_new text_old text_new after
   took_body (Peers table) mid new after text_old text_new is before took same = λ open_yet old stands.
-      let came = (rw is at comes) old.dump.left stands.holds.left in
+      let came = (rw is at comes) old.dump.left (stands.holds.left open_yet) in
       let now : new ≡ record dump { held = held; taken = dump.taken + 1; peers = Some table } = took.0 ∙ ap (λ (d : HeldDump). record d { taken = d.taken + 1; peers = Some table }) before in (
         record old { dump = record (after_unit old.dump came.rest) { peers = Some table } },
-        rw (now, took.1) (record { holds = record { left = came.told; taken = ap (λ (n : ℕ). n + 1) stands.holds.taken; peers = refl; over = stands.holds.over }; state = stands.state; passed = stands.passed; refused = stands.refused }),
+        rw (now, took.1) (record { holds = record { left = λ _. came.told; taken = ap (λ (n : ℕ). n + 1) stands.holds.taken; peers = λ _. refl; over = stands.holds.over }; state = stands.state; passed = stands.passed; refused = stands.refused }),
         record {
           text = [];
           takes = takes_next _ _ _ _ (sym stands.holds.over ∙ open_yet) (record {
             coming = Whole came.it came.rest;
             comes = came.begins;
-            takes = record { reading = Ok (Peers table); reads = subst (λ (p : Option (List Peer)). IsReading came.it p (Ok (Peers table))) stands.holds.peers came.reads; takes = (refl, refl) };
+            takes = record { reading = Ok (Peers table); reads = subst (λ (p : Option (List Peer)). IsReading came.it p (Ok (Peers table))) (stands.holds.peers open_yet) came.reads; takes = (refl, refl) };
           });
           added = same ∙ sym (append-nil text_old);
         },
       )
   took_body (RoutesBody changes) mid new after text_old text_new is before took same = λ open_yet old stands.
-      let came = (rw is at comes) old.dump.left stands.holds.left in
+      let came = (rw is at comes) old.dump.left (stands.holds.left open_yet) in
       let now : new ≡ record dump { held = held; taken = dump.taken + 1 } = took.0 ∙ ap (λ (d : HeldDump). record d { taken = d.taken + 1 }) before in (
         record old { dump = after_unit old.dump came.rest; state = took.1; judgements = old.judgements + announced changes },
-        rw (now, took.3) (record { holds = record { left = came.told; taken = ap (λ (n : ℕ). n + 1) stands.holds.taken; peers = stands.holds.peers; over = stands.holds.over }; state = refl; passed = stands.passed; refused = stands.refused }),
+        rw (now, took.3) (record { holds = record { left = λ _. came.told; taken = ap (λ (n : ℕ). n + 1) stands.holds.taken; peers = stands.holds.peers; over = stands.holds.over }; state = refl; passed = stands.passed; refused = stands.refused }),
         record {
           text = [];
           takes = takes_next _ _ _ _ (sym stands.holds.over ∙ open_yet) (record {
@@ -75,7 +79,7 @@ module _ (asking : Asking) (dump : HeldDump) (progress : Progress) (files_old fi
             comes = came.begins;
             takes = record {
               reading = Ok (RoutesBody changes);
-              reads = subst (λ (p : Option (List Peer)). IsReading came.it p (Ok (RoutesBody changes))) stands.holds.peers came.reads;
+              reads = subst (λ (p : Option (List Peer)). IsReading came.it p (Ok (RoutesBody changes))) (stands.holds.peers open_yet) came.reads;
               takes = (refl, (took.1, subst (λ (s : State). Happens s (Routes changes) took.1) stands.state took.2, refl));
             };
           });
@@ -83,16 +87,16 @@ module _ (asking : Asking) (dump : HeldDump) (progress : Progress) (files_old fi
         },
       )
   took_body Passed mid new after text_old text_new is before took same = λ open_yet old stands.
-      let came = (rw is at comes) old.dump.left stands.holds.left in
+      let came = (rw is at comes) old.dump.left (stands.holds.left open_yet) in
       let now : new ≡ record dump { held = held; taken = dump.taken + 1 } = took.0 ∙ ap (λ (d : HeldDump). record d { taken = d.taken + 1 }) before in (
         record old { dump = after_unit old.dump came.rest; passed = old.passed + 1 },
-        rw (now, took.1) (record { holds = record { left = came.told; taken = ap (λ (n : ℕ). n + 1) stands.holds.taken; peers = stands.holds.peers; over = stands.holds.over }; state = stands.state; passed = ap (λ (n : ℕ). n + 1) stands.passed; refused = stands.refused }),
+        rw (now, took.1) (record { holds = record { left = λ _. came.told; taken = ap (λ (n : ℕ). n + 1) stands.holds.taken; peers = stands.holds.peers; over = stands.holds.over }; state = stands.state; passed = ap (λ (n : ℕ). n + 1) stands.passed; refused = stands.refused }),
         record {
           text = [];
           takes = takes_next _ _ _ _ (sym stands.holds.over ∙ open_yet) (record {
             coming = Whole came.it came.rest;
             comes = came.begins;
-            takes = record { reading = Ok Passed; reads = subst (λ (p : Option (List Peer)). IsReading came.it p (Ok Passed)) stands.holds.peers came.reads; takes = (refl, refl) };
+            takes = record { reading = Ok Passed; reads = subst (λ (p : Option (List Peer)). IsReading came.it p (Ok Passed)) (stands.holds.peers open_yet) came.reads; takes = (refl, refl) };
           });
           added = same ∙ sym (append-nil text_old);
         },
@@ -104,11 +108,11 @@ module _ (asking : Asking) (dump : HeldDump) (progress : Progress) (files_old fi
       → taken ≡ mid.taken → body_cause fault ≡ Some cause → text_new ≡ text_old ++ refusal_text asking.line (of_unit asking.name (taken + 1)) cause
       → TookUnit asking dump new progress files_old files_new text_old text_new after
   took_refused fault mid new after taken cause text_old text_new is before passed counted at known added = λ open_yet old stands.
-      let came = (rw is at comes) old.dump.left stands.holds.left in
+      let came = (rw is at comes) old.dump.left (stands.holds.left open_yet) in
       let now : new ≡ record dump { held = held; taken = dump.taken + 1 } = passed ∙ ap (λ (d : HeldDump). record d { taken = d.taken + 1 }) before in
       let unit : taken + 1 ≡ old.dump.taken + 1 = ap (λ (n : ℕ). n + 1) (at ∙ ap (λ (d : HeldDump). d.taken) before ∙ stands.holds.taken) in (
         record old { dump = after_unit old.dump came.rest; refused = old.refused + 1 },
-        rw (now, counted) (record { holds = record { left = came.told; taken = ap (λ (n : ℕ). n + 1) stands.holds.taken; peers = stands.holds.peers; over = stands.holds.over }; state = stands.state; passed = stands.passed; refused = ap (λ (n : ℕ). n + 1) stands.refused }),
+        rw (now, counted) (record { holds = record { left = λ _. came.told; taken = ap (λ (n : ℕ). n + 1) stands.holds.taken; peers = stands.holds.peers; over = stands.holds.over }; state = stands.state; passed = stands.passed; refused = ap (λ (n : ℕ). n + 1) stands.refused }),
         record {
           text = unit_refused asking old.dump cause;
           takes = takes_next _ _ _ _ (sym stands.holds.over ∙ open_yet) (record {
@@ -116,7 +120,7 @@ module _ (asking : Asking) (dump : HeldDump) (progress : Progress) (files_old fi
             comes = came.begins;
             takes = record {
               reading = Err fault;
-              reads = reads_fault came.it old.dump.peers fault cause known (subst (λ (p : Option (List Peer)). IsOutcome came.it p (Err fault)) stands.holds.peers came.reads);
+              reads = reads_fault came.it old.dump.peers fault cause known (subst (λ (p : Option (List Peer)). IsOutcome came.it p (Err fault)) (stands.holds.peers open_yet) came.reads);
               takes = subst (λ (c : Option Cause). RefusesRecord c asking old came.rest (unit_refused asking old.dump cause) (record old { dump = after_unit old.dump came.rest; refused = old.refused + 1 })) (sym known) (refl, refl);
             };
           });
@@ -125,16 +129,16 @@ module _ (asking : Asking) (dump : HeldDump) (progress : Progress) (files_old fi
       )
 
   -- a length over the limit
-  pub took_too_long : (mid new : HeldDump) (after : Progress) (taken : ℕ) (text_old text_new : List ℕ) → next ≡ TooLong → mid ≡ record dump { held = held }
-      → new ≡ record mid { over = true } → after ≡ record progress { refused = progress.refused + 1 }
+  pub took_too_long : (mid new : HeldDump) (files_end : Option Files) (after : Progress) (taken : ℕ) (text_old text_new : List ℕ) → next ≡ TooLong → mid ≡ record dump { held = held }
+      → new ≡ record mid { held = []; peers = None; over = true } → after ≡ record progress { refused = progress.refused + 1 }
       → taken ≡ mid.taken → text_new ≡ text_old ++ refusal_text asking.line (of_unit asking.name (taken + 1)) causes.TooLong
-      → TookUnit asking dump new progress files_old files_new text_old text_new after
-  took_too_long mid new after taken text_old text_new is before ended counted at added = λ open_yet old stands.
-      let came = (rw is at comes) old.dump.left stands.holds.left in
-      let now : new ≡ record dump { held = held; over = true } = ended ∙ ap (λ (d : HeldDump). record d { over = true }) before in
+      → TookUnit asking dump new progress files_old files_end text_old text_new after
+  took_too_long mid new files_end after taken text_old text_new is before ended counted at added = λ open_yet old stands.
+      let came = (rw is at comes) old.dump.left (stands.holds.left open_yet) in
+      let now : new ≡ record dump { held = []; peers = None; over = true } = ended ∙ ap (λ (d : HeldDump). record d { held = []; peers = None; over = true }) before in
       let unit : taken + 1 ≡ old.dump.taken + 1 = ap (λ (n : ℕ). n + 1) (at ∙ ap (λ (d : HeldDump). d.taken) before ∙ stands.holds.taken) in (
         record old { dump = record old.dump { over = true }; refused = old.refused + 1 },
-        rw (now, counted) (record { holds = record { left = came.1; taken = stands.holds.taken; peers = stands.holds.peers; over = refl }; state = stands.state; passed = stands.passed; refused = ap (λ (n : ℕ). n + 1) stands.refused }),
+        rw (now, counted) (record { holds = record { left = λ e. no_more e; taken = stands.holds.taken; peers = λ e. no_more e; over = refl }; state = stands.state; passed = stands.passed; refused = ap (λ (n : ℕ). n + 1) stands.refused }),
         record {
           text = unit_refused asking old.dump causes.TooLong;
           takes = takes_next _ _ _ _ (sym stands.holds.over ∙ open_yet) (record { coming = ATooLong; comes = came.0; takes = (refl, refl) });
@@ -143,16 +147,16 @@ module _ (asking : Asking) (dump : HeldDump) (progress : Progress) (files_old fi
       )
 
   -- the end within a record
-  pub took_cut_short : (mid new : HeldDump) (after : Progress) (taken : ℕ) (text_old text_new : List ℕ) → next ≡ CutShort → mid ≡ record dump { held = held }
-      → new ≡ record mid { over = true } → after ≡ record progress { refused = progress.refused + 1 }
+  pub took_cut_short : (mid new : HeldDump) (files_end : Option Files) (after : Progress) (taken : ℕ) (text_old text_new : List ℕ) → next ≡ CutShort → mid ≡ record dump { held = held }
+      → new ≡ record mid { held = []; peers = None; over = true } → after ≡ record progress { refused = progress.refused + 1 }
       → taken ≡ mid.taken → text_new ≡ text_old ++ refusal_text asking.line (of_unit asking.name (taken + 1)) causes.CutShort
-      → TookUnit asking dump new progress files_old files_new text_old text_new after
-  took_cut_short mid new after taken text_old text_new is before ended counted at added = λ open_yet old stands.
-      let came = (rw is at comes) old.dump.left stands.holds.left in
-      let now : new ≡ record dump { held = held; over = true } = ended ∙ ap (λ (d : HeldDump). record d { over = true }) before in
+      → TookUnit asking dump new progress files_old files_end text_old text_new after
+  took_cut_short mid new files_end after taken text_old text_new is before ended counted at added = λ open_yet old stands.
+      let came = (rw is at comes) old.dump.left (stands.holds.left open_yet) in
+      let now : new ≡ record dump { held = []; peers = None; over = true } = ended ∙ ap (λ (d : HeldDump). record d { held = []; peers = None; over = true }) before in
       let unit : taken + 1 ≡ old.dump.taken + 1 = ap (λ (n : ℕ). n + 1) (at ∙ ap (λ (d : HeldDump). d.taken) before ∙ stands.holds.taken) in (
         record old { dump = record old.dump { over = true }; refused = old.refused + 1 },
-        rw (now, counted) (record { holds = record { left = came.2; taken = stands.holds.taken; peers = stands.holds.peers; over = refl }; state = stands.state; passed = stands.passed; refused = ap (λ (n : ℕ). n + 1) stands.refused }),
+        rw (now, counted) (record { holds = record { left = λ e. no_more e; taken = stands.holds.taken; peers = λ e. no_more e; over = refl }; state = stands.state; passed = stands.passed; refused = ap (λ (n : ℕ). n + 1) stands.refused }),
         record {
           text = unit_refused asking old.dump causes.CutShort;
           takes = takes_next _ _ _ _ (sym stands.holds.over ∙ open_yet) (record { coming = ACutShort; comes = (came.0, came.1); takes = (refl, refl) });
@@ -161,13 +165,13 @@ module _ (asking : Asking) (dump : HeldDump) (progress : Progress) (files_old fi
       )
 
   -- the end at a record's border
-  pub took_end : (mid new : HeldDump) (text : List ℕ) → next ≡ End → mid ≡ record dump { held = held } → new ≡ record mid { over = true }
-      → TookUnit asking dump new progress files_old files_new text text progress
-  took_end mid new text is before ended = λ open_yet old stands.
-      let came = (rw is at comes) old.dump.left stands.holds.left in
-      let now : new ≡ record dump { held = held; over = true } = ended ∙ ap (λ (d : HeldDump). record d { over = true }) before in (
+  pub took_end : (mid new : HeldDump) (files_end : Option Files) (text : List ℕ) → next ≡ End → mid ≡ record dump { held = held } → new ≡ record mid { held = []; peers = None; over = true }
+      → TookUnit asking dump new progress files_old files_end text text progress
+  took_end mid new files_end text is before ended = λ open_yet old stands.
+      let came = (rw is at comes) old.dump.left (stands.holds.left open_yet) in
+      let now : new ≡ record dump { held = []; peers = None; over = true } = ended ∙ ap (λ (d : HeldDump). record d { held = []; peers = None; over = true }) before in (
         record old { dump = record old.dump { over = true } },
-        rw now (record { holds = record { left = came.1; taken = stands.holds.taken; peers = stands.holds.peers; over = refl }; state = stands.state; passed = stands.passed; refused = stands.refused }),
+        rw now (record { holds = record { left = λ e. no_more e; taken = stands.holds.taken; peers = λ e. no_more e; over = refl }; state = stands.state; passed = stands.passed; refused = stands.refused }),
         record {
           text = [];
           takes = takes_next _ _ _ _ (sym stands.holds.over ∙ open_yet) (record { coming = AnEnd; comes = came.0; takes = (refl, refl) });

@@ -1,8 +1,8 @@
 //! A dump that is open, and what comes next in it.
 ghost use Rattle.std.specs.Prelude.{◌≡◌, ◌<◌, ◌≤◌, ◌≢◌, ◌+◌, ◌^◌, ℕ, [], true, false, Some, None, length, IfOk, IsErrOf};
-ghost use Rattle.std.specs.Option.{option_copied};
+ghost use Rattle.std.specs.Option.{option_copied, option_map};
 ghost use Rattle.std.specs.Io.KnownBytes.{prepend_known, IsAtEnd};
-ghost use Rattle.av_base.specs.Files.{left_of};
+ghost use Rattle.av_base.specs.Files.{closes, left_of};
 ghost use Rattle.av_base.specs.Told.{Rose};
 ghost use Rattle.stream_lines.specs.Frames.{Leaves};
 ghost use Rattle.stream_lines.specs.Next.{IsNext};
@@ -94,11 +94,19 @@ impl OpenDump {
         self.peers = Some(table);
     }
 
-    /// No unit comes any more.
-    pub(crate) fn end(&mut self)
-        ensures { self.new ≡ record self.old { over = true } }
+    /// No unit comes any more. What is held of the dump is let go: its bytes, its peer table and its file.
+    pub(crate) fn end<F: Shelf>(&mut self, alloc: Global, shelf: &mut F)
+        requires given { self.old.file < F.opened shelf.old }
+        ensures ended { self.new ≡ record self.old { held = []; peers = None; over = true } }
+        ensures closed { F.files shelf.new
+            ≡ option_map (closes self.old.file) (F.files shelf.old) }
+        ensures opened { F.opened shelf.new ≡ F.opened shelf.old }
+        ensures faults { F.faults shelf.new ≡ F.faults shelf.old }
     {
+        self.framer = Framer::new(alloc);
+        self.peers = None;
         self.over = true;
+        shelf.close_file(self.file);
     }
 
     /// Takes off what comes next, where the dump isn't over.

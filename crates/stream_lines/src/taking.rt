@@ -7,6 +7,7 @@ ghost use Rattle.av_text.specs.Spellings.{IsInLine};
 ghost use Rattle.report_text.specs.Refusals.{of_unit, refusal_text};
 ghost use Rattle.report_text.specs.Reported.{AddsQuiet};
 ghost use Rattle.stream_lines.specs.Frames.{Leaves, names_of};
+ghost use Rattle.stream_lines.specs.Holding.{LetsGo};
 ghost use Rattle.stream_lines.specs.Taking.{GrewBy, TicksWithinUnits, TookSome, TookUnits, asking_of};
 ghost use Rattle.stream_lines.specs.TakingSteps.{TicksWithinUnit, TookUnit};
 
@@ -41,7 +42,7 @@ pub struct Progress {
     pub refused: u64,
 }
 
-/// Takes the next units of a dump, or all that come until it is over. A refused unit is reported by a line. The text is held, and
+/// Takes the next units of a dump, or all that come until it is over; then its file is let go at once. A refused unit is reported by a line. The text is held, and
 /// written in pieces. Each judgement is a step.
 pub fn take_units<F: Shelf, W: Sink, L: Ledger>(
     alloc: Global,
@@ -73,6 +74,9 @@ pub fn take_units<F: Shelf, W: Sink, L: Ledger>(
         dump.old progress (F.files shelf.old) steps.old steps.new }
     ensures file { dump.new.file ≡ dump.old.file }
     ensures few { IfOk result (GrewBy asking.entry.count dump.old dump.new progress) }
+
+    // A dump that ends lets its file, its bytes and its peer table go.
+    ensures lets_go { OnOk result (LetsGo dump.old dump.new (F.files shelf.new)) }
     ensures others { Leaves (λ other. other ≢ dump.old.file)
         (F.files shelf.old) (F.files shelf.new) }
     ensures names { names_of (F.files shelf.new) ≡ names_of (F.files shelf.old) }
@@ -120,6 +124,7 @@ fn take_unit<F: Shelf, L: Ledger>(
     ensures err { OnErr result (text.new.items ≡ text.old.items) }
     ensures file { dump.new.file ≡ dump.old.file }
     ensures few { IfOk result (GrewBy 1 dump.old dump.new progress) }
+    ensures lets_go { OnOk result (LetsGo dump.old dump.new (F.files shelf.new)) }
     ensures ticks { TicksWithinUnit (asking_of asking.entry) dump.old progress
         (F.files shelf.old) steps.old steps.new }
     ensures others { Leaves (λ other. other ≢ dump.old.file)
@@ -141,16 +146,16 @@ fn take_unit<F: Shelf, L: Ledger>(
         }
         Next::TooLong => {
             report(text, asking, dump.taken(), Cause::TooLong)?;
-            dump.end();
+            dump.end(alloc, shelf);
             Ok(refused_once(progress))
         }
         Next::CutShort => {
             report(text, asking, dump.taken(), Cause::CutShort)?;
-            dump.end();
+            dump.end(alloc, shelf);
             Ok(refused_once(progress))
         }
         Next::End => {
-            dump.end();
+            dump.end(alloc, shelf);
             Ok(progress)
         }
     }

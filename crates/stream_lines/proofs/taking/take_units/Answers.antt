@@ -4,6 +4,7 @@ use Rattle.av_base.proofs.PouringLemmas.{Grows-refl, Grows-trans}
 use Rattle.report_text.proofs.ReportedLemmas.{adds_quiet_none}
 use Rattle.stream_lines.specs.Frames.{Leaves}
 use Rattle.stream_lines.proofs.FrameLemmas.{Leaves-refl, Leaves-trans}
+use Rattle.stream_lines.proofs.HoldingLemmas.{LetsGo-next, LetsGo-same}
 use Rattle.stream_lines.proofs.JudgementLemmas.{ticks_start, ticks_next, ticks_more}
 use Rattle.stream_lines.proofs.ReportedLemmas.{units_reported}
 use Rattle.stream_lines.proofs.UnitsLemmas.{TookUnits-start, TookUnits-next, TookUnits-over, TookUnits-some}
@@ -14,6 +15,7 @@ loop-turn-init g c = record {
   took = TookUnits-start _ _ _ _ _;
   within = omega arith;
   file = refl;
+  lets_go = LetsGo-same _ _;
   few = record { taken = omega arith; passed = omega arith; refused = omega arith };
   ticks = ticks_start _ _ _ _ _;
   others = Leaves-refl _ _;
@@ -59,6 +61,7 @@ loop-turn-preserved g c = record {
   took = TookUnits-next _ _ _ _ _ c.loop-turn._turn _ _ _ _ _ _ _ _ (g.W.Sink.written c.loop-turn.out) _ _ c.loop-turn.invariant.took (sym c.is_over.ensures ∙ c.if-is_over.false) c.in_ok-progress.ensures.took refl c.pour_piece.ensures.same;
   within = omega arith;
   file = c.take_unit.ensures.file ∙ c.loop-turn.invariant.file;
+  lets_go = LetsGo-next c.args.dump.now c.loop-turn.dump c.take_unit.new.dump _ (sym c.is_over.ensures ∙ c.if-is_over.false) c.in_ok-progress.ensures.lets_go;
   few = record {
     taken = omega (arith, c.in_ok-progress.ensures.few.taken, c.loop-turn.invariant.few.taken);
     passed = omega (arith, c.in_ok-progress.ensures.few.passed, c.loop-turn.invariant.few.passed);
@@ -117,3 +120,11 @@ returns-in_err-pour_piece-clause-reports g c =
 
 pub returns-clause-reports : goal.returns-clause-reports
 returns-clause-reports g c = c.loop-turn.invariant.reports
+
+-- ---- what is let go at the end
+
+pub returns-then-is_over-clause-lets_go : goal.returns-then-is_over-clause-lets_go
+returns-then-is_over-clause-lets_go g c = c.loop-turn.invariant.lets_go
+
+pub returns-clause-lets_go : goal.returns-clause-lets_go
+returns-clause-lets_go g c = c.loop-turn.invariant.lets_go

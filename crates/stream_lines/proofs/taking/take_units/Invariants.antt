@@ -4,6 +4,7 @@ use Rattle.av_base.specs.Told.{Grows}
 use Rattle.av_text.specs.Spellings.{IsInLine}
 use Rattle.report_text.specs.Reported.{AddsQuiet}
 use Rattle.stream_lines.specs.Frames.{Leaves}
+use Rattle.stream_lines.specs.Holding.{LetsGo}
 use Rattle.stream_lines.specs.Taking.{GrewBy, TicksWithinUnits, TookUnits, asking_of}
 use Rattle.stream_lines.proofs.taking.take_units.Given as goal
 
@@ -13,6 +14,7 @@ invariant-loop-turn g l = record {
       (append_known (g.W.Sink.written l.fn.out) l.fn.text.items) (append_known (g.W.Sink.written l.out) l.text.items) l.progress;
   within : l._turn ≤ l.asking.count;
   file : l.dump.file ≡ l.fn.dump.file;
+  lets_go : LetsGo l.fn.dump l.dump (g.F.Shelf.files l.shelf);
   few : GrewBy l._turn l.fn.dump l.dump l.fn.progress l.progress;
   ticks : TicksWithinUnits (asking_of l.asking) l._turn l.fn.dump l.fn.progress (g.F.Shelf.files l.fn.shelf) l.fn.steps l.steps;
   others : Leaves (λ other. other ≢ l.fn.dump.file) (g.F.Shelf.files l.fn.shelf) (g.F.Shelf.files l.shelf);
