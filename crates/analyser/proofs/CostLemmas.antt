@@ -1,11 +1,11 @@
 -- Each event has one cost from any state to any other.
 use Rattle.std.proofs.Common.{◌≡◌, ℕ, refl, sym, ◌∙◌}
+use Rattle.av_base.specs.One.{HasOne}
 use Rattle.rib_store.specs.State.{State}
 use Rattle.rib_store.specs.Touched.{announced}
 use Rattle.rib_store.proofs.NumberLemmas.{IsTouchedNumber-unique, some_touched_number}
 use Rattle.analyser.specs.declared.event.Event.{Event}
 use Rattle.analyser.specs.declared.event.Event.TheVariants.{Routes, Table, Role, DefaultRole}
-use Rattle.analyser.specs.Laws.{HasOneCost}
 use Rattle.analyser.specs.Touched.{Costs}
 
 -- there is a cost,
@@ -22,9 +22,9 @@ Costs-unique old (Table change) new one other a b = IsTouchedNumber-unique old n
 Costs-unique old (Role asn role) new one other a b = IsTouchedNumber-unique old new one other a b
 Costs-unique old (DefaultRole role) new one other a b = IsTouchedNumber-unique old new one other a b
 
-pub one_cost_of : (old : State) (event : Event) (new : State) → HasOneCost old event new
+pub one_cost_of : (old : State) (event : Event) (new : State) → HasOne (Costs old event new)
 one_cost_of old event new = let some = some_cost old event new in record {
-  cost = some.0;
-  costs = some.1;
+  one = some.0;
+  is = some.1;
   only = λ other costs. Costs-unique old event new other some.0 costs some.1;
 }

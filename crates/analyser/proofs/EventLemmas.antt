@@ -1,5 +1,6 @@
 -- Each event has one outcome from any state.
 use Rattle.std.proofs.Common.{◌≡◌, refl, sym, ap, subst, ◌∙◌}
+use Rattle.av_base.specs.One.{HasOne}
 use Rattle.path_model.specs.CurrentTable.{Parts}
 use Rattle.path_model.specs.Roles.{set_role}
 use Rattle.path_model.specs.Routes.{performed}
@@ -9,33 +10,32 @@ use Rattle.rib_store.specs.Stored.{Stored}
 use Rattle.analyser.specs.declared.event.Event.{Event}
 use Rattle.analyser.specs.declared.event.Event.TheVariants.{Routes, Table, Role, DefaultRole}
 use Rattle.analyser.specs.Events.{Happens}
-use Rattle.analyser.specs.Laws.{HasOneOutcome}
 
-pub one_outcome_of : (state : State) (event : Event) → HasOneOutcome state event
+pub one_outcome_of : (state : State) (event : Event) → HasOne (Happens state event)
 one_outcome_of state (Routes list) = record {
-  outcome = record state { routes = performed list state.routes };
-  happens = refl;
+  one = record state { routes = performed list state.routes };
+  is = refl;
   only = λ other is. is;
 }
 one_outcome_of state (Table change) = let one = changes.one_outcome state.parts change in record {
-  outcome = record state { parts = one.outcome };
-  happens = (one.outcome, one.altered, refl);
+  one = record state { parts = one.one };
+  is = (one.one, one.is, refl);
   only = λ other is. is.2 ∙ ap (λ (parts : Parts). record state { parts = parts }) (one.only is.0 is.1);
 }
 one_outcome_of state (Role asn role) = record {
-  outcome = record state { roles = set_role state.roles asn role };
-  happens = refl;
+  one = record state { roles = set_role state.roles asn role };
+  is = refl;
   only = λ other is. is;
 }
 one_outcome_of state (DefaultRole role) = record {
-  outcome = record state { roles = record state.roles { default = role } };
-  happens = refl;
+  one = record state { roles = record state.roles { default = role } };
+  is = refl;
   only = λ other is. is;
 }
 
 -- some state comes of each event
 pub some_outcome : (state : State) (event : Event) → (next : State) × Happens state event next
-some_outcome state event = let one = one_outcome_of state event in (one.outcome, one.happens)
+some_outcome state event = let one = one_outcome_of state event in (one.one, one.is)
 
 -- and no other one
 pub one_outcome : (state : State) (event : Event) (next other : State) → Happens state event next → Happens state event other → other ≡ next

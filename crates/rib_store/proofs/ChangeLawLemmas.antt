@@ -19,7 +19,7 @@ use Rattle.rib_store.specs.declared.journal.ChangedKey.{ChangedKey}
 use Rattle.rib_store.specs.Changes.{StandsAs, IsChange, AreChanges}
 use Rattle.rib_store.specs.ChangesLeft.{changes_in}
 use Rattle.rib_store.specs.Held.{Held, paths_in, marks_in, at}
-use Rattle.rib_store.specs.Laws.{HasOneListOfChanges}
+use Rattle.av_base.specs.One.{HasOne}
 use Rattle.rib_store.specs.State.{State, Marked}
 use Rattle.rib_store.proofs.ChangeLemmas.{state_of, are_changes}
 use Rattle.rib_store.proofs.KeyLemmas.{same_key, sorted_keys, sorted_entries, find_lookup}
@@ -153,9 +153,9 @@ module _ (state : State) where
       let is : state_of state.parts state.roles entries_of ≡ state = λ i. record { parts = state.parts; roles = state.roles; routes = routes_are i; marked = marks_are i } in
       subst (λ (s : State). AreChanges s (changes_in state.parts state.roles entries_of)) is (are_changes state.parts state.roles entries_of ordered)
 
-pub has_one_list_of_changes : (state : State) → HasOneListOfChanges state
+pub has_one_list_of_changes : (state : State) → HasOne (AreChanges state)
 has_one_list_of_changes state = record {
-  changes = changes_in state.parts state.roles (entries_of state);
-  are = some_list state;
+  one = changes_in state.parts state.roles (entries_of state);
+  is = some_list state;
   only = λ other are. one_list state (changes_in state.parts state.roles (entries_of state)) other (some_list state) are;
 }

@@ -14,7 +14,7 @@ use Rattle.path_model.specs.Trail.{Path}
 use Rattle.path_model.proofs.OrderLemmas.{key_exact}
 use Rattle.rib_store.specs.Changes.{StandsAs, IsMarked}
 use Rattle.rib_store.specs.ChangesLeft.{present_verdict}
-use Rattle.rib_store.specs.Laws.{HasOneMarking}
+use Rattle.av_base.specs.One.{HasOne}
 use Rattle.rib_store.specs.Rows.{current_verdict, current_verdicts, rows_of}
 use Rattle.rib_store.specs.State.{State, Marked}
 use Rattle.rib_store.proofs.KeyLemmas.{same_key}
@@ -59,9 +59,9 @@ one_marking state one other a b =
     let same : other.marked ≡ one.marked = fin.same_map key_total key_exact other.marked one.marked (λ q. one_standing state q _ _ (b.marked q) (a.marked q)) in
     b.others ∙ ap (λ (m : Marked). record state { marked = m }) same ∙ sym a.others
 
-pub has_one_marking : (state : State) → HasOneMarking state
+pub has_one_marking : (state : State) → HasOne (IsMarked state)
 has_one_marking state = record {
-  marking = record state { marked = current_verdicts state.parts state.roles state.routes };
+  one = record state { marked = current_verdicts state.parts state.roles state.routes };
   is = marked_by state (current_verdicts state.parts state.roles state.routes) refl;
   only = λ other is. one_marking state (record state { marked = current_verdicts state.parts state.roles state.routes }) other (marked_by state (current_verdicts state.parts state.roles state.routes) refl) is;
 }

@@ -12,7 +12,7 @@ use Rattle.path_model.specs.Routes.{Routes}
 use Rattle.path_model.specs.Trail.{Path}
 use Rattle.path_model.proofs.Decide.{Decided}
 use Rattle.shared_cases.specs.Touched.{AreApart}
-use Rattle.rib_store.specs.Laws.{HasOneTouchedNumber}
+use Rattle.av_base.specs.One.{HasOne}
 use Rattle.rib_store.specs.State.{State}
 use Rattle.rib_store.specs.Touched.{grounds_of, IsTouchedRoute, IsWithinTouched, IsTouchedNumber}
 use Rattle.rib_store.proofs.DecidedLemmas.{decided_like, decided_pair, decided_contains, decided_touched}
@@ -139,9 +139,9 @@ module _ (old new : State) where
     },
   )
 
-pub has_one_touched_number : (old new : State) → HasOneTouchedNumber old new
+pub has_one_touched_number : (old new : State) → HasOne (IsTouchedNumber old new)
 has_one_touched_number old new = record {
-  number = (some_touched_number old new).0;
+  one = (some_touched_number old new).0;
   is = (some_touched_number old new).1;
   only = λ other is. IsTouchedNumber-unique old new other (some_touched_number old new).0 is (some_touched_number old new).1;
 }

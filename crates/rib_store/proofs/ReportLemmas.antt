@@ -17,7 +17,7 @@ use Rattle.rib_store.specs.declared.counts.Counts.{Counts}
 use Rattle.rib_store.specs.Counts.{AreCounts, counted}
 use Rattle.rib_store.specs.Rows.{rows_of, current_verdict}
 use Rattle.rib_store.specs.State.{State, IsCurrent, AreRows}
-use Rattle.rib_store.specs.Laws.{HasOneReport}
+use Rattle.av_base.specs.One.{HasOne}
 use Rattle.rib_store.proofs.RowLemmas.{are_rows, current_by}
 
 -- a key has one current verdict
@@ -61,10 +61,10 @@ some_report state = (rows_of state.parts state.roles (fin.entries state.routes),
 pub one_report : (state : State) (rows other : List (Key × Verdict)) → AreRows state rows → AreRows state other → other ≡ rows
 one_report state rows other a b = same_rows (λ row. IsCurrent state row.0 row.1) (one_current state) other rows (b.keys ∙ sym a.keys) b.current a.current
 
-pub has_one_report : (state : State) → HasOneReport state
+pub has_one_report : (state : State) → HasOne (AreRows state)
 has_one_report state = record {
-  rows = rows_of state.parts state.roles (fin.entries state.routes);
-  are = are_rows state;
+  one = rows_of state.parts state.roles (fin.entries state.routes);
+  is = are_rows state;
   only = λ other are. one_report state (rows_of state.parts state.roles (fin.entries state.routes)) other (are_rows state) are;
 }
 

@@ -54,9 +54,9 @@ FollowsIn (Some old) key case (Some new) = Follows old key case new
 
 -- ---- cases differ
 
--- these cases are pending too, once verdicts were marked
+-- these cases are pending too, once verdicts were marked, and before none more is
 abbrev pub Defers : Bool → List ℕ → List ℕ → List ℕ → Type 0
-Defers false old numbers new = ⊤
+Defers false old numbers new = new ≡ old
 Defers true old numbers new = (n : ℕ) → numbers_have new n ≡ (numbers_have old n || numbers_have numbers n)
 
 -- each case is of the AS of its keys' peers

@@ -35,15 +35,28 @@ use vap_table::{TableChange, Vaps};
 
 /// All that attests, the roles, and the routes of all peers (RFC 4271, section 3.2), with their verdicts. Routes from one peer AS with one
 /// path share a case, and an event judges anew only the cases that it touches, each once.
-#[derive(Drop)]
 pub struct RibStore {
     pub(crate) alloc: Global,
     pub(crate) table: Vaps,
     pub(crate) roles: Roles,
-    // the number of each route's case
+    // the number of each route's case; a call of `len` brings the order of the keys into a proof
     pub(crate) routes: RouteMap<u32>,
     pub(crate) cases: SharedCases,
     pub(crate) marks: Marks,
+}
+
+/// A function of its own, so that what lets a store go needn't say how.
+impl Drop for RibStore {
+    fn drop(self) {
+        let RibStore {
+            alloc: _alloc,
+            table: _table,
+            roles: _roles,
+            routes: _routes,
+            cases: _cases,
+            marks: _marks,
+        } = self;
+    }
 }
 
 /// A contract sees the state of the analysis, and the cases.
@@ -147,7 +160,6 @@ impl RibStore {
             cases,
             mut marks,
         } = self;
-        // it comes with the order of the keys
         let _length = routes.len();
         cases.are_distinct();
         let (table, moves) = table.change(change)?;
@@ -184,7 +196,6 @@ impl RibStore {
             cases,
             mut marks,
         } = self;
-        // it comes with the order of the keys
         let _length = routes.len();
         let before = roles.of(asn);
         roles.set(asn, role)?;
@@ -221,7 +232,6 @@ impl RibStore {
             cases,
             mut marks,
         } = self;
-        // it comes with the order of the keys
         let _length = routes.len();
         let before = roles.copy()?;
         roles.set_default(role);
@@ -277,7 +287,6 @@ impl RibStore {
         ensures changes { AreChanges self.now.state (changes_left result) }
         ensures few { length (changes_left result) < 2 ^ 64 }
     {
-        // it comes with the order of the keys
         let _length = self.routes.len();
         if self.marks.is_marked && self.marks.pending.is_empty() {
             self.cases.are_settled();
@@ -334,7 +343,6 @@ impl RibStore {
             cases,
             marks,
         } = self;
-        // it comes with the order of the keys
         let _length = routes.len();
         let cases = cases.mark();
         let marks = Marks {
@@ -379,7 +387,6 @@ impl RibStore {
     pub fn cases_are_those_of_the_routes(&self)
         ensures { AreCasesOf self.now.state self.now.cases }
     {
-        // it comes with the order of the keys
         let _length = self.routes.len();
         self.cases.are_distinct();
     }
