@@ -6,15 +6,14 @@ cd "$(dirname "$0")/.." || exit
 program=$PWD/crates/aspaview/out/aspaview
 work=$(mktemp -d)
 trap 'rm -rf "$work"' EXIT
-passed=0
-failed=0
+touch "$work/passed" "$work/failed"
 
-# check WHAT WANTED GOT
+# check WHAT WANTED GOT: counted in files, since the end of a pipe is a shell of its own.
 check() {
     if [ "$2" = "$3" ]; then
-        passed=$((passed + 1))
+        echo "$1" >>"$work/passed"
     else
-        failed=$((failed + 1))
+        echo "$1" >>"$work/failed"
         printf 'failed: %s\nwanted: %s\ngot: %s\n' "$1" "$2" "$3"
     fi
 }
@@ -42,8 +41,9 @@ refusals() {
     done
 }
 
-# The launcher builds the program where it isn't built.
-./aspaview run </dev/null
+# `rt ci` has built the program; where it hasn't, the launcher does.
+[ -x "$program" ] || ./aspaview run </dev/null
+"$program" run </dev/null
 check 'the program is built, and an empty script has status 0' 0 $?
 
 # ---- 0 and 1: the whole script was performed
@@ -122,5 +122,5 @@ for place in localhost localhost: localhost:0 localhost:65536 localhost:0323 loc
     lines "feed c $place" | runs "the place $place" 1 '! line 1 c unreachable'
 done
 
-echo "$passed passed, $failed failed"
-[ "$failed" -eq 0 ]
+echo "$(wc -l <"$work/passed") passed, $(wc -l <"$work/failed") failed"
+[ ! -s "$work/failed" ]
