@@ -1,28 +1,25 @@
 -- Which attempts made the connections of feeds, line by line.
 use Rattle.std.proofs.Common.{◌≡◌, ℕ, ◌||◌, is_some, Bool, true, false, List, [], ◌∷◌, None, Some, Ok, Err, refl, sym, ap, ◌∙◌, subst, arith}
-use Rattle.std.specs.FinMap as fin
 use Rattle.std.specs.declared.option.Option.{Option}
-use Rattle.std.specs.declared.result.Result.{Result}
-use Rattle.path_model.specs.declared.key.Key.{Key}
-use Rattle.path_model.specs.Trail.{Path}
+use Rattle.report_text.specs.declared.cause.Cause.{Cause}
 use Rattle.feed_lines.specs.declared.working.Work.{Work}
 use Rattle.feed_lines.specs.declared.working.Work.TheVariants.{Take as TakePdus}
 use Rattle.feed_lines.specs.Laws.{AreConnectedFrom}
 use Rattle.feed_lines.specs.Lines.{State as FeedState}
 use Rattle.feed_lines.proofs.ConnectedLemmas.{connects_connected, works_connected}
-use Rattle.script_lines.specs.declared.command.Command.{Command}
-use Rattle.script_lines.specs.declared.command.LineFault.{LineFault}
 use Rattle.stream_lines.specs.Streams.{Dump}
 use Rattle.aspa_top.specs.declared.loading.FileKind.{FileKind}
 use Rattle.aspa_top.specs.declared.loading.Outcome.{Outcome}
 use Rattle.aspa_top.specs.declared.loading.Outcome.TheVariants.{NoFile, Long as FileLong, Flawed, Good}
 use Rattle.aspa_top.specs.declared.task.Short.{Short as ShortTask}
-use Rattle.aspa_top.specs.declared.task.Short.TheVariants.{Idle as Nothing, Happen, Judge as JudgePath, Summary as SumUp, Why}
+use Rattle.aspa_top.specs.declared.task.Short.TheVariants.{Idle as Nothing, Happen, Judge as JudgePath}
+use Rattle.aspa_top.specs.declared.task.Question.{Question}
 use Rattle.aspa_top.specs.declared.task.Task.{Task}
-use Rattle.aspa_top.specs.declared.task.Task.TheVariants.{Short, Load, Open, Take, Connect, OnFeed, Report, Changes}
-use Rattle.aspa_top.specs.Evaluation.{Does, Evaluates, counted, task_of}
+use Rattle.aspa_top.specs.declared.task.Task.TheVariants.{Short, Load, Open, Take, Connect, OnFeed, Answer, Changes}
+use Rattle.aspa_top.specs.Answers.{AnswersUnless, Replies, refused_for}
+use Rattle.aspa_top.specs.Evaluation.{Asked, DoesAsked, Evaluates, asked_of, counted}
 use Rattle.aspa_top.specs.Laws.{FeedsWereConnected}
-use Rattle.aspa_top.specs.Tasks.{ConnectsUnless, DoesShort, DoesTask, ExplainsRoute, LoadsUnless, OpensNamed, State, TakesFile, TakesNamed, TakesOpen, Works, feeds_of, is_stream, is_taken, start}
+use Rattle.aspa_top.specs.Tasks.{ConnectsUnless, DoesShort, DoesTask, LoadsUnless, OpensNamed, State, TakesFile, TakesNamed, TakesOpen, Works, feeds_of, is_stream, is_taken, start}
 use Rattle.aspa_top.specs.World.{World}
 
 -- the feeds and the number of attempts stayed
@@ -54,16 +51,16 @@ TakesOpen-keeps : (over : Bool) (state : State) (name : List ℕ) (count : ℕ) 
 TakesOpen-keeps true state name count dump text next takes = kept state next _ refl refl takes.1
 TakesOpen-keeps false state name count dump text next takes = kept state next _ refl refl takes.next_is
 
-ExplainsRoute-keeps : (path : Option Path) (state : State) (key : Key) (text : List ℕ) (next : State) → ExplainsRoute path state key text next → KeepsFeeds state next
-ExplainsRoute-keeps None state key text next explains = kept state next _ refl refl explains.1
-ExplainsRoute-keeps (Some path) state key text next explains = kept state next _ refl refl explains.left
+Replies-keeps : (state : State) (question : Question) (text : List ℕ) (next : State) → Replies state question text next → KeepsFeeds state next
+Replies-keeps state question text next replies = by_cause (refused_for state question) replies where
+  by_cause : (cause : Option Cause) → AnswersUnless cause state question text next → KeepsFeeds state next
+  by_cause (Some cause) refuses = kept state next _ refl refl refuses.1
+  by_cause None answers = kept state next state refl refl answers.1
 
 DoesShort-keeps : (state : State) (short : ShortTask) (text : List ℕ) (next : State) → DoesShort state short text next → KeepsFeeds state next
 DoesShort-keeps state Nothing text next does = kept state next _ refl refl does.1
 DoesShort-keeps state (Happen event) text next does = kept state next _ refl refl does.left
 DoesShort-keeps state (JudgePath role neighbour path) text next does = kept state next _ refl refl does.1
-DoesShort-keeps state SumUp text next does = kept state next _ refl refl does.left
-DoesShort-keeps state (Why key) text next does = ExplainsRoute-keeps (fin.get state.analysis.routes key) state key text next does
 
 -- ---- each line
 
@@ -103,12 +100,13 @@ module _ (world : World) where
   DoesTask-connected state next (Connect name place) text connected does =
       Connects-connected (state.sources name || is_some (state.dumps name)) state next name place text connected does
   DoesTask-connected state next (OnFeed name work) text connected does = Works-connected state next name work text connected does
-  DoesTask-connected state next Report text connected does = keeps_connected state next (kept state next _ refl refl does.left) connected
+  DoesTask-connected state next (Answer question) text connected does = keeps_connected state next (Replies-keeps state question text next does) connected
   DoesTask-connected state next Changes text connected does = keeps_connected state next (kept state next _ refl refl does.left) connected
 
-  Does-connected : (state next : State) (reading : Result Command LineFault) (text : List ℕ) → AreConnected state → Does world state reading text next → AreConnected next
-  Does-connected state next (Ok command) text connected does = DoesTask-connected state next (task_of command) text connected does
-  Does-connected state next (Err fault) text connected does = keeps_connected state next (kept state next _ refl refl does.1) connected
+  Does-connected : (state next : State) (asked : Asked) (text : List ℕ) → AreConnected state → DoesAsked world state asked text next → AreConnected next
+  Does-connected state next (Ok task) text connected does = DoesTask-connected state next task text connected does
+  Does-connected state next (Err None) text connected does = absurd does
+  Does-connected state next (Err (Some cause)) text connected does = keeps_connected state next (kept state next _ refl refl does.1) connected
 
   -- ---- all lines
 
@@ -116,7 +114,7 @@ module _ (world : World) where
   Evaluates-connected before [] text end connected evaluates = subst AreConnected (sym evaluates.1) connected
   Evaluates-connected before (line ∷ more) text end connected evaluates =
       Evaluates-connected evaluates.next more evaluates.rest end
-      (Does-connected (counted before) evaluates.next evaluates.performs.reading evaluates.first (record { later = connected.later; each = connected.each }) evaluates.performs.does) evaluates.goes_on
+      (Does-connected (counted before) evaluates.next (asked_of evaluates.performs.reading) evaluates.first (record { later = connected.later; each = connected.each }) evaluates.performs.does) evaluates.goes_on
 
 pub feeds_were_connected : FeedsWereConnected
 feeds_were_connected world lines text end evaluates =

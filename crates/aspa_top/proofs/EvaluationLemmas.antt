@@ -1,18 +1,18 @@
 -- The lines of a script have one text in a world, from any state on, and that of their first part is a front of it.
 use Rattle.std.proofs.Common.{◌≡◌, ℕ, Bool, true, false, ◌||◌, List, [], ◌∷◌, ◌++◌, None, Some, Ok, Err, inl, inr, refl, sym, ap, subst, ◌∙◌, append_assoc}
-use Rattle.std.specs.FinMap as fin
 use Rattle.std.specs.declared.option.Option.{Option}
 use Rattle.std.specs.declared.result.Result.{Result}
 use Rattle.av_base.specs.Connections.{Attempt}
-use Rattle.path_model.specs.Trail.{Path}
+use Rattle.report_text.specs.declared.cause.Cause.{Cause}
 use Rattle.feed_lines.specs.declared.working.Work.{Work}
 use Rattle.feed_lines.specs.declared.working.Work.TheVariants.{Take as TakePdus}
 use Rattle.feed_lines.specs.Feeds.{Feed}
 use Rattle.feed_lines.specs.Lines.{WorksBy}
 use Rattle.feed_lines.specs.Lines.{State as FeedState}
 use Rattle.script_lines.specs.declared.command.Command.{Command}
-use Rattle.script_lines.specs.declared.command.Command.TheVariants.{Idle, Aspa, Aspa64, Slurm, Filter, Unfilter, Assert, Unassert, Role as SetRole, RoleDefault, Open as OpenDump, Take as TakeUnits, Feed as FeedLine, Ask, Sync, Judge as JudgePath, Report as ReportRows, Changes as ListChanges, Summary, Why as WhyRoute}
+use Rattle.script_lines.specs.declared.command.Command.TheVariants.{Idle, Aspa, Aspa64, Slurm, Filter, Unfilter, Assert, Unassert, Role as SetRole, RoleDefault, Open as OpenDump, Take as TakeUnits, Feed as FeedLine, Ask, Sync, Judge as JudgePath, Changes as ListChanges, Why as WhyRoute, Show as ShowAll}
 use Rattle.script_lines.specs.declared.command.LineFault.{LineFault}
+use Rattle.script_lines.specs.declared.command.LineFault.TheVariants.{Long, Command as NoCommand, Words, Number, NoMemory}
 use Rattle.script_lines.specs.Grammar.{IsReading}
 use Rattle.script_lines.proofs.LawLemmas.{IsReading-unique, some_reading}
 use Rattle.stream_lines.specs.Streams.{Dump}
@@ -20,11 +20,13 @@ use Rattle.aspa_top.specs.declared.loading.FileKind.{FileKind}
 use Rattle.aspa_top.specs.declared.loading.Outcome.{Outcome}
 use Rattle.aspa_top.specs.declared.loading.Outcome.TheVariants.{NoFile, Long as FileLong, Flawed, Good}
 use Rattle.aspa_top.specs.declared.task.Short.{Short as ShortTask}
-use Rattle.aspa_top.specs.declared.task.Short.TheVariants.{Idle as Nothing, Happen, Judge, Summary as SumUp, Why}
+use Rattle.aspa_top.specs.declared.task.Short.TheVariants.{Idle as Nothing, Happen, Judge}
+use Rattle.aspa_top.specs.declared.task.Question.{Question}
 use Rattle.aspa_top.specs.declared.task.Task.{Task}
-use Rattle.aspa_top.specs.declared.task.Task.TheVariants.{Short, Load, Open, Take, Connect, OnFeed, Report, Changes}
-use Rattle.aspa_top.specs.Tasks.{State, TakesFile, LoadsUnless, OpensNamed, TakesOpen, TakesNamed, Works, ExplainsRoute, DoesShort, DoesTask, feeds_of, is_stream, is_taken}
-use Rattle.aspa_top.specs.Evaluation.{Begins, Does, counted, task_of, Performs, Evaluates}
+use Rattle.aspa_top.specs.declared.task.Task.TheVariants.{Short, Load, Open, Take, Connect, OnFeed, Answer, Changes}
+use Rattle.aspa_top.specs.Tasks.{State, TakesFile, LoadsUnless, OpensNamed, TakesOpen, TakesNamed, Works, DoesShort, DoesTask, feeds_of, is_stream, is_taken}
+use Rattle.aspa_top.specs.Answers.{AnswersUnless, Replies, refused_for}
+use Rattle.aspa_top.specs.Evaluation.{Asked, Begins, Does, DoesAsked, asked_of, counted, Performs, Evaluates}
 use Rattle.aspa_top.specs.Laws.{ConnectNoFeed, IsNoFeedLine}
 use Rattle.std.proofs.lemmas.List.Elements.{All-head, All-tail}
 use Rattle.aspa_top.specs.Program.{BeginsNext}
@@ -42,12 +44,12 @@ short_keeps : (state : State) (short : ShortTask) (text : List ℕ) (next : Stat
 short_keeps state Nothing text next does = ap (λ (s : State). s.feeds) does.1
 short_keeps state (Happen event) text next does = ap (λ (s : State). s.feeds) does.left
 short_keeps state (Judge role neighbour path) text next does = ap (λ (s : State). s.feeds) does.1
-short_keeps state SumUp text next does = ap (λ (s : State). s.feeds) does.left
-short_keeps state (Why key) text next does = why_keeps (fin.get state.analysis.routes key) does
-  where
-    why_keeps : (path : Option Path) → ExplainsRoute path state key text next → next.feeds ≡ state.feeds
-    why_keeps None explains = ap (λ (s : State). s.feeds) explains.1
-    why_keeps (Some path) explains = ap (λ (s : State). s.feeds) explains.left
+
+reply_keeps : (state : State) (question : Question) (text : List ℕ) (next : State) → Replies state question text next → next.feeds ≡ state.feeds
+reply_keeps state question text next replies = by_cause (refused_for state question) replies where
+  by_cause : (cause : Option Cause) → AnswersUnless cause state question text next → next.feeds ≡ state.feeds
+  by_cause (Some cause) refuses = ap (λ (s : State). s.feeds) refuses.1
+  by_cause None answers = ap (λ (s : State). s.feeds) answers.1
 
 file_keeps : (state : State) (kind : FileKind) (outcome : Outcome) (text : List ℕ) (next : State) → TakesFile state kind outcome text next → next.feeds ≡ state.feeds
 file_keeps state kind NoFile text next takes = ap (λ (s : State). s.feeds) takes.1
@@ -89,15 +91,30 @@ task_keeps world state (Open name file) text next other none does = open_keeps (
 task_keeps world state (Take name count) text next other none does = take_keeps (state.dumps name) world state name count text next (none name) does
 task_keeps world state (Connect name place) text next other none does = absurd other
 task_keeps world state (OnFeed name work) text next other none does = work_keeps world state name work text next (none name) does
-task_keeps world state Report text next other none does = ap (λ (s : State). s.feeds) does.left
+task_keeps world state (Answer question) text next other none does = reply_keeps state question text next does
 task_keeps world state Changes text next other none does = ap (λ (s : State). s.feeds) does.left
 
--- the line is no `feed` line
-abbrev pub IsNoFeed : Result Command LineFault → Type 0
-IsNoFeed (Ok command) = ConnectsNone (task_of command)
-IsNoFeed (Err fault) = Unit {0}
+-- what a line asks for, or a cause
+abbrev pub IsAsked : Asked → Type 0
+IsAsked (Ok task) = Unit {0}
+IsAsked (Err None) = ⊥
+IsAsked (Err (Some cause)) = Unit {0}
 
-no_feed : (line : List ℕ) (reading : Result Command LineFault) → IsReading line reading → ((name place : List ℕ) → IsReading line (Ok (FeedLine name place)) → ⊥) → IsNoFeed reading
+-- no line is read as want of memory
+is_asked : (line : List ℕ) (reading : Result Command LineFault) → IsReading line reading → IsAsked (asked_of reading)
+is_asked line (Ok command) reads = tt
+is_asked line (Err Long) reads = tt
+is_asked line (Err NoCommand) reads = tt
+is_asked line (Err Words) reads = tt
+is_asked line (Err Number) reads = tt
+is_asked line (Err NoMemory) reads = absurd reads
+
+-- the line is no `feed` line
+abbrev pub AsksNoFeed : Asked → Type 0
+AsksNoFeed (Ok task) = ConnectsNone task
+AsksNoFeed (Err cause) = Unit {0}
+
+no_feed : (line : List ℕ) (reading : Result Command LineFault) → IsReading line reading → ((name place : List ℕ) → IsReading line (Ok (FeedLine name place)) → ⊥) → AsksNoFeed (asked_of reading)
 no_feed line (Ok (FeedLine name place)) reads other = other name place reads
 no_feed line (Ok Idle) reads other = tt
 no_feed line (Ok (Aspa name file)) reads other = tt
@@ -114,42 +131,42 @@ no_feed line (Ok (TakeUnits name count)) reads other = tt
 no_feed line (Ok (Ask name)) reads other = tt
 no_feed line (Ok (Sync name count)) reads other = tt
 no_feed line (Ok (JudgePath role neighbour path)) reads other = tt
-no_feed line (Ok ReportRows) reads other = tt
 no_feed line (Ok ListChanges) reads other = tt
-no_feed line (Ok Summary) reads other = tt
 no_feed line (Ok (WhyRoute addr asn prefix)) reads other = tt
+no_feed line (Ok (ShowAll show)) reads other = tt
 no_feed line (Err fault) reads other = tt
 
--- what a line that was read so writes, and leaves
-pub record Done (world : World) (state : State) (reading : Result Command LineFault) : Type 0 where
+-- what a line writes, and leaves
+pub record DoesSome (world : World) (state : State) (asked : Asked) : Type 0 where
   pub text : List ℕ
   pub next : State
-  pub does : Does world state reading text next
+  pub does : DoesAsked world state asked text next
   pub none : HasNoFeeds next
 
-some_done : (world : World) (state : State) (reading : Result Command LineFault) → IsNoFeed reading → HasNoFeeds state → Done world state reading
-some_done world state (Ok command) other none =
-    let done = some_task world state (task_of command) other none in
+some_done : (world : World) (state : State) (asked : Asked) → IsAsked asked → AsksNoFeed asked → HasNoFeeds state → DoesSome world state asked
+some_done world state (Ok task) is other none =
+    let done = some_task world state task other none in
     record {
       text = done.0;
       next = done.1;
       does = done.2;
-      none = λ name. ap (λ (feeds : List ℕ → Option (Option Feed)). feeds name) (task_keeps world state (task_of command) done.0 done.1 other none done.2) ∙ none name;
+      none = λ name. ap (λ (feeds : List ℕ → Option (Option Feed)). feeds name) (task_keeps world state task done.0 done.1 other none done.2) ∙ none name;
     }
-some_done world state (Err fault) other none = record { text = _; next = _; does = (refl, refl); none = none }
+some_done world state (Err None) is other none = absurd is
+some_done world state (Err (Some cause)) is other none = record { text = _; next = _; does = (refl, refl); none = none }
 
 -- what some lines write, and leave
-pub record Evaluated (world : World) (before : State) (lines : List (List ℕ)) : Type 0 where
+pub record HasEvaluation (world : World) (before : State) (lines : List (List ℕ)) : Type 0 where
   pub text : List ℕ
   pub end : State
   pub evaluates : Evaluates world before lines text end
 
 -- each list of lines has a text that connects no feed
-pub some_text : (world : World) (before : State) (lines : List (List ℕ)) → ConnectNoFeed lines → HasNoFeeds before → Evaluated world before lines
+pub some_text : (world : World) (before : State) (lines : List (List ℕ)) → ConnectNoFeed lines → HasNoFeeds before → HasEvaluation world before lines
 some_text world before [] other none = record { text = []; end = before; evaluates = (refl, refl) }
 some_text world before (line ∷ more) other none =
     let read = some_reading line in
-    let done = some_done world (counted before) read.0 (no_feed line read.0 read.1 (All-head IsNoFeedLine line more other)) none in
+    let done = some_done world (counted before) (asked_of read.0) (is_asked line read.0 read.1) (no_feed line read.0 read.1 (All-head IsNoFeedLine line more other)) none in
     let rest = some_text world done.next more (All-tail IsNoFeedLine line more other) done.none in
     record {
       text = done.text ++ rest.text;
@@ -168,17 +185,18 @@ some_text world before (line ∷ more) other none =
 
 module _ (world : World) (attempts : List Attempt) (told : world.ends.attempts ≡ Some attempts) where
   -- a line that was read so has no two texts, and leaves no two states
-  Does-unique : (state : State) (reading : Result Command LineFault) (one other : List ℕ) (end last : State)
-      → Does world state reading one end → Does world state reading other last → (one ≡ other) × (end ≡ last)
-  Does-unique state (Ok command) one other end last a b = DoesTask-unique world attempts told state (task_of command) one other end last a b
-  Does-unique state (Err fault) one other end last a b = both one other _ end last _ a b
+  Does-unique : (state : State) (asked : Asked) (one other : List ℕ) (end last : State)
+      → DoesAsked world state asked one end → DoesAsked world state asked other last → (one ≡ other) × (end ≡ last)
+  Does-unique state (Ok task) one other end last a b = DoesTask-unique world attempts told state task one other end last a b
+  Does-unique state (Err None) one other end last a b = absurd a
+  Does-unique state (Err (Some cause)) one other end last a b = both one other _ end last _ a b
 
   -- one line is performed in one way
   pub Performs-unique : (before : State) (line one other : List ℕ) (end last : State)
       → Performs world before line one end → Performs world before line other last → (one ≡ other) × (end ≡ last)
   Performs-unique before line one other end last a b =
       let same = IsReading-unique line b.reading a.reading b.reads a.reads in
-      Does-unique (counted before) a.reading one other end last a.does (subst (λ r. Does world (counted before) r other last) same b.does)
+      Does-unique (counted before) (asked_of a.reading) one other end last a.does (subst (λ r. Does world (counted before) r other last) same b.does)
 
   -- some lines have no two texts, and leave no two states
   pub Evaluates-unique : (before : State) (lines : List (List ℕ)) (one other : List ℕ) (end last : State)

@@ -1,7 +1,8 @@
 -- Lines on feeds.
-use Rattle.std.proofs.Common.{◌≡◌, ℕ, ◌+◌, ◌-◌, ◌*◌, ◌≤◌, Bool, true, false, ◌||◌, is_some, List, ◌++◌, None, Ok, Err, IfOk, inl, inr, refl, sym, ap, subst, ◌∙◌, arith}
+use Rattle.std.proofs.Common.{◌≡◌, ℕ, ◌+◌, ◌-◌, ◌*◌, ◌≤◌, Bool, true, false, ◌||◌, is_some, List, ◌++◌, None, Ok, inl, inr, refl, sym, ap, subst, ◌∙◌, arith}
 use Rattle.std.specs.declared.option.Option.{Option}
 use Rattle.std.specs.declared.result.Result.{Result}
+use Rattle.std.specs.declared.result.Result.TheVariants.{Err}
 use Rattle.std.specs.Io.KnownBytes.{append_known}
 use Rattle.av_base.specs.declared.standing.Standing.{Standing}
 use Rattle.av_base.specs.Files.{Files}
@@ -14,71 +15,27 @@ use Rattle.feed_lines.specs.Holding.{Goes as FeedsGo, IsSound as FeedsAreSound}
 use Rattle.feed_lines.specs.Lines.{ConnectLine, ConnectPart, WorkLine, WorkPart}
 use Rattle.feed_lines.specs.Lines.{State as FeedState, World as Ends}
 use Rattle.feed_lines.specs.Tellings.{Asking as FeedAsking}
+use Rattle.report_text.specs.declared.cause.Cause.TheVariants as causes
 use Rattle.report_text.specs.Refusals.{of_line, refusal_text}
-use Rattle.script_lines.specs.declared.command.Command.{Command}
+use Rattle.stream_lines.specs.declared.stop.Stop.{Stop}
+use Rattle.stream_lines.specs.declared.stop.Stop.TheVariants as stops
 use Rattle.stream_lines.specs.Streams.{Dump}
+use Rattle.stream_lines.proofs.FrameLemmas.{Leaves-refl}
 use Rattle.aspa_top.specs.declared.task.Task.{Task}
 use Rattle.aspa_top.specs.declared.task.Task.TheVariants.{Connect, OnFeed, Take}
 use Rattle.aspa_top.specs.declared.working.Working.{Working}
-use Rattle.aspa_top.specs.Tasks.{State, ConnectsUnless, DoesTask, TakesNamed, asking_on, feeds_of, with_feeds}
-use Rattle.aspa_top.specs.Evaluation.{task_of}
-use Rattle.aspa_top.specs.Feeding.{AreSound, DoesOn, KeepsDumps, StopsOn}
-use Rattle.aspa_top.specs.Performing.{Goes, GoesPart, IsSound, MovesPart, StandsFor, counted_in, dump_in, has_source, most}
-use Rattle.aspa_top.specs.World.{GoesOn, Links, ending}
-use Rattle.aspa_top.proofs.StandsLemmas.{HoldsOr-is_some, HoldsOr-none, IsSound-kept, added_text}
-
--- ---- soundness
-
--- more PDUs may have been taken
-pub sound_weaker : (stands : List Standing) (few many : ℕ) (feeds : Feeds) → few ≤ many → FeedsAreSound stands few feeds → FeedsAreSound stands many feeds
-sound_weaker stands few many feeds within sound = record {
-  fit = λ name kept is. let fit = sound.fit name kept is in (fit.0, fit.1, omega (arith, within, fit.2));
-  apart = sound.apart;
-}
-
--- the feeds stayed
-pub feeds_kept : (stands : List Standing) (fewer lines : ℕ) (working next : Working) → fewer + 1 ≤ lines → next.feeds ≡ working.feeds → AreSound stands fewer working → AreSound stands lines next
-feeds_kept stands fewer lines working next later same sound =
-    sound_weaker stands (fewer * most) (lines * most) next.feeds (omega (arith, later)) (subst (λ (held : Feeds). FeedsAreSound stands (fewer * most) held) (sym same) sound)
-
--- the line is refused
-pub feeds_refused : (stands : List Standing) (fewer lines : ℕ) (working next : Working) → fewer + 1 ≤ lines → next ≡ record working { refused = working.refused + 1 }
-    → AreSound stands fewer working → AreSound stands lines next
-feeds_refused stands fewer lines working next later is sound = feeds_kept stands fewer lines working next later (ap (λ (w : Working). w.feeds) is) sound
-
-pub taken_feeds : {E : Type 0} (working : Working) (result : Result Working E) (stands : List Standing) (fewer lines : ℕ) → fewer + 1 ≤ lines
-    → IfOk result (λ next. next.feeds ≡ working.feeds) → AreSound stands fewer working → IfOk result (AreSound stands lines)
-taken_feeds {E} working (Ok next) stands fewer lines later same sound = feeds_kept stands fewer lines working next later same sound
-taken_feeds {E} working (Err e) stands fewer lines later same sound = tt
-
--- a line is counted
-pub feeds_counted : (stands : List Standing) (working next : Working) → next.lines ≡ working.lines + 1 → next.feeds ≡ working.feeds → AreSound stands working.lines working → AreSound stands next.lines next
-feeds_counted stands working next later same sound = feeds_kept stands working.lines next.lines working next (omega (arith, later)) same sound
-
-pub feeds_begun : (stands : List Standing) (working : Working) → AreSound stands working.lines working → AreSound stands (working.lines + 1 - 1) (counted_in working)
-feeds_begun stands working sound =
-    let same : working.lines ≡ working.lines + 1 - 1 = omega arith in
-    subst (λ (n : ℕ). AreSound stands n (counted_in working)) same sound
-
--- a line on feeds moves no dump
-pub IsSound-feeds : (opened fewer lines : ℕ) (working next : Working) → fewer + 1 ≤ lines → IsSound opened fewer working → KeepsDumps working next → IsSound opened lines next
-IsSound-feeds opened fewer lines working next later sound keeps =
-    IsSound-kept opened opened fewer lines working next later (omega arith) sound keeps.dumps (omega (arith, keeps.passed)) (omega (arith, keeps.refused))
-
--- the line is refused
-pub keeps_refused : (working next : Working) → next ≡ record working { refused = working.refused + 1 } → KeepsDumps working next
-keeps_refused working next is =
-    let refused : next.refused ≡ working.refused + 1 = ap (λ (w : Working). w.refused) is in
-    record {
-      dumps = λ name. ap (λ (w : Working). dump_in w name) is;
-      lines = ap (λ (w : Working). w.lines) is;
-      passed = ap (λ (w : Working). w.passed) is;
-      refused = omega (arith, refused);
-    }
-
--- nothing was done
-pub stopped_at_once : (working : Working) (task : Task) (links : Links) (ticks : ℕ) → StopsOn working task links links ticks ticks
-stopped_at_once working task links ticks = inl (refl, refl)
+use Rattle.aspa_top.specs.Outside.{Outside, all_of}
+use Rattle.aspa_top.specs.Bounds.{most}
+use Rattle.aspa_top.specs.Performing.{Did, Done, EndedEarly, GoesPart, IsStoppedBy, MovesPart}
+use Rattle.aspa_top.specs.Reporting.{AddsEnds}
+use Rattle.aspa_top.specs.Standing.{IsBegun, IsReady, StandsFor}
+use Rattle.aspa_top.specs.Tasks.{State, ConnectsUnless, TakesNamed, asking_on, feeds_of, with_feeds}
+use Rattle.aspa_top.specs.Working.{dump_in, has_source}
+use Rattle.aspa_top.specs.World.{Links, ending}
+use Rattle.aspa_top.proofs.DidLemmas.{done_refused}
+use Rattle.aspa_top.proofs.ReadyLemmas.{IsSound-kept}
+use Rattle.aspa_top.proofs.ReportingLemmas.{front_none}
+use Rattle.aspa_top.proofs.StandsLemmas.{HoldsOr-is_some, HoldsOr-none, added_text}
 
 -- ---- what a line does
 
@@ -87,21 +44,21 @@ asks_for : (files : Option Files) (links : Links) (working : Working) (state : S
     → StandsFor files links working state → asking ≡ asking_on state name
 asks_for files links working state name asking asks stands = asks ∙ (λ i. record { line = stands.lines i; name = name })
 
-module _ (working : Working) (name : List ℕ) (links_old links_new : Links) (text_old text_new : List ℕ) (progress : Progress) (asking : FeedAsking)
-    (starts : progress ≡ record { analyser = working.analyser; refused = working.refused }) (asks : asking ≡ record { line = working.lines; name = name }) where
+module _ (working : Working) (name : List ℕ) (old : Outside) (links : Links) (standings : List Standing) (faults : ℕ) (held : List ℕ) (ticks : ℕ) (progress : Progress) (asking : FeedAsking)
+    (begun : IsBegun old working) (starts : progress ≡ record { analyser = working.analyser; refused = working.refused }) (asks : asking ≡ record { line = working.lines; name = name }) where
   -- what is held of the feeds stands for those of the evaluation
-  feeds_held : (files : Option Files) (state : State) → StandsFor files links_old working state → Holds links_old.attempts links_old.wire working.feeds progress (feeds_of state)
-  feeds_held files state stands = rw starts (record {
+  feeds_held : (state : State) → StandsFor old.files old.links working state → Holds old.links.attempts old.links.wire working.feeds progress (feeds_of state)
+  feeds_held state stands = rw starts (record {
     held = record { made = stands.made; each = stands.feeds };
     analysis = stands.analysis;
     refused = stands.refused;
   })
 
   -- the working state goes on with the feeds
-  stands_after : (files : Option Files) (state : State) (next : Working) (feeds : Feeds) (last : Progress) (after : FeedState)
-      → next ≡ record working { analyser = last.analyser; feeds = feeds; refused = last.refused } → StandsFor files links_old working state
-      → Holds links_new.attempts links_new.wire feeds last after → StandsFor files links_new next (with_feeds state after)
-  stands_after files state next feeds last after is stands holds = rw is (record {
+  stands_after : (state : State) (next : Working) (feeds : Feeds) (last : Progress) (after : FeedState)
+      → next ≡ record working { analyser = last.analyser; feeds = feeds; refused = last.refused } → StandsFor old.files old.links working state
+      → Holds links.attempts links.wire feeds last after → StandsFor old.files links next (with_feeds state after)
+  stands_after state next feeds last after is stands holds = rw is (record {
     analysis = holds.analysis;
     sources = stands.sources;
     dumps = stands.dumps;
@@ -112,159 +69,180 @@ module _ (working : Working) (name : List ℕ) (links_old links_new : Links) (te
     refused = holds.refused;
   })
 
+  -- it moves no dump, and its feeds stay sound
+  ready_after : (next : Working) (feeds : Feeds) (last : Progress) → next ≡ record working { analyser = last.analyser; feeds = feeds; refused = last.refused } → last.refused ≤ progress.refused + 1
+      → FeedsAreSound standings (next.lines * most) feeds → IsReady (record old { links = links; standings = standings; link_faults = faults; held = held; ticks = ticks }) next
+  ready_after next feeds last is few sound =
+      let lines : next.lines ≡ working.lines = ap (λ (w : Working). w.lines) is in
+      let passed : next.passed ≡ working.passed = ap (λ (w : Working). w.passed) is in
+      let refused : next.refused ≡ last.refused = ap (λ (w : Working). w.refused) is in
+      let before : progress.refused ≡ working.refused = ap (λ (p : Progress). p.refused) starts in
+      record {
+        sound = IsSound-kept old.opened old.opened (working.lines - 1) next.lines working next (omega (arith, lines, begun.counted)) (omega arith) begun.sound
+            (λ q. ap (λ (w : Working). dump_in w q) is) (omega (arith, passed)) (omega (arith, refused, few, before));
+        feeds = subst (λ (f : Feeds). FeedsAreSound standings (next.lines * most) f) (sym (ap (λ (w : Working). w.feeds) is)) sound;
+      }
+
   -- ---- `feed`
 
   module _ (place : List ℕ) (free : (has_source working name || is_some (dump_in working name)) ≡ false) where
-    free_in : (files : Option Files) (state : State) → StandsFor files links_old working state → (state.sources name || is_some (state.dumps name)) ≡ false
-    free_in files state stands =
-        (λ i. sym (stands.sources name) i || sym (HoldsOr-is_some files (dump_in working name) (state.dumps name) (stands.dumps name)) i) ∙ free
+    free_in : (state : State) → StandsFor old.files old.links working state → (state.sources name || is_some (state.dumps name)) ≡ false
+    free_in state stands =
+        (λ i. sym (stands.sources name) i || sym (HoldsOr-is_some old.files (dump_in working name) (state.dumps name) (stands.dumps name)) i) ∙ free
 
     pub connected : (next : Working) (feeds : Feeds) (last : Progress)
-        → FeedsGo links_old.attempts links_new.attempts links_old.wire links_new.wire (Holds links_old.attempts links_old.wire working.feeds progress)
-        (λ old new. Holds links_new.attempts links_new.wire feeds last new × (new.judgements ≡ old.judgements)) text_old text_new
-        (λ world old added new. ConnectLine world asking place old added new)
-        → next ≡ record working { analyser = last.analyser; feeds = feeds; refused = last.refused } → (ticks : ℕ)
-        → DoesOn working (Connect name place) links_old links_new text_old text_new ticks ticks next
-    connected next feeds last goes is ticks = λ files world state stands.
-        let did = goes.goes (feeds_of state) (feeds_held files state stands) in
-        let asks_same = asks_for files links_old working state name asking asks stands in
-        record {
-          text = goes.text;
-          after = with_feeds state did.0;
-          does = λ ends comes. subst (λ (used : Bool). ConnectsUnless used (ending world ends) state name place goes.text (with_feeds state did.0))
-              (sym (free_in files state stands))
-              (record { after = did.0; does = subst (λ (a : FeedAsking). ConnectLine ends a place (feeds_of state) goes.text did.0) asks_same (did.2 ends comes); left = refl });
-          added = goes.added;
-          stands = stands_after files state next feeds last did.0 is stands did.1.0;
-          ticked = omega (arith, did.1.1);
-        }
+        → FeedsGo old.links.attempts links.attempts old.links.wire links.wire (Holds old.links.attempts old.links.wire working.feeds progress)
+        (λ before now. Holds links.attempts links.wire feeds last now × (now.judgements ≡ before.judgements)) old.held held
+        (λ world before added now. ConnectLine world asking place before added now)
+        → next ≡ record working { analyser = last.analyser; feeds = feeds; refused = last.refused } → last.refused ≤ progress.refused + 1
+        → FeedsAreSound standings (next.lines * most) feeds → AddsEnds old.held held old.link_faults faults → ticks ≡ old.ticks
+        → Done working (Ok (Connect name place)) old (record old { links = links; standings = standings; link_faults = faults; held = held; ticks = ticks }) next
+    connected next feeds last goes is few sound adds unticked = record {
+      goes = λ world tells state stands.
+          let did = goes.goes (feeds_of state) (feeds_held state stands) in
+          let asks_same = asks_for old.files old.links working state name asking asks stands in
+          record {
+            text = goes.text;
+            after = with_feeds state did.0;
+            does = λ ends comes. subst (λ (used : Bool). ConnectsUnless used (ending world ends) state name place goes.text (with_feeds state did.0))
+                (sym (free_in state stands))
+                (record { after = did.0; does = subst (λ (a : FeedAsking). ConnectLine ends a place (feeds_of state) goes.text did.0) asks_same (did.2 ends comes); left = refl });
+            added = added_text old.written old.held held goes.text goes.added;
+            stands = stands_after state next feeds last did.0 is stands did.1.0;
+            ticked = omega (arith, did.1.1, unticked);
+          };
+      ready = ready_after next feeds last is few sound;
+      lines = ap (λ (w : Working). w.lines) is;
+      adds = adds old.written;
+    }
 
-    pub connect_stopped : FeedsGo links_old.attempts links_new.attempts links_old.wire links_new.wire (Holds links_old.attempts links_old.wire working.feeds progress)
-        (λ old new. HasMoved links_new.attempts links_new.wire new × (new.judgements ≡ old.judgements)) text_old text_new
-        (λ world old added new. ConnectPart world asking place old new) → (ticks : ℕ)
-        → StopsOn working (Connect name place) links_old links_new ticks ticks
-    connect_stopped goes ticks = inr (λ files world state stands.
-        let did = goes.goes (feeds_of state) (feeds_held files state stands) in
-        let asks_same = asks_for files links_old working state name asking asks stands in
-        record {
-          after = with_feeds state did.0;
-          moves = λ ends comes. record { after = did.0; does = subst (λ (a : FeedAsking). ConnectPart ends a place (feeds_of state) did.0) asks_same (did.2 ends comes); left = refl };
-          sent = did.1.0;
-          ticked = omega arith;
-        })
+    pub connect_stopped : FeedsGo old.links.attempts links.attempts old.links.wire links.wire (Holds old.links.attempts old.links.wire working.feeds progress)
+        (λ before now. HasMoved links.attempts links.wire now × (now.judgements ≡ before.judgements)) old.held held
+        (λ world before added now. ConnectPart world asking place before now) → held ≡ old.held → ticks ≡ old.ticks → old.link_faults ≤ faults
+        → EndedEarly working (Ok (Connect name place)) old (record old { links = links; standings = standings; link_faults = faults; held = held; ticks = ticks }) stops.NoMemory
+    connect_stopped goes silent unticked later = record {
+      part = inr (inr (ap (append_known old.written) silent, (Connect name place, refl, λ world state stands.
+          let did = goes.goes (feeds_of state) (feeds_held state stands) in
+          let asks_same = asks_for old.files old.links working state name asking asks stands in
+          record {
+            after = with_feeds state did.0;
+            moves = λ ends comes. record { after = did.0; does = subst (λ (a : FeedAsking). ConnectPart ends a place (feeds_of state) did.0) asks_same (did.2 ends comes); left = refl };
+            sent = did.1.0;
+            ticked = omega (arith, unticked);
+          })));
+      adds = front_none (all_of old) (append_known old.written held) old.link_faults faults later (ap (append_known old.written) silent);
+      cause = tt;
+    }
 
   -- ---- `ask`, `take`, `sync`
 
-  module _ (work : Work) (ticks_old ticks_new : ℕ) where
+  module _ (work : Work) where
     pub worked : (next : Working) (feeds : Feeds) (last : Progress)
-        → FeedsGo links_old.attempts links_new.attempts links_old.wire links_new.wire (Holds links_old.attempts links_old.wire working.feeds progress)
-        (λ old new. Holds links_new.attempts links_new.wire feeds last new × AreWithin ticks_old ticks_new old.judgements new.judgements) text_old text_new
-        (λ world old added new. WorkLine world asking work old added new)
-        → next ≡ record working { analyser = last.analyser; feeds = feeds; refused = last.refused }
-        → DoesOn working (OnFeed name work) links_old links_new text_old text_new ticks_old ticks_new next
-    worked next feeds last goes is = λ files world state stands.
-        let did = goes.goes (feeds_of state) (feeds_held files state stands) in
-        let asks_same = asks_for files links_old working state name asking asks stands in
-        record {
-          text = goes.text;
-          after = with_feeds state did.0;
-          does = λ ends comes. record { after = did.0; does = subst (λ (a : FeedAsking). WorkLine ends a work (feeds_of state) goes.text did.0) asks_same (did.2 ends comes); left = refl };
-          added = goes.added;
-          stands = stands_after files state next feeds last did.0 is stands did.1.0;
-          ticked = did.1.1;
-        }
-
-    pub work_stopped : FeedsGo links_old.attempts links_new.attempts links_old.wire links_new.wire (Holds links_old.attempts links_old.wire working.feeds progress)
-        (λ old new. HasMoved links_new.attempts links_new.wire new × AreWithin ticks_old ticks_new old.judgements new.judgements) text_old text_new
-        (λ world old added new. WorkPart world asking work old new)
-        → StopsOn working (OnFeed name work) links_old links_new ticks_old ticks_new
-    work_stopped goes = inr (λ files world state stands.
-        let did = goes.goes (feeds_of state) (feeds_held files state stands) in
-        let asks_same = asks_for files links_old working state name asking asks stands in
-        record {
-          after = with_feeds state did.0;
-          moves = λ ends comes. record { after = did.0; does = subst (λ (a : FeedAsking). WorkPart ends a work (feeds_of state) did.0) asks_same (did.2 ends comes); left = refl };
-          sent = did.1.0;
-          ticked = omega (arith, did.1.1);
-        })
-
--- a source or a dump has the name
-pub connect_refused : (working next : Working) (name place : List ℕ) (links : Links) (text_old text_new : List ℕ) (ticks : ℕ)
-    → (has_source working name || is_some (dump_in working name)) ≡ true → text_new ≡ text_old ++ refusal_text working.lines of_line 35
-    → next ≡ record working { refused = working.refused + 1 } → DoesOn working (Connect name place) links links text_old text_new ticks ticks next
-connect_refused working next name place links text_old text_new ticks used added is = λ files world state stands.
-    let text : List ℕ = refusal_text state.lines of_line 35 in
-    let after : State = record state { refused = state.refused + 1 } in
-    let used_in : (state.sources name || is_some (state.dumps name)) ≡ true =
-    (λ i. sym (stands.sources name) i || sym (HoldsOr-is_some files (dump_in working name) (state.dumps name) (stands.dumps name)) i) ∙ used in
-    record {
-      text = text;
-      after = after;
-      does = λ ends comes. subst (λ (b : Bool). ConnectsUnless b (ending world ends) state name place text after) (sym used_in) (refl, refl);
-      added = added ∙ ap (λ (n : ℕ). text_old ++ refusal_text n of_line 35) stands.lines;
-      stands = rw is (record {
-        analysis = stands.analysis;
-        sources = stands.sources;
-        dumps = stands.dumps;
-        feeds = stands.feeds;
-        made = stands.made;
-        lines = stands.lines;
-        passed = stands.passed;
-        refused = ap (λ (n : ℕ). n + 1) stands.refused;
-      });
-      ticked = omega arith;
+        → FeedsGo old.links.attempts links.attempts old.links.wire links.wire (Holds old.links.attempts old.links.wire working.feeds progress)
+        (λ before now. Holds links.attempts links.wire feeds last now × AreWithin old.ticks ticks before.judgements now.judgements) old.held held
+        (λ world before added now. WorkLine world asking work before added now)
+        → next ≡ record working { analyser = last.analyser; feeds = feeds; refused = last.refused } → last.refused ≤ progress.refused + 1
+        → FeedsAreSound standings (next.lines * most) feeds → AddsEnds old.held held old.link_faults faults
+        → Done working (Ok (OnFeed name work)) old (record old { links = links; standings = standings; link_faults = faults; held = held; ticks = ticks }) next
+    worked next feeds last goes is few sound adds = record {
+      goes = λ world tells state stands.
+          let did = goes.goes (feeds_of state) (feeds_held state stands) in
+          let asks_same = asks_for old.files old.links working state name asking asks stands in
+          record {
+            text = goes.text;
+            after = with_feeds state did.0;
+            does = λ ends comes. record { after = did.0; does = subst (λ (a : FeedAsking). WorkLine ends a work (feeds_of state) goes.text did.0) asks_same (did.2 ends comes); left = refl };
+            added = added_text old.written old.held held goes.text goes.added;
+            stands = stands_after state next feeds last did.0 is stands did.1.0;
+            ticked = did.1.1;
+          };
+      ready = ready_after next feeds last is few sound;
+      lines = ap (λ (w : Working). w.lines) is;
+      adds = adds old.written;
     }
 
--- ---- the command
+    pub work_stopped : FeedsGo old.links.attempts links.attempts old.links.wire links.wire (Holds old.links.attempts old.links.wire working.feeds progress)
+        (λ before now. HasMoved links.attempts links.wire now × AreWithin old.ticks ticks before.judgements now.judgements) old.held held
+        (λ world before added now. WorkPart world asking work before now) → held ≡ old.held → old.link_faults ≤ faults
+        → EndedEarly working (Ok (OnFeed name work)) old (record old { links = links; standings = standings; link_faults = faults; held = held; ticks = ticks }) stops.NoMemory
+    work_stopped goes silent later = record {
+      part = inr (inr (ap (append_known old.written) silent, (OnFeed name work, refl, λ world state stands.
+          let did = goes.goes (feeds_of state) (feeds_held state stands) in
+          let asks_same = asks_for old.files old.links working state name asking asks stands in
+          record {
+            after = with_feeds state did.0;
+            moves = λ ends comes. record { after = did.0; does = subst (λ (a : FeedAsking). WorkPart ends a work (feeds_of state) did.0) asks_same (did.2 ends comes); left = refl };
+            sent = did.1.0;
+            ticked = omega (arith, did.1.1);
+          })));
+      adds = front_none (all_of old) (append_known old.written held) old.link_faults faults later (ap (append_known old.written) silent);
+      cause = tt;
+    }
 
--- `take` of a name that is no dump's takes from a feed
-module _ (working : Working) (name : List ℕ) (count : ℕ) (links_old links_new : Links) (ticks_old ticks_new : ℕ) (none : dump_in working name ≡ None) where
-  no_dump : (files : Option Files) (state : State) → StandsFor files links_old working state → state.dumps name ≡ None
-  no_dump files state stands = HoldsOr-none files (dump_in working name) (state.dumps name) (stands.dumps name) none
+-- a source or a dump has the name
+pub connect_refused : (working next : Working) (name place : List ℕ) (old : Outside) (held : List ℕ) → IsBegun old working
+    → (has_source working name || is_some (dump_in working name)) ≡ true → held ≡ old.held ++ refusal_text working.lines of_line causes.NameTaken
+    → next ≡ record working { refused = working.refused + 1 } → Done working (Ok (Connect name place)) old (record old { held = held }) next
+connect_refused working next name place old held begun used added is =
+    done_refused working (Ok (Connect name place)) old (record old { held = held }) next of_line causes.NameTaken tt (Leaves-refl (λ other. Unit {0}) old.files) (λ n d e. tt)
+    refl refl refl (omega arith) refl refl added is begun
+    (λ world tells state stands.
+    let used_in : (state.sources name || is_some (state.dumps name)) ≡ true =
+    (λ i. sym (stands.sources name) i || sym (HoldsOr-is_some old.files (dump_in working name) (state.dumps name) (stands.dumps name)) i) ∙ used in
+    subst (λ (b : Bool). ConnectsUnless b world state name place (refusal_text state.lines of_line causes.NameTaken) (record state { refused = state.refused + 1 })) (sym used_in) (refl, refl))
 
-  pub takes_feed : (next : Working) (text_old text_new : List ℕ) → DoesOn working (OnFeed name (TakePdus count)) links_old links_new text_old text_new ticks_old ticks_new next
-      → DoesOn working (Take name count) links_old links_new text_old text_new ticks_old ticks_new next
-  takes_feed next text_old text_new does = λ files world state stands.
-      let did = does files world state stands in
-      record {
-        text = did.text;
-        after = did.after;
-        does = λ ends comes. subst (λ (dump : Option Dump). TakesNamed dump (ending world ends) state name count did.text did.after) (sym (no_dump files state stands)) (did.does ends comes);
-        added = did.added;
-        stands = did.stands;
-        ticked = did.ticked;
-      }
+-- ---- `take` of a name that is no dump's takes from a feed
 
-  pub take_stopped : StopsOn working (OnFeed name (TakePdus count)) links_old links_new ticks_old ticks_new → StopsOn working (Take name count) links_old links_new ticks_old ticks_new
-  take_stopped stops = elim stops [
-    | inl nothing ↦ inl nothing
-    | inr moves ↦ inr (λ files world state stands.
-        let did = moves files world state stands in
-        record { after = did.after; moves = λ ends comes. (no_dump files state stands, did.moves ends comes); sent = did.sent; ticked = did.ticked })
-  ]
+module _ (working : Working) (name : List ℕ) (count : ℕ) (old new : Outside) (none : dump_in working name ≡ None) where
+  no_dump : (state : State) → StandsFor old.files old.links working state → state.dumps name ≡ None
+  no_dump state stands = HoldsOr-none old.files (dump_in working name) (state.dumps name) (stands.dumps name) none
 
-module _ (working : Working) (command : Command) (task : Task) (same : task_of command ≡ task) (files : Option Files) (links_old links_new : Links) (ticks_old ticks_new : ℕ) where
-  pub feed_goes : (next : Working) (text_old text_new : List ℕ) → DoesOn working task links_old links_new text_old text_new ticks_old ticks_new next → (written : Option (List ℕ))
-      → Goes working (Ok command) files files links_old links_new (append_known written text_old) (append_known written text_new) ticks_old ticks_new next
-  feed_goes next text_old text_new does written = λ world tells state stands.
-      let did = does files world state stands in
-      record {
-        text = did.text;
-        after = did.after;
-        does = λ ends comes. subst (λ (t : Task). DoesTask (ending world ends) state t did.text did.after) (sym same) (did.does ends comes);
-        added = added_text written text_old text_new did.text did.added;
-        stands = did.stands;
-        ticked = did.ticked;
-      }
+  takes_done : (next : Working) → Done working (Ok (OnFeed name (TakePdus count))) old new next → Done working (Ok (Take name count)) old new next
+  takes_done next done = record {
+    goes = λ world tells state stands.
+        let did = done.goes world tells state stands in
+        record {
+          text = did.text;
+          after = did.after;
+          does = λ ends comes. subst (λ (dump : Option Dump). TakesNamed dump (ending world ends) state name count did.text did.after) (sym (no_dump state stands)) (did.does ends comes);
+          added = did.added;
+          stands = did.stands;
+          ticked = did.ticked;
+        };
+    ready = done.ready;
+    lines = done.lines;
+    adds = done.adds;
+  }
 
-  pub feed_part : (all_old all_new : Option (List ℕ)) → all_new ≡ all_old → StopsOn working task links_old links_new ticks_old ticks_new
-      → GoesPart working (Ok command) files links_old links_new all_old all_new ticks_old ticks_new
-  feed_part all_old all_new silent stops = elim stops [
-    | inl nothing ↦ inl (nothing.0, silent, nothing.1)
-    | inr moves ↦ inr (inr (silent, (command, refl, subst (λ (t : Task). MovesPart working t links_old links_new ticks_old ticks_new) (sym same) moves)))
-  ]
+  takes_ended : (stop : Stop) → EndedEarly working (Ok (OnFeed name (TakePdus count))) old new stop → EndedEarly working (Ok (Take name count)) old new stop
+  takes_ended stop ended = record { part = ended_part ended.part; adds = ended.adds; cause = cause_of stop ended.cause } where
+    ended_part : GoesPart working (Ok (OnFeed name (TakePdus count))) old new → GoesPart working (Ok (Take name count)) old new
+    ended_part part = elim part [
+      | inl nothing ↦ inl nothing
+      | inr more ↦ elim more [
+        | inl some ↦ inr (inl (some.0, λ world tells state stands.
+            let went = some.1 world tells state stands in
+            record {
+              part = went.part;
+              rest = went.rest;
+              after = went.after;
+              does = λ ends. subst (λ (dump : Option Dump). TakesNamed dump (ending world ends) state name count (went.part ++ went.rest) went.after) (sym (no_dump state stands)) (went.does ends);
+              added = went.added;
+              ticked = went.ticked;
+              came_to = λ ends dump is. let there : ⊥ = let no = no_dump state stands in cc in absurd there;
+            }))
+        | inr moves ↦ inr (inr (moves.0, (Take name count, refl, λ world state stands.
+            let is : moves.1.0 ≡ OnFeed name (TakePdus count) = let same = moves.1.1 in cc in
+            let went = (subst (λ (task : Task). MovesPart working task old new) is moves.1.2) world state stands in
+            record { after = went.after; moves = λ ends comes. (no_dump state stands, went.moves ends comes); sent = went.sent; ticked = went.ticked })))
+      ]
+    ]
 
--- what a line on feeds made of the links
-pub feeds_on : {from : FeedState → Type 0} {to : FeedState → FeedState → Type 0} (links_old links_new : Links) (text_old text_new : List ℕ) {does : Ends → FeedState → List ℕ → FeedState → Type 0}
-    → FeedsGo links_old.attempts links_new.attempts links_old.wire links_new.wire from to text_old text_new does → GoesOn links_old links_new
-feeds_on {from} {to} links_old links_new text_old text_new {does} goes = record { attempts = goes.attempts; wire = goes.links }
+    cause_of : (stop : Stop) → IsStoppedBy working (Ok (OnFeed name (TakePdus count))) old new stop → IsStoppedBy working (Ok (Take name count)) old new stop
+    cause_of stops.Shelf cause = (λ state stands. absurd (cause.0 state stands), cause.1)
+    cause_of stops.Sink cause = cause
+    cause_of stops.NoMemory cause = cause
+
+  pub takes_feed : (result : Result Working Stop) → Did working (Ok (OnFeed name (TakePdus count))) old new result → Did working (Ok (Take name count)) old new result
+  takes_feed (Ok next) did = takes_done next did
+  takes_feed (Err stop) did = takes_ended stop did

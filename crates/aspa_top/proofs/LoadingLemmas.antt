@@ -17,7 +17,7 @@ use Rattle.slurm_rules.specs.Reading.{IsRefused}
 use Rattle.slurm_rules.specs.Answers.{MemoryOr}
 use Rattle.slurm_rules.specs.declared.fault.SlurmFault.{SlurmFault}
 use Rattle.slurm_rules.specs.declared.fault.SlurmFault.TheVariants.{Json, Version, Member, Number, NoMemory as SlurmNoMemory}
-use Rattle.report_text.specs.Refusals.{IsCause}
+use Rattle.report_text.specs.declared.cause.Cause.{Cause}
 use Rattle.aspa_top.specs.declared.loading.FileKind.{FileKind}
 use Rattle.aspa_top.specs.declared.loading.FileKind.TheVariants.{Payloads, PayloadLines, Slurm}
 use Rattle.aspa_top.specs.declared.loading.Outcome.{Outcome}
@@ -77,11 +77,11 @@ module _ (old mid new : Option Files) (before after : ℕ) (name : List ℕ) (fi
 
 rows_understood : (kind : FileKind) (name bytes : List ℕ) (Due : Result RowMap FileFault → Type 0)
     → ((rows : RowMap) → Due (Ok rows) → Makes kind bytes (Replace name rows))
-    → ((unit : ℕ) (fault : PayloadFault) → Due (Err (Bad unit fault)) → Fails kind bytes (record { unit = unit; cause = payload_cause fault }))
+    → ((unit : ℕ) (fault : PayloadFault) (cause : Cause) → Due (Err (Bad unit fault)) → payload_cause fault ≡ Some cause → Fails kind bytes (record { unit = unit; cause = cause }))
     → (reading : Result RowMap FileFault) (outcome : Outcome) → FileAnswers Due reading → IsRowsOutcome name reading outcome
     → Understands kind bytes outcome
 rows_understood kind name bytes Due makes fails (Ok rows) outcome answers is = subst (λ (o : Outcome). Understands kind bytes o) (sym is) (makes rows answers)
-rows_understood kind name bytes Due makes fails (Err (Bad unit fault)) outcome answers is = subst (λ (o : Outcome). Understands kind bytes o) (sym is) (fails unit fault answers)
+rows_understood kind name bytes Due makes fails (Err (Bad unit fault)) outcome answers is = subst (λ (o : Outcome). Understands kind bytes o) (sym is.2) (fails unit fault is.0 answers is.1)
 rows_understood kind name bytes Due makes fails (Err NoMemory) outcome answers is = absurd is
 
 if_ok : {P Q : Outcome → Type 0} (result : Result Outcome NoMemoryFault) → ((outcome : Outcome) → P outcome → Q outcome) → IfOk result P → IfOk result Q
@@ -91,17 +91,17 @@ if_ok {P} {Q} (Err fault) more holds = tt
 pub payloads_understood : (name bytes : List ℕ) (reading : Result RowMap FileFault) (result : Result Outcome NoMemoryFault)
     → FileAnswers (IsFileReading bytes) reading → IfOk result (IsRowsOutcome name reading) → IfOk result (Understands (Payloads name) bytes)
 payloads_understood name bytes reading result answers is =
-    if_ok result (λ outcome o. rows_understood (Payloads name) name bytes (IsFileReading bytes) (λ rows reads. (rows, reads, refl)) (λ unit fault reads. (fault, reads, refl)) reading outcome answers o) is
+    if_ok result (λ outcome o. rows_understood (Payloads name) name bytes (IsFileReading bytes) (λ rows reads. (rows, reads, refl)) (λ unit fault cause reads caused. (fault, reads, caused)) reading outcome answers o) is
 
 pub lines_understood : (name bytes : List ℕ) (reading : Result RowMap FileFault) (result : Result Outcome NoMemoryFault)
     → FileAnswers (IsLinesReading bytes) reading → IfOk result (IsRowsOutcome name reading) → IfOk result (Understands (PayloadLines name) bytes)
 lines_understood name bytes reading result answers is =
-    if_ok result (λ outcome o. rows_understood (PayloadLines name) name bytes (IsLinesReading bytes) (λ rows reads. (rows, reads, refl)) (λ unit fault reads. (fault, reads, refl)) reading outcome answers o) is
+    if_ok result (λ outcome o. rows_understood (PayloadLines name) name bytes (IsLinesReading bytes) (λ rows reads. (rows, reads, refl)) (λ unit fault cause reads caused. (fault, reads, caused)) reading outcome answers o) is
 
-pub slurm_fails : (bytes : List ℕ) (fault : SlurmFault) (cause : ℕ) → MemoryOr fault (IsRefused bytes fault) → cause ≡ slurm_cause fault
-    → IsCause cause → Fails Slurm bytes (record { unit = 1; cause = cause })
-slurm_fails bytes Json cause due is known = (Json, due, refl, is)
-slurm_fails bytes Version cause due is known = (Version, due, refl, is)
-slurm_fails bytes Member cause due is known = (Member, due, refl, is)
-slurm_fails bytes Number cause due is known = (Number, due, refl, is)
-slurm_fails bytes SlurmNoMemory cause due is known = absurd (omega (arith, is, known.least))
+pub slurm_fails : (bytes : List ℕ) (fault : SlurmFault) (cause : Cause) → MemoryOr fault (IsRefused bytes fault) → slurm_cause fault ≡ Some cause
+    → Fails Slurm bytes (record { unit = 1; cause = cause })
+slurm_fails bytes Json cause due is = (Json, due, refl, is)
+slurm_fails bytes Version cause due is = (Version, due, refl, is)
+slurm_fails bytes Member cause due is = (Member, due, refl, is)
+slurm_fails bytes Number cause due is = (Number, due, refl, is)
+slurm_fails bytes SlurmNoMemory cause due is = let none : ⊥ = cc in absurd none

@@ -5,31 +5,29 @@ use Rattle.av_text.specs.Spellings.{IsInLine}
 use Rattle.av_text.proofs.AnySpellingLemmas.{names_in_line}
 use Rattle.report_text.proofs.RefusalLemmas.{slurm-in_line}
 use Rattle.script_lines.specs.declared.command.Command.{Command}
-use Rattle.script_lines.specs.declared.command.Command.TheVariants.{Idle, Aspa, Aspa64, Slurm, Filter, Unfilter, Assert, Unassert, Role as SetRole, RoleDefault, Open, Take, Feed, Ask, Sync, Judge, Report, Changes, Summary, Why}
+use Rattle.script_lines.specs.declared.command.Command.TheVariants.{Idle, Aspa, Aspa64, Slurm, Filter, Unfilter, Assert, Unassert, Role as SetRole, RoleDefault, Open, Take, Feed, Ask, Sync, Judge, Changes, Why, Show}
 use Rattle.script_lines.specs.declared.command.LineFault.{LineFault}
 use Rattle.script_lines.specs.Grammar.{IsReading}
 use Rattle.script_lines.proofs.SourceNameLemmas.{reading_named}
 use Rattle.aspa_top.specs.declared.task.Task.{Task}
-use Rattle.aspa_top.specs.declared.task.Task.TheVariants.{Short as ShortTask, Load, Open as OpenDump, Take as TakeUnits, Connect, OnFeed, Report as ReportRows, Changes as ListChanges}
-use Rattle.aspa_top.specs.Evaluation.{task_of}
+use Rattle.aspa_top.specs.declared.task.Task.TheVariants.{Load, Open as OpenDump, Take as TakeUnits, Connect, OnFeed}
+use Rattle.aspa_top.specs.Evaluation.{Asked, asked_of}
 use Rattle.aspa_top.specs.Loading.{unit_name}
 
 -- the name of the stream or of the file's units has no line feed
 abbrev pub IsNamedInLine : Task → Type 0
-IsNamedInLine (ShortTask short) = Unit {0}
 IsNamedInLine (Load kind file) = IsInLine (unit_name kind)
 IsNamedInLine (OpenDump name file) = IsInLine name
 IsNamedInLine (TakeUnits name count) = IsInLine name
 IsNamedInLine (Connect name place) = IsInLine name
 IsNamedInLine (OnFeed name work) = IsInLine name
-IsNamedInLine ReportRows = Unit {0}
-IsNamedInLine ListChanges = Unit {0}
+IsNamedInLine task = Unit {0}
 
-abbrev pub NamesInLine : Result Command LineFault → Type 0
-NamesInLine (Ok command) = IsNamedInLine (task_of command)
-NamesInLine (Err fault) = Unit {0}
+abbrev pub IsAskedInLine : Asked → Type 0
+IsAskedInLine (Ok task) = IsNamedInLine task
+IsAskedInLine (Err cause) = Unit {0}
 
-pub reading_in_line : (line : List ℕ) (reading : Result Command LineFault) → IsReading line reading → NamesInLine reading
+pub reading_in_line : (line : List ℕ) (reading : Result Command LineFault) → IsReading line reading → IsAskedInLine (asked_of reading)
 reading_in_line line (Ok Idle) reads = tt
 reading_in_line line (Ok (Aspa name file)) reads = names_in_line name (reading_named line (Aspa name file) reads)
 reading_in_line line (Ok (Aspa64 name file)) reads = names_in_line name (reading_named line (Aspa64 name file) reads)
@@ -46,8 +44,7 @@ reading_in_line line (Ok (Feed name place)) reads = names_in_line name (reading_
 reading_in_line line (Ok (Ask name)) reads = names_in_line name (reading_named line (Ask name) reads)
 reading_in_line line (Ok (Sync name count)) reads = names_in_line name (reading_named line (Sync name count) reads).0
 reading_in_line line (Ok (Judge role neighbour path)) reads = tt
-reading_in_line line (Ok Report) reads = tt
 reading_in_line line (Ok Changes) reads = tt
-reading_in_line line (Ok Summary) reads = tt
 reading_in_line line (Ok (Why addr asn prefix)) reads = tt
+reading_in_line line (Ok (Show show)) reads = tt
 reading_in_line line (Err fault) reads = tt

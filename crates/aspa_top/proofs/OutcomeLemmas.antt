@@ -1,22 +1,25 @@
 -- Each file comes to one outcome.
-use Rattle.std.proofs.Common.{◌≡◌, ℕ, ◌≤◌, Bool, true, false, nat_le, List, length, Ok, Err, Some, None, refl, sym, ap, subst, ◌∙◌, arith}
+use Rattle.std.proofs.Common.{◌≡◌, ◌≢◌, ℕ, ◌≤◌, Bool, true, false, nat_le, List, length, Ok, Err, Some, None, refl, sym, ap, subst, ◌∙◌, arith}
 use Rattle.std.specs.declared.option.Option.{Option}
 use Rattle.std.specs.declared.result.Result.{Result}
 use Rattle.std.proofs.lemmas.Bool.Decides.{nat_tests}
 use Rattle.av_base.specs.One.{HasOne}
 use Rattle.path_model.specs.Rows.{RowMap}
+use Rattle.report_text.specs.declared.cause.Cause.{Cause}
 use Rattle.vap_table.specs.declared.change.TableChange.{TableChange}
 use Rattle.vap_table.specs.declared.change.TableChange.TheVariants.{Replace, Slurm as BySlurm}
-use Rattle.aspa_payload.specs.File.{IsFileReading}
-use Rattle.aspa_payload.specs.Lines.{IsLinesReading}
+use Rattle.aspa_payload.specs.File.{IsFileReading, RefusedAt}
+use Rattle.aspa_payload.specs.Lines.{IsLinesReading, LineRefusedAt}
 use Rattle.aspa_payload.specs.declared.file.FileFault.{FileFault}
 use Rattle.aspa_payload.specs.declared.file.FileFault.TheVariants.{Bad, NoMemory}
 use Rattle.aspa_payload.specs.declared.fault.PayloadFault.{PayloadFault}
+use Rattle.aspa_payload.specs.declared.fault.PayloadFault.TheVariants.{NotDer, Version, NoProviders, Order, SelfProvider, Base64, NoMemory as PayloadMemory}
 use Rattle.aspa_payload.proofs.FileLawLemmas.{each_file}
 use Rattle.aspa_payload.proofs.LinesLawLemmas.{each_file_of_lines}
 use Rattle.slurm_rules.specs.Reading.{IsReading}
 use Rattle.slurm_rules.specs.declared.slurm.Slurm.{Slurm as SlurmContent}
 use Rattle.slurm_rules.specs.declared.fault.SlurmFault.{SlurmFault}
+use Rattle.slurm_rules.specs.declared.fault.SlurmFault.TheVariants.{Json, Version as SlurmVersion, Member, Number, NoMemory as SlurmMemory}
 use Rattle.slurm_rules.proofs.LawLemmas.{each_file as each_slurm_file}
 use Rattle.aspa_top.specs.declared.loading.FileKind.{FileKind}
 use Rattle.aspa_top.specs.declared.loading.FileKind.TheVariants.{Payloads, PayloadLines, Slurm}
@@ -47,13 +50,14 @@ module _ (Due : Result RowMap FileFault → Type 0) (the : HasOne Due) where
       a.2 ∙ ap (λ (rows : RowMap). Replace name rows) same ∙ sym b.2
 
   one_flaw : (one other : Flaw)
-      → (fault : PayloadFault) × Due (Err (Bad one.unit fault)) × (one.cause ≡ payload_cause fault)
-      → (fault : PayloadFault) × Due (Err (Bad other.unit fault)) × (other.cause ≡ payload_cause fault) → one ≡ other
+      → (fault : PayloadFault) × Due (Err (Bad one.unit fault)) × (payload_cause fault ≡ Some one.cause)
+      → (fault : PayloadFault) × Due (Err (Bad other.unit fault)) × (payload_cause fault ≡ Some other.cause) → one ≡ other
   one_flaw one other a b =
       let same = same_fault (Bad one.unit a.0) (Bad other.unit b.0) the.one (the.only (Err (Bad one.unit a.0)) a.1) (the.only (Err (Bad other.unit b.0)) b.1) in
       let unit : one.unit ≡ other.unit = cc in
       let fault : a.0 ≡ b.0 = cc in
-      let cause : one.cause ≡ other.cause = a.2 ∙ ap payload_cause fault ∙ sym b.2 in
+      let both : Some one.cause ≡ Some other.cause = sym a.2 ∙ ap payload_cause fault ∙ b.2 in
+      let cause : one.cause ≡ other.cause = cc in
       λ i. record { unit = unit i; cause = cause i }
 
   no_change_and_flaw : (rows : RowMap) (unit : ℕ) (fault : PayloadFault) → Due (Ok rows) → Due (Err (Bad unit fault)) → ⊥
@@ -76,7 +80,8 @@ fails_one Slurm bytes one other a b =
     let the = each_slurm_file bytes in
     let fault = same_fault a.0 b.0 the.one (the.only (Err a.0) a.1) (the.only (Err b.0) b.1) in
     let unit : one.unit ≡ other.unit = a.2 ∙ sym b.2 in
-    let cause : one.cause ≡ other.cause = a.3 ∙ ap slurm_cause fault ∙ sym b.3 in
+    let both : Some one.cause ≡ Some other.cause = sym a.3 ∙ ap slurm_cause fault ∙ b.3 in
+    let cause : one.cause ≡ other.cause = cc in
     λ i. record { unit = unit i; cause = cause i }
 
 makes_or_fails : (kind : FileKind) (bytes : List ℕ) (change : TableChange) (flaw : Flaw) → Makes kind bytes change → Fails kind bytes flaw → ⊥
@@ -129,29 +134,56 @@ outcome_unique kind named (Good c) (Good d) a b =
 
 -- ---- and there is one
 
+-- each refusal but want of memory has a cause
+payload_has_cause : (fault : PayloadFault) → fault ≢ PayloadMemory → (cause : Cause) × (payload_cause fault ≡ Some cause)
+payload_has_cause NotDer other = (_, refl)
+payload_has_cause Version other = (_, refl)
+payload_has_cause NoProviders other = (_, refl)
+payload_has_cause Order other = (_, refl)
+payload_has_cause SelfProvider other = (_, refl)
+payload_has_cause Base64 other = (_, refl)
+payload_has_cause PayloadMemory other = absurd (other refl)
+
+slurm_has_cause : (bytes : List ℕ) (fault : SlurmFault) → IsReading bytes (Err fault) → (cause : Cause) × (slurm_cause fault ≡ Some cause)
+slurm_has_cause bytes Json reads = (_, refl)
+slurm_has_cause bytes SlurmVersion reads = (_, refl)
+slurm_has_cause bytes Member reads = (_, refl)
+slurm_has_cause bytes Number reads = (_, refl)
+slurm_has_cause bytes SlurmMemory reads = absurd reads
+
+-- no unit is refused for want of memory
+unit_remembers : (bytes : List ℕ) (unit : ℕ) (fault : PayloadFault) → RefusedAt bytes unit fault → fault ≢ PayloadMemory
+unit_remembers bytes unit fault found is = let refused = rw is at found.refused in refused.1.2
+
+line_remembers : (bytes : List ℕ) (unit : ℕ) (fault : PayloadFault) → LineRefusedAt bytes unit fault → fault ≢ PayloadMemory
+line_remembers bytes unit fault found is = let refused = rw is at found.refused in refused.2.1.2
+
 rows_within : (kind : FileKind) (name bytes : List ℕ) (Due : Result RowMap FileFault → Type 0) → length bytes ≤ 67108864
     → ((rows : RowMap) → Due (Ok rows) → Makes kind bytes (Replace name rows))
-    → ((unit : ℕ) (fault : PayloadFault) → Due (Err (Bad unit fault)) → Fails kind bytes (record { unit = unit; cause = payload_cause fault }))
+    → ((unit : ℕ) (fault : PayloadFault) (cause : Cause) → Due (Err (Bad unit fault)) → payload_cause fault ≡ Some cause → Fails kind bytes (record { unit = unit; cause = cause }))
+    → ((unit : ℕ) (fault : PayloadFault) → Due (Err (Bad unit fault)) → fault ≢ PayloadMemory)
     → (Due (Err NoMemory) → ⊥) → (reading : Result RowMap FileFault) → Due reading → (outcome : Outcome) × ComesOf kind (Some bytes) outcome
-rows_within kind name bytes Due within makes fails none (Ok rows) reads = (Good (Replace name rows), record { bytes = bytes; is = refl; within = within; holds = makes rows reads })
-rows_within kind name bytes Due within makes fails none (Err (Bad unit fault)) reads =
-    (Flawed (record { unit = unit; cause = payload_cause fault }), record { bytes = bytes; is = refl; within = within; holds = fails unit fault reads })
-rows_within kind name bytes Due within makes fails none (Err NoMemory) reads = absurd (none reads)
+rows_within kind name bytes Due within makes fails remembers none (Ok rows) reads = (Good (Replace name rows), record { bytes = bytes; is = refl; within = within; holds = makes rows reads })
+rows_within kind name bytes Due within makes fails remembers none (Err (Bad unit fault)) reads =
+    let cause = payload_has_cause fault (remembers unit fault reads) in
+    (Flawed (record { unit = unit; cause = cause.0 }), record { bytes = bytes; is = refl; within = within; holds = fails unit fault cause.0 reads cause.1 })
+rows_within kind name bytes Due within makes fails remembers none (Err NoMemory) reads = absurd (none reads)
 
 slurm_within : (bytes : List ℕ) → length bytes ≤ 67108864 → (reading : Result SlurmContent SlurmFault) → IsReading bytes reading
     → (outcome : Outcome) × ComesOf Slurm (Some bytes) outcome
 slurm_within bytes within (Ok slurm) reads =
     (Good (BySlurm slurm.filters slurm.assertions), record { bytes = bytes; is = refl; within = within; holds = (slurm, reads, refl) })
 slurm_within bytes within (Err fault) reads =
-    (Flawed (record { unit = 1; cause = slurm_cause fault }), record { bytes = bytes; is = refl; within = within; holds = (fault, reads, refl, refl) })
+    let cause = slurm_has_cause bytes fault reads in
+    (Flawed (record { unit = 1; cause = cause.0 }), record { bytes = bytes; is = refl; within = within; holds = (fault, reads, refl, cause.1) })
 
 some_within : (kind : FileKind) (bytes : List ℕ) → length bytes ≤ 67108864 → (outcome : Outcome) × ComesOf kind (Some bytes) outcome
 some_within (Payloads name) bytes within =
     let the = each_file bytes in
-    rows_within (Payloads name) name bytes (IsFileReading bytes) within (λ rows reads. (rows, reads, refl)) (λ unit fault reads. (fault, reads, refl)) (λ none. none) the.one the.is
+    rows_within (Payloads name) name bytes (IsFileReading bytes) within (λ rows reads. (rows, reads, refl)) (λ unit fault cause reads is. (fault, reads, is)) (λ unit fault reads. unit_remembers bytes unit fault reads) (λ none. none) the.one the.is
 some_within (PayloadLines name) bytes within =
     let the = each_file_of_lines bytes in
-    rows_within (PayloadLines name) name bytes (IsLinesReading bytes) within (λ rows reads. (rows, reads, refl)) (λ unit fault reads. (fault, reads, refl)) (λ none. none) the.one the.is
+    rows_within (PayloadLines name) name bytes (IsLinesReading bytes) within (λ rows reads. (rows, reads, refl)) (λ unit fault cause reads is. (fault, reads, is)) (λ unit fault reads. line_remembers bytes unit fault reads) (λ none. none) the.one the.is
 some_within Slurm bytes within = let the = each_slurm_file bytes in slurm_within bytes within the.one the.is
 
 by_length : (kind : FileKind) (bytes : List ℕ) (fits : Bool) → nat_le (length bytes) 67108864 ≡ fits → (outcome : Outcome) × ComesOf kind (Some bytes) outcome

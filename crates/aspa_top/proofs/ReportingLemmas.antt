@@ -1,36 +1,31 @@
 -- What lines add to the text, whatever the world tells.
-use Rattle.std.proofs.Common.{◌≡◌, ℕ, ◌≤◌, List, [], ◌++◌, Ok, Err, refl, sym, ap, subst, ◌∙◌, arith}
+use Rattle.std.proofs.Common.{◌≡◌, ℕ, ◌≤◌, List, [], ◌++◌, refl, sym, ap, subst, ◌∙◌, arith}
 use Rattle.std.proofs.lemmas.List.{append-nil}
 use Rattle.std.specs.Io.KnownBytes.{append_known}
 use Rattle.std.specs.Option.{option_to_list}
-use Rattle.std.specs.Result.{OnOk}
 use Rattle.std.specs.declared.option.Option.{Option}
-use Rattle.std.specs.declared.result.Result.{Result}
 use Rattle.std.specs.declared.option.Option.TheVariants.{Some, None}
 use Rattle.av_base.specs.Told.{Rose}
 use Rattle.av_base.proofs.ToldLemmas.{append_known-nil}
 use Rattle.path_model.specs.declared.role.Role.{Role}
 use Rattle.path_model.specs.declared.verdict.Verdict.{Verdict}
 use Rattle.path_model.specs.declared.verdict.Verdict.TheVariants.{Valid, Unknown, Invalid}
-use Rattle.path_model.specs.declared.witness.Witness.{Witness}
 use Rattle.path_model.specs.CurrentTable.{Parts}
 use Rattle.path_model.specs.Name.{IsName}
 use Rattle.av_text.specs.Spellings.{IsInLine}
 use Rattle.av_text.specs.VerdictText.{verdict_text}
 use Rattle.av_text.proofs.AnySpellingLemmas.{names_in_line, verdicts_in_line}
+use Rattle.report_text.specs.declared.cause.Cause.{Cause}
+use Rattle.report_text.specs.declared.cause.Cause.TheVariants as causes
 use Rattle.report_text.specs.declared.feed.FeedEnd.TheVariants.{Unreachable}
-use Rattle.report_text.specs.declared.summary.Summary.{Summary}
 use Rattle.report_text.specs.Laws.{IsAnswerLine, IsPlaceInLine}
 use Rattle.report_text.specs.Refusals.{AnyPlace, of_line, of_unit, refusal_text}
 use Rattle.report_text.specs.Reported.{AddsFront, AddsLines}
-use Rattle.report_text.specs.Summary.{summary_line, summary_text}
-use Rattle.report_text.specs.Why.{why_line, why_text}
-use Rattle.report_text.proofs.AnswerLemmas.{summary_is_one_line, reason_is_one_line}
 use Rattle.report_text.proofs.ReportedLemmas.{adds_answer, adds_end, adds_front, adds_later, adds_none, adds_quiet_none, adds_refusal}
 use Rattle.feed_lines.specs.declared.telling.Telling.{Telling}
 use Rattle.feed_lines.specs.declared.telling.Telling.TheVariants.{NoName, StreamOver, Pdu, End}
-use Rattle.feed_lines.specs.Tellings.{number_of, telling_text, tells_text}
-use Rattle.aspa_top.specs.Performing.{Judges}
+use Rattle.feed_lines.specs.Tellings.{telling_text, tells_text}
+use Rattle.aspa_top.specs.Working.{Judges}
 use Rattle.aspa_top.specs.Reporting.{AddsText, AddsEnds}
 use Rattle.aspa_top.proofs.StandsLemmas.{added_text}
 
@@ -39,7 +34,7 @@ use Rattle.aspa_top.proofs.StandsLemmas.{added_text}
 pub text_none : (text : List ℕ) → AddsText text text
 text_none text = λ written. adds_quiet_none (append_known written text)
 
-pub text_refused : (number : ℕ) (place : AnyPlace) (cause : ℕ) (text_old text_new : List ℕ) → IsPlaceInLine place → text_new ≡ text_old ++ refusal_text number place cause → AddsText text_old text_new
+pub text_refused : (number : ℕ) (place : AnyPlace) (cause : Cause) (text_old text_new : List ℕ) → IsPlaceInLine place → text_new ≡ text_old ++ refusal_text number place cause → AddsText text_old text_new
 text_refused number place cause text_old text_new in_line is = λ written. adds_refusal _ _ number place cause in_line (added_text written text_old text_new _ is)
 
 verdict_is_one_line : (verdict : Verdict) → IsAnswerLine (verdict_text verdict)
@@ -52,12 +47,6 @@ text_judged parts role neighbour path text_old text_new judges = λ written.
     adds_answer _ _ (verdict_text judges.1.verdict) (verdict_is_one_line judges.1.verdict)
     (added_text written text_old text_new judges.0 judges.2 ∙ ap (append_known (append_known written text_old)) judges.1.text_is)
 
-pub text_summed : (summary : Summary) (text_old text_new : List ℕ) → text_new ≡ text_old ++ summary_text summary → AddsText text_old text_new
-text_summed summary text_old text_new is = λ written. adds_answer _ _ (summary_line summary) (summary_is_one_line summary) (added_text written text_old text_new _ is)
-
-pub text_explained : (verdict : Verdict) (witness : Witness) (text_old text_new : List ℕ) → text_new ≡ text_old ++ why_text verdict witness → AddsText text_old text_new
-text_explained verdict witness text_old text_new is = λ written. adds_answer _ _ (why_line verdict witness) (reason_is_one_line verdict witness) (added_text written text_old text_new _ is)
-
 -- ---- lines on feeds
 
 pub ends_quiet : (text_old text_new : List ℕ) (before now : ℕ) → before ≤ now → AddsText text_old text_new → AddsEnds text_old text_new before now
@@ -65,10 +54,10 @@ ends_quiet text_old text_new before now later adds = λ written. adds_later _ _ 
 
 telling_adds : (line : ℕ) (name text_old text_new : List ℕ) (telling : Telling) (before now : ℕ) → IsInLine name → before ≤ now → (telling ≡ End Unreachable → Rose before now)
     → text_new ≡ text_old ++ telling_text (record { line = line; name = name }) telling → AddsEnds text_old text_new before now
-telling_adds line name text_old text_new NoName before now in_line later rose is = ends_quiet text_old text_new before now later (text_refused line of_line 36 text_old text_new tt is)
-telling_adds line name text_old text_new StreamOver before now in_line later rose is = ends_quiet text_old text_new before now later (text_refused line of_line 38 text_old text_new tt is)
+telling_adds line name text_old text_new NoName before now in_line later rose is = ends_quiet text_old text_new before now later (text_refused line of_line causes.NoName text_old text_new tt is)
+telling_adds line name text_old text_new StreamOver before now in_line later rose is = ends_quiet text_old text_new before now later (text_refused line of_line causes.StreamOver text_old text_new tt is)
 telling_adds line name text_old text_new (Pdu number cause) before now in_line later rose is =
-    ends_quiet text_old text_new before now later (text_refused line (of_unit name number) (number_of cause) text_old text_new in_line is)
+    ends_quiet text_old text_new before now later (text_refused line (of_unit name number) cause text_old text_new in_line is)
 telling_adds line name text_old text_new (End how) before now in_line later rose is = λ written.
     adds_end _ _ line name how before now in_line later (λ same. rose (ap End same)) (added_text written text_old text_new _ is)
 
@@ -82,10 +71,6 @@ told_adds line name text_old text_new (Some telling) before now named later rose
     (is ∙ ap (λ (t : List ℕ). text_old ++ t) (append-nil (telling_text (record { line = line; name = name }) telling)))
 
 -- ---- fronts
-
-pub on_ok : {T E A : Type 0} (result : Result T E) → A → OnOk result A
-on_ok (Ok value) holds = holds
-on_ok (Err fault) holds = tt
 
 -- nothing was added
 pub front_none : (all_old all_new : Option (List ℕ)) (before now : ℕ) → before ≤ now → all_new ≡ all_old → AddsFront all_old all_new before now

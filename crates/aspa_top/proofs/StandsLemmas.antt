@@ -1,20 +1,15 @@
 -- How the working state goes on standing for the evaluation of the lines so far.
-use Rattle.std.proofs.Common.{true≢false, ◌≡◌, ◌≢◌, ℕ, ◌+◌, ◌*◌, ◌-◌, ◌<◌, ◌≤◌, ◌⊎◌, inl, inr, Bool, true, false, cond, nat_eq, is_some, ◌&&◌, ◌||◌, List, [], ◌∷◌, ◌++◌, None, Some, refl, sym, ◌∙◌, ap, subst, arith}
+use Rattle.std.proofs.Common.{true≢false, ◌≡◌, ◌≢◌, ℕ, ◌+◌, Bool, true, false, cond, nat_eq, is_some, ◌&&◌, ◌||◌, List, [], ◌∷◌, ◌++◌, None, Some, refl, sym, ◌∙◌, ap, subst}
 use Rattle.std.specs.Cmp.Lexicographic.{pointwise, nat_list_eq_equiv}
 use Rattle.std.specs.Io.KnownBytes.{append_known, prepend_known}
 use Rattle.std.specs.declared.option.Option.{Option}
-use Rattle.std.specs.declared.result.Result.{Result}
 use Rattle.std.proofs.lemmas.Map.Views.{exact_unsigned_eq}
 use Rattle.av_base.specs.Files.{Files, left_of}
 use Rattle.av_base.proofs.ToldLemmas.{append_known-append}
-use Rattle.report_text.specs.Refusals.{AnyPlace, refusal_text}
-use Rattle.feed_lines.specs.declared.feed.Feeds.{Feeds}
 use Rattle.feed_lines.specs.Holding.{feed_in}
-use Rattle.feed_lines.specs.Holding.{HoldsOr as HoldsFeed}
 use Rattle.feed_lines.specs.Lines.{World as Ends}
 use Rattle.feed_lines.proofs.StandingLemmas.{HoldsOr-is_some as Feed-is_some}
-use Rattle.script_lines.specs.declared.command.Command.{Command}
-use Rattle.script_lines.specs.declared.command.LineFault.{LineFault}
+use Rattle.rib_store.specs.State.{State as Analysis}
 use Rattle.stream_lines.specs.Frames.{Leaves}
 use Rattle.stream_lines.specs.Holding.{HoldsDump}
 use Rattle.stream_lines.specs.Streams.{Dump}
@@ -22,8 +17,9 @@ use Rattle.stream_lines.specs.Held.{HeldDump}
 use Rattle.aspa_top.specs.declared.working.Working.{Working}
 use Rattle.aspa_top.specs.declared.loading.FileKind.{FileKind}
 use Rattle.aspa_top.specs.Tasks.{State, Loads, LoadsUnless, same_name, is_stream, is_taken}
-use Rattle.aspa_top.specs.Evaluation.{counted, Does}
-use Rattle.aspa_top.specs.Performing.{HoldsOr, IsSound, StandsFor, Steps, counted_in, dump_in, has_source, has_stream, most}
+use Rattle.aspa_top.specs.Evaluation.{counted}
+use Rattle.aspa_top.specs.Standing.{HoldsOr, StandsFor}
+use Rattle.aspa_top.specs.Working.{counted_in, dump_in, has_source, has_stream}
 use Rattle.aspa_top.specs.World.{Links, World, Tells, ending}
 
 -- ---- names
@@ -61,10 +57,10 @@ not_there {A} (Some x) none = absurd (let no : ⊥ = cc in no)
 pub HoldsDump-leaves : (old new : Option Files) (kept : HeldDump) (dump : Dump) → left_of new kept.file ≡ left_of old kept.file
     → HoldsDump old kept dump → HoldsDump new kept dump
 HoldsDump-leaves old new kept dump same holds = record {
-  left = ap (prepend_known kept.held) same ∙ holds.left;
-  taken = holds.taken;
-  peers = holds.peers;
   over = holds.over;
+  taken = holds.taken;
+  left = λ yet. ap (prepend_known kept.held) same ∙ holds.left yet;
+  peers = holds.peers;
 }
 
 pub HoldsOr-leaves : (old new : Option Files) (found : Option HeldDump) (held : Option Dump)
@@ -152,102 +148,33 @@ Loads-ending world ends state kind file text next loads = loads_ending (is_taken
 pub Tells-ending : (files : Option Files) (world : World) (ends : Ends) → Tells files world → Tells files (ending world ends)
 Tells-ending files world ends tells = record { told = tells.told; is = tells.is; named = tells.named }
 
--- The line is refused. What is held of dumps and names stays, and so does what is left of their files.
-pub refused_kept : {P : ℕ → Type 0} (working next : Working) (reading : Result Command LineFault) (old new : Option Files) (text_old text_new : List ℕ) (place : AnyPlace) (cause : ℕ)
-    → Leaves P old new → ((name : List ℕ) (kept : HeldDump) → dump_in working name ≡ Some kept → P kept.file)
-    → text_new ≡ text_old ++ refusal_text working.lines place cause
-    → next.analyser ≡ working.analyser → next.feeds ≡ working.feeds → ((q : List ℕ) → has_source next q ≡ has_source working q) → ((q : List ℕ) → dump_in next q ≡ dump_in working q)
-    → next.lines ≡ working.lines → next.passed ≡ working.passed → next.refused ≡ working.refused + 1
-    → ((links : Links) (world : World) → Tells old world → (state : State) → StandsFor old links working state
-    → Does world state reading (refusal_text state.lines place cause) (record state { refused = state.refused + 1 }))
-    → Steps working reading old new text_old text_new next
-refused_kept {P} working next reading old new text_old text_new place cause leaves given added analyser feeds sources dumps lines passed refused does = λ links written ticks world tells state stands.
-    let stayed = StandsFor-leaves old new links working state leaves given stands in
-    record {
-      text = refusal_text state.lines place cause;
-      after = record state { refused = state.refused + 1 };
-      does = λ ends comes. does links (ending world ends) (Tells-ending old world ends tells) state stands;
-      added = added_text written text_old text_new (refusal_text state.lines place cause) (added ∙ ap (λ (n : ℕ). text_old ++ refusal_text n place cause) stands.lines);
-      stands = record {
-        analysis = analyser ∙ stands.analysis;
-        sources = λ q. sources q ∙ stands.sources q;
-        dumps = λ q. subst (λ (d : Option HeldDump). HoldsOr new d (state.dumps q)) (sym (dumps q)) (stayed.dumps q);
-        feeds = subst (λ (held : Feeds). (q : List ℕ) → HoldsFeed links.wire (feed_in held q) (state.feeds q)) (sym feeds) stayed.feeds;
-        made = stayed.made;
-        lines = lines ∙ stands.lines;
-        passed = passed ∙ stands.passed;
-        refused = refused ∙ ap (λ (n : ℕ). n + 1) stands.refused;
-      };
-      ticked = omega arith;
-    }
+-- ---- a working state that goes on
 
--- the same where the working state is as it was but for the count
-pub refused_same : {P : ℕ → Type 0} (working next : Working) (reading : Result Command LineFault) (old new : Option Files) (text_old text_new : List ℕ) (place : AnyPlace) (cause : ℕ)
-    → Leaves P old new → ((name : List ℕ) (kept : HeldDump) → dump_in working name ≡ Some kept → P kept.file)
-    → text_new ≡ text_old ++ refusal_text working.lines place cause → next ≡ record working { refused = working.refused + 1 }
-    → ((links : Links) (world : World) → Tells old world → (state : State) → StandsFor old links working state
-    → Does world state reading (refusal_text state.lines place cause) (record state { refused = state.refused + 1 }))
-    → Steps working reading old new text_old text_new next
-refused_same {P} working next reading old new text_old text_new place cause leaves given added is does =
-    refused_kept working next reading old new text_old text_new place cause leaves given added
-    (ap (λ (w : Working). w.analyser) is) (ap (λ (w : Working). w.feeds) is) (λ q. ap (λ (w : Working). has_source w q) is) (λ q. ap (λ (w : Working). dump_in w q) is)
-    (ap (λ (w : Working). w.lines) is) (ap (λ (w : Working). w.passed) is) (ap (λ (w : Working). w.refused) is) does
+-- where one moment stands for what another does but for what was refused
+pub stands_refused : (files : Option Files) (links : Links) (working next : Working) (state : State) → next ≡ record working { refused = working.refused + 1 }
+    → StandsFor files links working state → StandsFor files links next (record state { refused = state.refused + 1 })
+stands_refused files links working next state is stands = rw is (record {
+  analysis = stands.analysis;
+  sources = stands.sources;
+  dumps = stands.dumps;
+  feeds = stands.feeds;
+  made = stands.made;
+  lines = stands.lines;
+  passed = stands.passed;
+  refused = ap (λ (n : ℕ). n + 1) stands.refused;
+})
 
--- ---- soundness
-
--- no dump changed
-pub IsSound-kept : (opened more fewer lines : ℕ) (working next : Working) → fewer + 1 ≤ lines → opened ≤ more → IsSound opened fewer working
-    → ((q : List ℕ) → dump_in next q ≡ dump_in working q) → next.passed ≤ working.passed + most → next.refused ≤ working.refused + most
-    → IsSound more lines next
-IsSound-kept opened more fewer lines working next later within sound dumps passed refused = record {
-  given = λ n d e. let g = sound.given n d (sym (dumps n) ∙ e) in (omega (arith, g.0, within), omega (arith, g.1, later));
-  apart = λ a b d e differ x y. sound.apart a b d e differ (sym (dumps a) ∙ x) (sym (dumps b) ∙ y);
-  passed = omega (arith, sound.passed, passed, later);
-  refused = omega (arith, sound.refused, refused, later);
-}
-
-pub IsSound-same : (opened more fewer lines : ℕ) (working next : Working) → fewer + 1 ≤ lines → opened ≤ more → IsSound opened fewer working
-    → next ≡ record working { refused = working.refused + 1 } → IsSound more lines next
-IsSound-same opened more fewer lines working next later within sound is =
-    let refused : next.refused ≡ working.refused + 1 = ap (λ (w : Working). w.refused) is in
-    let passed : next.passed ≡ working.passed = ap (λ (w : Working). w.passed) is in
-    IsSound-kept opened more fewer lines working next later within sound (λ q. ap (λ (w : Working). dump_in w q) is) (omega (arith, passed)) (omega (arith, refused))
-
--- to count a line moves nothing
-pub IsSound-counted : (opened : ℕ) (working : Working) → IsSound opened working.lines working → IsSound opened working.lines (counted_in working)
-IsSound-counted opened working sound = record { given = sound.given; apart = sound.apart; passed = sound.passed; refused = sound.refused }
-
-pub IsSound-begun : (opened : ℕ) (working : Working) → IsSound opened working.lines working → IsSound opened (working.lines + 1 - 1) (counted_in working)
-IsSound-begun opened working sound =
-    let same : working.lines ≡ working.lines + 1 - 1 = omega arith in
-    subst (λ (n : ℕ). IsSound opened n (counted_in working)) same (IsSound-counted opened working sound)
-
-found_put : (b : Bool) (new d : HeldDump) (old : Option HeldDump) → cond b (Some new) old ≡ Some d
-    → ((b ≡ true) × (new ≡ d)) ⊎ ((b ≡ false) × (old ≡ Some d))
-found_put true new d old is = inl (refl, (let e : new ≡ d = cc in e))
-found_put false new d old is = inr (refl, is)
-
--- one dump was put in its place, or under a new name
-module _ (opened more fewer lines : ℕ) (name : List ℕ) (new : HeldDump) (working next : Working) (later : fewer + 1 ≤ lines) (within : opened ≤ more)
-    (sound : IsSound opened fewer working) (dumps : (q : List ℕ) → dump_in next q ≡ cond (same_name name q) (Some new) (dump_in working q))
-    (given : new.file < more) (few : new.taken ≤ lines * most)
-    (others : (q : List ℕ) (d : HeldDump) → name ≢ q → dump_in working q ≡ Some d → new.file ≢ d.file) where
-  given_put : (q : List ℕ) (d : HeldDump) → ((same_name name q ≡ true) × (new ≡ d)) ⊎ ((same_name name q ≡ false) × (dump_in working q ≡ Some d))
-      → (d.file < more) × (d.taken ≤ lines * most)
-  given_put q d (inl here) = subst (λ (o : HeldDump). (o.file < more) × (o.taken ≤ lines * most)) here.1 (given, few)
-  given_put q d (inr there) = let g = sound.given q d there.1 in (omega (arith, g.0, within), omega (arith, g.1, later))
-
-  apart_put : (a b : List ℕ) (d e : HeldDump) → a ≢ b → ((same_name name a ≡ true) × (new ≡ d)) ⊎ ((same_name name a ≡ false) × (dump_in working a ≡ Some d))
-      → ((same_name name b ≡ true) × (new ≡ e)) ⊎ ((same_name name b ≡ false) × (dump_in working b ≡ Some e)) → d.file ≢ e.file
-  apart_put a b d e apart (inl x) (inl y) = absurd (apart (sym (is_same name a x.0) ∙ is_same name b y.0))
-  apart_put a b d e apart (inl x) (inr y) = λ same. others b e (differ name b y.0) y.1 (ap (λ (o : HeldDump). o.file) x.1 ∙ same)
-  apart_put a b d e apart (inr x) (inl y) = λ same. others a d (differ name a x.0) x.1 (ap (λ (o : HeldDump). o.file) y.1 ∙ sym same)
-  apart_put a b d e apart (inr x) (inr y) = sound.apart a b d e apart x.1 y.1
-
-  pub IsSound-put : next.passed ≤ working.passed + most → next.refused ≤ working.refused + most → IsSound more lines next
-  IsSound-put passed refused = record {
-    given = λ q d e. given_put q d (found_put (same_name name q) new d (dump_in working q) (sym (dumps q) ∙ e));
-    apart = λ a b d e apart x y. apart_put a b d e apart (found_put (same_name name a) new d (dump_in working a) (sym (dumps a) ∙ x)) (found_put (same_name name b) new e (dump_in working b) (sym (dumps b) ∙ y));
-    passed = omega (arith, sound.passed, passed, later);
-    refused = omega (arith, sound.refused, refused, later);
-  }
+-- or for another analysis, or another count of judgements
+pub stands_analysed : (files : Option Files) (links : Links) (working next : Working) (state : State) (analysis : Analysis) (judgements : ℕ)
+    → next ≡ record working { analyser = analysis } → StandsFor files links working state
+    → StandsFor files links next (record state { analysis = analysis; judgements = judgements })
+stands_analysed files links working next state analysis judgements is stands = rw is (record {
+  analysis = refl;
+  sources = stands.sources;
+  dumps = stands.dumps;
+  feeds = stands.feeds;
+  made = stands.made;
+  lines = stands.lines;
+  passed = stands.passed;
+  refused = stands.refused;
+})

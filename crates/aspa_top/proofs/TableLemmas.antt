@@ -1,17 +1,26 @@
 -- A file of payloads or a SLURM file that a line names.
-use Rattle.std.proofs.Common.{◌≡◌, ℕ, ◌+◌, ◌≤◌, Bool, true, false, cond, List, [], ◌++◌, Some, refl, sym, ◌∙◌, ap, subst, append-nil, arith}
+use Rattle.std.proofs.Common.{◌≡◌, ℕ, ◌+◌, ◌-◌, ◌≤◌, Bool, true, false, cond, List, [], ◌++◌, Some, Ok, Err, IsErrOf, inl, refl, sym, ◌∙◌, ap, subst, arith}
 use Rattle.std.specs.declared.option.Option.{Option}
-use Rattle.std.specs.Io.KnownBytes.{append_known}
 use Rattle.std.specs.declared.result.Result.{Result}
+use Rattle.std.specs.Io.KnownBytes.{append_known}
 use Rattle.av_base.specs.Files.{Files}
+use Rattle.av_base.specs.Told.{Rose}
+use Rattle.av_base.proofs.ToldLemmas.{append_known-nil}
+use Rattle.report_text.specs.declared.cause.Cause.{Cause}
+use Rattle.report_text.specs.declared.cause.Cause.TheVariants as causes
+use Rattle.av_text.specs.Spellings.{IsInLine}
+use Rattle.report_text.specs.Laws.{IsPlaceInLine}
+use Rattle.report_text.specs.Reported.{AddsLines}
 use Rattle.report_text.specs.Refusals.{AnyPlace, of_line, of_unit, refusal_text}
 use Rattle.feed_lines.specs.declared.feed.Feeds.{Feeds}
 use Rattle.feed_lines.specs.Holding.{feed_in}
 use Rattle.feed_lines.specs.Holding.{HoldsOr as HoldsFeed}
-use Rattle.script_lines.specs.declared.command.Command.{Command}
-use Rattle.script_lines.specs.declared.command.LineFault.{LineFault}
+use Rattle.stream_lines.specs.declared.stop.ReadFault.{ReadFault}
+use Rattle.stream_lines.specs.declared.stop.ReadFault.TheVariants as faults
+use Rattle.stream_lines.specs.declared.stop.Stop.TheVariants as stops
 use Rattle.stream_lines.specs.Frames.{Leaves}
 use Rattle.stream_lines.specs.Held.{HeldDump}
+use Rattle.stream_lines.specs.Stops.{stop_of}
 use Rattle.rib_store.specs.State.{State as Analysis}
 use Rattle.vap_table.specs.declared.change.TableChange.{TableChange}
 use Rattle.analyser.specs.declared.event.Event.TheVariants.{Table as TableEvent}
@@ -23,13 +32,19 @@ use Rattle.aspa_top.specs.declared.loading.FileKind.{FileKind}
 use Rattle.aspa_top.specs.declared.loading.FileKind.TheVariants.{Payloads, PayloadLines, Slurm as SlurmFile}
 use Rattle.aspa_top.specs.declared.loading.Outcome.{Outcome}
 use Rattle.aspa_top.specs.declared.loading.Outcome.TheVariants.{NoFile, Long as FileLong, Flawed, Good}
+use Rattle.aspa_top.specs.declared.task.Task.TheVariants.{Load}
 use Rattle.aspa_top.specs.declared.working.Working.{Working}
 use Rattle.aspa_top.specs.Loading.{ComesOf, unit_name}
 use Rattle.aspa_top.specs.LoadingSteps.{ComesTold}
+use Rattle.aspa_top.specs.Outside.{Outside, all_of}
+use Rattle.aspa_top.specs.Performing.{Done, EndedEarly, GoesSome}
+use Rattle.aspa_top.specs.Standing.{HoldsOr, IsBegun, StandsFor}
 use Rattle.aspa_top.specs.Tasks.{State, Refuses, TakesFile, Loads, LoadsUnless, is_taken, same_name, with_name}
-use Rattle.aspa_top.specs.Evaluation.{Does}
-use Rattle.aspa_top.specs.Performing.{Acted, ActedWithin, Goes, Held, HoldsOr, IsTakenIn, LoadsAs, NamesBy, StandsFor, TickedLoad, dump_in, has_source}
+use Rattle.aspa_top.specs.Working.{Acted, ActedWithin, Held, IsTakenIn, KeepsStreams, NamesBy, dump_in, has_source}
 use Rattle.aspa_top.specs.World.{Links, World, Tells, ending}
+use Rattle.aspa_top.proofs.DidLemmas.{done_refused, some_done}
+use Rattle.aspa_top.proofs.ReadyLemmas.{kept_refused, ready_streams}
+use Rattle.aspa_top.proofs.ReportingLemmas.{front_none, text_none}
 use Rattle.aspa_top.proofs.StandsLemmas.{Loads-ending, StandsFor-leaves, added_text, same_stream}
 use Rattle.aspa_top.proofs.TaskLemmas.{some_load}
 
@@ -47,226 +62,191 @@ taken_is files links working state (Payloads name) taken stands is = sym (same_s
 taken_is files links working state (PayloadLines name) taken stands is = sym (same_stream files links working state name stands) ∙ sym is
 taken_is files links working state SlurmFile taken stands is = sym is
 
-module _ (old new : Option Files) (working next : Working) (kind : FileKind) (file text_old text_new : List ℕ)
-    {P : ℕ → Type 0} (leaves : Leaves P old new) (given : (name : List ℕ) (kept : HeldDump) → dump_in working name ≡ Some kept → P kept.file) where
+named_after : (kind : FileKind) (mid next : Working) (state : State) → NamesBy kind mid next → ((q : List ℕ) → has_source mid q ≡ state.sources q)
+    → (q : List ℕ) → has_source next q ≡ with_name kind state.sources q
+named_after (Payloads name) mid next state names sources q = names.sources q ∙ ap (λ (b : Bool). cond (same_name name q) true b) (sources q)
+named_after (PayloadLines name) mid next state names sources q = names.sources q ∙ ap (λ (b : Bool). cond (same_name name q) true b) (sources q)
+named_after SlurmFile mid next state names sources q = ap (λ (w : Working). has_source w q) names ∙ sources q
+
+-- all but the names of sources is as before
+left_after : (kind : FileKind) (mid next : Working) → NamesBy kind mid next → next ≡ record mid { sources = next.sources }
+left_after (Payloads name) mid next names = names.left
+left_after (PayloadLines name) mid next names = names.left
+left_after SlurmFile mid next names = names ∙ ap (λ (w : Working). record mid { sources = w.sources }) (sym names)
+
+
+-- a good file leaves the streams and the counts as they were
+Held-kept : (kind : FileKind) (working next : Working) (change : TableChange) → Held working kind change next → KeepsStreams working next
+Held-kept kind working next change held =
+    let is : next ≡ record held.mid { sources = next.sources } = left_after kind held.mid next held.names in
+    let mid = held.happened.left in
+    let refused : next.refused ≡ working.refused = ap (λ (w : Working). w.refused) is ∙ ap (λ (w : Working). w.refused) mid in
+    record {
+      feeds = ap (λ (w : Working). w.feeds) is ∙ ap (λ (w : Working). w.feeds) mid;
+      dumps = λ q. ap (λ (w : Working). dump_in w q) is ∙ ap (λ (w : Working). dump_in w q) mid;
+      lines = ap (λ (w : Working). w.lines) is ∙ ap (λ (w : Working). w.lines) mid;
+      passed = ap (λ (w : Working). w.passed) is ∙ ap (λ (w : Working). w.passed) mid;
+      refused = omega (arith, refused);
+    }
+
+module _ (working : Working) (kind : FileKind) (file : List ℕ) (old : Outside) (files : Option Files) (opened faulted : ℕ) (held : List ℕ) (ticks : ℕ)
+    (begun : IsBegun old working) {P : ℕ → Type 0} (leaves : Leaves P old.files files)
+    (given : (name : List ℕ) (kept : HeldDump) → dump_in working name ≡ Some kept → P kept.file) (later : old.opened ≤ opened) where
   -- the line is refused
-  pub load_refused : (ticks : ℕ) (taken : Bool) (place : AnyPlace) (cause : ℕ) → IsTakenIn working kind taken
-      → ((world : World) (state : State) (text : List ℕ) (after : State) → Tells old world → Refuses state place cause text after → LoadsUnless taken world state kind file text after)
-      → text_new ≡ text_old ++ refusal_text working.lines place cause → next ≡ record working { refused = working.refused + 1 }
-      → LoadsAs working kind file old new text_old text_new ticks ticks next
-  load_refused ticks taken place cause is does added next_is = λ links world tells state stands.
+  pub load_refused : (next : Working) (taken : Bool) (place : AnyPlace) (cause : Cause) → IsPlaceInLine place → IsTakenIn working kind taken
+      → ((world : World) (state : State) (text : List ℕ) (after : State) → Tells old.files world → Refuses state place cause text after → LoadsUnless taken world state kind file text after)
+      → held ≡ old.held ++ refusal_text working.lines place cause → ticks ≡ old.ticks → next ≡ record working { refused = working.refused + 1 }
+      → Done working (Ok (Load kind file)) old (record old { files = files; opened = opened; shelf_faults = faulted; held = held; ticks = ticks }) next
+  load_refused next taken place cause in_line is does added unticked next_is =
+      done_refused working (Ok (Load kind file)) old (record old { files = files; opened = opened; shelf_faults = faulted; held = held; ticks = ticks }) next place cause in_line leaves given
+      refl refl unticked later refl refl added next_is begun
+      (λ world tells state stands.
       let text : List ℕ = refusal_text state.lines place cause in
       let after : State = record state { refused = state.refused + 1 } in
-      let stayed = StandsFor-leaves old new links working state leaves given stands in
-      record {
-        text = text;
-        after = after;
-        loads = subst (λ (b : Bool). LoadsUnless b world state kind file text after) (sym (taken_is old links working state kind taken stands is)) (does world state text after tells (refl, refl));
-        added = added ∙ ap (λ (n : ℕ). text_old ++ refusal_text n place cause) stands.lines;
-        stands = rw next_is (record {
-          analysis = stayed.analysis;
-          sources = stayed.sources;
-          dumps = stayed.dumps;
-          feeds = stayed.feeds;
-          made = stayed.made;
-          lines = stayed.lines;
-          passed = stayed.passed;
-          refused = ap (λ (n : ℕ). n + 1) stayed.refused;
-        });
-        ticked = omega arith;
-      }
+      subst (λ (b : Bool). LoadsUnless b world state kind file text after) (sym (taken_is old.files old.links working state kind taken stands is)) (does world state text after tells (refl, refl)))
 
   -- by the file the line is refused
-  pub load_flawed : (ticks : ℕ) (told : List ℕ) (outcome : Outcome) (place : AnyPlace) (cause : ℕ) → IsTakenIn working kind false
-      → told ≡ file → ComesTold old kind told outcome
+  load_flawed : (next : Working) (told : List ℕ) (outcome : Outcome) (place : AnyPlace) (cause : Cause) → IsPlaceInLine place → IsTakenIn working kind false
+      → told ≡ file → ComesTold old.files kind told outcome
       → ((state : State) (text : List ℕ) (after : State) → Refuses state place cause text after → TakesFile state kind outcome text after)
-      → text_new ≡ text_old ++ refusal_text working.lines place cause → next ≡ record working { refused = working.refused + 1 }
-      → LoadsAs working kind file old new text_old text_new ticks ticks next
-  load_flawed ticks told outcome place cause is same comes takes added next_is =
-      load_refused ticks false place cause is
-      (λ world state text after tells refuses. record { outcome = outcome; comes = comes_world old world kind told file outcome tells same comes; takes = takes state text after refuses })
-      added next_is
-
-  named_after : (kind : FileKind) (mid next : Working) (state : State) → NamesBy kind mid next → ((q : List ℕ) → has_source mid q ≡ state.sources q)
-      → (q : List ℕ) → has_source next q ≡ with_name kind state.sources q
-  named_after (Payloads name) mid next state names sources q = names.sources q ∙ ap (λ (b : Bool). cond (same_name name q) true b) (sources q)
-  named_after (PayloadLines name) mid next state names sources q = names.sources q ∙ ap (λ (b : Bool). cond (same_name name q) true b) (sources q)
-  named_after SlurmFile mid next state names sources q = ap (λ (w : Working). has_source w q) names ∙ sources q
-
-  -- all but the names of sources is as before
-  left_after : (kind : FileKind) (mid next : Working) → NamesBy kind mid next → next ≡ record mid { sources = next.sources }
-  left_after (Payloads name) mid next names = names.left
-  left_after (PayloadLines name) mid next names = names.left
-  left_after SlurmFile mid next names = names ∙ ap (λ (w : Working). record mid { sources = w.sources }) (sym names)
+      → held ≡ old.held ++ refusal_text working.lines place cause → ticks ≡ old.ticks → next ≡ record working { refused = working.refused + 1 }
+      → Done working (Ok (Load kind file)) old (record old { files = files; opened = opened; shelf_faults = faulted; held = held; ticks = ticks }) next
+  load_flawed next told outcome place cause in_line is same comes takes added unticked next_is =
+      load_refused next false place cause in_line is
+      (λ world state text after tells refuses. record { outcome = outcome; comes = comes_world old.files world kind told file outcome tells same comes; takes = takes state text after refuses })
+      added unticked next_is
 
   -- the file is good, and changes the table
-  pub load_held : (ticks_old ticks_new : ℕ) (told : List ℕ) (change : TableChange) → IsTakenIn working kind false → told ≡ file → ComesTold old kind told (Good change)
-      → Held working kind change next → TicksWithin working.analyser (TableEvent change) ticks_old ticks_new → text_new ≡ text_old
-      → LoadsAs working kind file old new text_old text_new ticks_old ticks_new next
-  load_held ticks_old ticks_new told change is same comes held within kept = λ links world tells state stands.
-      let stayed = StandsFor-leaves old new links working state leaves given stands in
-      let event = held.happened in
+  load_held : (next : Working) (told : List ℕ) (change : TableChange) → IsTakenIn working kind false → told ≡ file → ComesTold old.files kind told (Good change)
+      → Held working kind change next → TicksWithin working.analyser (TableEvent change) old.ticks ticks → held ≡ old.held
+      → Done working (Ok (Load kind file)) old (record old { files = files; opened = opened; shelf_faults = faulted; held = held; ticks = ticks }) next
+  load_held next told change is same comes holds within kept =
+      let new : Outside = record old { files = files; opened = opened; shelf_faults = faulted; held = held; ticks = ticks } in
+      let event = holds.happened in
       let mid_is = event.left in
-      let next_is = left_after kind held.mid next held.names in
+      let next_is = left_after kind holds.mid next holds.names in
       let cost = some_cost working.analyser (TableEvent change) event.analysis in
-      let after : State = record state { analysis = event.analysis; sources = with_name kind state.sources; judgements = state.judgements + cost.0 } in
-      let happens : Happens state.analysis (TableEvent change) event.analysis = subst (λ (a : Analysis). Happens a (TableEvent change) event.analysis) stands.analysis event.happens in
+      let keeps = Held-kept kind working next change holds in
       record {
-        text = [];
-        after = after;
-        loads = subst (λ (b : Bool). LoadsUnless b world state kind file [] after) (sym (taken_is old links working state kind false stands is))
-            (record {
-              outcome = Good change;
-              comes = comes_world old world kind told file (Good change) tells same comes;
-              takes = record {
-                silent = refl;
-                analysis = event.analysis;
-                happens = happens;
-                cost = cost.0;
-                costs = subst (λ (a : Analysis). Costs a (TableEvent change) event.analysis cost.0) stands.analysis cost.1;
-                left = refl;
+        goes = λ world tells state stands.
+            let stayed = StandsFor-leaves old.files files old.links working state leaves given stands in
+            let after : State = record state { analysis = event.analysis; sources = with_name kind state.sources; judgements = state.judgements + cost.0 } in
+            record {
+              text = [];
+              after = after;
+              does = λ ends comes_to. Loads-ending world ends state kind file [] after
+                  (subst (λ (b : Bool). LoadsUnless b world state kind file [] after) (sym (taken_is old.files old.links working state kind false stands is))
+                  (record {
+                    outcome = Good change;
+                    comes = comes_world old.files world kind told file (Good change) tells same comes;
+                    takes = record {
+                      silent = refl;
+                      analysis = event.analysis;
+                      happens = subst (λ (a : Analysis). Happens a (TableEvent change) event.analysis) stands.analysis event.happens;
+                      cost = cost.0;
+                      costs = subst (λ (a : Analysis). Costs a (TableEvent change) event.analysis cost.0) stands.analysis cost.1;
+                      left = refl;
+                    };
+                  }));
+              added = ap (append_known old.written) kept ∙ sym (append_known-nil (all_of old));
+              stands = record {
+                analysis = ap (λ (w : Working). w.analyser) next_is ∙ ap (λ (w : Working). w.analyser) mid_is;
+                sources = named_after kind holds.mid next state holds.names (λ q. ap (λ (w : Working). has_source w q) mid_is ∙ stands.sources q);
+                dumps = λ q. subst (λ (d : Option HeldDump). HoldsOr files d (state.dumps q)) (sym (keeps.dumps q)) (stayed.dumps q);
+                feeds = subst (λ (held : Feeds). (q : List ℕ) → HoldsFeed old.links.wire (feed_in held q) (state.feeds q)) (sym keeps.feeds) stayed.feeds;
+                made = stayed.made;
+                lines = keeps.lines ∙ stands.lines;
+                passed = keeps.passed ∙ stands.passed;
+                refused = ap (λ (w : Working). w.refused) next_is ∙ ap (λ (w : Working). w.refused) mid_is ∙ stands.refused;
               };
-            });
-        added = kept ∙ sym (append-nil text_old);
-        stands = record {
-          analysis = ap (λ (w : Working). w.analyser) next_is ∙ ap (λ (w : Working). w.analyser) mid_is;
-          sources = named_after kind held.mid next state held.names (λ q. ap (λ (w : Working). has_source w q) mid_is ∙ stands.sources q);
-          dumps = λ q. subst (λ (d : Option HeldDump). HoldsOr new d (state.dumps q)) (sym (ap (λ (w : Working). dump_in w q) next_is ∙ ap (λ (w : Working). dump_in w q) mid_is)) (stayed.dumps q);
-          feeds = subst (λ (held : Feeds). (q : List ℕ) → HoldsFeed links.wire (feed_in held q) (state.feeds q))
-              (sym (ap (λ (w : Working). w.feeds) next_is ∙ ap (λ (w : Working). w.feeds) mid_is)) stayed.feeds;
-          made = stayed.made;
-          lines = ap (λ (w : Working). w.lines) next_is ∙ ap (λ (w : Working). w.lines) mid_is ∙ stands.lines;
-          passed = ap (λ (w : Working). w.passed) next_is ∙ ap (λ (w : Working). w.passed) mid_is ∙ stands.passed;
-          refused = ap (λ (w : Working). w.refused) next_is ∙ ap (λ (w : Working). w.refused) mid_is ∙ stands.refused;
-        };
-        ticked = omega (arith, within event.analysis cost.0 event.happens cost.1);
+              ticked = omega (arith, within event.analysis cost.0 event.happens cost.1);
+            };
+        ready = ready_streams old new working next later refl begun keeps;
+        lines = keeps.lines;
+        adds = subst (λ (h : List ℕ). AddsLines (all_of old) (append_known old.written h) old.link_faults old.link_faults) (sym kept) (text_none old.held old.written old.link_faults);
       }
 
   -- whatever comes of the file
-  pub load_acted : (outcome : Outcome) (ticks_old ticks_new : ℕ) (told : List ℕ) → IsTakenIn working kind false → told ≡ file → ComesTold old kind told outcome
-      → Acted working kind outcome text_old text_new next → ActedWithin working outcome ticks_old ticks_new
-      → LoadsAs working kind file old new text_old text_new ticks_old ticks_new next
-  load_acted NoFile ticks_old ticks_new told is same comes acted within =
-      subst (λ (t : ℕ). LoadsAs working kind file old new text_old text_new ticks_old t next) (sym within)
-      (load_flawed ticks_old told NoFile of_line 37 is same comes (λ state text after refuses. refuses) acted.0 acted.1)
-  load_acted FileLong ticks_old ticks_new told is same comes acted within =
-      subst (λ (t : ℕ). LoadsAs working kind file old new text_old text_new ticks_old t next) (sym within)
-      (load_flawed ticks_old told FileLong of_line 40 is same comes (λ state text after refuses. refuses) acted.0 acted.1)
-  load_acted (Flawed flaw) ticks_old ticks_new told is same comes acted within =
-      subst (λ (t : ℕ). LoadsAs working kind file old new text_old text_new ticks_old t next) (sym within)
-      (load_flawed ticks_old told (Flawed flaw) (of_unit (unit_name kind) flaw.unit) flaw.cause is same comes (λ state text after refuses. refuses) acted.0 acted.1)
-  load_acted (Good change) ticks_old ticks_new told is same comes acted within = load_held ticks_old ticks_new told change is same comes acted.1 within acted.0
+  pub load_acted : (next : Working) (outcome : Outcome) (told : List ℕ) → IsInLine (unit_name kind) → IsTakenIn working kind false → told ≡ file → ComesTold old.files kind told outcome
+      → Acted working kind outcome old.held held next → ActedWithin working outcome old.ticks ticks
+      → Done working (Ok (Load kind file)) old (record old { files = files; opened = opened; shelf_faults = faulted; held = held; ticks = ticks }) next
+  load_acted next NoFile told in_line is same comes acted within = load_flawed next told NoFile of_line causes.NoFile tt is same comes (λ state text after refuses. refuses) acted.0 within acted.1
+  load_acted next FileLong told in_line is same comes acted within = load_flawed next told FileLong of_line causes.FileLong tt is same comes (λ state text after refuses. refuses) acted.0 within acted.1
+  load_acted next (Flawed flaw) told in_line is same comes acted within =
+      load_flawed next told (Flawed flaw) (of_unit (unit_name kind) flaw.unit) flaw.cause in_line is same comes (λ state text after refuses. refuses) acted.0 within acted.1
+  load_acted next (Good change) told in_line is same comes acted within = load_held next told change is same comes acted.1 within acted.0
 
--- ---- a file that isn't loaded
+  -- ---- a file that isn't loaded
 
--- nothing was judged
-pub load_unticked : (working : Working) (kind : FileKind) (file : List ℕ) (files : Option Files) (ticks : ℕ) → TickedLoad working kind file files ticks ticks
-load_unticked working kind file files ticks = λ links world tells state stands.
-    let found = some_load (is_taken state kind) world state kind file in
-    record { text = found.0; after = found.1; loads = found.2; ticked = omega arith }
+  -- what was held stayed, and the counter ticked at most so often
+  load_some : held ≡ old.held → ((world : World) → Tells old.files world → (state : State) → StandsFor old.files old.links working state
+      → (text : List ℕ) × (after : State) × LoadsUnless (is_taken state kind) world state kind file text after × (ticks - old.ticks ≤ after.judgements - state.judgements))
+      → GoesSome working (Ok (Load kind file)) old (record old { files = files; opened = opened; shelf_faults = faulted; held = held; ticks = ticks })
+  load_some kept some = λ world tells state stands.
+      let found = some world tells state stands in
+      record {
+        part = [];
+        rest = found.0;
+        after = found.1;
+        does = λ ends. Loads-ending world ends state kind file found.0 found.1 found.2;
+        added = ap (append_known old.written) kept ∙ sym (append_known-nil (all_of old));
+        ticked = found.3;
+        came_to = λ ends. tt;
+      }
 
--- a good file's change wasn't made, or its name not noted
-pub load_ticked : (working : Working) (kind : FileKind) (file : List ℕ) (files : Option Files) (ticks_old ticks_new : ℕ) (told : List ℕ) (change : TableChange)
-    → IsTakenIn working kind false → told ≡ file → ComesTold files kind told (Good change)
-    → TicksWithin working.analyser (TableEvent change) ticks_old ticks_new → TickedLoad working kind file files ticks_old ticks_new
-load_ticked working kind file files ticks_old ticks_new told change is same comes within = λ links world tells state stands.
-    let one = one_outcome_of working.analyser (TableEvent change) in
-    let cost = some_cost working.analyser (TableEvent change) one.outcome in
-    let after : State = record state { analysis = one.outcome; sources = with_name kind state.sources; judgements = state.judgements + cost.0 } in
-    record {
-      text = [];
-      after = after;
-      loads = subst (λ (b : Bool). LoadsUnless b world state kind file [] after) (sym (taken_is files links working state kind false stands is))
-          (record {
-            outcome = Good change;
-            comes = comes_world files world kind told file (Good change) tells same comes;
-            takes = record {
-              silent = refl;
-              analysis = one.outcome;
-              happens = subst (λ (a : Analysis). Happens a (TableEvent change) one.outcome) stands.analysis one.happens;
-              cost = cost.0;
-              costs = subst (λ (a : Analysis). Costs a (TableEvent change) one.outcome cost.0) stands.analysis cost.1;
-              left = refl;
-            };
-          });
-      ticked = omega (arith, within one.outcome cost.0 one.happens cost.1);
-    }
+  -- its change wasn't made, or its name not noted, or the refusal not written
+  pub act_stopped : (outcome : Outcome) (told : List ℕ) → IsTakenIn working kind false → told ≡ file → ComesTold old.files kind told outcome
+      → ActedWithin working outcome old.ticks ticks → held ≡ old.held
+      → EndedEarly working (Ok (Load kind file)) old (record old { files = files; opened = opened; shelf_faults = faulted; held = held; ticks = ticks }) stops.NoMemory
+  act_stopped outcome told is same comes within kept =
+      let new : Outside = record old { files = files; opened = opened; shelf_faults = faulted; held = held; ticks = ticks } in
+      some_done working (Ok (Load kind file)) old new stops.NoMemory refl
+      (load_some kept (λ world tells state stands. by_outcome outcome comes within world tells state stands))
+      (front_none (all_of old) (all_of new) old.link_faults old.link_faults (omega arith) (ap (append_known old.written) kept)) tt
+    where
+      unticked : (world : World) (state : State) → ticks ≡ old.ticks
+          → (text : List ℕ) × (after : State) × LoadsUnless (is_taken state kind) world state kind file text after × (ticks - old.ticks ≤ after.judgements - state.judgements)
+      unticked world state none = let found = some_load (is_taken state kind) world state kind file in (found.0, found.1, found.2, omega (arith, none))
 
--- its change wasn't made, or the refusal not written
-pub act_ticked : (working : Working) (kind : FileKind) (file : List ℕ) (files : Option Files) (outcome : Outcome) (ticks_old ticks_new : ℕ) (told : List ℕ)
-    → IsTakenIn working kind false → told ≡ file → ComesTold files kind told outcome
-    → ActedWithin working outcome ticks_old ticks_new → TickedLoad working kind file files ticks_old ticks_new
-act_ticked working kind file files NoFile ticks_old ticks_new told is same comes within =
-    subst (λ (t : ℕ). TickedLoad working kind file files ticks_old t) (sym within) (load_unticked working kind file files ticks_old)
-act_ticked working kind file files FileLong ticks_old ticks_new told is same comes within =
-    subst (λ (t : ℕ). TickedLoad working kind file files ticks_old t) (sym within) (load_unticked working kind file files ticks_old)
-act_ticked working kind file files (Flawed flaw) ticks_old ticks_new told is same comes within =
-    subst (λ (t : ℕ). TickedLoad working kind file files ticks_old t) (sym within) (load_unticked working kind file files ticks_old)
-act_ticked working kind file files (Good change) ticks_old ticks_new told is same comes within =
-    load_ticked working kind file files ticks_old ticks_new told change is same comes within
+      by_outcome : (outcome : Outcome) → ComesTold old.files kind told outcome → ActedWithin working outcome old.ticks ticks
+          → (world : World) → Tells old.files world → (state : State) → StandsFor old.files old.links working state
+          → (text : List ℕ) × (after : State) × LoadsUnless (is_taken state kind) world state kind file text after × (ticks - old.ticks ≤ after.judgements - state.judgements)
+      by_outcome NoFile comes within world tells state stands = unticked world state within
+      by_outcome FileLong comes within world tells state stands = unticked world state within
+      by_outcome (Flawed flaw) comes within world tells state stands = unticked world state within
+      by_outcome (Good change) comes within world tells state stands =
+          let one = one_outcome_of working.analyser (TableEvent change) in
+          let cost = some_cost working.analyser (TableEvent change) one.one in
+          let after : State = record state { analysis = one.one; sources = with_name kind state.sources; judgements = state.judgements + cost.0 } in (
+            [],
+            after,
+            subst (λ (b : Bool). LoadsUnless b world state kind file [] after) (sym (taken_is old.files old.links working state kind false stands is))
+            (record {
+              outcome = Good change;
+              comes = comes_world old.files world kind told file (Good change) tells same comes;
+              takes = record {
+                silent = refl;
+                analysis = one.one;
+                happens = subst (λ (a : Analysis). Happens a (TableEvent change) one.one) stands.analysis one.is;
+                cost = cost.0;
+                costs = subst (λ (a : Analysis). Costs a (TableEvent change) one.one cost.0) stands.analysis cost.1;
+                left = refl;
+              };
+            }),
+            omega (arith, within one.one cost.0 one.is cost.1),
+          )
 
--- ---- the command
-
--- the command is performed that loads the file
-pub loaded : (old new : Option Files) (working next : Working) (kind : FileKind) (file : List ℕ) (reading : Result Command LineFault) (text_old text_new : List ℕ) (ticks_old ticks_new : ℕ)
-    → ((world : World) (state : State) (text : List ℕ) (after : State) → Loads world state kind file text after → Does world state reading text after)
-    → LoadsAs working kind file old new text_old text_new ticks_old ticks_new next → (links : Links) (written : Option (List ℕ))
-    → Goes working reading old new links links (append_known written text_old) (append_known written text_new) ticks_old ticks_new next
-loaded old new working next kind file reading text_old text_new ticks_old ticks_new does loads links written = λ world tells state stands.
-    let line = loads links world tells state stands in
-    record {
-      text = line.text;
-      after = line.after;
-      does = λ ends comes. does (ending world ends) state line.text line.after (Loads-ending world ends state kind file line.text line.after line.loads);
-      added = added_text written text_old text_new line.text line.added;
-      stands = line.stands;
-      ticked = line.ticked;
-    }
-
--- a good file leaves the dumps and the counts as they were
-pub Held-kept : (kind : FileKind) (working next : Working) (change : TableChange) → Held working kind change next
-    → ((q : List ℕ) → dump_in next q ≡ dump_in working q) × (next.feeds ≡ working.feeds) × (next.lines ≡ working.lines) × (next.passed ≡ working.passed) × (next.refused ≡ working.refused)
-Held-kept (Payloads name) working next change held =
-    let mid = held.happened.left in let is = held.names.left in (
-      λ q. ap (λ (w : Working). dump_in w q) is ∙ ap (λ (w : Working). dump_in w q) mid,
-      ap (λ (w : Working). w.feeds) is ∙ ap (λ (w : Working). w.feeds) mid,
-      ap (λ (w : Working). w.lines) is ∙ ap (λ (w : Working). w.lines) mid,
-      ap (λ (w : Working). w.passed) is ∙ ap (λ (w : Working). w.passed) mid,
-      ap (λ (w : Working). w.refused) is ∙ ap (λ (w : Working). w.refused) mid,
-    )
-Held-kept (PayloadLines name) working next change held =
-    let mid = held.happened.left in let is = held.names.left in (
-      λ q. ap (λ (w : Working). dump_in w q) is ∙ ap (λ (w : Working). dump_in w q) mid,
-      ap (λ (w : Working). w.feeds) is ∙ ap (λ (w : Working). w.feeds) mid,
-      ap (λ (w : Working). w.lines) is ∙ ap (λ (w : Working). w.lines) mid,
-      ap (λ (w : Working). w.passed) is ∙ ap (λ (w : Working). w.passed) mid,
-      ap (λ (w : Working). w.refused) is ∙ ap (λ (w : Working). w.refused) mid,
-    )
-Held-kept SlurmFile working next change held =
-    let mid = held.happened.left in let is = held.names in (
-      λ q. ap (λ (w : Working). dump_in w q) is ∙ ap (λ (w : Working). dump_in w q) mid,
-      ap (λ (w : Working). w.feeds) is ∙ ap (λ (w : Working). w.feeds) mid,
-      ap (λ (w : Working). w.lines) is ∙ ap (λ (w : Working). w.lines) mid,
-      ap (λ (w : Working). w.passed) is ∙ ap (λ (w : Working). w.passed) mid,
-      ap (λ (w : Working). w.refused) is ∙ ap (λ (w : Working). w.refused) mid,
-    )
-
-refused_kept_all : (working next : Working) → next ≡ record working { refused = working.refused + 1 }
-    → ((q : List ℕ) → dump_in next q ≡ dump_in working q) × (next.feeds ≡ working.feeds) × (next.lines ≡ working.lines) × (next.passed ≡ working.passed) × (next.refused ≤ working.refused + 1)
-refused_kept_all working next is =
-    let refused : next.refused ≡ working.refused + 1 = ap (λ (w : Working). w.refused) is in (
-      λ q. ap (λ (w : Working). dump_in w q) is,
-      ap (λ (w : Working). w.feeds) is,
-      ap (λ (w : Working). w.lines) is,
-      ap (λ (w : Working). w.passed) is,
-      omega (arith, refused),
-    )
-
--- what comes of a file leaves the dumps, and counts at most one refusal
-pub Acted-kept : (kind : FileKind) (working next : Working) (outcome : Outcome) (text_old text_new : List ℕ) → Acted working kind outcome text_old text_new next
-    → ((q : List ℕ) → dump_in next q ≡ dump_in working q) × (next.feeds ≡ working.feeds) × (next.lines ≡ working.lines) × (next.passed ≡ working.passed) × (next.refused ≤ working.refused + 1)
-Acted-kept kind working next NoFile text_old text_new acted = refused_kept_all working next acted.1
-Acted-kept kind working next FileLong text_old text_new acted = refused_kept_all working next acted.1
-Acted-kept kind working next (Flawed flaw) text_old text_new acted = refused_kept_all working next acted.1
-Acted-kept kind working next (Good change) text_old text_new acted =
-    let kept = Held-kept kind working next change acted.1 in (kept.0, kept.1, kept.2, kept.3, omega (arith, kept.4))
+-- the file wasn't read
+pub load_failed : (working : Working) (kind : FileKind) (file : List ℕ) (old : Outside) (files : Option Files) (opened faulted : ℕ) (fault : ReadFault)
+    → (fault ≡ faults.Source → Rose old.shelf_faults faulted)
+    → EndedEarly working (Ok (Load kind file)) old (record old { files = files; opened = opened; shelf_faults = faulted }) (stop_of fault)
+load_failed working kind file old files opened faulted faults.Source rose = record {
+  part = inl (refl, refl, refl);
+  adds = front_none (all_of old) (all_of old) old.link_faults old.link_faults (omega arith) refl;
+  cause = (λ state stands. tt, rose refl);
+}
+load_failed working kind file old files opened faulted faults.NoMemory rose = record {
+  part = inl (refl, refl, refl);
+  adds = front_none (all_of old) (all_of old) old.link_faults old.link_faults (omega arith) refl;
+  cause = tt;
+}

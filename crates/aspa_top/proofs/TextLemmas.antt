@@ -1,13 +1,9 @@
 -- The refusals in a text, line by line.
 use Rattle.std.proofs.Common.{◌≡◌, ℕ, ◌+◌, Bool, true, false, cond, List, [], ◌∷◌, ◌++◌, None, Some, Ok, Err, refl, sym, ap, ◌∙◌, arith, zero-add, length, ◌||◌, is_some}
 use Rattle.std.specs.declared.option.Option.{Option}
-use Rattle.std.specs.declared.result.Result.{Result}
 use Rattle.std.proofs.lemmas.List.{append_assoc}
-use Rattle.path_model.specs.declared.key.Key.{Key}
 use Rattle.path_model.specs.declared.verdict.Verdict.{Verdict}
 use Rattle.path_model.specs.declared.verdict.Verdict.TheVariants.{Valid, Unknown, Invalid}
-use Rattle.path_model.specs.Trail.{Path}
-use Rattle.std.specs.FinMap as fin
 use Rattle.av_text.specs.VerdictText.{verdict_text}
 use Rattle.av_text.specs.Spellings.{IsInLine}
 use Rattle.av_text.proofs.LackLemmas.{verdict_text-lacks}
@@ -21,40 +17,34 @@ use Rattle.feed_lines.specs.Tellings.{telling_text, tells_text}
 use Rattle.feed_lines.specs.Tellings.{Asking as FeedAsking}
 use Rattle.feed_lines.proofs.LawLemmas.{telling_is_one_line}
 use Rattle.report_text.specs.Laws.{IsPlaceInLine, IsAnswerLine, IsRefusalLine}
+use Rattle.report_text.specs.declared.cause.Cause.{Cause}
+use Rattle.report_text.specs.declared.cause.Cause.TheVariants as causes
 use Rattle.report_text.specs.Refusals.{AnyPlace, of_line, of_unit}
-use Rattle.report_text.specs.Rows.{row_line, row_text}
 use Rattle.report_text.specs.Change.{change_line, change_text}
-use Rattle.report_text.specs.Summary.{summary_line, summary_text}
-use Rattle.report_text.specs.Why.{why_line, why_text}
-use Rattle.report_text.proofs.AnswerLemmas.{row_is_one_line, change_is_one_line, summary_is_one_line, reason_is_one_line}
+use Rattle.report_text.proofs.AnswerLemmas.{change_is_one_line}
 use Rattle.analyser.specs.declared.event.Event.{Event}
-use Rattle.script_lines.specs.declared.command.Command.{Command}
-use Rattle.script_lines.specs.declared.command.LineFault.{LineFault}
 use Rattle.rib_store.specs.declared.journal.ChangedKey.{ChangedKey}
 use Rattle.stream_lines.specs.Changes.{changes_text}
 use Rattle.stream_lines.specs.Counts.{refusals_in}
-use Rattle.stream_lines.specs.Rows.{rows_text}
 use Rattle.stream_lines.specs.Streams.{Dump}
 use Rattle.stream_lines.proofs.RefusalLemmas.{begins, lacks, refusals_in-line, silent, refused, units_counted}
 use Rattle.aspa_top.specs.declared.loading.FileKind.{FileKind}
 use Rattle.aspa_top.specs.declared.loading.Outcome.{Outcome}
 use Rattle.aspa_top.specs.declared.loading.Outcome.TheVariants.{NoFile, Long as FileLong, Flawed, Good}
 use Rattle.aspa_top.specs.declared.task.Short.{Short as ShortTask}
-use Rattle.aspa_top.specs.declared.task.Short.TheVariants.{Idle as Nothing, Happen, Judge as JudgePath, Summary as SumUp, Why}
+use Rattle.aspa_top.specs.declared.task.Short.TheVariants.{Idle as Nothing, Happen, Judge as JudgePath}
+use Rattle.aspa_top.specs.declared.task.Question.{Question}
 use Rattle.aspa_top.specs.declared.task.Task.{Task}
-use Rattle.aspa_top.specs.declared.task.Task.TheVariants.{Short, Load, Open, Take, Connect, OnFeed, Report, Changes}
+use Rattle.aspa_top.specs.declared.task.Task.TheVariants.{Short, Load, Open, Take, Connect, OnFeed, Answer, Changes}
 use Rattle.aspa_top.specs.Loading.{unit_name}
-use Rattle.aspa_top.specs.Tasks.{State, Causes, Refuses, TakesFile, LoadsUnless, OpensNamed, TakesOpen, TakesNamed, Works, ConnectsUnless, ExplainsRoute, DoesShort, DoesTask, is_stream, is_taken, asking_of, asking_on, feeds_of, with_feeds, taking_of}
-use Rattle.aspa_top.specs.Evaluation.{Does, line_cause, counted, task_of, Evaluates}
+use Rattle.aspa_top.specs.Tasks.{State, Causes, Refuses, TakesFile, LoadsUnless, OpensNamed, TakesOpen, TakesNamed, Works, ConnectsUnless, DoesShort, DoesTask, is_stream, is_taken, asking_of, asking_on, feeds_of, with_feeds, taking_of}
+use Rattle.aspa_top.specs.Answers.{AnswersUnless, Replies, refused_for}
+use Rattle.aspa_top.specs.Evaluation.{Asked, DoesAsked, asked_of, counted, Evaluates}
 use Rattle.aspa_top.specs.World.{World}
-use Rattle.aspa_top.proofs.NamedLemmas.{IsNamedInLine, NamesInLine, reading_in_line}
+use Rattle.aspa_top.proofs.NamedLemmas.{IsAskedInLine, IsNamedInLine, reading_in_line}
+use Rattle.aspa_top.proofs.QuestionLemmas.{answer_counted, answer_lines, answers_counted}
 
--- an answer counts no refusal
-answer_counted : (line rest : List ℕ) → IsAnswerLine line → refusals_in ((line ++ 10 ∷ []) ++ rest) ≡ refusals_in rest
-answer_counted line rest is =
-    refusals_in-line line rest (lacks line is.in_line) ∙ ap (λ (b : Bool). cond b 1 0 + refusals_in rest) is.unmarked ∙ zero-add (refusals_in rest)
-
--- nor does a verdict
+-- a verdict counts no refusal
 no_mark : (v : Verdict) → begins (verdict_text v) ≡ false
 no_mark Valid = refl
 no_mark Unknown = refl
@@ -62,12 +52,6 @@ no_mark Invalid = refl
 
 refusals_in-verdict : (v : Verdict) (rest : List ℕ) → refusals_in ((verdict_text v ++ 10 ∷ []) ++ rest) ≡ refusals_in rest
 refusals_in-verdict v rest = answer_counted (verdict_text v) rest (record { in_line = verdict_text-lacks 10 v (omega arith); unmarked = no_mark v })
-
-rows_counted : (rows : List (Key × Verdict)) (rest : List ℕ) → refusals_in (rows_text rows ++ rest) ≡ refusals_in rest
-rows_counted [] rest = refl
-rows_counted (row ∷ rows) rest =
-    ap (λ (t : List ℕ). refusals_in t) (append_assoc (row_text row.0 row.1) (rows_text rows) rest)
-    ∙ answer_counted (row_line row.0 row.1) (rows_text rows ++ rest) (row_is_one_line row.0 row.1) ∙ rows_counted rows rest
 
 changes_counted : (changes : List ChangedKey) (rest : List ℕ) → refusals_in (changes_text changes ++ rest) ≡ refusals_in rest
 changes_counted [] rest = refl
@@ -84,32 +68,32 @@ Causes-refused : (state : State) (event : Event) (text : List ℕ) (next : State
 Causes-refused state event text next rest causes = silent text rest state.refused next.refused causes.silent (ap (λ (s : State). s.refused) causes.left)
 
 -- a refusal is counted
-Refuses-refused : (state : State) (place : AnyPlace) (cause : ℕ) (text : List ℕ) (next : State) (rest : List ℕ) → IsPlaceInLine place
+Refuses-refused : (state : State) (place : AnyPlace) (cause : Cause) (text : List ℕ) (next : State) (rest : List ℕ) → IsPlaceInLine place
     → Refuses state place cause text next → next.refused + refusals_in rest ≡ state.refused + refusals_in (text ++ rest)
 Refuses-refused state place cause text next rest in_line refuses =
     refused state.lines place cause text rest state.refused next.refused in_line refuses.0 (ap (λ (s : State). s.refused) refuses.1)
 
 TakesFile-refused : (state : State) (kind : FileKind) (outcome : Outcome) (text : List ℕ) (next : State) (rest : List ℕ) → IsInLine (unit_name kind)
     → TakesFile state kind outcome text next → next.refused + refusals_in rest ≡ state.refused + refusals_in (text ++ rest)
-TakesFile-refused state kind NoFile text next rest in_line takes = Refuses-refused state of_line 37 text next rest tt takes
-TakesFile-refused state kind FileLong text next rest in_line takes = Refuses-refused state of_line 40 text next rest tt takes
+TakesFile-refused state kind NoFile text next rest in_line takes = Refuses-refused state of_line causes.NoFile text next rest tt takes
+TakesFile-refused state kind FileLong text next rest in_line takes = Refuses-refused state of_line causes.FileLong text next rest tt takes
 TakesFile-refused state kind (Flawed flaw) text next rest in_line takes = Refuses-refused state (of_unit (unit_name kind) flaw.unit) flaw.cause text next rest in_line takes
 TakesFile-refused state kind (Good change) text next rest in_line takes = silent text rest state.refused next.refused takes.silent (ap (λ (s : State). s.refused) takes.left)
 
 Loads-refused : (taken : Bool) (world : World) (state : State) (kind : FileKind) (file text : List ℕ) (next : State) (rest : List ℕ) → IsInLine (unit_name kind)
     → LoadsUnless taken world state kind file text next → next.refused + refusals_in rest ≡ state.refused + refusals_in (text ++ rest)
-Loads-refused true world state kind file text next rest in_line loads = Refuses-refused state of_line 35 text next rest tt loads
+Loads-refused true world state kind file text next rest in_line loads = Refuses-refused state of_line causes.NameTaken text next rest tt loads
 Loads-refused false world state kind file text next rest in_line loads = TakesFile-refused state kind loads.outcome text next rest in_line loads.takes
 
 Opens-refused : (used : Bool) (named : Option (List ℕ)) (state : State) (name text : List ℕ) (next : State) (rest : List ℕ)
     → OpensNamed used named state name text next → next.refused + refusals_in rest ≡ state.refused + refusals_in (text ++ rest)
-Opens-refused true named state name text next rest opens = Refuses-refused state of_line 35 text next rest tt opens
-Opens-refused false None state name text next rest opens = Refuses-refused state of_line 37 text next rest tt opens
+Opens-refused true named state name text next rest opens = Refuses-refused state of_line causes.NameTaken text next rest tt opens
+Opens-refused false None state name text next rest opens = Refuses-refused state of_line causes.NoFile text next rest tt opens
 Opens-refused false (Some bytes) state name text next rest opens = silent text rest state.refused next.refused opens.0 (ap (λ (s : State). s.refused) opens.1)
 
 TakesOpen-refused : (over : Bool) (state : State) (name : List ℕ) (count : ℕ) (dump : Dump) (text : List ℕ) (next : State) (rest : List ℕ) → IsInLine name
     → TakesOpen over state name count dump text next → next.refused + refusals_in rest ≡ state.refused + refusals_in (text ++ rest)
-TakesOpen-refused true state name count dump text next rest in_line takes = Refuses-refused state of_line 38 text next rest tt takes
+TakesOpen-refused true state name count dump text next rest in_line takes = Refuses-refused state of_line causes.StreamOver text next rest tt takes
 TakesOpen-refused false state name count dump text next rest in_line takes =
     ap (λ (s : State). s.refused + refusals_in rest) takes.next_is
     ∙ units_counted (asking_of state name) count (taking_of state dump) takes.end text rest in_line takes.takes
@@ -156,7 +140,7 @@ Works-refused world state name work text next rest in_line works =
 
 Connects-refused : (used : Bool) (world : World) (state : State) (name place text : List ℕ) (next : State) (rest : List ℕ) → IsInLine name
     → ConnectsUnless used world state name place text next → next.refused + refusals_in rest ≡ state.refused + refusals_in (text ++ rest)
-Connects-refused true world state name place text next rest in_line connects = Refuses-refused state of_line 35 text next rest tt connects
+Connects-refused true world state name place text next rest in_line connects = Refuses-refused state of_line causes.NameTaken text next rest tt connects
 Connects-refused false world state name place text next rest in_line connects =
     told_counted state next (asking_on state name) connects.does.tells text rest connects.does.after connects.after in_line connects.does.text_is
     (ap (λ (s : FeedState). s.refused) connects.does.done.left) connects.does.left connects.left
@@ -172,12 +156,12 @@ answered : (state next : State) (text answer rest : List ℕ) → text ≡ answe
 answered state next text answer rest is none same =
     ap (λ (n : ℕ). n + refusals_in rest) same ∙ ap (λ (n : ℕ). state.refused + n) (sym (ap (λ (t : List ℕ). refusals_in (t ++ rest)) is ∙ none))
 
-ExplainsRoute-refused : (path : Option Path) (state : State) (key : Key) (text : List ℕ) (next : State) (rest : List ℕ)
-    → ExplainsRoute path state key text next → next.refused + refusals_in rest ≡ state.refused + refusals_in (text ++ rest)
-ExplainsRoute-refused None state key text next rest explains = Refuses-refused state of_line 39 text next rest tt explains
-ExplainsRoute-refused (Some path) state key text next rest explains =
-    answered state next text (why_text explains.verdict explains.witness) rest explains.text_is
-    (answer_counted (why_line explains.verdict explains.witness) rest (reason_is_one_line explains.verdict explains.witness)) (ap (λ (s : State). s.refused) explains.left)
+Replies-refused : (state : State) (question : Question) (text : List ℕ) (next : State) (rest : List ℕ)
+    → Replies state question text next → next.refused + refusals_in rest ≡ state.refused + refusals_in (text ++ rest)
+Replies-refused state question text next rest replies = by_cause (refused_for state question) replies where
+  by_cause : (cause : Option Cause) → AnswersUnless cause state question text next → next.refused + refusals_in rest ≡ state.refused + refusals_in (text ++ rest)
+  by_cause (Some cause) refuses = Refuses-refused state of_line cause text next rest tt refuses
+  by_cause None answers = answered state next text text rest refl (answers_counted text rest (answer_lines state question text answers.0)) (ap (λ (s : State). s.refused) answers.1)
 
 DoesShort-refused : (state : State) (short : ShortTask) (text : List ℕ) (next : State) (rest : List ℕ)
     → DoesShort state short text next → next.refused + refusals_in rest ≡ state.refused + refusals_in (text ++ rest)
@@ -185,9 +169,6 @@ DoesShort-refused state Nothing text next rest does = silent text rest state.ref
 DoesShort-refused state (Happen event) text next rest does = Causes-refused state event text next rest does
 DoesShort-refused state (JudgePath role neighbour path) text next rest does =
     answered state next text (verdict_text does.0.verdict ++ 10 ∷ []) rest does.0.text_is (refusals_in-verdict does.0.verdict rest) (ap (λ (s : State). s.refused) does.1)
-DoesShort-refused state SumUp text next rest does =
-    answered state next text (summary_text does.summary) rest does.text_is (answer_counted (summary_line does.summary) rest (summary_is_one_line does.summary)) (ap (λ (s : State). s.refused) does.left)
-DoesShort-refused state (Why key) text next rest does = ExplainsRoute-refused (fin.get state.analysis.routes key) state key text next rest does
 
 DoesTask-refused : (world : World) (state : State) (task : Task) (text : List ℕ) (next : State) (rest : List ℕ) → IsNamedInLine task
     → DoesTask world state task text next → next.refused + refusals_in rest ≡ state.refused + refusals_in (text ++ rest)
@@ -198,16 +179,16 @@ DoesTask-refused world state (Take name count) text next rest in_line does = Tak
 DoesTask-refused world state (Connect name place) text next rest in_line does =
     Connects-refused (state.sources name || is_some (state.dumps name)) world state name place text next rest in_line does
 DoesTask-refused world state (OnFeed name work) text next rest in_line does = Works-refused world state name work text next rest in_line does
-DoesTask-refused world state Report text next rest in_line does =
-    answered state next text (rows_text does.rows) rest does.text_is (rows_counted does.rows rest) (ap (λ (s : State). s.refused) does.left)
+DoesTask-refused world state (Answer question) text next rest in_line does = Replies-refused state question text next rest does
 DoesTask-refused world state Changes text next rest in_line does =
     answered state next text (changes_text does.changes) rest does.text_is (changes_counted does.changes rest) (ap (λ (s : State). s.refused) does.left)
 
 -- one line counts what its text has
-Does-refused : (world : World) (state : State) (reading : Result Command LineFault) (text : List ℕ) (next : State) (rest : List ℕ) → NamesInLine reading
-    → Does world state reading text next → next.refused + refusals_in rest ≡ state.refused + refusals_in (text ++ rest)
-Does-refused world state (Ok command) text next rest in_line does = DoesTask-refused world state (task_of command) text next rest in_line does
-Does-refused world state (Err fault) text next rest in_line does = Refuses-refused state of_line (line_cause fault) text next rest tt does
+DoesAsked-refused : (world : World) (state : State) (asked : Asked) (text : List ℕ) (next : State) (rest : List ℕ) → IsAskedInLine asked
+    → DoesAsked world state asked text next → next.refused + refusals_in rest ≡ state.refused + refusals_in (text ++ rest)
+DoesAsked-refused world state (Ok task) text next rest in_line does = DoesTask-refused world state task text next rest in_line does
+DoesAsked-refused world state (Err None) text next rest in_line does = absurd does
+DoesAsked-refused world state (Err (Some cause)) text next rest in_line does = Refuses-refused state of_line cause text next rest tt does
 
 -- as many refusals are counted as the text has lines that begin with `! `
 pub Evaluates-refused : (world : World) (before : State) (lines : List (List ℕ)) (text : List ℕ) (end : State)
@@ -218,6 +199,6 @@ Evaluates-refused world before [] text end evaluates =
     omega arith
 Evaluates-refused world before (line ∷ more) text end evaluates =
     Evaluates-refused world evaluates.next more evaluates.rest end evaluates.goes_on
-    ∙ Does-refused world (counted before) evaluates.performs.reading evaluates.first evaluates.next evaluates.rest
+    ∙ DoesAsked-refused world (counted before) (asked_of evaluates.performs.reading) evaluates.first evaluates.next evaluates.rest
     (reading_in_line line evaluates.performs.reading evaluates.performs.reads) evaluates.performs.does
     ∙ ap (λ (t : List ℕ). before.refused + refusals_in t) (sym evaluates.text_is)

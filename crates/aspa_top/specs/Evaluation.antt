@@ -1,31 +1,36 @@
 -- The text of a script, by evaluating each line from scratch: from the world, what the lines before have left, and the line itself.
 use Rattle.std.specs.Prelude.{◌≡◌, ℕ, ◌+◌, ◌-◌, ◌≤◌, ◌⊎◌, List, [], ◌∷◌, ◌++◌}
+use Rattle.std.specs.declared.option.Option.{Option}
+use Rattle.std.specs.declared.option.Option.TheVariants.{Some, None}
 use Rattle.std.specs.declared.result.Result.{Result}
 use Rattle.std.specs.declared.result.Result.TheVariants.{Ok, Err}
 use Rattle.vap_table.specs.declared.change.TableChange.{TableChange}
 use Rattle.vap_table.specs.declared.change.TableChange.TheVariants.{Filter as FilterByHand, Unfilter as UnfilterByHand, Assert as AssertByHand, Unassert as UnassertByHand}
 use Rattle.analyser.specs.declared.event.Event.TheVariants.{Table as TableEvent, Role as RoleEvent, DefaultRole}
 use Rattle.script_lines.specs.declared.command.Command.{Command}
-use Rattle.script_lines.specs.declared.command.Command.TheVariants.{Idle, Aspa, Aspa64, Slurm, Filter, Unfilter, Assert, Unassert, Role as SetRole, RoleDefault, Open, Take, Feed, Ask, Sync, Judge, Report, Changes, Summary, Why}
+use Rattle.script_lines.specs.declared.command.Command.TheVariants.{Idle, Aspa, Aspa64, Slurm, Filter, Unfilter, Assert, Unassert, Role as SetRole, RoleDefault, Open, Take, Feed, Ask, Sync, Judge, Changes, Why, Show}
 use Rattle.script_lines.specs.declared.command.LineFault.{LineFault}
 use Rattle.script_lines.specs.declared.command.LineFault.TheVariants.{Long, Command as NoCommand, Words, Number, NoMemory}
 use Rattle.feed_lines.specs.declared.working.Work.TheVariants.{Ask as AskNow, Sync as SyncTo}
 use Rattle.script_lines.specs.Grammar.{IsReading}
+use Rattle.report_text.specs.declared.cause.Cause.{Cause}
+use Rattle.report_text.specs.declared.cause.Cause.TheVariants as causes
 use Rattle.report_text.specs.Refusals.{of_line}
 use Rattle.aspa_top.specs.declared.loading.FileKind.TheVariants.{Payloads, PayloadLines, Slurm as SlurmFile}
-use Rattle.aspa_top.specs.declared.task.Short.TheVariants.{Idle as Nothing, Happen, Judge as JudgePath, Summary as SumUp, Why as WhyRoute}
+use Rattle.aspa_top.specs.declared.task.Question.TheVariants.{Show as ShowAll, Why as WhyRoute}
+use Rattle.aspa_top.specs.declared.task.Short.TheVariants.{Idle as Nothing, Happen, Judge as JudgePath}
 use Rattle.aspa_top.specs.declared.task.Task.{Task}
-use Rattle.aspa_top.specs.declared.task.Task.TheVariants.{Short, Load, Open as OpenDump, Take as TakeUnits, Connect, OnFeed, Report as ReportRows, Changes as ListChanges}
+use Rattle.aspa_top.specs.declared.task.Task.TheVariants.{Short, Load, Open as OpenDump, Take as TakeUnits, Connect, OnFeed, Answer, Changes as ListChanges}
 use Rattle.aspa_top.specs.Tasks.{State, Refuses, DoesTask, Moves, TaskCostsWhatItCameTo, TaskUsesFile}
 use Rattle.aspa_top.specs.World.{World}
 
--- the number of the cause for which a line is refused; want of memory is none
-abbrev pub line_cause : LineFault → ℕ
-line_cause Long = 31
-line_cause NoCommand = 32
-line_cause Words = 33
-line_cause Number = 34
-line_cause NoMemory = 0
+-- the cause for which a line is refused; want of memory is none
+abbrev pub line_cause : LineFault → Option Cause
+line_cause Long = Some causes.LongLine
+line_cause NoCommand = Some causes.NoCommand
+line_cause Words = Some causes.Words
+line_cause Number = Some causes.Number
+line_cause NoMemory = None
 
 -- the table changes
 abbrev pub table_event : TableChange → Task
@@ -49,15 +54,31 @@ task_of (Feed name place) = Connect name place
 task_of (Ask name) = OnFeed name AskNow
 task_of (Sync name count) = OnFeed name (SyncTo count)
 task_of (Judge role neighbour path) = Short (JudgePath role neighbour path)
-task_of Report = ReportRows
 task_of Changes = ListChanges
-task_of Summary = Short SumUp
-task_of (Why addr asn prefix) = Short (WhyRoute (record { peer = record { addr = addr; asn = asn }; prefix = prefix }))
+task_of (Why addr asn prefix) = Answer (WhyRoute (record { peer = record { addr = addr; asn = asn }; prefix = prefix }))
+task_of (Show show) = Answer (ShowAll show)
 
--- What a line that was read so writes, and what it leaves. The state counts the line already.
+-- what is asked for, or the cause for which it is refused
+abbrev pub Asked : Type 0
+Asked = Result Task (Option Cause)
+
+abbrev pub asked_of : Result Command LineFault → Asked
+asked_of (Ok command) = Ok (task_of command)
+asked_of (Err fault) = Err (line_cause fault)
+
+-- a line is refused for a cause
+abbrev pub RefusesFor : Option Cause → State → List ℕ → State → Type 0
+RefusesFor None state text next = ⊥
+RefusesFor (Some cause) state text next = Refuses state of_line cause text next
+
+-- What is written of what is asked for, and what it leaves. The state counts the line already.
+abbrev pub DoesAsked : World → State → Asked → List ℕ → State → Type 0
+DoesAsked world state (Ok task) text next = DoesTask world state task text next
+DoesAsked world state (Err cause) text next = RefusesFor cause state text next
+
+-- what a line that was read so writes, and what it leaves
 abbrev pub Does : World → State → Result Command LineFault → List ℕ → State → Type 0
-Does world state (Ok command) text next = DoesTask world state (task_of command) text next
-Does world state (Err fault) text next = Refuses state of_line (line_cause fault) text next
+Does world state reading text next = DoesAsked world state (asked_of reading) text next
 
 -- every line counts
 abbrev pub counted : State → State
@@ -83,10 +104,10 @@ abbrev pub Evaluates : World → State → List (List ℕ) → List ℕ → Stat
 Evaluates world before [] text end = (text ≡ []) × (end ≡ before)
 Evaluates world before (line ∷ more) text end = PerformsFirst world before line text (λ next rest. Evaluates world next more rest end)
 
--- a line that was read so, and wrote this part of its text, ticked no more often than what it came to may
-abbrev pub CostsWhatItCameTo : World → State → Result Command LineFault → List ℕ → ℕ → Type 0
-CostsWhatItCameTo world state (Ok command) part ticks = TaskCostsWhatItCameTo world state (task_of command) part ticks
-CostsWhatItCameTo world state (Err fault) part ticks = Unit {0}
+-- what wrote this part of its text ticked no more often than what it came to may
+abbrev pub CostsWhatItCameTo : World → State → Asked → List ℕ → ℕ → Type 0
+CostsWhatItCameTo world state (Ok task) part ticks = TaskCostsWhatItCameTo world state task part ticks
+CostsWhatItCameTo world state (Err cause) part ticks = Unit {0}
 
 -- a line wrote a front of its own text, and ticked no more often than the whole line may, nor than what it came to may
 pub record WritesSome (world : World) (before : State) (line part : List ℕ) (ticks : ℕ) : Type 0 where
@@ -96,7 +117,7 @@ pub record WritesSome (world : World) (before : State) (line part : List ℕ) (t
   pub rest : List ℕ
   pub whole : own ≡ part ++ rest
   pub judged : ticks ≤ next.judgements - before.judgements
-  pub came_to : CostsWhatItCameTo world (counted before) performs.reading part ticks
+  pub came_to : CostsWhatItCameTo world (counted before) (asked_of performs.reading) part ticks
 
 -- a line on a feed made some of its moves, perhaps all, and wrote nothing
 pub record MovesSome (world : World) (before : State) (line : List ℕ) (ticks : ℕ) (moved : State) : Type 0 where
@@ -112,7 +133,7 @@ Begins world before line part ticks moved = ((part ≡ []) × (ticks ≡ 0) × (
     ⊎ (WritesSome world before line part ticks × (moved ≡ before))
     ⊎ ((part ≡ []) × MovesSome world before line ticks moved)
 
--- a line that was read so opens or reads a file
-abbrev pub UsesFile : State → Result Command LineFault → Type 0
-UsesFile state (Ok command) = TaskUsesFile state (task_of command)
-UsesFile state (Err fault) = ⊥
+-- what opens or reads a file
+abbrev pub UsesFile : State → Asked → Type 0
+UsesFile state (Ok task) = TaskUsesFile state task
+UsesFile state (Err cause) = ⊥

@@ -6,6 +6,8 @@ use Rattle.std.specs.declared.result.Result.TheVariants.{Ok, Err}
 use Rattle.path_model.specs.Rows.{RowMap}
 use Rattle.vap_table.specs.declared.change.TableChange.{TableChange}
 use Rattle.vap_table.specs.declared.change.TableChange.TheVariants.{Replace, Slurm as BySlurm}
+use Rattle.report_text.specs.declared.cause.Cause.{Cause}
+use Rattle.report_text.specs.declared.cause.Cause.TheVariants as causes
 use Rattle.aspa_payload.specs.File.{IsFileReading}
 use Rattle.aspa_payload.specs.Lines.{IsLinesReading}
 use Rattle.aspa_payload.specs.declared.file.FileFault.TheVariants.{Bad}
@@ -27,23 +29,23 @@ unit_name (Payloads name) = name
 unit_name (PayloadLines name) = name
 unit_name Slurm = codes "slurm"
 
--- the number of the cause for which a payload is refused; want of memory is none
-abbrev pub payload_cause : PayloadFault → ℕ
-payload_cause NotDer = 5
-payload_cause Version = 6
-payload_cause NoProviders = 7
-payload_cause Order = 8
-payload_cause SelfProvider = 9
-payload_cause Base64 = 10
-payload_cause NoMemory = 0
+-- the cause for which a payload is refused; want of memory is none
+abbrev pub payload_cause : PayloadFault → Option Cause
+payload_cause NotDer = Some causes.NotDer
+payload_cause Version = Some causes.PayloadVersion
+payload_cause NoProviders = Some causes.NoProviders
+payload_cause Order = Some causes.Order
+payload_cause SelfProvider = Some causes.SelfProvider
+payload_cause Base64 = Some causes.Base64
+payload_cause NoMemory = None
 
--- the number of the cause for which a SLURM file is refused; want of memory is none
-abbrev pub slurm_cause : SlurmFault → ℕ
-slurm_cause Json = 11
-slurm_cause SlurmVersion = 12
-slurm_cause Member = 13
-slurm_cause Number = 14
-slurm_cause SlurmNoMemory = 0
+-- the cause for which a SLURM file is refused; want of memory is none
+abbrev pub slurm_cause : SlurmFault → Option Cause
+slurm_cause Json = Some causes.Json
+slurm_cause SlurmVersion = Some causes.SlurmVersion
+slurm_cause Member = Some causes.Member
+slurm_cause Number = Some causes.SlurmNumber
+slurm_cause SlurmNoMemory = None
 
 -- The file is good, and this is the change that it makes: the source of that name has its rows, or the filters and assertions of a SLURM
 -- file are its own.
@@ -56,11 +58,11 @@ Makes Slurm bytes change =
 -- The file is refused at this unit for this cause. A SLURM file is one unit.
 abbrev pub Fails : FileKind → List ℕ → Flaw → Type 0
 Fails (Payloads name) bytes flaw =
-    (fault : PayloadFault) × IsFileReading bytes (Err (Bad flaw.unit fault)) × (flaw.cause ≡ payload_cause fault)
+    (fault : PayloadFault) × IsFileReading bytes (Err (Bad flaw.unit fault)) × (payload_cause fault ≡ Some flaw.cause)
 Fails (PayloadLines name) bytes flaw =
-    (fault : PayloadFault) × IsLinesReading bytes (Err (Bad flaw.unit fault)) × (flaw.cause ≡ payload_cause fault)
+    (fault : PayloadFault) × IsLinesReading bytes (Err (Bad flaw.unit fault)) × (payload_cause fault ≡ Some flaw.cause)
 Fails Slurm bytes flaw =
-    (fault : SlurmFault) × IsReading bytes (Err fault) × (flaw.unit ≡ 1) × (flaw.cause ≡ slurm_cause fault)
+    (fault : SlurmFault) × IsReading bytes (Err fault) × (flaw.unit ≡ 1) × (slurm_cause fault ≡ Some flaw.cause)
 
 -- a file that is there, and has no more bytes than a file may have; of these this holds
 pub record IsWithin (named : Option (List ℕ)) (P : List ℕ → Type 0) : Type 0 where

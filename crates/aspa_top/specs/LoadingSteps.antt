@@ -6,10 +6,10 @@ use Rattle.std.specs.declared.result.Result.{Result}
 use Rattle.std.specs.declared.result.Result.TheVariants.{Ok, Err}
 use Rattle.av_base.specs.Files.{Files}
 use Rattle.path_model.specs.Rows.{RowMap}
+use Rattle.report_text.specs.declared.cause.Cause.{Cause}
 use Rattle.vap_table.specs.declared.change.TableChange.TheVariants.{Replace}
 use Rattle.aspa_payload.specs.declared.file.FileFault.{FileFault}
 use Rattle.aspa_payload.specs.declared.file.FileFault.TheVariants.{Bad, NoMemory}
-use Rattle.report_text.specs.Refusals.{IsCause}
 use Rattle.aspa_top.specs.Loading.{ComesOf, Fails, Makes, payload_cause}
 use Rattle.aspa_top.specs.declared.loading.FileKind.{FileKind}
 use Rattle.aspa_top.specs.declared.loading.Outcome.{Outcome}
@@ -18,13 +18,6 @@ use Rattle.aspa_top.specs.declared.loading.Outcome.TheVariants.{NoFile, Long, Fl
 -- what comes of the file of this name, where the shelf tells it
 abbrev pub ComesTold : Option Files → FileKind → List ℕ → Outcome → Type 0
 ComesTold files kind file outcome = (told : Files) → files ≡ Some told → ComesOf kind (told.named file) outcome
-
--- the cause is one that is reported
-abbrev pub HasKnownCause : Outcome → Type 0
-HasKnownCause NoFile = Unit {0}
-HasKnownCause Long = Unit {0}
-HasKnownCause (Flawed flaw) = IsCause flaw.cause
-HasKnownCause (Good change) = Unit {0}
 
 -- what comes of a file of these bytes, which is no longer than a file may be
 abbrev pub Understands : FileKind → List ℕ → Outcome → Type 0
@@ -36,5 +29,6 @@ Understands kind bytes (Good change) = Makes kind bytes change
 -- what comes of a payload file that reads so
 abbrev pub IsRowsOutcome : List ℕ → Result RowMap FileFault → Outcome → Type 0
 IsRowsOutcome name (Ok rows) outcome = outcome ≡ Good (Replace name rows)
-IsRowsOutcome name (Err (Bad unit fault)) outcome = outcome ≡ Flawed (record { unit = unit; cause = payload_cause fault })
+IsRowsOutcome name (Err (Bad unit fault)) outcome =
+    (cause : Cause) × (payload_cause fault ≡ Some cause) × (outcome ≡ Flawed (record { unit = unit; cause = cause }))
 IsRowsOutcome name (Err NoMemory) outcome = ⊥

@@ -17,7 +17,7 @@ use Rattle.script_lines.specs.Grammar.{IsReading}
 use Rattle.aspa_top.specs.World.{Links, World, world_of}
 use Rattle.stream_lines.specs.Counts.{refusals_in}
 use Rattle.aspa_top.specs.Tasks.{State, feeds_of, start}
-use Rattle.aspa_top.specs.Evaluation.{Evaluates, Begins, UsesFile, counted}
+use Rattle.aspa_top.specs.Evaluation.{Evaluates, Begins, UsesFile, asked_of, counted}
 
 -- The forms of words that the program is called with: `run` performs a script,
 abbrev pub IsRun : List (List ℕ) → Type 0
@@ -43,9 +43,9 @@ BeginsNext world state (line ∷ more) part ticks moved = Begins world state lin
 abbrev pub HasMoved : World → State → Type 0
 HasMoved world state = Moved world.ends.attempts (Some world.ends.links) (feeds_of state)
 
--- Some first lines were evaluated, and the next went some way. A front of their text was written, perhaps all; as many attempts were
--- made, and such bytes were sent. The counter ticked at most as often as the first lines may judge, and the next one on its way.
-pub record WentThrough (world : World) (lines : List (List ℕ)) (old new : Option (List ℕ)) (ticks_old ticks_new : ℕ) : Type 0 where
+-- Some first lines were evaluated, and the next went some way, with this said of their text; as many attempts were made, and such bytes
+-- were sent. The counter ticked at most as often as the first lines may judge, and the next one on its way.
+pub record WentSome (world : World) (lines : List (List ℕ)) (P : List ℕ → Type 0) (ticks_old ticks_new : ℕ) : Type 0 where
   pub done : List (List ℕ)
   pub left : List (List ℕ)
   pub lines_are : lines ≡ done ++ left
@@ -57,8 +57,16 @@ pub record WentThrough (world : World) (lines : List (List ℕ)) (old new : Opti
   pub moved : State
   pub begins : BeginsNext world state left part ticks moved
   pub sent : HasMoved world moved
-  pub written : AppendsFront old new (text ++ part)
+  pub written : P (text ++ part)
   pub ticked : ticks_new ≤ ticks_old + state.judgements + ticks
+
+-- a front of that text was written, perhaps all
+abbrev pub WentThrough : World → List (List ℕ) → Option (List ℕ) → Option (List ℕ) → ℕ → ℕ → Type 0
+WentThrough world lines old new ticks_old ticks_new = WentSome world lines (λ text. AppendsFront old new text) ticks_old ticks_new
+
+-- all of it was written
+abbrev pub StopsWithin : World → List (List ℕ) → Option (List ℕ) → Option (List ℕ) → ℕ → ℕ → Type 0
+StopsWithin world lines old new ticks_old ticks_new = WentSome world lines (λ text. new ≡ append_known old text) ticks_old ticks_new
 
 -- What was written stops in the text of a line that opens or reads a file: it is the text of the lines before it, followed by a
 -- front of its own text. As many attempts were made as there, and such bytes were sent. The counter ticked at most as often as the lines
@@ -73,7 +81,7 @@ pub record StopsAtFile (world : World) (lines : List (List ℕ)) (old new : Opti
   pub evaluates : Evaluates world (start world) done text state
   pub reading : Result Command LineFault
   pub reads : IsReading line reading
-  pub uses : UsesFile (counted state) reading
+  pub uses : UsesFile (counted state) (asked_of reading)
   pub part : List ℕ
   pub ticks : ℕ
   pub moved : State
@@ -144,6 +152,12 @@ RanIfTold limit script files links_old links_new script_failed shelf_failed old 
     IfSome script (λ bytes. IfSome files (λ told. IfSome links_new.wire (λ connections.
     Ran limit (world_of told links_old.attempts links_new.attempts connections) bytes script_failed shelf_failed
     old new ticks_old ticks_new status)))
+
+-- Where memory ran out, and the sink didn't fail: all the text was written that was held, up to the line within which that was.
+abbrev pub StarvedIfTold : ℕ → Option (List ℕ) → Option Files → Links → Links → Option (List ℕ) → Option (List ℕ) → ℕ → ℕ → Type 0
+StarvedIfTold limit script files links_old links_new old new ticks_old ticks_new =
+    IfSome script (λ bytes. IfSome files (λ told. IfSome links_new.wire (λ connections.
+    StopsWithin (world_of told links_old.attempts links_new.attempts connections) (performed limit bytes) old new ticks_old ticks_new)))
 
 -- Where neither the script nor the shelf nor the sink failed, a script within its limit ends with 0 or 1, and a longer one with 6; or
 -- memory ran out.

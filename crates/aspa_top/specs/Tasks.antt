@@ -1,21 +1,16 @@
 -- What a line asks for, and what comes of it: from the world, and what the lines before have left.
-use Rattle.std.specs.Prelude.{◌≡◌, ℕ, ◌+◌, ◌-◌, ◌≤◌, nat_eq, Bool, true, false, ◌||◌, is_some, cond, List, [], ◌∷◌, ◌++◌}
-use Rattle.std.specs.Cmp.Lexicographic.{pointwise}
-use Rattle.std.specs.FinMap as fin
+use Rattle.std.specs.Prelude.{◌≡◌, ℕ, ◌+◌, ◌-◌, ◌≤◌, Bool, true, false, ◌||◌, is_some, cond, List, [], ◌∷◌, ◌++◌}
 use Rattle.std.specs.declared.option.Option.{Option}
 use Rattle.std.specs.declared.option.Option.TheVariants.{Some, None}
-use Rattle.path_model.specs.declared.key.Key.{Key}
 use Rattle.path_model.specs.declared.role.Role.{Role}
 use Rattle.path_model.specs.declared.verdict.Verdict.{Verdict}
-use Rattle.path_model.specs.Trail.{Path, path_of}
+use Rattle.path_model.specs.Trail.{path_of}
 use Rattle.path_model.specs.RightVerdict.{IsRight}
 use Rattle.path_model.specs.Authority.{Table}
 use Rattle.path_model.specs.CurrentTable.{Parts, IsCurrentTable}
-use Rattle.path_model.specs.declared.witness.Witness.{Witness}
 use Rattle.rib_store.specs.declared.journal.ChangedKey.{ChangedKey}
 use Rattle.rib_store.specs.Changes.{AreChanges, IsMarked}
-use Rattle.rib_store.specs.Shown.{IsExplained}
-use Rattle.rib_store.specs.State.{State as Analysis, no_state, AreRows}
+use Rattle.rib_store.specs.State.{State as Analysis}
 use Rattle.analyser.specs.declared.event.Event.{Event}
 use Rattle.analyser.specs.declared.event.Event.TheVariants.{Table as TableEvent}
 use Rattle.analyser.specs.Events.{Happens}
@@ -23,65 +18,25 @@ use Rattle.analyser.specs.Touched.{Costs}
 use Rattle.av_text.specs.VerdictText.{verdict_text}
 use Rattle.feed_lines.specs.declared.working.Work.{Work}
 use Rattle.feed_lines.specs.declared.working.Work.TheVariants.{Take as TakePdus}
-use Rattle.feed_lines.specs.Feeds.{Feed}
 use Rattle.feed_lines.specs.Lines.{ConnectLine, ConnectPart, WorkLine, WorkPart}
 use Rattle.feed_lines.specs.Lines.{State as FeedState}
 use Rattle.feed_lines.specs.Tellings.{Asking as FeedAsking}
-use Rattle.report_text.specs.declared.summary.Summary.{Summary}
-use Rattle.report_text.specs.Refusals.{AnyPlace, of_line, of_unit, refusal_text}
-use Rattle.report_text.specs.Summary.{summary_text}
-use Rattle.report_text.specs.Why.{why_text}
+use Rattle.report_text.specs.declared.cause.Cause.TheVariants as causes
+use Rattle.report_text.specs.Refusals.{of_line, of_unit}
 use Rattle.stream_lines.specs.Changes.{changes_text}
-use Rattle.stream_lines.specs.Rows.{rows_text}
 use Rattle.stream_lines.specs.Streams.{Dump, Taking, Asking, TakesUnits}
-use Rattle.stream_lines.specs.Summary.{IsSummary}
 use Rattle.aspa_top.specs.declared.loading.FileKind.{FileKind}
 use Rattle.aspa_top.specs.declared.loading.FileKind.TheVariants.{Payloads, PayloadLines, Slurm as SlurmFile}
 use Rattle.aspa_top.specs.declared.loading.Outcome.{Outcome}
 use Rattle.aspa_top.specs.declared.loading.Outcome.TheVariants.{NoFile, Long as FileLong, Flawed, Good}
 use Rattle.aspa_top.specs.declared.task.Short.{Short as ShortTask}
-use Rattle.aspa_top.specs.declared.task.Short.TheVariants.{Idle, Happen, Judge, Summary as SumUp, Why}
+use Rattle.aspa_top.specs.declared.task.Short.TheVariants.{Idle, Happen, Judge}
 use Rattle.aspa_top.specs.declared.task.Task.{Task}
-use Rattle.aspa_top.specs.declared.task.Task.TheVariants.{Short, Load, Open, Take, Connect, OnFeed, Report, Changes}
+use Rattle.aspa_top.specs.declared.task.Task.TheVariants.{Short, Load, Open, Take, Connect, OnFeed, Answer, Changes}
+use Rattle.aspa_top.specs.Answers.{Replies}
 use Rattle.aspa_top.specs.Loading.{ComesOf, unit_name}
+pub use Rattle.aspa_top.specs.State.{State, start, same_name, is_stream, Refuses}
 use Rattle.aspa_top.specs.World.{World}
-
--- What some lines have left: the analysis, which names are those of attestation sources, of dumps and of feeds (none where a session is
--- over), how many attempts to connect were made, how many lines, passed records and refused lines there were, and how many judgements
--- they may have cost. A line of text that reports a feed's end counts as refused.
-pub record State : Type 0 where
-  pub analysis : Analysis
-  pub sources : List ℕ → Bool
-  pub dumps : List ℕ → Option Dump
-  pub feeds : List ℕ → Option (Option Feed)
-  pub made : ℕ
-  pub lines : ℕ
-  pub passed : ℕ
-  pub refused : ℕ
-  pub judgements : ℕ
-
--- before the first line
-abbrev pub start : World → State
-start world = record {
-  analysis = no_state;
-  sources = λ name. false;
-  dumps = λ name. None;
-  feeds = λ name. None;
-  made = world.made;
-  lines = 0;
-  passed = 0;
-  refused = 0;
-  judgements = 0;
-}
-
--- whether two names are the same
-abbrev pub same_name : List ℕ → List ℕ → Bool
-same_name name other = pointwise nat_eq name other
-
--- the line is refused, at this place for this cause, and nothing else changes
-abbrev pub Refuses : State → AnyPlace → ℕ → List ℕ → State → Type 0
-Refuses state place cause text next =
-    (text ≡ refusal_text state.lines place cause) × (next ≡ record state { refused = state.refused + 1 })
 
 -- nothing is written, an event happens, its judgements are counted, and nothing else changes
 pub record Causes (state : State) (event : Event) (text : List ℕ) (next : State) : Type 0 where
@@ -93,10 +48,6 @@ pub record Causes (state : State) (event : Event) (text : List ℕ) (next : Stat
   pub left : next ≡ record state { analysis = analysis; judgements = state.judgements + cost }
 
 -- ---- `aspa NAME FILE`, `aspa64 NAME FILE`, `slurm FILE`
-
--- whether the name is a dump's or a feed's
-abbrev pub is_stream : State → List ℕ → Bool
-is_stream state name = is_some (state.dumps name) || is_some (state.feeds name)
 
 -- whether the name that the file would go under is one
 abbrev pub is_taken : State → FileKind → Bool
@@ -125,8 +76,8 @@ pub record Holds (state : State) (kind : FileKind) (event : Event) (text : List 
 
 -- What comes of a file is taken: a good one changes the table, and by another one the line is refused.
 abbrev pub TakesFile : State → FileKind → Outcome → List ℕ → State → Type 0
-TakesFile state kind NoFile text next = Refuses state of_line 37 text next
-TakesFile state kind FileLong text next = Refuses state of_line 40 text next
+TakesFile state kind NoFile text next = Refuses state of_line causes.NoFile text next
+TakesFile state kind FileLong text next = Refuses state of_line causes.FileLong text next
 TakesFile state kind (Flawed flaw) text next = Refuses state (of_unit (unit_name kind) flaw.unit) flaw.cause text next
 TakesFile state kind (Good change) text next = Holds state kind (TableEvent change) text next
 
@@ -138,7 +89,7 @@ pub record LoadsFile (world : World) (state : State) (kind : FileKind) (file tex
 
 -- unless its own name is taken
 abbrev pub LoadsUnless : Bool → World → State → FileKind → List ℕ → List ℕ → State → Type 0
-LoadsUnless true world state kind file text next = Refuses state of_line 35 text next
+LoadsUnless true world state kind file text next = Refuses state of_line causes.NameTaken text next
 LoadsUnless false world state kind file text next = LoadsFile world state kind file text next
 
 abbrev pub Loads : World → State → FileKind → List ℕ → List ℕ → State → Type 0
@@ -156,8 +107,8 @@ with_dump name dump dumps other = cond (same_name name other) (Some dump) (dumps
 
 -- whether the name is in use, and what the world has under the file's name
 abbrev pub OpensNamed : Bool → Option (List ℕ) → State → List ℕ → List ℕ → State → Type 0
-OpensNamed true named state name text next = Refuses state of_line 35 text next
-OpensNamed false None state name text next = Refuses state of_line 37 text next
+OpensNamed true named state name text next = Refuses state of_line causes.NameTaken text next
+OpensNamed false None state name text next = Refuses state of_line causes.NoFile text next
 OpensNamed false (Some bytes) state name text next =
     (text ≡ []) × (next ≡ record state { dumps = with_dump name (new_dump bytes) state.dumps })
 
@@ -202,7 +153,7 @@ Works world state name work text next =
 
 -- a feed is connected, unless a source or a dump has the name
 abbrev pub ConnectsUnless : Bool → World → State → List ℕ → List ℕ → List ℕ → State → Type 0
-ConnectsUnless true world state name place text next = Refuses state of_line 35 text next
+ConnectsUnless true world state name place text next = Refuses state of_line causes.NameTaken text next
 ConnectsUnless false world state name place text next =
     OnFeeds state (ConnectLine world.ends (asking_on state name) place (feeds_of state) text) next
 
@@ -240,7 +191,7 @@ pub record TakesAll (state : State) (name : List ℕ) (count : ℕ) (dump : Dump
   pub next_is : next ≡ after_taking state name end
 
 abbrev pub TakesOpen : Bool → State → List ℕ → ℕ → Dump → List ℕ → State → Type 0
-TakesOpen true state name count dump text next = Refuses state of_line 38 text next
+TakesOpen true state name count dump text next = Refuses state of_line causes.StreamOver text next
 TakesOpen false state name count dump text next = TakesAll state name count dump text next
 
 -- from the dump of that name, or from a feed
@@ -251,7 +202,7 @@ TakesNamed (Some dump) world state name count text next = TakesOpen dump.over st
 abbrev pub Takes : World → State → List ℕ → ℕ → List ℕ → State → Type 0
 Takes world state name count text next = TakesNamed (state.dumps name) world state name count text next
 
--- ---- `judge ROLE NEIGHBOUR AS..` and `report`
+-- ---- `judge ROLE NEIGHBOUR AS..`
 
 -- the text is the right verdict of the path by the current table of these parts
 pub record IsJudged (parts : Parts) (role : Role) (neighbour : ℕ) (path : List ℕ) (text : List ℕ) : Type 0 where
@@ -260,22 +211,6 @@ pub record IsJudged (parts : Parts) (role : Role) (neighbour : ℕ) (path : List
   pub verdict : Verdict
   pub right : IsRight table role neighbour (path_of false path) verdict
   pub text_is : text ≡ verdict_text verdict ++ 10 ∷ []
-
--- the text has one line for each route in key order, with its current verdict
-pub record Reports (state : State) (text : List ℕ) (next : State) : Type 0 where
-  pub rows : List (Key × Verdict)
-  pub are : AreRows state.analysis rows
-  pub text_is : text ≡ rows_text rows
-  pub left : next ≡ state
-
--- ---- `summary`
-
--- the text sums up the routes by their current verdicts, the customers of the current table, and what was passed over or refused
-pub record SumsUp (state : State) (text : List ℕ) (next : State) : Type 0 where
-  pub summary : Summary
-  pub is : IsSummary state.analysis state.passed state.refused summary
-  pub text_is : text ≡ summary_text summary
-  pub left : next ≡ state
 
 -- ---- `changes`
 
@@ -288,21 +223,6 @@ pub record ShowsChanges (state : State) (text : List ℕ) (next : State) : Type 
   pub marked : IsMarked state.analysis analysis
   pub left : next ≡ record state { analysis = analysis }
 
--- ---- `why ADDRESS AS PREFIX`
-
--- the text has the current verdict of the key's route, and its printed witness, whose facts hold
-pub record Explains (state : State) (key : Key) (text : List ℕ) (next : State) : Type 0 where
-  pub verdict : Verdict
-  pub witness : Witness
-  pub explained : IsExplained state.analysis key verdict witness
-  pub text_is : text ≡ why_text verdict witness
-  pub left : next ≡ state
-
--- unless it has none
-abbrev pub ExplainsRoute : Option Path → State → Key → List ℕ → State → Type 0
-ExplainsRoute None state key text next = Refuses state of_line 39 text next
-ExplainsRoute (Some path) state key text next = Explains state key text next
-
 -- ---- what a command asks for
 
 -- What a short task writes, and what it leaves.
@@ -311,8 +231,6 @@ DoesShort state Idle text next = (text ≡ []) × (next ≡ state)
 DoesShort state (Happen event) text next = Causes state event text next
 DoesShort state (Judge role neighbour path) text next =
     IsJudged state.analysis.parts role neighbour path text × (next ≡ record state { judgements = state.judgements + 1 })
-DoesShort state SumUp text next = SumsUp state text next
-DoesShort state (Why key) text next = ExplainsRoute (fin.get state.analysis.routes key) state key text next
 
 -- What a task writes, and what it leaves. The state counts the line already.
 abbrev pub DoesTask : World → State → Task → List ℕ → State → Type 0
@@ -322,19 +240,15 @@ DoesTask world state (Open name file) text next = Opens world state name file te
 DoesTask world state (Take name count) text next = Takes world state name count text next
 DoesTask world state (Connect name place) text next = Connects world state name place text next
 DoesTask world state (OnFeed name work) text next = Works world state name work text next
-DoesTask world state Report text next = Reports state text next
+DoesTask world state (Answer question) text next = Replies state question text next
 DoesTask world state Changes text next = ShowsChanges state text next
 
 -- a task opens or reads a file
 abbrev pub TaskUsesFile : State → Task → Type 0
-TaskUsesFile state (Short short) = ⊥
 TaskUsesFile state (Load kind file) = Unit {0}
 TaskUsesFile state (Open name file) = Unit {0}
 TaskUsesFile state (Take name count) = (dump : Dump) × (state.dumps name ≡ Some dump)
-TaskUsesFile state (Connect name place) = ⊥
-TaskUsesFile state (OnFeed name work) = ⊥
-TaskUsesFile state Report = ⊥
-TaskUsesFile state Changes = ⊥
+TaskUsesFile state task = ⊥
 
 -- ---- lines on feeds that ended early
 

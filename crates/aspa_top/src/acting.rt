@@ -1,25 +1,24 @@
 //! What a line does to the working state, whatever it asks for.
 ghost use Rattle.std.specs.Prelude.{◌≡◌, ◌+◌, ◌^◌, ◌<◌, ◌++◌, IfOk, OnOk, OnErr};
 ghost use Rattle.report_text.specs.Places.{place_of};
-ghost use Rattle.report_text.specs.Refusals.{IsCause, refusal_text};
+ghost use Rattle.report_text.specs.Refusals.{refusal_text};
 ghost use Rattle.analyser.specs.Touched.{TicksWithin};
-ghost use Rattle.aspa_top.specs.Performing.{Happened, Marked};
+ghost use Rattle.aspa_top.specs.Working.{Happened, Marked};
 
 use crate::working::Working;
 use analyser::Event;
 use av_base::{NoMemory, Steps};
-use report_text::{Place, put_refusal};
+use report_text::{Cause, Place, put_refusal};
 use std::sync::ledger::Ledger;
 
 /// Reports a refused line, which changes nothing but the counts. The line is counted already.
 pub(crate) fn refuse(
     working: Working,
     place: Place<'_>,
-    cause: u16,
+    cause: Cause,
     text: &mut Vec<u8>,
 ) -> Result<Working, NoMemory>
     requires room { working.refused < 2 ^ 62 }
-    requires cause { IsCause cause }
     ensures text { OnOk result (text.new.items
         ≡ text.old.items ++ refusal_text working.lines (place_of place.entry) cause) }
     ensures next { IfOk result (λ next. next ≡ record working { refused = working.refused + 1 }) }

@@ -1,51 +1,54 @@
 //! `open` and `take`: dumps.
-ghost use Rattle.std.specs.Prelude.{◌≡◌, is_some, true, ◌-◌, ◌^◌, ◌<◌, ◌≤◌, Ok, IfOk, OnOk, OnErr, IsErrOf, length};
-ghost use Rattle.std.specs.Io.KnownBytes.{append_known};
-ghost use Rattle.av_base.specs.Told.{Grows, Rose};
-ghost use Rattle.report_text.specs.Reported.{AddsQuiet};
-ghost use Rattle.script_lines.specs.declared.command.Command.TheVariants.{Open as OpenLine, Take as TakeLine};
-ghost use Rattle.aspa_top.specs.Performing.{Goes, GoesPart, GoesSome, IsOpenIn, IsSound, NamesDump, Steps as StepsBy, Uses, dump_in, most};
-ghost use Rattle.aspa_top.specs.Reporting.{AddsText};
-ghost use Rattle.aspa_top.specs.World.{Links, names_of};
+ghost use Rattle.std.specs.Prelude.{is_some, true, ◌≡◌, ◌≤◌, Ok, IfOk};
+ghost use Rattle.aspa_top.specs.declared.task.Task.TheVariants.{Open, Take};
+ghost use Rattle.aspa_top.specs.Bounds.{most};
+ghost use Rattle.aspa_top.specs.Outside.{Keeps, outside};
+ghost use Rattle.aspa_top.specs.Performing.{Did};
+ghost use Rattle.aspa_top.specs.Standing.{IsBegun};
+ghost use Rattle.aspa_top.specs.Working.{IsOpenIn, NamesDump, dump_in};
 
 use crate::acting::refuse;
+use crate::feeding::work_on;
 use crate::working::Working;
-use av_base::{NoMemory, Shelf, Sink, Steps};
+use av_base::{Links, NoMemory, Shelf, Sink, Steps};
+use feed_lines::Work;
 use path_model::Name;
-use report_text::Place;
+use report_text::{Cause, Place};
 use script_lines::Word;
 use std::alloc::Global;
 use std::sync::ledger::Ledger;
-use stream_lines::{Asked, OpenDump, Progress, ReadFault, Stop, take_units};
+use stream_lines::{Asked, OpenDump, Progress, Stop, take_units};
 
 /// Opens a dump under a new name.
 #[inline(never)]
-pub(crate) fn open<F: Shelf>(
+pub(crate) fn open<F: Shelf, K: Links, W: Sink, L: Ledger>(
     alloc: Global,
     working: Working,
     name: Name,
     file: &Word,
     shelf: &mut F,
+    links: &mut K,
+    out: &mut W,
     text: &mut Vec<u8>,
-) -> Result<Working, ReadFault>
-    requires room { (0 < working.lines) × (working.lines < 2 ^ 32) }
-    requires sound { IsSound (F.opened shelf.old) (working.lines - 1) working }
-    ensures steps { IfOk result (StepsBy working (Ok (OpenLine name file.now)) (F.files shelf.old) (F.files shelf.new)
-        text.old.items text.new.items) }
-    ensures sound { IfOk result (IsSound (F.opened shelf.new) working.lines) }
-    ensures feeds { IfOk result (λ next. next.feeds ≡ working.feeds) }
-    ensures lines { IfOk result (λ next. next.lines ≡ working.lines) }
-    ensures adds { OnOk result (AddsText text.old.items text.new.items) }
-    ensures err { OnErr result (text.new.items ≡ text.old.items) }
-    ensures names { names_of (F.files shelf.new) ≡ names_of (F.files shelf.old) }
-    ensures cause { IsErrOf result ReadFault.Source → Rose (F.faults shelf.old) (F.faults shelf.new) }
-    ensures faults { F.faults shelf.old ≤ F.faults shelf.new }
+    steps: &mut Steps<L>,
+) -> Result<Working, Stop>
+    requires begun { IsBegun
+        (outside F.Shelf K.Links W.Sink shelf.old links.old out.old text.old.items steps.old) working }
+    ensures keeps { Keeps
+        (outside F.Shelf K.Links W.Sink shelf.old links.old out.old text.old.items steps.old)
+        (outside F.Shelf K.Links W.Sink shelf.new links.new out.new text.new.items steps.new) }
+    ensures did { Did working (Ok (Open name file.now))
+        (outside F.Shelf K.Links W.Sink shelf.old links.old out.old text.old.items steps.old)
+        (outside F.Shelf K.Links W.Sink shelf.new links.new out.new text.new.items steps.new) result }
 {
     if working.has_name(&name) {
-        return Ok(refuse(working, Place::Line, 35, text)?);
+        return Ok(refuse(working, Place::Line, Cause::NameTaken, text)?);
     }
-    let Some(number) = shelf.open_file(file.text())? else {
-        return Ok(refuse(working, Place::Line, 37, text)?);
+    let Ok(opened) = shelf.open_file(file.text()) else {
+        return Err(Stop::Shelf);
+    };
+    let Some(number) = opened else {
+        return Ok(refuse(working, Place::Line, Cause::NoFile, text)?);
     };
     let dump = OpenDump::new(alloc, number);
     Ok(name_dump(working, name, dump)?)
@@ -59,87 +62,62 @@ fn name_dump(mut working: Working, name: Name, dump: OpenDump) -> Result<Working
     Ok(working)
 }
 
-/// Takes the next units of the dump of this name.
+/// Takes the next units of the stream of this name: of a dump, or of a feed.
 #[inline(never)]
-pub(crate) fn take<F: Shelf, W: Sink, L: Ledger>(
+pub(crate) fn take<F: Shelf, K: Links, W: Sink, L: Ledger>(
     alloc: Global,
     working: Working,
     name: &Name,
     count: u32,
     shelf: &mut F,
+    links: &mut K,
     out: &mut W,
     text: &mut Vec<u8>,
     steps: &mut Steps<L>,
 ) -> Result<Working, Stop>
-    requires room { (0 < working.lines) × (working.lines < 2 ^ 32) }
     requires few { count ≤ most }
-    requires sound { IsSound (F.opened shelf.old) (working.lines - 1) working }
-    requires here { is_some (dump_in working name.now) ≡ true }
-    ensures goes { IfOk result (λ next. (links : Links) → Goes working (Ok (TakeLine name.now count))
-        (F.files shelf.old) (F.files shelf.new) links links
-        (append_known (W.written out.old) text.old.items) (append_known (W.written out.new) text.new.items)
-        steps.old steps.new next) }
-    ensures part { OnErr result ((links : Links) → GoesPart working (Ok (TakeLine name.now count))
-        (F.files shelf.old) links links
-        (append_known (W.written out.old) text.old.items) (append_known (W.written out.new) text.new.items)
-        steps.old steps.new) }
-    ensures sound { IfOk result (IsSound (F.opened shelf.new) working.lines) }
-    ensures feeds { IfOk result (λ next. next.feeds ≡ working.feeds) }
-    ensures lines { IfOk result (λ next. next.lines ≡ working.lines) }
-    ensures names { names_of (F.files shelf.new) ≡ names_of (F.files shelf.old) }
-    ensures shelf_cause { IsErrOf result Stop.Shelf → Rose (F.faults shelf.old) (F.faults shelf.new) }
-    ensures shelf_faults { F.faults shelf.old ≤ F.faults shelf.new }
-    ensures held { IsErrOf result Stop.Sink → 0 < length text.new.items }
-    ensures sink_cause { IsErrOf result Stop.Sink → Rose (W.faults out.old) (W.faults out.new) }
-    ensures sink_faults { W.faults out.old ≤ W.faults out.new }
-    ensures grows { Grows (W.written out.old) (W.written out.new) }
-    ensures uses { IsErrOf result Stop.Shelf → Uses working (Ok (TakeLine name.now count)) (F.files shelf.old) }
-    ensures adds { AddsQuiet (append_known (W.written out.old) text.old.items)
-        (append_known (W.written out.new) text.new.items) }
+    requires begun { IsBegun
+        (outside F.Shelf K.Links W.Sink shelf.old links.old out.old text.old.items steps.old) working }
+    ensures keeps { Keeps
+        (outside F.Shelf K.Links W.Sink shelf.old links.old out.old text.old.items steps.old)
+        (outside F.Shelf K.Links W.Sink shelf.new links.new out.new text.new.items steps.new) }
+    ensures did { Did working (Ok (Take name.now count))
+        (outside F.Shelf K.Links W.Sink shelf.old links.old out.old text.old.items steps.old)
+        (outside F.Shelf K.Links W.Sink shelf.new links.new out.new text.new.items steps.new) result }
 {
     let Some(dump) = working.dumps.get(name) else {
-        unreachable!();
+        return work_on(
+            alloc, working, name, Work::Take(count), shelf, links, out, text, steps,
+        );
     };
     if dump.is_over() {
-        return Ok(refuse(working, Place::Line, 38, text)?);
+        return Ok(refuse(working, Place::Line, Cause::StreamOver, text)?);
     }
-    take_open(alloc, working, name, count, shelf, out, text, steps)
+    take_open(alloc, working, name, count, shelf, links, out, text, steps)
 }
 
 // Takes the next units of a dump that isn't over.
-fn take_open<F: Shelf, W: Sink, L: Ledger>(
+fn take_open<F: Shelf, K: Links, W: Sink, L: Ledger>(
     alloc: Global,
     working: Working,
     name: &Name,
     count: u32,
     shelf: &mut F,
+    links: &mut K,
     out: &mut W,
     text: &mut Vec<u8>,
     steps: &mut Steps<L>,
 ) -> Result<Working, Stop>
-    requires room { (0 < working.lines) × (working.lines < 2 ^ 32) }
     requires few { count ≤ most }
-    requires sound { IsSound (F.opened shelf.old) (working.lines - 1) working }
     requires is { IsOpenIn working name.now }
-    ensures goes { IfOk result (λ next. (links : Links) → Goes working (Ok (TakeLine name.now count))
-        (F.files shelf.old) (F.files shelf.new) links links
-        (append_known (W.written out.old) text.old.items) (append_known (W.written out.new) text.new.items)
-        steps.old steps.new next) }
-    ensures part { GoesSome working (Ok (TakeLine name.now count)) (F.files shelf.old)
-        (append_known (W.written out.old) text.old.items) (append_known (W.written out.new) text.new.items)
-        steps.old steps.new }
-    ensures sound { IfOk result (IsSound (F.opened shelf.new) working.lines) }
-    ensures feeds { IfOk result (λ next. next.feeds ≡ working.feeds) }
-    ensures lines { IfOk result (λ next. next.lines ≡ working.lines) }
-    ensures names { names_of (F.files shelf.new) ≡ names_of (F.files shelf.old) }
-    ensures shelf_cause { IsErrOf result Stop.Shelf → Rose (F.faults shelf.old) (F.faults shelf.new) }
-    ensures shelf_faults { F.faults shelf.old ≤ F.faults shelf.new }
-    ensures held { IsErrOf result Stop.Sink → 0 < length text.new.items }
-    ensures sink_cause { IsErrOf result Stop.Sink → Rose (W.faults out.old) (W.faults out.new) }
-    ensures sink_faults { W.faults out.old ≤ W.faults out.new }
-    ensures grows { Grows (W.written out.old) (W.written out.new) }
-    ensures adds { AddsQuiet (append_known (W.written out.old) text.old.items)
-        (append_known (W.written out.new) text.new.items) }
+    requires begun { IsBegun
+        (outside F.Shelf K.Links W.Sink shelf.old links.old out.old text.old.items steps.old) working }
+    ensures keeps { Keeps
+        (outside F.Shelf K.Links W.Sink shelf.old links.old out.old text.old.items steps.old)
+        (outside F.Shelf K.Links W.Sink shelf.new links.new out.new text.new.items steps.new) }
+    ensures did { Did working (Ok (Take name.now count))
+        (outside F.Shelf K.Links W.Sink shelf.old links.old out.old text.old.items steps.old)
+        (outside F.Shelf K.Links W.Sink shelf.new links.new out.new text.new.items steps.new) result }
 {
     let Working {
         analyser,

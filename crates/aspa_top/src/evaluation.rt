@@ -1,11 +1,11 @@
 //! The lines of a script performed one after another.
-ghost use Rattle.std.specs.Prelude.{◌≡◌, ◌^◌, ◌<◌, ◌≤◌, length, IfOk, IsErrOf};
-ghost use Rattle.av_base.specs.Told.{Rose};
+ghost use Rattle.std.specs.Prelude.{◌≡◌, ◌^◌, ◌<◌, ◌≤◌, [], length};
+ghost use Rattle.std.specs.Io.KnownBytes.{append_known};
+ghost use Rattle.av_base.specs.Told.{Grows, Rose};
 ghost use Rattle.av_text.specs.Lines.{lines_in};
-ghost use Rattle.feed_lines.specs.Faults.{BreaksByFault};
 ghost use Rattle.report_text.specs.Reported.{AddsFront};
-ghost use Rattle.aspa_top.specs.Program.{AreTold, Ended, StopsAtFile, WentThrough, WritesPart};
-ghost use Rattle.aspa_top.specs.World.{GoesOn, Meets, World, linked, names_of};
+ghost use Rattle.aspa_top.specs.Evaluated.{Evaluated, Poured, StoppedByFault};
+ghost use Rattle.aspa_top.specs.Outside.{Keeps, outside};
 
 use crate::performing::perform_line;
 use crate::working::Working;
@@ -16,7 +16,8 @@ use std::sync::ledger::Ledger;
 use stream_lines::Stop;
 
 /// Performs the lines of a whole script, or of the front of one, and answers how many were refused. Their text is held, and written in
-/// pieces. Where the shelf fails, the text before that is written first.
+/// pieces. Where the shelf fails, or memory runs out, the text before that is written first; there the sink's own faults count for
+/// nothing where memory ran out.
 pub(crate) fn evaluate<F: Shelf, K: Links, W: Sink, L: Ledger>(
     alloc: Global,
     script: &[u8],
@@ -27,33 +28,20 @@ pub(crate) fn evaluate<F: Shelf, K: Links, W: Sink, L: Ledger>(
     steps: &mut Steps<L>,
 ) -> Result<u64, Stop>
     requires { length script.now < 2 ^ 31 }
-    ensures ended { IfOk result (λ refusals. (world : World) → Meets (F.files shelf.old)
-        (linked (K.attempts links.old) (K.wire links.old)) (linked (K.attempts links.new) (K.wire links.new)) world
-        → Ended world (lines_in whole script.now) (W.written out.old) (W.written out.new)
-        steps.old steps.new refusals) }
+    ensures keeps { Keeps
+        (outside F.Shelf K.Links W.Sink shelf.old links.old out.old [] steps.old)
+        (outside F.Shelf K.Links W.Sink shelf.new links.new out.new [] steps.new) }
+    ensures evaluated { Evaluated (lines_in whole script.now)
+        (outside F.Shelf K.Links W.Sink shelf.old links.old out.old [] steps.old)
+        (outside F.Shelf K.Links W.Sink shelf.new links.new out.new [] steps.new) result }
+    ensures causes { StoppedByFault
+        (outside F.Shelf K.Links W.Sink shelf.old links.old out.old [] steps.old)
+        (outside F.Shelf K.Links W.Sink shelf.new links.new out.new [] steps.new) result }
 
-    // Whether it stopped early or not.
-    ensures went { (world : World) → Meets (F.files shelf.old)
-        (linked (K.attempts links.old) (K.wire links.old)) (linked (K.attempts links.new) (K.wire links.new)) world
-        → WentThrough world (lines_in whole script.now) (W.written out.old) (W.written out.new)
-        steps.old steps.new }
-    ensures stopped { IsErrOf result Stop.Shelf → (world : World) → Meets (F.files shelf.old)
-        (linked (K.attempts links.old) (K.wire links.old)) (linked (K.attempts links.new) (K.wire links.new)) world
-        → StopsAtFile world (lines_in whole script.now) (W.written out.old) (W.written out.new)
-        steps.old steps.new }
-    ensures cut { IsErrOf result Stop.Sink → (world : World) → Meets (F.files shelf.old)
-        (linked (K.attempts links.old) (K.wire links.old)) (linked (K.attempts links.new) (K.wire links.new)) world
-        → AreTold world → WritesPart world (lines_in whole script.now) (W.written out.old) (W.written out.new) }
-    ensures reported { AddsFront (W.written out.old) (W.written out.new) (K.faults links.old) (K.faults links.new) }
-    ensures later { GoesOn (linked (K.attempts links.old) (K.wire links.old))
-        (linked (K.attempts links.new) (K.wire links.new)) }
-    ensures broke { BreaksByFault (K.faults links.old) (K.faults links.new)
-        (K.standings links.old) (K.standings links.new) }
-    ensures shelf_cause { IsErrOf result Stop.Shelf → Rose (F.faults shelf.old) (F.faults shelf.new) }
-    ensures names { names_of (F.files shelf.new) ≡ names_of (F.files shelf.old) }
-    ensures shelf_faults { F.faults shelf.old ≤ F.faults shelf.new }
-    ensures sink_cause { IsErrOf result Stop.Sink → Rose (W.faults out.old) (W.faults out.new) }
-    ensures sink_faults { W.faults out.old ≤ W.faults out.new }
+    // Whatever the world tells, what was written is a front of whole lines, of which no more say that a feed's place wasn't to be had
+    // than faults were counted.
+    ensures adds { AddsFront (W.written out.old) (W.written out.new)
+        (K.faults links.old) (K.faults links.new) }
 {
     let mut working = Working::new(alloc);
     let mut text = Vec::new(alloc);
@@ -61,16 +49,34 @@ pub(crate) fn evaluate<F: Shelf, K: Links, W: Sink, L: Ledger>(
     while let Some((line, more)) = next_line(left, whole) {
         match perform_line(alloc, working, line, shelf, links, out, &mut text, steps) {
             Ok(next) => working = next,
-            Err(Stop::Shelf) => {
-                pour(out, &mut text)?;
-                return Err(Stop::Shelf);
-            }
-            Err(Stop::Sink) => return Err(Stop::Sink),
-            Err(Stop::NoMemory) => return Err(Stop::NoMemory),
+            Err(stop) => return Err(write_held(stop, out, &mut text)),
         }
         left = more;
         pour_piece(out, &mut text)?;
     }
     pour(out, &mut text)?;
     Ok(working.refused)
+}
+
+// Writes what is held where a line ended early, unless the sink failed in it, and answers what stops the lines.
+fn write_held<W: Sink>(stop: Stop, out: &mut W, text: &mut Vec<u8>) -> Stop
+    ensures same { append_known (W.written out.new) text.new.items
+        ≡ append_known (W.written out.old) text.old.items }
+    ensures grows { Grows (W.written out.old) (W.written out.new) }
+    ensures faults { W.faults out.old ≤ W.faults out.new }
+    ensures stops { Poured stop result text.old.items text.new.items
+        (Rose (W.faults out.old) (W.faults out.new)) }
+{
+    match stop {
+        Stop::Sink => Stop::Sink,
+        Stop::Shelf => match pour(out, text) {
+            Ok(()) => Stop::Shelf,
+            Err(_) => Stop::Sink,
+        },
+        Stop::NoMemory => match pour(out, text) {
+            Ok(()) => Stop::NoMemory,
+            // That the sink takes no more is no reason any more.
+            Err(_) => Stop::NoMemory,
+        },
+    }
 }

@@ -1,6 +1,6 @@
 //! `judge`: the verdict of a written path.
 ghost use Rattle.std.specs.Prelude.{◌≡◌, ◌+◌, ◌≤◌, length, OnOk, OnErr};
-ghost use Rattle.aspa_top.specs.Performing.{Judges};
+ghost use Rattle.aspa_top.specs.Working.{Judges};
 
 use av_base::{NoMemory, Steps};
 use av_text::put_verdict;

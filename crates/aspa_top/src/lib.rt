@@ -9,13 +9,14 @@
 #![tactic(auto)]
 
 mod acting;
+mod answering;
 mod demo;
 mod dumps;
 mod evaluation;
-mod explaining;
 mod feeding;
 mod judging;
 mod laws;
+mod listing;
 mod loading;
 mod performing;
 mod program;

@@ -1,17 +1,17 @@
 //! Files that a line names: read whole, and understood.
-ghost use Rattle.std.specs.Prelude.{◌≡◌, ◌≢◌, ◌+◌, ◌^◌, ◌<◌, ◌≤◌, length, IfOk, IsErrOf};
+ghost use Rattle.std.specs.Prelude.{◌≡◌, ◌≢◌, ◌+◌, ◌^◌, ◌<◌, ◌≤◌, Some, length, IfOk, IsErrOf};
 ghost use Rattle.std.specs.Io.KnownBytes.{prepend_known, IsAtEnd};
 ghost use Rattle.av_base.specs.Files.{left_of};
 ghost use Rattle.av_base.specs.Told.{Rose};
 ghost use Rattle.av_text.specs.Spellings.{IsInLine};
-ghost use Rattle.report_text.specs.Refusals.{IsCause};
-ghost use Rattle.aspa_top.specs.Loading.{unit_name, payload_cause as number_of_payload, slurm_cause as number_of_slurm};
-ghost use Rattle.aspa_top.specs.LoadingSteps.{ComesTold, HasKnownCause, IsRowsOutcome, Understands};
+ghost use Rattle.aspa_top.specs.Loading.{unit_name, payload_cause as cause_of_payload, slurm_cause as cause_of_slurm};
+ghost use Rattle.aspa_top.specs.LoadingSteps.{ComesTold, IsRowsOutcome, Understands};
 ghost use Rattle.stream_lines.specs.Frames.{Leaves};
 
 use aspa_payload::{FileFault, PayloadFault, read_lines, read_many};
 use av_base::{NoMemory, PIECE, Shelf};
 use path_model::{Name, Rows};
+use report_text::Cause;
 use slurm_rules::{Slurm, SlurmFault};
 use std::alloc::Global;
 use stream_lines::ReadFault;
@@ -49,7 +49,7 @@ impl FileKind {
 #[derive(Clone, Copy, Debug, PartialEq, Eq)]
 pub(crate) struct Flaw {
     pub(crate) unit: u64,
-    pub(crate) cause: u16,
+    pub(crate) cause: Cause,
 }
 
 /// What comes of a file.
@@ -73,7 +73,6 @@ pub(crate) fn load_file<F: Shelf>(
     shelf: &mut F,
 ) -> Result<Outcome, ReadFault>
     ensures comes { IfOk result (ComesTold (F.files shelf.old) kind.now name.now) }
-    ensures known { IfOk result HasKnownCause }
     ensures others { Leaves (λ other. other < F.opened shelf.old) (F.files shelf.old) (F.files shelf.new) }
     ensures opened { F.opened shelf.old ≤ F.opened shelf.new }
     ensures cause { IsErrOf result ReadFault.Source → Rose (F.faults shelf.old) (F.faults shelf.new) }
@@ -84,6 +83,7 @@ pub(crate) fn load_file<F: Shelf>(
     };
     let bytes = read_whole(alloc, file, shelf, FILE_LIMIT)?;
     if bytes.len() > FILE_LIMIT {
+        shelf.close_file(file);
         return Ok(Outcome::Long);
     }
     let outcome = understand(alloc, kind, &bytes)?;
@@ -126,7 +126,6 @@ fn read_whole<F: Shelf>(
 fn understand(alloc: Global, kind: &FileKind, bytes: &[u8]) -> Result<Outcome, NoMemory>
     requires { length bytes.now ≤ 67108864 }
     ensures comes { IfOk result (Understands kind.now bytes.now) }
-    ensures known { IfOk result HasKnownCause }
 {
     match kind {
         FileKind::Payloads(name) => rows_outcome(name, read_many(alloc, bytes)),
@@ -138,7 +137,6 @@ fn understand(alloc: Global, kind: &FileKind, bytes: &[u8]) -> Result<Outcome, N
 // What comes of a payload file that was read so.
 fn rows_outcome(name: &Name, reading: Result<Rows, FileFault>) -> Result<Outcome, NoMemory>
     ensures comes { IfOk result (IsRowsOutcome name.now reading) }
-    ensures known { IfOk result HasKnownCause }
 {
     match reading {
         Ok(rows) => Ok(Outcome::Good(TableChange::Replace(name.copy()?, rows))),
@@ -153,7 +151,6 @@ fn rows_outcome(name: &Name, reading: Result<Rows, FileFault>) -> Result<Outcome
 // What comes of a SLURM file of these bytes.
 fn slurm_outcome(alloc: Global, bytes: &[u8]) -> Result<Outcome, NoMemory>
     ensures comes { IfOk result (Understands FileKind.Slurm bytes.now) }
-    ensures known { IfOk result HasKnownCause }
 {
     match slurm_rules::read(alloc, bytes) {
         Ok(slurm) => {
@@ -170,32 +167,30 @@ fn slurm_outcome(alloc: Global, bytes: &[u8]) -> Result<Outcome, NoMemory>
     }
 }
 
-// The number of the cause for which a payload is refused; want of memory is none.
-fn payload_cause(fault: PayloadFault) -> Result<u16, NoMemory>
-    ensures number { IfOk result (λ cause. cause ≡ number_of_payload fault) }
-    ensures known { IfOk result IsCause }
+// The cause for which a payload is refused; want of memory is none.
+fn payload_cause(fault: PayloadFault) -> Result<Cause, NoMemory>
+    ensures { IfOk result (λ cause. cause_of_payload fault ≡ Some cause) }
 {
     match fault {
-        PayloadFault::NotDer => Ok(5),
-        PayloadFault::Version => Ok(6),
-        PayloadFault::NoProviders => Ok(7),
-        PayloadFault::Order => Ok(8),
-        PayloadFault::SelfProvider => Ok(9),
-        PayloadFault::Base64 => Ok(10),
+        PayloadFault::NotDer => Ok(Cause::NotDer),
+        PayloadFault::Version => Ok(Cause::PayloadVersion),
+        PayloadFault::NoProviders => Ok(Cause::NoProviders),
+        PayloadFault::Order => Ok(Cause::Order),
+        PayloadFault::SelfProvider => Ok(Cause::SelfProvider),
+        PayloadFault::Base64 => Ok(Cause::Base64),
         PayloadFault::NoMemory => Err(NoMemory),
     }
 }
 
-// The number of the cause for which a SLURM file is refused; want of memory is none.
-fn slurm_cause(fault: SlurmFault) -> Result<u16, NoMemory>
-    ensures number { IfOk result (λ cause. cause ≡ number_of_slurm fault) }
-    ensures known { IfOk result IsCause }
+// The cause for which a SLURM file is refused; want of memory is none.
+fn slurm_cause(fault: SlurmFault) -> Result<Cause, NoMemory>
+    ensures { IfOk result (λ cause. cause_of_slurm fault ≡ Some cause) }
 {
     match fault {
-        SlurmFault::Json => Ok(11),
-        SlurmFault::Version => Ok(12),
-        SlurmFault::Member => Ok(13),
-        SlurmFault::Number => Ok(14),
+        SlurmFault::Json => Ok(Cause::Json),
+        SlurmFault::Version => Ok(Cause::SlurmVersion),
+        SlurmFault::Member => Ok(Cause::Member),
+        SlurmFault::Number => Ok(Cause::SlurmNumber),
         SlurmFault::NoMemory => Err(NoMemory),
     }
 }

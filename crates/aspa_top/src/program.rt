@@ -1,12 +1,14 @@
 //! The top call: from the words to the status.
-ghost use Rattle.std.specs.Prelude.{◌≡◌, ◌≢◌, ◌+◌, ◌<◌, ◌≤◌, ◌⊎◌, ◌++◌, ℕ, List, Some, length, map};
+ghost use Rattle.std.specs.Prelude.{◌≡◌, ◌≢◌, ◌+◌, ◌≤◌, ◌⊎◌, ◌++◌, ℕ, List, [], Some, length, map};
 ghost use Rattle.std.specs.String.{string_bytes};
 ghost use Rattle.std.specs.Io.KnownBytes.{IsAtEnd};
 ghost use Rattle.av_base.specs.Told.{Rose};
 ghost use Rattle.feed_lines.specs.Faults.{BreaksByFault, NewAreUnbroken};
-ghost use Rattle.report_text.specs.Reported.{AddsFront, IsWithinRise, unreachables_in};
-ghost use Rattle.aspa_top.specs.Program.{AreOwn, Completes, Demonstrates, IsDemo, IsEnding, IsRun, IsStatus, Ran, RanIfTold};
-ghost use Rattle.aspa_top.specs.World.{GoesOn, Meets, World, linked, names_of};
+ghost use Rattle.report_text.specs.Reported.{IsWithinRise, unreachables_in};
+ghost use Rattle.aspa_top.specs.Evaluated.{Runs, RunsSource};
+ghost use Rattle.aspa_top.specs.Outside.{Keeps, outside};
+ghost use Rattle.aspa_top.specs.Program.{AreOwn, Completes, Demonstrates, IsDemo, IsEnding, IsRun, IsStatus, RanIfTold, StarvedIfTold};
+ghost use Rattle.aspa_top.specs.World.{GoesOn, linked, names_of};
 
 use crate::demo::run_demo;
 use crate::evaluation::evaluate;
@@ -33,7 +35,7 @@ pub const SCRIPT_LIMIT: usize = 67_108_864;
 /// | 5 | there was no memory |
 /// | 6 | the script has more than [`SCRIPT_LIMIT`] bytes; the lines whose LF is among the first so many were performed |
 ///
-/// At 3, 4 and 5 what was written is a front of that text. A failed call on a connection ends no run.
+/// At 3, 4 and 5 what was written is a front of that text; at 3 and 5 all that was held, so far as the sink takes it. A failed call on a connection ends no run.
 pub fn run<S: Source, F: Shelf, K: Links, W: Sink, L: Ledger>(
     alloc: Global,
     words: &Vec<String>,
@@ -76,6 +78,13 @@ pub fn run<S: Source, F: Shelf, K: Links, W: Sink, L: Ledger>(
         (Rose (S.faults script.old) (S.faults script.new)) (Rose (F.faults shelf.old) (F.faults shelf.new))
         (Rose (W.faults out.old) (W.faults out.new)) result }
 
+    // Where memory ran out and the sink didn't fail, all the text was written that was held.
+    ensures starved { IsRun (map string_bytes words.now.items) → result ≡ 5
+        → ¬ Rose (W.faults out.old) (W.faults out.new) → StarvedIfTold SCRIPT_LIMIT
+        (S.left script.old) (F.files shelf.old)
+        (linked (K.attempts links.old) (K.wire links.old)) (linked (K.attempts links.new) (K.wire links.new))
+        (W.written out.old) (W.written out.new) steps.old steps.new }
+
     // For every script, shelf and links, where the sink tells what was written: no more feeds were `unreachable` than the links counted
     // faults, unless that count stands at its last value.
     ensures few_unreachable { IsRun (map string_bytes words.now.items) → (before text : List ℕ)
@@ -116,28 +125,18 @@ fn run_script<S: Source, F: Shelf, K: Links, W: Sink, L: Ledger>(
     out: &mut W,
     steps: &mut Steps<L>,
 ) -> u8
-    ensures ran { RanIfTold SCRIPT_LIMIT (S.left script.old) (F.files shelf.old)
-        (linked (K.attempts links.old) (K.wire links.old)) (linked (K.attempts links.new) (K.wire links.new))
-        (Rose (S.faults script.old) (S.faults script.new)) (Rose (F.faults shelf.old) (F.faults shelf.new))
-        (W.written out.old) (W.written out.new) steps.old steps.new result }
     ensures known { IsEnding result }
-    ensures at_end { (result ≡ 0) ⊎ (result ≡ 1) → IsAtEnd (S.left script.new) }
+    ensures keeps { Keeps
+        (outside F.Shelf K.Links W.Sink shelf.old links.old out.old [] steps.old)
+        (outside F.Shelf K.Links W.Sink shelf.new links.new out.new [] steps.new) }
+    ensures runs { RunsSource SCRIPT_LIMIT (S.left script.old) (S.left script.new)
+        (Rose (S.faults script.old) (S.faults script.new))
+        (outside F.Shelf K.Links W.Sink shelf.old links.old out.old [] steps.old)
+        (outside F.Shelf K.Links W.Sink shelf.new links.new out.new [] steps.new) result }
     ensures input_cause { result ≡ 3 → (Rose (S.faults script.old) (S.faults script.new) × (out.new ≡ out.old)
         × (shelf.new ≡ shelf.old) × (links.new ≡ links.old) × (steps.new ≡ steps.old))
         ⊎ Rose (F.faults shelf.old) (F.faults shelf.new) }
-    ensures reported { AddsFront (W.written out.old) (W.written out.new) (K.faults links.old) (K.faults links.new) }
-    ensures later { GoesOn (linked (K.attempts links.old) (K.wire links.old))
-        (linked (K.attempts links.new) (K.wire links.new)) }
-    ensures broke { BreaksByFault (K.faults links.old) (K.faults links.new)
-        (K.standings links.old) (K.standings links.new) }
-    ensures sink_cause { result ≡ 4 → Rose (W.faults out.old) (W.faults out.new) }
-    ensures complete { Completes SCRIPT_LIMIT (S.left script.old)
-        (Rose (S.faults script.old) (S.faults script.new)) (Rose (F.faults shelf.old) (F.faults shelf.new))
-        (Rose (W.faults out.old) (W.faults out.new)) result }
     ensures script_faults { S.faults script.old ≤ S.faults script.new }
-    ensures sink_faults { W.faults out.old ≤ W.faults out.new }
-    ensures names { names_of (F.files shelf.new) ≡ names_of (F.files shelf.old) }
-    ensures shelf_faults { F.faults shelf.old ≤ F.faults shelf.new }
 {
     match read_all(alloc, script, SCRIPT_LIMIT) {
         Ok(bytes) => {
@@ -163,21 +162,13 @@ fn run_whole<F: Shelf, K: Links, W: Sink, L: Ledger>(
     steps: &mut Steps<L>,
 ) -> u8
     requires { length script.now ≤ SCRIPT_LIMIT }
-    ensures ran { (world : World) → Meets (F.files shelf.old)
-        (linked (K.attempts links.old) (K.wire links.old)) (linked (K.attempts links.new) (K.wire links.new)) world
-        → Ran SCRIPT_LIMIT world script.now ⊥ (Rose (F.faults shelf.old) (F.faults shelf.new))
-        (W.written out.old) (W.written out.new) steps.old steps.new result }
     ensures known { (result ≡ 0) ⊎ (result ≡ 1) ⊎ (result ≡ 3) ⊎ (result ≡ 4) ⊎ (result ≡ 5) }
-    ensures shelf_cause { result ≡ 3 → Rose (F.faults shelf.old) (F.faults shelf.new) }
-    ensures reported { AddsFront (W.written out.old) (W.written out.new) (K.faults links.old) (K.faults links.new) }
-    ensures later { GoesOn (linked (K.attempts links.old) (K.wire links.old))
-        (linked (K.attempts links.new) (K.wire links.new)) }
-    ensures broke { BreaksByFault (K.faults links.old) (K.faults links.new)
-        (K.standings links.old) (K.standings links.new) }
-    ensures sink_cause { result ≡ 4 → Rose (W.faults out.old) (W.faults out.new) }
-    ensures sink_faults { W.faults out.old ≤ W.faults out.new }
-    ensures names { names_of (F.files shelf.new) ≡ names_of (F.files shelf.old) }
-    ensures shelf_faults { F.faults shelf.old ≤ F.faults shelf.new }
+    ensures keeps { Keeps
+        (outside F.Shelf K.Links W.Sink shelf.old links.old out.old [] steps.old)
+        (outside F.Shelf K.Links W.Sink shelf.new links.new out.new [] steps.new) }
+    ensures runs { Runs SCRIPT_LIMIT script.now
+        (outside F.Shelf K.Links W.Sink shelf.old links.old out.old [] steps.old)
+        (outside F.Shelf K.Links W.Sink shelf.new links.new out.new [] steps.new) result }
 {
     match evaluate(alloc, script, true, shelf, links, out, steps) {
         Ok(0) => 0,
@@ -198,21 +189,13 @@ fn run_front<F: Shelf, K: Links, W: Sink, L: Ledger>(
     steps: &mut Steps<L>,
 ) -> u8
     requires { length script.now ≡ SCRIPT_LIMIT + 1 }
-    ensures ran { (world : World) → Meets (F.files shelf.old)
-        (linked (K.attempts links.old) (K.wire links.old)) (linked (K.attempts links.new) (K.wire links.new)) world → (more : List ℕ)
-        → Ran SCRIPT_LIMIT world (script.now ++ more) ⊥ (Rose (F.faults shelf.old) (F.faults shelf.new))
-        (W.written out.old) (W.written out.new) steps.old steps.new result }
     ensures known { (result ≡ 6) ⊎ (result ≡ 3) ⊎ (result ≡ 4) ⊎ (result ≡ 5) }
-    ensures shelf_cause { result ≡ 3 → Rose (F.faults shelf.old) (F.faults shelf.new) }
-    ensures reported { AddsFront (W.written out.old) (W.written out.new) (K.faults links.old) (K.faults links.new) }
-    ensures later { GoesOn (linked (K.attempts links.old) (K.wire links.old))
-        (linked (K.attempts links.new) (K.wire links.new)) }
-    ensures broke { BreaksByFault (K.faults links.old) (K.faults links.new)
-        (K.standings links.old) (K.standings links.new) }
-    ensures sink_cause { result ≡ 4 → Rose (W.faults out.old) (W.faults out.new) }
-    ensures sink_faults { W.faults out.old ≤ W.faults out.new }
-    ensures names { names_of (F.files shelf.new) ≡ names_of (F.files shelf.old) }
-    ensures shelf_faults { F.faults shelf.old ≤ F.faults shelf.new }
+    ensures keeps { Keeps
+        (outside F.Shelf K.Links W.Sink shelf.old links.old out.old [] steps.old)
+        (outside F.Shelf K.Links W.Sink shelf.new links.new out.new [] steps.new) }
+    ensures runs { (more : List ℕ) → Runs SCRIPT_LIMIT (script.now ++ more)
+        (outside F.Shelf K.Links W.Sink shelf.old links.old out.old [] steps.old)
+        (outside F.Shelf K.Links W.Sink shelf.new links.new out.new [] steps.new) result }
 {
     let (front, _) = script.split_at(SCRIPT_LIMIT);
     match evaluate(alloc, front, false, shelf, links, out, steps) {

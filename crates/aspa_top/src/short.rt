@@ -1,35 +1,40 @@
 //! What a line does within memory.
-ghost use Rattle.std.specs.Prelude.{◌≡◌, ◌+◌, ◌^◌, ◌<◌, ◌≤◌, IfOk, OnOk, OnErr};
-ghost use Rattle.aspa_top.specs.Performing.{DoneShort, IsWithinShort, KeepsDumps, TickedShort};
-ghost use Rattle.aspa_top.specs.Reporting.{AddsText};
+ghost use Rattle.std.specs.Prelude.{Ok};
+ghost use Rattle.aspa_top.specs.declared.task.Task.TheVariants.{Short as ShortTask};
+ghost use Rattle.aspa_top.specs.Bounds.{IsWithinShort};
+ghost use Rattle.aspa_top.specs.Outside.{Keeps, outside};
+ghost use Rattle.aspa_top.specs.Performing.{Did};
+ghost use Rattle.aspa_top.specs.Standing.{IsBegun};
 
 use crate::acting::happen;
-use crate::explaining::explain;
 use crate::judging::put_judgement;
 use crate::task::Short;
 use crate::working::Working;
-use av_base::{NoMemory, Steps};
-use report_text::put_summary;
+use av_base::{Links, Shelf, Sink, Steps};
 use std::alloc::Global;
 use std::sync::ledger::Ledger;
-use stream_lines::summary_of;
+use stream_lines::Stop;
 
 /// Does a short task, and adds its line, if it has one, to what is held: whole or not at all.
-pub(crate) fn perform_short<L: Ledger>(
+pub(crate) fn perform_short<F: Shelf, K: Links, W: Sink, L: Ledger>(
     alloc: Global,
     working: Working,
     short: Short,
+    shelf: &mut F,
+    links: &mut K,
+    out: &mut W,
     text: &mut Vec<u8>,
     steps: &mut Steps<L>,
-) -> Result<Working, NoMemory>
+) -> Result<Working, Stop>
     requires within { IsWithinShort short }
-    requires room { working.refused < 2 ^ 62 }
-    ensures done { IfOk result (DoneShort working short text.old.items text.new.items
-        steps.old steps.new) }
-    ensures keeps { IfOk result (KeepsDumps working) }
-    ensures adds { OnOk result (AddsText text.old.items text.new.items) }
-    ensures err { OnErr result (text.new.items ≡ text.old.items) }
-    ensures ticks { OnErr result (TickedShort working short steps.old steps.new) }
+    requires begun { IsBegun
+        (outside F.Shelf K.Links W.Sink shelf.old links.old out.old text.old.items steps.old) working }
+    ensures keeps { Keeps
+        (outside F.Shelf K.Links W.Sink shelf.old links.old out.old text.old.items steps.old)
+        (outside F.Shelf K.Links W.Sink shelf.new links.new out.new text.new.items steps.new) }
+    ensures did { Did working (Ok (ShortTask short))
+        (outside F.Shelf K.Links W.Sink shelf.old links.old out.old text.old.items steps.old)
+        (outside F.Shelf K.Links W.Sink shelf.new links.new out.new text.new.items steps.new) result }
 {
     match short {
         Short::Idle => Ok(working),
@@ -41,15 +46,6 @@ pub(crate) fn perform_short<L: Ledger>(
             let table = working.analyser.store().table();
             put_judgement(alloc, table, role, neighbour, &path, text, steps)?;
             Ok(working)
-        }
-        Short::Summary => {
-            let store = working.analyser.store();
-            put_summary(text, summary_of(store, working.passed, working.refused))?;
-            Ok(working)
-        }
-        Short::Why(key) => {
-            let next = explain(working, &key, text)?;
-            Ok(next)
         }
     }
 }

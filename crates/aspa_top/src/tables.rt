@@ -1,54 +1,53 @@
 //! `aspa`, `aspa64` and `slurm`: files that change the table.
-ghost use Rattle.std.specs.Prelude.{◌≡◌, ◌+◌, ◌-◌, ◌^◌, ◌<◌, ◌≤◌, IfOk, OnOk, OnErr, IsErrOf};
-ghost use Rattle.av_base.specs.Told.{Rose};
+ghost use Rattle.std.specs.Prelude.{◌≡◌, ◌^◌, ◌<◌, Ok, IfOk, OnErr};
 ghost use Rattle.analyser.specs.declared.event.Event.TheVariants.{Table as TableEvent};
 ghost use Rattle.analyser.specs.Touched.{TicksWithin};
-ghost use Rattle.aspa_top.specs.LoadingSteps.{HasKnownCause};
-ghost use Rattle.aspa_top.specs.Performing.{Acted, ActedWithin, Held, IsSound, LoadsAs, Names, TickedLoad};
-ghost use Rattle.aspa_top.specs.Reporting.{AddsText};
-ghost use Rattle.aspa_top.specs.World.{names_of};
+ghost use Rattle.aspa_top.specs.declared.task.Task.TheVariants.{Load};
+ghost use Rattle.aspa_top.specs.Outside.{Keeps, outside};
+ghost use Rattle.aspa_top.specs.Performing.{Did};
+ghost use Rattle.aspa_top.specs.Standing.{IsBegun};
+ghost use Rattle.aspa_top.specs.Working.{Acted, ActedWithin, Held, Names};
 
 use crate::acting::{happen, refuse};
 use crate::loading::{FileKind, Outcome, load_file};
 use crate::working::Working;
 use analyser::Event;
-use av_base::{NoMemory, Shelf, Steps};
+use av_base::{Links, NoMemory, Shelf, Sink, Steps};
 use path_model::Name;
-use report_text::Place;
+use report_text::{Cause, Place};
 use script_lines::Word;
 use std::alloc::Global;
 use std::sync::ledger::Ledger;
-use stream_lines::ReadFault;
+use stream_lines::Stop;
 use vap_table::TableChange;
 
 /// Loads the file of this name: a good one changes the table, and by another one the line is refused.
 #[inline(never)]
-pub(crate) fn load<F: Shelf, L: Ledger>(
+pub(crate) fn load<F: Shelf, K: Links, W: Sink, L: Ledger>(
     alloc: Global,
     working: Working,
     kind: FileKind,
     file: &Word,
     shelf: &mut F,
+    links: &mut K,
+    out: &mut W,
     text: &mut Vec<u8>,
     steps: &mut Steps<L>,
-) -> Result<Working, ReadFault>
-    requires room { (0 < working.lines) × (working.lines < 2 ^ 32) }
-    requires sound { IsSound (F.opened shelf.old) (working.lines - 1) working }
-    ensures loads { IfOk result (LoadsAs working kind file.now (F.files shelf.old) (F.files shelf.new)
-        text.old.items text.new.items steps.old steps.new) }
-    ensures ticks { OnErr result (TickedLoad working kind file.now (F.files shelf.old) steps.old steps.new) }
-    ensures sound { IfOk result (IsSound (F.opened shelf.new) working.lines) }
-    ensures feeds { IfOk result (λ next. next.feeds ≡ working.feeds) }
-    ensures lines { IfOk result (λ next. next.lines ≡ working.lines) }
-    ensures adds { OnOk result (AddsText text.old.items text.new.items) }
-    ensures err { OnErr result (text.new.items ≡ text.old.items) }
-    ensures names { names_of (F.files shelf.new) ≡ names_of (F.files shelf.old) }
-    ensures cause { IsErrOf result ReadFault.Source → Rose (F.faults shelf.old) (F.faults shelf.new) }
-    ensures faults { F.faults shelf.old ≤ F.faults shelf.new }
+) -> Result<Working, Stop>
+    requires begun { IsBegun
+        (outside F.Shelf K.Links W.Sink shelf.old links.old out.old text.old.items steps.old) working }
+    ensures keeps { Keeps
+        (outside F.Shelf K.Links W.Sink shelf.old links.old out.old text.old.items steps.old)
+        (outside F.Shelf K.Links W.Sink shelf.new links.new out.new text.new.items steps.new) }
+    ensures did { Did working (Ok (Load kind file.now))
+        (outside F.Shelf K.Links W.Sink shelf.old links.old out.old text.old.items steps.old)
+        (outside F.Shelf K.Links W.Sink shelf.new links.new out.new text.new.items steps.new) result }
 {
     if working.is_taken(&kind) {
-        return Ok(refuse(working, Place::Line, 35, text)?);
+        return Ok(refuse(working, Place::Line, Cause::NameTaken, text)?);
     }
+    // it comes with what stands in a name
+    let _name = kind.unit_name();
     let outcome = load_file(alloc, &kind, file.text(), shelf)?;
     Ok(act_on(working, kind, outcome, text, steps)?)
 }
@@ -62,15 +61,13 @@ fn act_on<L: Ledger>(
     steps: &mut Steps<L>,
 ) -> Result<Working, NoMemory>
     requires room { working.refused < 2 ^ 62 }
-    requires known { HasKnownCause outcome }
     ensures acted { IfOk result (Acted working kind outcome text.old.items text.new.items) }
     ensures ticks { ActedWithin working outcome steps.old steps.new }
-    ensures adds { OnOk result (AddsText text.old.items text.new.items) }
     ensures err { OnErr result (text.new.items ≡ text.old.items) }
 {
     match outcome {
-        Outcome::NoFile => refuse(working, Place::Line, 37, text),
-        Outcome::Long => refuse(working, Place::Line, 40, text),
+        Outcome::NoFile => refuse(working, Place::Line, Cause::NoFile, text),
+        Outcome::Long => refuse(working, Place::Line, Cause::FileLong, text),
         Outcome::Flawed(flaw) => {
             let place = Place::Unit {
                 name: kind.unit_name(),

@@ -6,7 +6,7 @@ use crate::loading::FileKind;
 use analyser::Event;
 use feed_lines::Work;
 use path_model::{AsList, Key, Name, Peer, Role};
-use script_lines::{Command, Word};
+use script_lines::{Command, Show, Word};
 use vap_table::TableChange;
 
 /// What a line does to the world, or with it.
@@ -24,8 +24,8 @@ pub(crate) enum Task {
     Connect(Name, Word),
     /// It works on the feed of that name.
     OnFeed(Name, Work),
-    /// It reports each route.
-    Report,
+    /// It asks, and changes nothing.
+    Answer(Question),
     /// It reports each key that changed, and marks all.
     Changes,
 }
@@ -39,9 +39,14 @@ pub(crate) enum Short {
     Happen(Event),
     /// A written path is judged.
     Judge(Role, u32, AsList),
-    /// All is counted.
-    Summary,
-    /// A route is explained.
+}
+
+/// What is only asked, of all that the lines before have left.
+#[derive(Clone, Copy)]
+pub(crate) enum Question {
+    /// What is shown of all.
+    Show(Show),
+    /// Why the route of this key has its verdict.
     Why(Key),
 }
 
@@ -70,13 +75,12 @@ pub(crate) fn task_of(command: Command) -> Task
         Command::Judge(role, neighbour, path) => {
             Task::Short(Short::Judge(role, neighbour, path))
         }
-        Command::Report => Task::Report,
         Command::Changes => Task::Changes,
-        Command::Summary => Task::Short(Short::Summary),
         Command::Why(addr, asn, prefix) => {
             let peer = Peer { addr, asn };
-            Task::Short(Short::Why(Key { peer, prefix }))
+            Task::Answer(Question::Why(Key { peer, prefix }))
         }
+        Command::Show(show) => Task::Answer(Question::Show(show)),
     }
 }
 

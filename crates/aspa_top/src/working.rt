@@ -34,7 +34,8 @@ impl Working {
     ghost use Rattle.av_base.specs.Files.{Files};
     ghost use Rattle.feed_lines.specs.Holding.{feed_in};
     ghost use Rattle.aspa_top.specs.Tasks.{start};
-    ghost use Rattle.aspa_top.specs.Performing.{IsSound, IsTakenIn, StandsFor, dump_in, has_source, has_stream};
+    ghost use Rattle.aspa_top.specs.Standing.{IsSound, StandsFor};
+    ghost use Rattle.aspa_top.specs.Working.{IsTakenIn, dump_in, has_source, has_stream};
     ghost use Rattle.aspa_top.specs.World.{BeginsAt, Links, World};
 
     /// Before the first line. It takes no memory.

@@ -2,7 +2,6 @@
 ghost use Rattle.script_lines.specs.Laws.{EachLineHasOneReading};
 
 /// Each line is one command, or refused for one cause.
-#[tactic(auto, using(crate::proofs::LawLemmas::one_reading))]
 pub fn each_line_has_one_reading()
     ensures { EachLineHasOneReading }
 {}

@@ -1,58 +1,48 @@
-use Rattle.std.proofs.Common.{◌-◌, refl, sym, ap, ◌∙◌, arith}
-use Rattle.report_text.specs.Refusals.{of_line}
-use Rattle.stream_lines.specs.Held.{HeldDump}
-use Rattle.aspa_top.specs.declared.working.Working.{Working}
+use Rattle.std.proofs.Common.{Ok, refl, sym, ap, ◌∙◌, arith}
+use Rattle.std.specs.Io.KnownBytes.{append_known}
+use Rattle.stream_lines.specs.declared.stop.Stop.TheVariants as stops
 use Rattle.aspa_top.specs.World.{names_of}
-use Rattle.aspa_top.proofs.StandsLemmas.{IsSound-same, IsSound-put}
-use Rattle.aspa_top.proofs.ReportingLemmas.{text_none, text_refused}
-use Rattle.aspa_top.proofs.DumpLemmas.{open_used, open_misses, open_new, opens_names}
+use Rattle.aspa_top.proofs.DidLemmas.{did_err, nothing}
+use Rattle.aspa_top.proofs.DumpLemmas.{open_failed, open_misses, open_new, open_used, opens_names}
+use Rattle.aspa_top.proofs.KeepLemmas.{keeps_all, keeps_shelf}
 use Rattle.aspa_top.proofs.dumps.open.Goals as goal
 
-pub returns-then-has_name-clause-steps : goal.returns-then-has_name-clause-steps
-returns-then-has_name-clause-steps g c =
-    open_used _ _ _ _ _ _ _ (sym c.has_name.ensures ∙ c.if-has_name.true) c.in_ok-refuse.ensures.text c.in_ok-refuse.ensures.next
+-- the name is in use
+pub returns-then-has_name : goal.returns-then-has_name
+returns-then-has_name g c = record {
+  keeps = keeps_all _ _ _;
+  did = open_used c.args.working _ c.args.name c.args.file.now _ _ c.requires.begun (sym c.has_name.ensures ∙ c.if-has_name.true) c.in_ok-refuse.ensures.text c.in_ok-refuse.ensures.next;
+}
 
-pub returns-then-has_name-clause-sound : goal.returns-then-has_name-clause-sound
-returns-then-has_name-clause-sound g c =
-    IsSound-same _ _ _ _ c.args.working _ (omega (arith, c.requires.room.0)) (omega arith) c.requires.sound c.in_ok-refuse.ensures.next
+pub returns-in_err-refuse : goal.returns-in_err-refuse
+returns-in_err-refuse g c = record {
+  keeps = keeps_all _ _ _;
+  did = did_err c.args.working _ _ _ c.from_residual.result stops.NoMemory c.from_residual.ensures.1
+      (nothing c.args.working _ _ _ refl (ap (append_known (g.W.Sink.written c.args.out.now)) c.in_err-refuse.ensures.err) refl (omega arith));
+}
 
-pub returns-in_default-clause-steps : goal.returns-in_default-clause-steps
-returns-in_default-clause-steps g c =
-    open_misses _ _ _ _ _ _ _ _ _ _ _ (sym c.has_name.ensures ∙ c.if-has_name.false) c.text.ensures.text
-    (rw c.in_default.is at c.in_ok-number.ensures.answer) c.in_ok-refuse-2.ensures.text c.in_ok-refuse-2.ensures.next
+-- the file isn't there
+pub returns-in_default : goal.returns-in_default
+returns-in_default g c =
+    let missed = rw c.in_default.is at c.in_ok-number.ensures.answer in
+    record {
+      keeps = keeps_shelf _ _ _ _ _ _ (ap names_of missed.told) c.open_file.ensures.cause.later;
+      did = open_misses c.args.working _ c.args.name c.args.file.now _ _ c.requires.begun _ _ _ _ (sym c.has_name.ensures ∙ c.if-has_name.false) c.text.ensures.text missed c.in_ok-refuse-2.ensures.text c.in_ok-refuse-2.ensures.next;
+    }
 
-pub returns-in_default-clause-sound : goal.returns-in_default-clause-sound
-returns-in_default-clause-sound g c =
-    IsSound-same _ _ _ _ c.args.working _ (omega (arith, c.requires.room.0)) (omega (arith, (rw c.in_default.is at c.in_ok-number.ensures.answer).count)) c.requires.sound c.in_ok-refuse-2.ensures.next
-
-pub returns-clause-steps : goal.returns-clause-steps
-returns-clause-steps g c =
-    let is = c.in_ok-name_dump.ensures.left in
-    open_new _ _ _ _ _ _ _ _ _ _ _ (sym c.has_name.ensures ∙ c.if-has_name.false) c.text.ensures.text
-    _ c.in-Some.number c.new-dump.result c.new-dump.ensures c.requires.sound (rw c.in-Some.is at c.in_ok-number.ensures.answer) (g.met.F.Shelf.numbered c.args.shelf.now) refl c.in_ok-name_dump.ensures.dumps is
-
-pub returns-clause-sound : goal.returns-clause-sound
-returns-clause-sound g c =
+-- the dump is new
+pub returns : goal.returns
+returns g c =
     let opened = rw c.in-Some.is at c.in_ok-number.ensures.answer in
-    let is = c.in_ok-name_dump.ensures.left in
-    let passed = ap (λ (w : Working). w.passed) is in
-    let refused = ap (λ (w : Working). w.refused) is in
-    let fresh = c.new-dump.ensures in
-    let file = ap (λ (d : HeldDump). d.file) fresh in
-    let taken = ap (λ (d : HeldDump). d.taken) fresh in
-    IsSound-put _ _ (c.args.working.lines - 1) _ _ c.new-dump.result c.args.working _ (omega (arith, c.requires.room.0)) (omega (arith, opened.count)) c.requires.sound c.in_ok-name_dump.ensures.dumps
-    (omega (arith, opened.count, opened.number, file)) (omega (arith, taken)) (λ q d other there same. let below = (c.requires.sound.given q d there).0 in omega (arith, below, same, opened.number, file)) (omega (arith, passed)) (omega (arith, refused))
+    record {
+      keeps = keeps_shelf _ _ _ _ _ _ (ap names_of opened.told ∙ opens_names opened.bytes _) c.open_file.ensures.cause.later;
+      did = open_new c.args.working _ c.args.name c.args.file.now _ _ c.requires.begun _ _ _ _ (sym c.has_name.ensures ∙ c.if-has_name.false) c.text.ensures.text c.in-Some.number c.new-dump.result
+          c.new-dump.ensures opened (g.met.F.Shelf.numbered c.args.shelf.now) refl c.in_ok-name_dump.ensures;
+    }
 
-pub returns-clause-names : goal.returns-clause-names
-returns-clause-names g c =
-    let opened = rw c.in-Some.is at c.in_ok-number.ensures.answer in
-    ap names_of opened.told ∙ opens_names opened.bytes _
-
-pub returns-then-has_name-clause-adds : goal.returns-then-has_name-clause-adds
-returns-then-has_name-clause-adds g c = text_refused _ of_line 35 _ _ tt c.in_ok-refuse.ensures.text
-
-pub returns-in_default-clause-adds : goal.returns-in_default-clause-adds
-returns-in_default-clause-adds g c = text_refused _ of_line 37 _ _ tt c.in_ok-refuse-2.ensures.text
-
-pub returns-clause-adds : goal.returns-clause-adds
-returns-clause-adds g c = text_none _
+-- the shelf failed
+pub returns-in_default-2 : goal.returns-in_default-2
+returns-in_default-2 g c = record {
+  keeps = keeps_shelf _ _ _ _ _ _ (ap names_of c.in_default-2.ensures.err) c.open_file.ensures.cause.later;
+  did = open_failed c.args.working c.args.name c.args.file.now _ _ _ _ c.in_default-2.ensures.cause;
+}

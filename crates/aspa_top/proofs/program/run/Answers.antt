@@ -7,7 +7,7 @@ use Rattle.report_text.proofs.ReportedLemmas.{few_unreachable}
 use Rattle.aspa_top.specs.declared.words.Form.{Form}
 use Rattle.aspa_top.specs.Program.{Demonstrates}
 use Rattle.aspa_top.specs.Words.{HasForm}
-use Rattle.aspa_top.proofs.RunLemmas.{GoesOn-refl}
+use Rattle.aspa_top.proofs.KeepLemmas.{GoesOn-refl}
 use Rattle.aspa_top.proofs.WordsLemmas.{one_seed}
 use Rattle.aspa_top.proofs.program.run.Goals as goal
 
@@ -19,7 +19,7 @@ returns-in-Demo-clause-demonstrated g c = λ seed demo.
 
 pub returns-in-Run-clause-few_unreachable : goal.returns-in-Run-clause-few_unreachable
 returns-in-Run-clause-few_unreachable g c = λ run before text old new.
-    few_unreachable before text _ _ _ (subst (λ (o : Option (List ℕ)). AddsFront o (g.W.Sink.written c.run_script.new.out) (g.K.Links.faults c.args.links.now) (g.K.Links.faults c.run_script.new.links)) old c.run_script.ensures.reported) new
+    few_unreachable before text _ _ _ (subst (λ (o : Option (List ℕ)). AddsFront o (g.W.Sink.written c.run_script.new.out) (g.K.Links.faults c.args.links.now) (g.K.Links.faults c.run_script.new.links)) old c.run_script.ensures.runs.adds) new
 
 pub returns-in-Demo-clause-unbroken : goal.returns-in-Demo-clause-unbroken
 returns-in-Demo-clause-unbroken g c = BreaksByFault-refl _ _
@@ -34,7 +34,7 @@ pub returns-in-Other-clause-later : goal.returns-in-Other-clause-later
 returns-in-Other-clause-later g c = GoesOn-refl _
 
 pub returns-in-Run-clause-new_unbroken : goal.returns-in-Run-clause-new_unbroken
-returns-in-Run-clause-new_unbroken g c = new_unbroken _ _ _ _ (g.met.K.Links.agrees c.args.links.now) (g.met.K.Links.agrees c.run_script.new.links) c.run_script.ensures.broke
+returns-in-Run-clause-new_unbroken g c = new_unbroken _ _ _ _ (g.met.K.Links.agrees c.args.links.now) (g.met.K.Links.agrees c.run_script.new.links) c.run_script.ensures.keeps.broke
 
 pub returns-in-Demo-clause-new_unbroken : goal.returns-in-Demo-clause-new_unbroken
 returns-in-Demo-clause-new_unbroken g c = new_unbroken _ _ _ _ (g.met.K.Links.agrees c.args.links.now) (g.met.K.Links.agrees c.args.links.now) (BreaksByFault-refl _ _)

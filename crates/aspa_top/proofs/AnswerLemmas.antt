@@ -1,0 +1,160 @@
+-- A question that was answered, or refused.
+use Rattle.std.proofs.Common.{◌≡◌, ℕ, ◌≤◌, List, ◌++◌, false, Ok, refl, sym, ap, subst, ◌∙◌, arith}
+use Rattle.std.specs.declared.option.Option.{Option}
+use Rattle.std.specs.declared.option.Option.TheVariants.{Some, None}
+use Rattle.std.specs.Io.KnownBytes.{append_known}
+use Rattle.av_base.specs.Told.{AppendsFront}
+use Rattle.std.specs.FinMap as fin
+use Rattle.path_model.specs.declared.key.Key.{Key}
+use Rattle.path_model.specs.declared.verdict.Verdict.{Verdict}
+use Rattle.path_model.specs.declared.witness.Witness.{Witness}
+use Rattle.path_model.specs.Trail.{Path}
+use Rattle.report_text.specs.declared.cause.Cause.{Cause}
+use Rattle.report_text.specs.declared.cause.Cause.TheVariants.{NoRoute}
+use Rattle.report_text.specs.declared.summary.Summary.{Summary}
+use Rattle.report_text.specs.Summary.{summary_text}
+use Rattle.report_text.specs.Why.{why_text}
+use Rattle.report_text.specs.Refusals.{of_line, refusal_text}
+use Rattle.report_text.specs.Reported.{lines_text}
+use Rattle.report_text.proofs.ReportedLemmas.{adds_answers, adds_answers_front}
+use Rattle.rib_store.specs.Shown.{IsExplained}
+use Rattle.rib_store.specs.State.{State as Analysis, AreRows}
+use Rattle.script_lines.specs.declared.command.Show.TheVariants.{Report, Summary as SumUp}
+use Rattle.stream_lines.specs.Rows.{rows_text}
+use Rattle.stream_lines.specs.Summary.{IsSummary}
+use Rattle.stream_lines.specs.declared.stop.Stop.{Stop}
+use Rattle.stream_lines.proofs.FrameLemmas.{Leaves-refl}
+use Rattle.aspa_top.specs.declared.task.Question.{Question}
+use Rattle.aspa_top.specs.declared.task.Question.TheVariants.{Show, Why}
+use Rattle.aspa_top.specs.declared.task.Task.TheVariants.{Answer}
+use Rattle.aspa_top.specs.declared.working.Working.{Working}
+use Rattle.aspa_top.specs.Answers.{Answers, AnswersUnless, no_route, refused_for}
+use Rattle.aspa_top.specs.Outside.{Outside, all_of}
+use Rattle.aspa_top.specs.Performing.{Done, EndedEarly, IsStoppedBy}
+use Rattle.aspa_top.specs.Standing.{IsBegun}
+use Rattle.aspa_top.specs.Tasks.{State}
+use Rattle.aspa_top.proofs.DidLemmas.{done_refused, some_done}
+use Rattle.aspa_top.proofs.QuestionLemmas.{answer_lines}
+use Rattle.aspa_top.proofs.ReadyLemmas.{kept_all, ready_streams}
+
+-- what the working state says of an evaluation that it stands for, as far as questions are asked of it
+pub record Reads (working : Working) (state : State) : Type 0 where
+  pub analysis : working.analyser ≡ state.analysis
+  pub passed : working.passed ≡ state.passed
+  pub refused : working.refused ≡ state.refused
+
+-- some such evaluation
+read_state : Working → State
+read_state working = record {
+  analysis = working.analyser;
+  sources = λ name. false;
+  dumps = λ name. None;
+  feeds = λ name. None;
+  made = 0;
+  lines = working.lines;
+  passed = working.passed;
+  refused = working.refused;
+  judgements = 0;
+}
+
+reads_state : (working : Working) → Reads working (read_state working)
+unfolding read_state
+reads_state working = record { analysis = refl; passed = refl; refused = refl }
+
+-- this text answers it, in whatever evaluation the working state stands for
+pub record IsAnswered (state : State) (question : Question) (text : List ℕ) : Type 0 where
+  pub there : refused_for state question ≡ None
+  pub answers : Answers state question text
+
+module _ (working : Working) (question : Question) (old : Outside) (written : Option (List ℕ)) (faults : ℕ) (held text : List ℕ)
+    (begun : IsBegun old working) (answers : (state : State) → Reads working state → IsAnswered state question text) where
+  -- the text was added
+  pub answered : append_known written held ≡ append_known (all_of old) text
+      → Done working (Ok (Answer question)) old (record old { written = written; sink_faults = faults; held = held }) working
+  answered added =
+      let new : Outside = record old { written = written; sink_faults = faults; held = held } in
+      let are = answer_lines (read_state working) question text (answers (read_state working) (reads_state working)).answers in
+      record {
+        goes = λ world tells state stands.
+            let is = answers state (record { analysis = stands.analysis; passed = stands.passed; refused = stands.refused }) in
+            record {
+              text = text;
+              after = state;
+              does = λ ends comes. subst (λ (cause : Option Cause). AnswersUnless cause state question text state) (sym is.there) (is.answers, refl);
+              added = added;
+              stands = stands;
+              ticked = omega arith;
+            };
+        ready = ready_streams old new working working (omega arith) refl begun (kept_all working);
+        lines = refl;
+        adds = adds_answers (all_of old) (all_of new) are.lines are.each (added ∙ ap (append_known (all_of old)) are.is) old.link_faults;
+      }
+
+  -- a front of it was
+  pub answer_stopped : (stop : Stop) → AppendsFront (all_of old) (append_known written held) text
+      → IsStoppedBy working (Ok (Answer question)) old (record old { written = written; sink_faults = faults; held = held }) stop
+      → EndedEarly working (Ok (Answer question)) old (record old { written = written; sink_faults = faults; held = held }) stop
+  answer_stopped stop front cause =
+      let new : Outside = record old { written = written; sink_faults = faults; held = held } in
+      let are = answer_lines (read_state working) question text (answers (read_state working) (reads_state working)).answers in
+      some_done working (Ok (Answer question)) old new stop refl
+      (λ world tells state stands.
+      let is = answers state (record { analysis = stands.analysis; passed = stands.passed; refused = stands.refused }) in
+      record {
+        part = front.before.front;
+        rest = front.rest;
+        after = state;
+        does = λ ends. subst (λ (cause : Option Cause). AnswersUnless cause state question (front.before.front ++ front.rest) state) (sym is.there)
+            (subst (λ (t : List ℕ). Answers state question t) front.before.whole is.answers, refl);
+        added = front.before.told;
+        ticked = omega arith;
+        came_to = λ ends. tt;
+      })
+      (adds_answers_front (all_of old) (all_of new) are.lines old.link_faults are.each (subst (AppendsFront (all_of old) (all_of new)) are.is front)) cause
+
+-- ---- the questions
+
+module _ (working : Working) (held : Analysis) (is : held ≡ working.analyser) where
+  pub report_answers : (rows : List (Key × Verdict)) → AreRows held rows → (state : State) → Reads working state → IsAnswered state (Show Report) (rows_text rows)
+  report_answers rows are = λ state reads. record {
+    there = refl;
+    answers = record { rows = rows; are = subst (λ (a : Analysis). AreRows a rows) (is ∙ reads.analysis) are; text_is = refl };
+  }
+
+  pub summary_answers : (summary : Summary) → IsSummary held working.passed working.refused summary → (state : State) → Reads working state
+      → IsAnswered state (Show SumUp) (summary_text summary)
+  summary_answers summary sums = λ state reads. record {
+    there = refl;
+    answers = record {
+      summary = summary;
+      is = subst (λ (a : Analysis). IsSummary a state.passed state.refused summary) (is ∙ reads.analysis)
+          (subst (λ (n : ℕ). IsSummary held n state.refused summary) reads.passed (subst (λ (n : ℕ). IsSummary held working.passed n summary) reads.refused sums));
+      text_is = refl;
+    };
+  }
+
+  -- why a route has its verdict
+  pub why_answers : (key : Key) (path : Path) (verdict : Verdict) (witness : Witness) → fin.get held.routes key ≡ Some path → IsExplained held key verdict witness
+      → (state : State) → Reads working state → IsAnswered state (Why key) (why_text verdict witness)
+  why_answers key path verdict witness route shows = λ state reads.
+      let same = is ∙ reads.analysis in
+      record {
+        there = ap no_route (ap (λ (a : Analysis). fin.get a.routes key) (sym same) ∙ route);
+        answers = record { verdict = verdict; witness = witness; explained = subst (λ (a : Analysis). IsExplained a key verdict witness) same shows; text_is = refl };
+      }
+
+  -- or there is no such route
+  pub why_refused : (key : Key) → fin.get held.routes key ≡ None → (state : State) → Reads working state → refused_for state (Why key) ≡ Some NoRoute
+  why_refused key none = λ state reads. ap no_route (ap (λ (a : Analysis). fin.get a.routes key) (sym (is ∙ reads.analysis)) ∙ none)
+
+-- the line was refused
+pub not_answered : (working next : Working) (question : Question) (cause : Cause) (old : Outside) (held : List ℕ) → IsBegun old working
+    → ((state : State) → Reads working state → refused_for state question ≡ Some cause)
+    → held ≡ old.held ++ refusal_text working.lines of_line cause → next ≡ record working { refused = working.refused + 1 }
+    → Done working (Ok (Answer question)) old (record old { held = held }) next
+not_answered working next question cause old held begun refuses added is =
+    done_refused working (Ok (Answer question)) old (record old { held = held }) next of_line cause tt (Leaves-refl (λ other. Unit {0}) old.files) (λ n d e. tt)
+    refl refl refl (omega arith) refl refl added is begun
+    (λ world tells state stands.
+    subst (λ (c : Option Cause). AnswersUnless c state question (refusal_text state.lines of_line cause) (record state { refused = state.refused + 1 }))
+    (sym (refuses state (record { analysis = stands.analysis; passed = stands.passed; refused = stands.refused }))) (refl, refl))

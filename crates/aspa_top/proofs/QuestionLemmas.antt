@@ -1,0 +1,152 @@
+-- A question has one answer, of lines that read as no refusal. Each question has a clause in `one_answer` and in `answer_lines`.
+use Rattle.std.proofs.Common.{◌≡◌, ℕ, ◌+◌, List, [], ◌∷◌, ◌++◌, map, refl, sym, ap, subst, ◌∙◌, append_assoc, append-nil, cond, Bool, zero-add}
+use Rattle.std.specs.FinMap as fin
+use Rattle.std.specs.List.{All}
+use Rattle.std.specs.Option.{unwrap_or}
+use Rattle.std.specs.declared.option.Option.{Option}
+use Rattle.std.specs.declared.option.Option.TheVariants.{Some, None}
+use Rattle.std.proofs.lemmas.List.Elements.{All-cons, All-head, All-nil, All-tail}
+use Rattle.av_base.specs.One.{HasOne}
+use Rattle.path_model.specs.declared.key.Key.{Key}
+use Rattle.path_model.specs.declared.verdict.Verdict.{Verdict}
+use Rattle.path_model.specs.declared.witness.Witness.{Witness}
+use Rattle.path_model.specs.Authority.{Table}
+use Rattle.path_model.specs.ComputedTable.{table_of}
+use Rattle.path_model.specs.PrintedWitness.{IsPrinted}
+use Rattle.path_model.specs.Roles.{role_of}
+use Rattle.path_model.specs.Trail.{Path}
+use Rattle.path_model.proofs.LawLemmas.{one_printed}
+use Rattle.path_model.proofs.PartsLemmas.{table_is_current, parts_have_one_table}
+use Rattle.path_model.proofs.WitnessLemmas.{printed_facts}
+use Rattle.report_text.specs.declared.cause.Cause.{Cause}
+use Rattle.report_text.specs.Laws.{IsAnswerLine}
+use Rattle.report_text.specs.Reported.{lines_text}
+use Rattle.report_text.specs.Summary.{summary_line, summary_text}
+use Rattle.report_text.specs.Why.{why_line, why_text}
+use Rattle.report_text.proofs.AnswerLemmas.{summary_is_one_line, reason_is_one_line}
+use Rattle.rib_store.specs.Shown.{IsExplained}
+use Rattle.rib_store.specs.State.{State as Analysis}
+use Rattle.rib_store.proofs.ReportLemmas.{has_one_report}
+use Rattle.script_lines.specs.declared.command.Show.TheVariants.{Report, Summary as SumUp}
+use Rattle.stream_lines.specs.Counts.{refusals_in}
+use Rattle.stream_lines.specs.Rows.{rows_text}
+use Rattle.stream_lines.proofs.RefusalLemmas.{lacks, refusals_in-line}
+use Rattle.stream_lines.proofs.ReportedLemmas.{line_of, rows_answer, rows_are_lines}
+use Rattle.stream_lines.proofs.SummaryLemmas.{some_summary, one_summary}
+use Rattle.aspa_top.specs.declared.task.Question.{Question}
+use Rattle.aspa_top.specs.declared.task.Question.TheVariants.{Show, Why}
+use Rattle.aspa_top.specs.Answers.{Answers, AnswersUnless, Replies, no_route, refused_for}
+use Rattle.aspa_top.specs.Tasks.{State}
+
+-- ---- one answer
+
+-- a route has one reason
+one_reason : (state : Analysis) (key : Key) (v w : Verdict) (x y : Witness) → IsExplained state key v x → IsExplained state key w y → (v ≡ w) × (x ≡ y)
+one_reason state key v w x y a b =
+    let role = role_of state.roles key.peer.asn in
+    let path : a.path ≡ b.path = ap (λ (o : Option Path). unwrap_or o a.path) (sym a.route ∙ b.route) in
+    let tables = parts_have_one_table state.parts in
+    let table : a.table ≡ b.table = λ i q. (tables.only a.table a.current q ∙ sym (tables.only b.table b.current q)) i in
+    let one = one_printed b.table role key.peer.asn b.path in
+    let first : IsPrinted b.table role key.peer.asn b.path v x =
+    subst (λ (p : Path). IsPrinted b.table role key.peer.asn p v x) path (subst (λ (t : Table). IsPrinted t role key.peer.asn a.path v x) table a.printed) in
+    let v_is = one.only v x first in
+    let w_is = one.only w y b.printed in
+    (v_is.0 ∙ sym w_is.0, v_is.1 ∙ sym w_is.1)
+
+some_reason : (path : Option Path) (state : Analysis) (key : Key) → fin.get state.routes key ≡ path → no_route path ≡ None
+    → (verdict : Verdict) × (witness : Witness) × IsExplained state key verdict witness
+some_reason None state key route there = let none : ⊥ = cc in absurd none
+some_reason (Some path) state key route there =
+    let table = table_of state.parts in
+    let role = role_of state.roles key.peer.asn in
+    let one = one_printed table role key.peer.asn path in (
+      one.one,
+      one.its,
+      record {
+        path = path;
+        route = route;
+        table = table;
+        current = table_is_current state.parts;
+        printed = one.is;
+        facts = printed_facts table role key.peer.asn path one.one one.its one.is;
+      },
+    )
+
+pub one_answer : (state : State) (question : Question) → refused_for state question ≡ None → HasOne (Answers state question)
+one_answer state (Show Report) there =
+    let report = has_one_report state.analysis in
+    record {
+      one = rows_text report.one;
+      is = record { rows = report.one; are = report.is; text_is = refl };
+      only = λ other is. is.text_is ∙ ap rows_text (report.only is.rows is.are);
+    }
+one_answer state (Show SumUp) there =
+    let found = some_summary state.analysis state.passed state.refused in
+    record {
+      one = summary_text found.0;
+      is = record { summary = found.0; is = found.1; text_is = refl };
+      only = λ other is. is.text_is ∙ ap summary_text (one_summary state.analysis state.passed state.refused is.summary found.0 is.is found.1);
+    }
+one_answer state (Why key) there =
+    let found = some_reason (fin.get state.analysis.routes key) state.analysis key refl there in
+    record {
+      one = why_text found.0 found.1;
+      is = record { verdict = found.0; witness = found.1; explained = found.2; text_is = refl };
+      only = λ other is.
+          let same = one_reason state.analysis key is.verdict found.0 is.witness found.1 is.explained found.2 in
+          is.text_is ∙ (λ i. why_text (same.0 i) (same.1 i));
+    }
+
+-- ---- lines that read as no refusal
+
+-- a text of such lines
+pub record AreAnswers (text : List ℕ) : Type 0 where
+  pub lines : List (List ℕ)
+  pub each : All IsAnswerLine lines
+  pub is : text ≡ lines_text lines
+
+-- of one
+one_line : (line text : List ℕ) → IsAnswerLine line → text ≡ line ++ 10 ∷ [] → AreAnswers text
+one_line line text answer is = record { lines = line ∷ []; each = All-cons IsAnswerLine line [] answer (All-nil IsAnswerLine); is = is ∙ sym (append-nil (line ++ 10 ∷ [])) }
+
+pub answer_lines : (state : State) (question : Question) (text : List ℕ) → Answers state question text → AreAnswers text
+answer_lines state (Show Report) text reports =
+    record { lines = map line_of reports.rows; each = rows_answer reports.rows; is = reports.text_is ∙ rows_are_lines reports.rows }
+answer_lines state (Show SumUp) text sums = one_line (summary_line sums.summary) text (summary_is_one_line sums.summary) sums.text_is
+answer_lines state (Why key) text explains = one_line (why_line explains.verdict explains.witness) text (reason_is_one_line explains.verdict explains.witness) explains.text_is
+
+-- ---- so much for all questions
+
+-- such a line counts no refusal
+pub answer_counted : (line rest : List ℕ) → IsAnswerLine line → refusals_in ((line ++ 10 ∷ []) ++ rest) ≡ refusals_in rest
+answer_counted line rest is =
+    refusals_in-line line rest (lacks line is.in_line) ∙ ap (λ (b : Bool). cond b 1 0 + refusals_in rest) is.unmarked ∙ zero-add (refusals_in rest)
+
+lines_counted : (lines : List (List ℕ)) (rest : List ℕ) → All IsAnswerLine lines → refusals_in (lines_text lines ++ rest) ≡ refusals_in rest
+lines_counted [] rest answer = refl
+lines_counted (line ∷ lines) rest answer =
+    ap (λ (t : List ℕ). refusals_in t) (append_assoc (line ++ 10 ∷ []) (lines_text lines) rest)
+    ∙ answer_counted line (lines_text lines ++ rest) (All-head IsAnswerLine line lines answer) ∙ lines_counted lines rest (All-tail IsAnswerLine line lines answer)
+
+-- nor do all of them
+pub answers_counted : (text rest : List ℕ) → AreAnswers text → refusals_in (text ++ rest) ≡ refusals_in rest
+answers_counted text rest are = ap (λ (t : List ℕ). refusals_in (t ++ rest)) are.is ∙ lines_counted are.lines rest are.each
+
+-- a question is refused, or has an answer
+pub some_reply : (state : State) (question : Question) → (text : List ℕ) × (next : State) × Replies state question text next
+some_reply state question = by_cause (refused_for state question) refl where
+  by_cause : (cause : Option Cause) → refused_for state question ≡ cause → (text : List ℕ) × (next : State) × AnswersUnless cause state question text next
+  by_cause (Some cause) is = (_, _, (refl, refl))
+  by_cause None is = let one = one_answer state question is in (one.one, state, (one.is, refl))
+
+-- and no two
+pub replies_unique : (state : State) (question : Question) (one other : List ℕ) (end last : State)
+    → Replies state question one end → Replies state question other last → (one ≡ other) × (end ≡ last)
+replies_unique state question one other end last a b = by_cause (refused_for state question) refl a b where
+  by_cause : (cause : Option Cause) → refused_for state question ≡ cause → AnswersUnless cause state question one end → AnswersUnless cause state question other last
+      → (one ≡ other) × (end ≡ last)
+  by_cause (Some cause) is c d = (c.0 ∙ sym d.0, c.1 ∙ sym d.1)
+  by_cause None is c d =
+      let answer = one_answer state question is in
+      (answer.only one c.0 ∙ sym (answer.only other d.0), c.1 ∙ sym d.1)

@@ -1,0 +1,52 @@
+-- What the lines before have left, and what any line may do to it: refuse.
+use Rattle.std.specs.Prelude.{◌≡◌, ℕ, ◌+◌, nat_eq, Bool, false, ◌||◌, is_some, List}
+use Rattle.std.specs.Cmp.Lexicographic.{pointwise}
+use Rattle.std.specs.declared.option.Option.{Option}
+use Rattle.std.specs.declared.option.Option.TheVariants.{None}
+use Rattle.feed_lines.specs.Feeds.{Feed}
+use Rattle.report_text.specs.declared.cause.Cause.{Cause}
+use Rattle.report_text.specs.Refusals.{AnyPlace, refusal_text}
+use Rattle.rib_store.specs.State.{State as Analysis, no_state}
+use Rattle.stream_lines.specs.Streams.{Dump}
+use Rattle.aspa_top.specs.World.{World}
+
+-- What some lines have left: the analysis, which names are those of attestation sources, of dumps and of feeds (none where a session is
+-- over), how many attempts to connect were made, how many lines, passed records and refused lines there were, and how many judgements
+-- they may have cost. A line of text that reports a feed's end counts as refused.
+pub record State : Type 0 where
+  pub analysis : Analysis
+  pub sources : List ℕ → Bool
+  pub dumps : List ℕ → Option Dump
+  pub feeds : List ℕ → Option (Option Feed)
+  pub made : ℕ
+  pub lines : ℕ
+  pub passed : ℕ
+  pub refused : ℕ
+  pub judgements : ℕ
+
+-- before the first line
+abbrev pub start : World → State
+start world = record {
+  analysis = no_state;
+  sources = λ name. false;
+  dumps = λ name. None;
+  feeds = λ name. None;
+  made = world.made;
+  lines = 0;
+  passed = 0;
+  refused = 0;
+  judgements = 0;
+}
+
+-- whether two names are the same
+abbrev pub same_name : List ℕ → List ℕ → Bool
+same_name name other = pointwise nat_eq name other
+
+-- whether the name is a dump's or a feed's
+abbrev pub is_stream : State → List ℕ → Bool
+is_stream state name = is_some (state.dumps name) || is_some (state.feeds name)
+
+-- the line is refused, at this place for this cause, and nothing else changes
+abbrev pub Refuses : State → AnyPlace → Cause → List ℕ → State → Type 0
+Refuses state place cause text next =
+    (text ≡ refusal_text state.lines place cause) × (next ≡ record state { refused = state.refused + 1 })

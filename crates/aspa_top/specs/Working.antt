@@ -1,0 +1,121 @@
+-- What is in the program's working state, and what parts of a line do to it; private contracts alone cite it.
+use Rattle.std.specs.Prelude.{◌≡◌, ℕ, ◌+◌, ◌≤◌, nat_eq, is_some, Bool, true, false, ◌||◌, cond, List, ◌++◌}
+use Rattle.std.specs.Cmp.Lexicographic.{pointwise}
+use Rattle.std.specs.declared.option.Option.{Option}
+use Rattle.std.specs.declared.option.Option.TheVariants.{Some}
+use Rattle.indexmap.specs.IndexMap.{get}
+use Rattle.indexmap.specs.IndexSet.{contains}
+use Rattle.feed_lines.specs.Holding.{feed_in}
+use Rattle.path_model.specs.declared.role.Role.{Role}
+use Rattle.path_model.specs.CurrentTable.{Parts}
+use Rattle.vap_table.specs.declared.change.TableChange.{TableChange}
+use Rattle.rib_store.specs.Changes.{IsMarked}
+use Rattle.rib_store.specs.State.{State as Analysis}
+use Rattle.analyser.specs.declared.event.Event.{Event}
+use Rattle.analyser.specs.declared.event.Event.TheVariants.{Table as TableEvent}
+use Rattle.analyser.specs.Events.{Happens}
+use Rattle.analyser.specs.Touched.{TicksWithin}
+use Rattle.report_text.specs.declared.cause.Cause.{Cause}
+use Rattle.report_text.specs.declared.cause.Cause.TheVariants as causes
+use Rattle.report_text.specs.Refusals.{AnyPlace, of_line, of_unit, refusal_text}
+use Rattle.stream_lines.specs.Held.{HeldDump}
+use Rattle.aspa_top.specs.declared.loading.FileKind.{FileKind}
+use Rattle.aspa_top.specs.declared.loading.FileKind.TheVariants.{Payloads, PayloadLines, Slurm as SlurmFile}
+use Rattle.aspa_top.specs.declared.loading.Outcome.{Outcome}
+use Rattle.aspa_top.specs.declared.loading.Outcome.TheVariants.{NoFile, Long, Flawed, Good}
+use Rattle.aspa_top.specs.declared.working.Working.{Working}
+use Rattle.aspa_top.specs.Loading.{unit_name}
+use Rattle.aspa_top.specs.Tasks.{IsJudged, same_name}
+
+-- the dump that is open under a name
+abbrev pub dump_in : Working → List ℕ → Option HeldDump
+dump_in working name = get (pointwise nat_eq) working.dumps name
+
+-- whether a source has the name
+abbrev pub has_source : Working → List ℕ → Bool
+has_source working name = contains (pointwise nat_eq) working.sources name
+
+-- the verdict of a path is added, by the table of these parts
+abbrev pub Judges : Parts → Role → ℕ → List ℕ → List ℕ → List ℕ → Type 0
+Judges parts role neighbour path text_old text_new =
+    (text : List ℕ) × IsJudged parts role neighbour path text × (text_new ≡ text_old ++ text)
+
+-- an event happened, and nothing else
+pub record Happened (working : Working) (event : Event) (next : Working) : Type 0 where
+  pub analysis : Analysis
+  pub happens : Happens working.analyser event analysis
+  pub left : next ≡ record working { analyser = analysis }
+
+-- all verdicts were marked as they stand, and nothing else is altered
+pub record Marked (working next : Working) : Type 0 where
+  pub marked : IsMarked working.analyser next.analyser
+  pub left : next ≡ record working { analyser = next.analyser }
+
+-- The name of a source is noted, and nothing else.
+pub record Names (working : Working) (name : List ℕ) (next : Working) : Type 0 where
+  pub sources : (other : List ℕ) → has_source next other ≡ cond (same_name name other) true (has_source working other)
+  pub left : next ≡ record working { sources = next.sources }
+
+-- a dump is kept under its name, and nothing else
+pub record NamesDump (working : Working) (name : List ℕ) (dump : HeldDump) (next : Working) : Type 0 where
+  pub dumps : (other : List ℕ) → dump_in next other ≡ cond (same_name name other) (Some dump) (dump_in working other)
+  pub left : next ≡ record working { dumps = next.dumps }
+
+-- the same where a good file goes under a name
+abbrev pub NamesBy : FileKind → Working → Working → Type 0
+NamesBy (Payloads name) working next = Names working name next
+NamesBy (PayloadLines name) working next = Names working name next
+NamesBy SlurmFile working next = next ≡ working
+
+-- the change of a good file is made, and its name is noted
+pub record Held (working : Working) (kind : FileKind) (change : TableChange) (next : Working) : Type 0 where
+  pub mid : Working
+  pub happened : Happened working (TableEvent change) mid
+  pub names : NamesBy kind mid next
+
+-- the line is refused at this place for this cause, and nothing else changes
+abbrev pub IsRefused : Working → AnyPlace → Cause → List ℕ → List ℕ → Working → Type 0
+IsRefused working place cause text_old text_new next =
+    (text_new ≡ text_old ++ refusal_text working.lines place cause) × (next ≡ record working { refused = working.refused + 1 })
+
+-- what comes of a file makes its change, or the line is refused by it
+abbrev pub Acted : Working → FileKind → Outcome → List ℕ → List ℕ → Working → Type 0
+Acted working kind NoFile text_old text_new next = IsRefused working of_line causes.NoFile text_old text_new next
+Acted working kind Long text_old text_new next = IsRefused working of_line causes.FileLong text_old text_new next
+Acted working kind (Flawed flaw) text_old text_new next = IsRefused working (of_unit (unit_name kind) flaw.unit) flaw.cause text_old text_new next
+Acted working kind (Good change) text_old text_new next = (text_new ≡ text_old) × Held working kind change next
+
+-- the change judges no more than its event may, and without one nothing is judged
+abbrev pub ActedWithin : Working → Outcome → ℕ → ℕ → Type 0
+ActedWithin working NoFile ticks_old ticks_new = ticks_new ≡ ticks_old
+ActedWithin working Long ticks_old ticks_new = ticks_new ≡ ticks_old
+ActedWithin working (Flawed flaw) ticks_old ticks_new = ticks_new ≡ ticks_old
+ActedWithin working (Good change) ticks_old ticks_new = TicksWithin working.analyser (TableEvent change) ticks_old ticks_new
+
+-- whether the name is a dump's or a feed's
+abbrev pub has_stream : Working → List ℕ → Bool
+has_stream working name = is_some (dump_in working name) || is_some (feed_in working.feeds name)
+
+-- whether the name that a file would go under is one
+abbrev pub IsTakenIn : Working → FileKind → Bool → Type 0
+IsTakenIn working (Payloads name) taken = taken ≡ has_stream working name
+IsTakenIn working (PayloadLines name) taken = taken ≡ has_stream working name
+IsTakenIn working SlurmFile taken = taken ≡ false
+
+-- a dump is open under the name, and not over
+pub record IsOpenIn (working : Working) (name : List ℕ) : Type 0 where
+  pub dump : HeldDump
+  pub here : dump_in working name ≡ Some dump
+  pub yet : dump.over ≡ false
+
+-- the line is counted
+abbrev pub counted_in : Working → Working
+counted_in working = record working { lines = working.lines + 1 }
+
+-- the streams stayed, and at most one refusal was counted
+pub record KeepsStreams (working next : Working) : Type 0 where
+  pub feeds : next.feeds ≡ working.feeds
+  pub dumps : (name : List ℕ) → dump_in next name ≡ dump_in working name
+  pub lines : next.lines ≡ working.lines
+  pub passed : next.passed ≡ working.passed
+  pub refused : next.refused ≤ working.refused + 1
