@@ -1,9 +1,9 @@
 -- A question that was answered, or refused.
-use Rattle.std.proofs.Common.{◌≡◌, ℕ, ◌≤◌, List, ◌++◌, false, Ok, refl, sym, ap, subst, ◌∙◌, arith}
+use Rattle.std.proofs.Common.{◌≡◌, ℕ, ◌+◌, ◌<◌, ◌≤◌, List, ◌++◌, length, false, Ok, refl, sym, ap, subst, ◌∙◌, arith}
 use Rattle.std.specs.declared.option.Option.{Option}
 use Rattle.std.specs.declared.option.Option.TheVariants.{Some, None}
 use Rattle.std.specs.Io.KnownBytes.{append_known}
-use Rattle.av_base.specs.Told.{AppendsFront}
+use Rattle.av_base.specs.Told.{AppendsFront, Rose}
 use Rattle.std.specs.FinMap as fin
 use Rattle.path_model.specs.declared.key.Key.{Key}
 use Rattle.path_model.specs.declared.verdict.Verdict.{Verdict}
@@ -23,6 +23,7 @@ use Rattle.script_lines.specs.declared.command.Show.TheVariants.{Report, Summary
 use Rattle.stream_lines.specs.Rows.{rows_text}
 use Rattle.stream_lines.specs.Summary.{IsSummary}
 use Rattle.stream_lines.specs.declared.stop.Stop.{Stop}
+use Rattle.stream_lines.specs.declared.stop.Stop.TheVariants as stops
 use Rattle.stream_lines.proofs.FrameLemmas.{Leaves-refl}
 use Rattle.aspa_top.specs.declared.task.Question.{Question}
 use Rattle.aspa_top.specs.declared.task.Question.TheVariants.{Show, Why}
@@ -30,10 +31,10 @@ use Rattle.aspa_top.specs.declared.task.Task.TheVariants.{Answer}
 use Rattle.aspa_top.specs.declared.working.Working.{Working}
 use Rattle.aspa_top.specs.Answers.{Answers, AnswersUnless, no_route, refused_for}
 use Rattle.aspa_top.specs.Outside.{Outside, all_of}
-use Rattle.aspa_top.specs.Performing.{Done, EndedEarly, IsStoppedBy}
+use Rattle.aspa_top.specs.Performing.{Done, EndedEarly}
 use Rattle.aspa_top.specs.Standing.{IsBegun}
 use Rattle.aspa_top.specs.Tasks.{State}
-use Rattle.aspa_top.proofs.DidLemmas.{done_refused, some_done}
+use Rattle.aspa_top.proofs.DidLemmas.{done_refused, some_done, stopped_by_sink}
 use Rattle.aspa_top.proofs.QuestionLemmas.{answer_lines}
 use Rattle.aspa_top.proofs.ReadyLemmas.{kept_all, ready_streams}
 
@@ -92,9 +93,9 @@ module _ (working : Working) (question : Question) (old : Outside) (written : Op
 
   -- a front of it was
   pub answer_stopped : (stop : Stop) → AppendsFront (all_of old) (append_known written held) text
-      → IsStoppedBy working (Ok (Answer question)) old (record old { written = written; sink_faults = faults; held = held }) stop
+      → (stop ≡ stops.Shelf → ⊥) → (stop ≡ stops.Sink → 0 < length held) → (stop ≡ stops.Sink → Rose old.sink_faults faults)
       → EndedEarly working (Ok (Answer question)) old (record old { written = written; sink_faults = faults; held = held }) stop
-  answer_stopped stop front cause =
+  answer_stopped stop front no_shelf some rose =
       let new : Outside = record old { written = written; sink_faults = faults; held = held } in
       let are = answer_lines (read_state working) question text (answers (read_state working) (reads_state working)).answers in
       some_done working (Ok (Answer question)) old new stop refl
@@ -110,7 +111,8 @@ module _ (working : Working) (question : Question) (old : Outside) (written : Op
         ticked = omega arith;
         came_to = λ ends. tt;
       })
-      (adds_answers_front (all_of old) (all_of new) are.lines old.link_faults are.each (subst (AppendsFront (all_of old) (all_of new)) are.is front)) cause
+      (adds_answers_front (all_of old) (all_of new) are.lines old.link_faults are.each (subst (AppendsFront (all_of old) (all_of new)) are.is front))
+      (stopped_by_sink working (Ok (Answer question)) old new stop no_shelf some rose)
 
 -- ---- the questions
 

@@ -1,20 +1,22 @@
 -- What changed was listed, and all was marked.
-use Rattle.std.proofs.Common.{◌≡◌, ℕ, ◌+◌, ◌≤◌, List, Ok, refl, sym, ap, subst, ◌∙◌, arith}
+use Rattle.std.proofs.Common.{◌≡◌, ℕ, ◌+◌, ◌<◌, ◌≤◌, List, length, Ok, refl, sym, ap, subst, ◌∙◌, arith}
 use Rattle.std.specs.declared.option.Option.{Option}
 use Rattle.std.specs.Io.KnownBytes.{append_known}
+use Rattle.av_base.specs.Told.{Rose}
 use Rattle.rib_store.specs.Changes.{AreChanges, IsMarked}
 use Rattle.rib_store.specs.State.{State as Analysis}
 use Rattle.rib_store.proofs.MarkLemmas.{has_one_marking}
 use Rattle.stream_lines.specs.declared.stop.Stop.{Stop}
+use Rattle.stream_lines.specs.declared.stop.Stop.TheVariants as stops
 use Rattle.stream_lines.specs.Changes.{Lists, ListsFront, changes_text}
 use Rattle.stream_lines.proofs.ReportedLemmas.{changes_reported, changes_reported_front}
 use Rattle.aspa_top.specs.declared.task.Task.TheVariants.{Changes}
 use Rattle.aspa_top.specs.declared.working.Working.{Working}
 use Rattle.aspa_top.specs.Outside.{Outside, all_of}
-use Rattle.aspa_top.specs.Performing.{Done, EndedEarly, IsStoppedBy}
+use Rattle.aspa_top.specs.Performing.{Done, EndedEarly}
 use Rattle.aspa_top.specs.Standing.{IsBegun}
 use Rattle.aspa_top.specs.Working.{Marked}
-use Rattle.aspa_top.proofs.DidLemmas.{some_done}
+use Rattle.aspa_top.proofs.DidLemmas.{some_done, stopped_by_sink}
 use Rattle.aspa_top.proofs.ReadyLemmas.{kept_analysed, ready_streams}
 use Rattle.aspa_top.proofs.StandsLemmas.{stands_analysed}
 
@@ -46,9 +48,9 @@ module _ (working : Working) (analysis : Analysis) (old : Outside) (written : Op
 
   -- some of it was listed
   pub list_stopped : (stop : Stop) → ListsFront analysis (all_of old) (append_known written held)
-      → IsStoppedBy working (Ok Changes) old (record old { written = written; sink_faults = faults; held = held }) stop
+      → (stop ≡ stops.Shelf → ⊥) → (stop ≡ stops.Sink → 0 < length held) → (stop ≡ stops.Sink → Rose old.sink_faults faults)
       → EndedEarly working (Ok Changes) old (record old { written = written; sink_faults = faults; held = held }) stop
-  list_stopped stop lists cause =
+  list_stopped stop lists no_shelf some rose =
       let new : Outside = record old { written = written; sink_faults = faults; held = held } in
       some_done working (Ok Changes) old new stop refl
       (λ world tells state stands.
@@ -69,4 +71,4 @@ module _ (working : Working) (analysis : Analysis) (old : Outside) (written : Op
         ticked = omega arith;
         came_to = λ ends. tt;
       })
-      (changes_reported_front analysis (all_of old) (all_of new) lists old.link_faults) cause
+      (changes_reported_front analysis (all_of old) (all_of new) lists old.link_faults) (stopped_by_sink working (Ok Changes) old new stop no_shelf some rose)

@@ -340,6 +340,7 @@ module _ (limit : ℕ) (left_old left_new : Option (List ℕ)) (bytes : List ℕ
 
 starved_start : (files : Files) (links : Links) (connections : List Link) → links.wire ≡ Some connections → (lines : List (List ℕ)) (old : Option (List ℕ)) (ticks : ℕ)
     → StopsWithin (world_of files links.attempts links.attempts connections) lines old old ticks ticks
+unfolding WentThrough-start
 starved_start files links connections told lines old ticks =
     let went = WentThrough-start files links connections told lines old ticks in
     record {

@@ -311,7 +311,7 @@ module _ (world : World) (lines : List (List ℕ)) (begun : Outside) where
   -- the sink failed when a piece was written between two lines
   pub ended_between : (files : Option Files) (before : Links) (left : List (List ℕ)) (working : Working) (now : Outside) → Meets files before now.links world
       → Performing world lines left begun now working → Grows begun.written now.written → 0 < length now.held
-      → EvaluatedIn world lines begun now (Err stops.Sink)
+      → EvaluatedIn world lines begun (record now { held = [] }) (Err stops.Sink)
   ended_between files before left working now meets so_far grows some =
       let reached = reached_between left working now so_far in
       record {
@@ -325,7 +325,7 @@ module _ (world : World) (lines : List (List ℕ)) (begun : Outside) where
   -- all lines were performed, and all their text was written
   pub ended_all : (files : Option Files) (before : Links) (left : List (List ℕ)) (working : Working) (now : Outside) → Meets files before now.links world
       → Performing world lines left begun now working → Grows begun.written now.written → left ≡ [] → now.held ≡ []
-      → EvaluatedIn world lines begun now (Ok working.refused)
+      → EvaluatedIn world lines begun (record now { held = [] }) (Ok working.refused)
   ended_all files before left working now meets so_far grows none all =
       let whole : lines ≡ so_far.done = so_far.lines_are ∙ ap (λ (ls : List (List ℕ)). so_far.done ++ ls) none ∙ append-nil so_far.done in
       let evaluates = so_far.evaluates world.ends (comes_here files before now.links world meets) in
@@ -380,7 +380,7 @@ module _ (world : World) (lines : List (List ℕ)) (begun : Outside) where
 
     -- whatever stopped it
     pub ended_within : (stop then : Stop) → DidLine working line now mid (Err stop) → Poured stop then mid.held held (Rose mid.sink_faults faults) → now.sink_faults ≤ mid.sink_faults → begun.sink_faults ≤ now.sink_faults
-        → EvaluatedIn world lines begun (record mid { written = written; sink_faults = faults; held = held }) (Err then)
+        → EvaluatedIn world lines begun (record mid { written = written; sink_faults = faults; held = [] }) (Err then)
     ended_within stops.Shelf stops.Shelf did poured later behind =
         let end : Outside = record mid { written = written; sink_faults = faults; held = held } in
         let reached = reached_within left more line working now mid written faults held stops.Shelf same so_far first tells on did in
@@ -438,7 +438,7 @@ rose_before a b c later rose = omega (arith, later, rose)
 -- where the shelf or the sink did, it counted a fault
 pub stopped_by : (working : Working) (line : List ℕ) (begun now mid : Outside) (written : Option (List ℕ)) (faults : ℕ) (held : List ℕ) (stop then : Stop)
     → DidLine working line now mid (Err stop) → Poured stop then mid.held held (Rose mid.sink_faults faults) → Keeps begun now → Keeps now mid → mid.sink_faults ≤ faults
-    → StoppedByFault begun (record mid { written = written; sink_faults = faults; held = held }) (Err then)
+    → StoppedByFault begun (record mid { written = written; sink_faults = faults; held = [] }) (Err then)
 stopped_by working line begun now mid written faults held stops.Shelf stops.Shelf did poured kept keeps later =
     record { shelf = λ is. rose_later begun.shelf_faults now.shelf_faults mid.shelf_faults kept.shelf_faults did.did.cause.1; sink = λ is. let no : ⊥ = cc in absurd no }
 stopped_by working line begun now mid written faults held stops.Shelf stops.Sink did poured kept keeps later =

@@ -11,6 +11,7 @@ use Rattle.feed_lines.specs.Lines.{World as Ends}
 use Rattle.feed_lines.proofs.StandingLemmas.{HoldsOr-is_some as Feed-is_some}
 use Rattle.rib_store.specs.State.{State as Analysis}
 use Rattle.stream_lines.specs.Frames.{Leaves}
+use Rattle.stream_lines.proofs.HoldingLemmas.{HoldsDump-leaves}
 use Rattle.stream_lines.specs.Holding.{HoldsDump}
 use Rattle.stream_lines.specs.Streams.{Dump}
 use Rattle.stream_lines.specs.Held.{HeldDump}
@@ -52,16 +53,6 @@ not_there {A} None none = refl
 not_there {A} (Some x) none = absurd (let no : ⊥ = cc in no)
 
 -- ---- dumps that are held
-
--- what is left of the dump's file stayed
-pub HoldsDump-leaves : (old new : Option Files) (kept : HeldDump) (dump : Dump) → left_of new kept.file ≡ left_of old kept.file
-    → HoldsDump old kept dump → HoldsDump new kept dump
-HoldsDump-leaves old new kept dump same holds = record {
-  over = holds.over;
-  taken = holds.taken;
-  left = λ yet. ap (prepend_known kept.held) same ∙ holds.left yet;
-  peers = holds.peers;
-}
 
 pub HoldsOr-leaves : (old new : Option Files) (found : Option HeldDump) (held : Option Dump)
     → ((kept : HeldDump) → found ≡ Some kept → left_of new kept.file ≡ left_of old kept.file) → HoldsOr old found held → HoldsOr new found held

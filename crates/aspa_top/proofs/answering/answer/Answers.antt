@@ -6,7 +6,7 @@ use Rattle.stream_lines.specs.Rows.{rows_text}
 use Rattle.aspa_top.specs.declared.task.Question.TheVariants.{Show, Why}
 use Rattle.script_lines.specs.declared.command.Show.TheVariants.{Report, Summary}
 use Rattle.aspa_top.proofs.AnswerLemmas.{answered, answer_stopped, not_answered, report_answers, summary_answers, why_answers, why_refused}
-use Rattle.aspa_top.proofs.DidLemmas.{did_err, nothing, stopped_by_sink}
+use Rattle.aspa_top.proofs.DidLemmas.{did_err, nothing}
 use Rattle.aspa_top.proofs.KeepLemmas.{keeps_all, keeps_sink}
 use Rattle.aspa_top.proofs.StandsLemmas.{added_text}
 use Rattle.aspa_top.proofs.answering.answer.Goals as goal
@@ -14,39 +14,39 @@ use Rattle.aspa_top.proofs.answering.answer.Goals as goal
 -- `report`
 pub returns-in_ok-put_rows-in-Show-Report : goal.returns-in_ok-put_rows-in-Show-Report
 returns-in_ok-put_rows-in-Show-Report g c =
-    let same = c.in-Show-Report.is ∙ ap Show c.in-Show-Report.field-0-is in
+    let same = c.in-Show-Report.is ∙ ap Show (rw c.in-Show-Report.is at c.in-Show-Report.field-0-is) in
     let rows = c.in_ok-put_rows-in-Show-Report.ensures.whole in
     record {
       keeps = keeps_sink _ _ _ _ _ c.put_rows.ensures.grows c.put_rows.ensures.sink_faults;
-      did = rw same (answered c.args.working (Show Report) _ _ _ _ (rows_text rows.rows) c.requires.begun (report_answers c.args.working _ c.store.ensures rows.rows rows.are) rows.added);
+      did = rw same (answered c.args.working (Show Report) _ _ _ _ (rows_text rows.rows) c.requires.begun (report_answers c.args.working _ c.store-store.ensures rows.rows rows.are) rows.added);
     }
 
 pub returns-in_err-put_rows-in-Show-Report : goal.returns-in_err-put_rows-in-Show-Report
 returns-in_err-put_rows-in-Show-Report g c =
-    let same = c.in-Show-Report.is ∙ ap Show c.in-Show-Report.field-0-is in
+    let same = c.in-Show-Report.is ∙ ap Show (rw c.in-Show-Report.is at c.in-Show-Report.field-0-is) in
     let rows = c.put_rows.ensures.front in
     let stopped = c.in_err-put_rows-in-Show-Report.ensures in
     record {
       keeps = keeps_sink _ _ _ _ _ c.put_rows.ensures.grows c.put_rows.ensures.sink_faults;
       did = did_err c.args.working _ _ _ c.from_residual.result _ c.from_residual.ensures.1
-          (rw same (answer_stopped c.args.working (Show Report) _ _ _ _ (rows_text rows.rows) c.requires.begun (report_answers c.args.working _ c.store.ensures rows.rows rows.are)
-          c.in_err-put_rows-in-Show-Report.was rows.front (stopped_by_sink _ _ _ _ _ (λ is. stopped.no_shelf (ap Err is)) (λ is. stopped.held (ap Err is)) (λ is. stopped.sink_cause (ap Err is)))));
+          (rw same (answer_stopped c.args.working (Show Report) _ _ _ _ (rows_text rows.rows) c.requires.begun (report_answers c.args.working _ c.store-store.ensures rows.rows rows.are)
+          c.in_err-put_rows-in-Show-Report.field-0.0 rows.front (λ is. stopped.no_shelf (ap Err is)) (λ is. stopped.held (ap Err is)) (λ is. stopped.sink_cause (ap Err is))));
     }
 
 -- `summary`
 pub returns-in_ok-put_summary-in-Show-Summary : goal.returns-in_ok-put_summary-in-Show-Summary
 returns-in_ok-put_summary-in-Show-Summary g c =
-    let same = c.in-Show-Summary.is ∙ ap Show c.in-Show-Summary.field-0-is in
+    let same = c.in-Show-Summary.is ∙ ap Show (rw c.in-Show-Summary.is at c.in-Show-Summary.field-0-is) in
     record {
       keeps = keeps_all _ _ _;
-      did = rw same (answered c.args.working (Show Summary) _ _ _ _ _ c.requires.begun (summary_answers c.args.working _ c.store.ensures c.summary_of.result c.summary_of.ensures)
+      did = rw same (answered c.args.working (Show Summary) _ _ _ _ _ c.requires.begun (summary_answers c.args.working _ c.store-store.ensures c.summary_of.result c.summary_of.ensures)
           (added_text _ _ _ _ c.in_ok-put_summary-in-Show-Summary.ensures.ok));
     }
 
 pub returns-in_err-put_summary-in-Show-Summary : goal.returns-in_err-put_summary-in-Show-Summary
 returns-in_err-put_summary-in-Show-Summary g c = record {
   keeps = keeps_all _ _ _;
-  did = did_err c.args.working _ _ _ c.from_residual.result stops.NoMemory c.from_residual.ensures.1
+  did = did_err c.args.working _ _ _ c.from_residual-in_err-put_summary-in-Show-Summary.result stops.NoMemory c.from_residual-in_err-put_summary-in-Show-Summary.ensures.1
       (nothing c.args.working _ _ _ refl (ap (append_known (g.W.Sink.written c.args.out.now)) c.in_err-put_summary-in-Show-Summary.ensures.err) refl (omega arith));
 }
 
@@ -57,26 +57,26 @@ returns-in_ok-put_why-in-Why g c =
     record {
       keeps = keeps_all _ _ _;
       did = rw c.in-Why.is (answered c.args.working (Why c.in-Why.key) _ _ _ _ _ c.requires.begun
-          (why_answers c.args.working _ c.store.ensures c.in-Why.key _ c.in-Some.shown.verdict c.in-Some.shown.witness shown.route shown.explained) (added_text _ _ _ _ c.in_ok-put_why-in-Why.ensures.ok));
+          (why_answers c.args.working _ c.store-store.ensures c.in-Why.key _ c.in-Some.shown.verdict c.in-Some.shown.witness shown.route shown.explained) (added_text _ _ _ _ c.in_ok-put_why-in-Why.ensures.ok));
     }
 
 pub returns-in_err-put_why-in-Why : goal.returns-in_err-put_why-in-Why
 returns-in_err-put_why-in-Why g c = record {
   keeps = keeps_all _ _ _;
-  did = did_err c.args.working _ _ _ c.from_residual.result stops.NoMemory c.from_residual.ensures.1
+  did = did_err c.args.working _ _ _ c.from_residual-in_err-put_why-in-Why.result stops.NoMemory c.from_residual-in_err-put_why-in-Why.ensures.1
       (nothing c.args.working _ _ _ refl (ap (append_known (g.W.Sink.written c.args.out.now)) c.in_err-put_why-in-Why.ensures.err) refl (omega arith));
 }
 
-pub returns-in_ok-refuse-in-Why : goal.returns-in_ok-refuse-in-Why
-returns-in_ok-refuse-in-Why g c = record {
+pub returns-in_default : goal.returns-in_default
+returns-in_default g c = record {
   keeps = keeps_all _ _ _;
-  did = rw c.in-Why.is (not_answered c.args.working _ (Why c.in-Why.key) causes.NoRoute _ _ c.requires.begun (why_refused c.args.working _ c.store.ensures c.in-Why.key c.in_default.ensures.none)
+  did = rw c.in-Why.is (not_answered c.args.working _ (Why c.in-Why.key) causes.NoRoute _ _ c.requires.begun (why_refused c.args.working _ c.store-store.ensures c.in-Why.key c.in_default.ensures.none)
       c.in_ok-refuse-in-Why.ensures.text c.in_ok-refuse-in-Why.ensures.next);
 }
 
 pub returns-in_err-refuse-in-Why : goal.returns-in_err-refuse-in-Why
 returns-in_err-refuse-in-Why g c = record {
   keeps = keeps_all _ _ _;
-  did = did_err c.args.working _ _ _ c.from_residual.result stops.NoMemory c.from_residual.ensures.1
+  did = did_err c.args.working _ _ _ c.from_residual-in_err-refuse-in-Why.result stops.NoMemory c.from_residual-in_err-refuse-in-Why.ensures.1
       (nothing c.args.working _ _ _ refl (ap (append_known (g.W.Sink.written c.args.out.now)) c.in_err-refuse-in-Why.ensures.err) refl (omega arith));
 }

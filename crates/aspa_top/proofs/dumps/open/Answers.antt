@@ -21,28 +21,45 @@ returns-in_err-refuse g c = record {
       (nothing c.args.working _ _ _ refl (ap (append_known (g.W.Sink.written c.args.out.now)) c.in_err-refuse.ensures.err) refl (omega arith));
 }
 
--- the file isn't there
+-- the shelf failed
 pub returns-in_default : goal.returns-in_default
-returns-in_default g c =
-    let missed = rw c.in_default.is at c.in_ok-number.ensures.answer in
+returns-in_default g c = record {
+  keeps = keeps_shelf _ _ _ _ _ _ (ap names_of c.in_default.ensures.err) c.open_file.ensures.cause.later;
+  did = open_failed c.args.working c.args.name c.args.file.now _ _ _ _ c.in_default.ensures.cause.failed;
+}
+
+-- the file isn't there
+pub returns-in_default-opened : goal.returns-in_default-opened
+returns-in_default-opened g c =
+    let missed = rw c.in_default-opened.is at c.in-Ok.ensures.answer in
     record {
       keeps = keeps_shelf _ _ _ _ _ _ (ap names_of missed.told) c.open_file.ensures.cause.later;
       did = open_misses c.args.working _ c.args.name c.args.file.now _ _ c.requires.begun _ _ _ _ (sym c.has_name.ensures ∙ c.if-has_name.false) c.text.ensures.text missed c.in_ok-refuse-2.ensures.text c.in_ok-refuse-2.ensures.next;
     }
 
+pub returns-in_err-refuse-2 : goal.returns-in_err-refuse-2
+returns-in_err-refuse-2 g c =
+    let missed = rw c.in_default-opened.is at c.in-Ok.ensures.answer in
+    record {
+      keeps = keeps_shelf _ _ _ _ _ _ (ap names_of missed.told) c.open_file.ensures.cause.later;
+      did = did_err c.args.working _ _ _ c.from_residual-in_err-refuse-2.result stops.NoMemory c.from_residual-in_err-refuse-2.ensures.1
+          (nothing c.args.working _ _ _ refl (ap (append_known (g.W.Sink.written c.args.out.now)) c.in_err-refuse-2.ensures.err) refl (omega arith));
+    }
+
 -- the dump is new
 pub returns : goal.returns
 returns g c =
-    let opened = rw c.in-Some.is at c.in_ok-number.ensures.answer in
+    let opened = rw c.in-Some.is at c.in-Ok.ensures.answer in
     record {
       keeps = keeps_shelf _ _ _ _ _ _ (ap names_of opened.told ∙ opens_names opened.bytes _) c.open_file.ensures.cause.later;
       did = open_new c.args.working _ c.args.name c.args.file.now _ _ c.requires.begun _ _ _ _ (sym c.has_name.ensures ∙ c.if-has_name.false) c.text.ensures.text c.in-Some.number c.new-dump.result
           c.new-dump.ensures opened (g.met.F.Shelf.numbered c.args.shelf.now) refl c.in_ok-name_dump.ensures;
     }
 
--- the shelf failed
-pub returns-in_default-2 : goal.returns-in_default-2
-returns-in_default-2 g c = record {
-  keeps = keeps_shelf _ _ _ _ _ _ (ap names_of c.in_default-2.ensures.err) c.open_file.ensures.cause.later;
-  did = open_failed c.args.working c.args.name c.args.file.now _ _ _ _ c.in_default-2.ensures.cause;
-}
+pub returns-in_err-name_dump : goal.returns-in_err-name_dump
+returns-in_err-name_dump g c =
+    let opened = rw c.in-Some.is at c.in-Ok.ensures.answer in
+    record {
+      keeps = keeps_shelf _ _ _ _ _ _ (ap names_of opened.told ∙ opens_names opened.bytes _) c.open_file.ensures.cause.later;
+      did = did_err c.args.working _ _ _ c.from_residual-in_err-name_dump.result stops.NoMemory c.from_residual-in_err-name_dump.ensures.1 (nothing c.args.working _ _ _ refl refl refl (omega arith));
+    }

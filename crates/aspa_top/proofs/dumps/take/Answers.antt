@@ -12,7 +12,7 @@ take_open-requires-clause-is g c = record { dump = c.in-Some.dump.now; here = sy
 
 -- no dump has the name
 pub returns-in_default-clause-did : goal.returns-in_default-clause-did
-returns-in_default-clause-did g c = takes_feed c.args.working c.args.name.now c.args.count _ _ c.in_default.ensures.none c.work_on.result c.work_on.ensures.did
+returns-in_default-clause-did g c = takes_feed c.args.working c.args.name.now c.args.count _ _ (sym c.in_default.ensures.value) c.work_on.result c.work_on.ensures.did
 
 -- it is over
 pub returns-then-is_over : goal.returns-then-is_over

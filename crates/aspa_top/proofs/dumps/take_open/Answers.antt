@@ -39,5 +39,5 @@ returns-in_err-taken g c =
           (take_stopped c.args.working c.args.name.now c.args.count c.in-Some.dump.now c.take_units.new.dump _ _ _ _ _ _ _ _ _ _ c.requires.begun c.requires.few (sym c.in-Some.ensures.value)
           c.take_units.ensures.others (ap (λ (d : HeldDump). d.over) same ∙ c.requires.is.yet) (λ i. record { line = c.args.working.lines; name = c.text.ensures.text i }) refl c.take_units.ensures.ticks
           (c.take_units.ensures.reports (subst (λ (name : List ℕ). IsInLine name) (sym c.text.ensures.text) (names_in_line _ c.text.ensures.is_name)))
-          c.in_err-taken.was c.take_units.ensures.some (λ same. c.in_err-taken.ensures.shelf_cause (ap Err same)) (λ same. (c.in_err-taken.ensures.held (ap Err same), c.in_err-taken.ensures.sink_cause (ap Err same))));
+          c.in_err-taken.field-0.0 c.take_units.ensures.some (λ same. c.in_err-taken.ensures.shelf_cause (ap Err same)) (λ same. (c.in_err-taken.ensures.held (ap Err same), c.in_err-taken.ensures.sink_cause (ap Err same))));
     }

@@ -2,7 +2,7 @@ use Rattle.std.proofs.Common.{◌≡◌, Ok, Err, refl, sym, ap, subst, ◌∙�
 use Rattle.stream_lines.specs.declared.stop.Stop.TheVariants as stops
 use Rattle.aspa_top.specs.declared.working.Working.{Working}
 use Rattle.aspa_top.specs.Working.{Marked}
-use Rattle.aspa_top.proofs.DidLemmas.{did_err, nothing, stopped_by_sink}
+use Rattle.aspa_top.proofs.DidLemmas.{did_err, nothing}
 use Rattle.aspa_top.proofs.KeepLemmas.{keeps_all, keeps_sink}
 use Rattle.aspa_top.proofs.ListingLemmas.{listed, list_stopped}
 use Rattle.aspa_top.proofs.listing.list_changes.Goals as goal
@@ -22,8 +22,8 @@ returns-in_err-put_changes g c =
     record {
       keeps = keeps_sink _ _ _ _ _ c.put_changes.ensures.grows c.put_changes.ensures.sink_faults;
       did = did_err c.args.working _ _ _ c.from_residual-in_err-put_changes.result _ c.from_residual-in_err-put_changes.ensures.1
-          (list_stopped c.args.working _ _ _ _ _ (c.store.ensures ∙ ap (λ (w : Working). w.analyser) is) c.in_err-put_changes.was c.put_changes.ensures.front
-          (stopped_by_sink _ _ _ _ _ (λ same. stopped.no_shelf (ap Err same)) (λ same. stopped.held (ap Err same)) (λ same. stopped.sink_cause (ap Err same))));
+          (list_stopped c.args.working _ _ _ _ _ (c.store.ensures ∙ ap (λ (w : Working). w.analyser) is) c.in_err-put_changes.field-0.0 c.put_changes.ensures.front
+          (λ same. stopped.no_shelf (ap Err same)) (λ same. stopped.held (ap Err same)) (λ same. stopped.sink_cause (ap Err same)));
     }
 
 -- all of it was

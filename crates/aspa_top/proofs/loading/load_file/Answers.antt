@@ -1,5 +1,5 @@
 use Rattle.std.proofs.Common.{arith}
-use Rattle.stream_lines.proofs.FrameLemmas.{Leaves-opens, Leaves-trans, Leaves-weaker}
+use Rattle.stream_lines.proofs.FrameLemmas.{Leaves-closes, Leaves-opens, Leaves-trans, Leaves-weaker}
 use Rattle.aspa_top.proofs.LoadingLemmas.{file_within, file_beyond}
 use Rattle.aspa_top.proofs.loading.load_file.Goals as goal
 
@@ -11,8 +11,9 @@ returns-then-len-gt-FILE_LIMIT-clause-comes g c =
 pub returns-then-len-gt-FILE_LIMIT-clause-others : goal.returns-then-len-gt-FILE_LIMIT-clause-others
 returns-then-len-gt-FILE_LIMIT-clause-others g c =
     let opened = rw c.in-Some.is at c.in_ok-file.ensures.answer in
-    Leaves-trans (Leaves-opens _ _ _ _ _ _ opened (g.met.F.Shelf.numbered c.args.shelf.now))
-    (Leaves-weaker c.read_whole.ensures.others (λ other below same. let number = opened.number in omega (arith, below, same, number)))
+    Leaves-trans (Leaves-trans (Leaves-opens _ _ _ _ _ _ opened (g.met.F.Shelf.numbered c.args.shelf.now))
+    (Leaves-weaker c.read_whole.ensures.others (λ other below same. let number = opened.number in omega (arith, below, same, number))))
+    (Leaves-weaker (Leaves-closes c.in-Some.file _ _ c.close_file.ensures.closed) (λ other below same. let number = opened.number in omega (arith, below, same, number)))
 
 pub returns-clause-comes : goal.returns-clause-comes
 returns-clause-comes g c =

@@ -1,4 +1,4 @@
-use Rattle.std.proofs.Common.{Ok, Err, refl, sym, ap, subst, arith, rules}
+use Rattle.std.proofs.Common.{◌≡◌, Ok, Err, refl, sym, ap, subst, arith, rules}
 use Rattle.std.specs.Io.KnownBytes.{append_known}
 use Rattle.script_lines.specs.declared.command.Command.TheVariants.{Idle}
 use Rattle.script_lines.specs.declared.command.LineFault.TheVariants.{NoMemory}
@@ -73,7 +73,7 @@ returns-in_err-refuse-in-Err g c =
       did = record {
         reading = read.0;
         reads = read.1;
-        did = did_err (counted_in c.args.working) (asked_of read.0) _ _ c.from_residual.result stops.NoMemory c.from_residual.ensures.1
+        did = did_err (counted_in c.args.working) (asked_of read.0) _ _ c.from_residual-in_err-refuse-in-Err.result stops.NoMemory c.from_residual-in_err-refuse-in-Err.ensures.1
             (nothing (counted_in c.args.working) (asked_of read.0) _ _ refl (ap (append_known (g.W.Sink.written c.args.out.now)) c.in_err-refuse-in-Err.ensures.err) refl (omega arith));
       };
     }

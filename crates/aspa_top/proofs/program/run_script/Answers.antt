@@ -1,4 +1,4 @@
-use Rattle.std.proofs.Common.{ℕ, List, inl, inr, Err, refl, arith, ap, sym, ◌∙◌}
+use Rattle.std.proofs.Common.{ℕ, List, [], inl, inr, Err, refl, arith, ap, sym, ◌∙◌}
 use Rattle.std.specs.Io.KnownBytes.{prepend_known}
 use Rattle.aspa_top.specs.declared.program.TheConstants.{SCRIPT_LIMIT}
 use Rattle.aspa_top.proofs.KeepLemmas.{keeps_all}
@@ -26,3 +26,6 @@ returns-in-Err-Source-clause-keeps g c = keeps_all _ _ _
 
 pub returns-clause-keeps : goal.returns-clause-keeps
 returns-clause-keeps g c = keeps_all _ _ _
+
+pub returns-in-Ok-clause-input_cause : goal.returns-in-Ok-clause-input_cause
+returns-in-Ok-clause-input_cause g c = λ same. inr ((c.run_front.ensures.runs []).shelf_cause same)

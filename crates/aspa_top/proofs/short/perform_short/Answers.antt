@@ -32,6 +32,6 @@ returns-in_ok-put_judgement-in-Judge g c = record {
 pub returns-in_err-put_judgement-in-Judge : goal.returns-in_err-put_judgement-in-Judge
 returns-in_err-put_judgement-in-Judge g c = record {
   keeps = keeps_all _ _ _;
-  did = did_err c.args.working _ _ _ c.from_residual.result stops.NoMemory c.from_residual.ensures.1
+  did = did_err c.args.working _ _ _ c.from_residual-in_err-put_judgement-in-Judge.result stops.NoMemory c.from_residual-in_err-put_judgement-in-Judge.ensures.1
       (rw c.in-Judge.is (judge_stopped c.args.working _ c.requires.begun c.in-Judge.role c.in-Judge.neighbour c.in-Judge.path _ _ c.in_err-put_judgement-in-Judge.ensures.err c.put_judgement.ensures.ticks));
 }

@@ -30,7 +30,7 @@ pub returns-in_err-outcome : goal.returns-in_err-outcome
 returns-in_err-outcome g c = record {
   keeps = keeps_shelf _ _ _ _ _ _ c.load_file.ensures.others.names c.load_file.ensures.faults;
   did = did_err c.args.working _ _ _ c.from_residual-in_err-outcome.result _ c.from_residual-in_err-outcome.ensures.1
-      (load_failed c.args.working c.args.kind c.args.file.now _ _ _ _ c.in_err-outcome.was (λ same. c.in_err-outcome.ensures.cause (ap Err same)));
+      (load_failed c.args.working c.args.kind c.args.file.now _ _ _ _ c.in_err-outcome.field-0.0 (λ same. c.in_err-outcome.ensures.cause (ap Err same)));
 }
 
 -- it was, and came to something
@@ -46,5 +46,5 @@ pub returns : goal.returns
 returns g c = record {
   keeps = keeps_shelf _ _ _ _ _ _ c.load_file.ensures.others.names c.load_file.ensures.faults;
   did = load_acted c.args.working c.args.kind c.args.file.now _ _ _ _ _ _ c.requires.begun c.load_file.ensures.others (λ n d e. (c.requires.begun.sound.given n d e).0) c.load_file.ensures.opened
-      _ c.in_ok-outcome.outcome _ c.unit_name.ensures.in_line (rw c.if-is_taken.false at c.is_taken.ensures) c.text.ensures.text c.in_ok-outcome.ensures.comes c.in_ok-act_on.ensures.acted c.act_on.ensures.ticks;
+      _ c.in_ok-outcome.outcome _ c.unit_name-name.ensures.in_line (rw c.if-is_taken.false at c.is_taken.ensures) c.text.ensures.text c.in_ok-outcome.ensures.comes c.in_ok-act_on.ensures.acted c.act_on.ensures.ticks;
 }
