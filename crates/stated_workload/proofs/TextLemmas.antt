@@ -15,7 +15,7 @@ use Rattle.rib_store.proofs.ChangeLawLemmas.{has_one_list_of_changes}
 use Rattle.rib_store.proofs.MarkLemmas.{has_one_marking}
 use Rattle.analyser.specs.declared.event.Event.{Event}
 use Rattle.stated_workload.specs.Happening.{HappenAll}
-use Rattle.stated_workload.specs.Laws.{HasOneText}
+use Rattle.av_base.specs.One.{HasOne}
 use Rattle.stream_lines.specs.Summary.{IsSummary}
 use Rattle.stated_workload.specs.Text.{IsTextOf, WritesFront, WritesPart, WritesText}
 use Rattle.stated_workload.specs.Workload.{IsWorkload}
@@ -61,10 +61,10 @@ some_text seed =
     let loaded = some_end no_state workload.0 in
     let first = some_summary loaded.0 0 0 in
     let marking = has_one_marking loaded.0 in
-    let amended = some_end marking.marking workload.1 in
+    let amended = some_end marking.one workload.1 in
     let last = some_summary amended.0 0 0 in
     let changes = has_one_list_of_changes amended.0 in (
-      lines_of first.0 last.0 (length changes.changes),
+      lines_of first.0 last.0 (length changes.one),
       record {
         loading = workload.0;
         amending = workload.1;
@@ -73,20 +73,20 @@ some_text seed =
         loads = loaded.1;
         first = first.0;
         first_is = first.1;
-        marked = marking.marking;
+        marked = marking.one;
         marks = marking.is;
         amended = amended.0;
         amends = amended.1;
         last = last.0;
         last_is = last.1;
-        changes = changes.changes;
-        changes_are = changes.are;
+        changes = changes.one;
+        changes_are = changes.is;
         is = refl;
       },
     )
 
-pub has_one_text : (seed : ℕ) → HasOneText seed
-has_one_text seed = let some = some_text seed in record { text = some.0; is = some.1; only = λ other is. one_text seed some.0 other some.1 is }
+pub has_one_text : (seed : ℕ) → HasOne (IsTextOf seed)
+has_one_text seed = let some = some_text seed in record { one = some.0; is = some.1; only = λ other is. one_text seed some.0 other some.1 is }
 
 -- ---- what is written
 

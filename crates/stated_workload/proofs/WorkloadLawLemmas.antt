@@ -11,7 +11,7 @@ use Rattle.analyser.specs.declared.event.Event.{Event}
 use Rattle.analyser.specs.declared.event.Event.TheVariants.{Routes, Table}
 use Rattle.stated_workload.specs.Draws.{DrawsAs, generator_of}
 use Rattle.stated_workload.specs.Workload.{DrawsAnnouncement, DrawsAmended, DrawsAmendment, DrawsLoading, IsWorkload, key_of, role_events, source_name}
-use Rattle.stated_workload.specs.Laws.{HasOneWorkload}
+use Rattle.av_base.specs.One.{HasOnePair}
 use Rattle.stated_workload.proofs.DrawsLemmas.{Same, IsOne, IsSome, one_draw, some_draw, one_all, some_all, one_as, some_as}
 use Rattle.stated_workload.proofs.RowsLemmas.{one_rows, some_rows}
 
@@ -106,10 +106,10 @@ some_workload seed =
     let second = some_all (λ _. DrawsAmendment) some_amendment 1000 first.1 in
     (first.0, second.0, record { after_loading = first.1; after = second.1; loading_drawn = first.2; amending_drawn = second.2 })
 
-pub has_one_workload : (seed : ℕ) → HasOneWorkload seed
+pub has_one_workload : (seed : ℕ) → HasOnePair (IsWorkload seed)
 has_one_workload seed = let some = some_workload seed in record {
-  loading = some.0;
-  amending = some.1;
+  one = some.0;
+  its = some.1;
   is = some.2;
   only = λ load amend is. one_workload seed some.0 some.1 load amend some.2 is;
 }
