@@ -1,16 +1,23 @@
 //! Tests of what is judged: paths with their verdicts and witnesses, the index of hops, and the store of routes.
 //!
-//! Each table has its expected values worked out by hand. `judgements` judges paths in a small world, with their witnesses,
-//! `long_chains` the longest path there is, `confirming` puts claims to the checker, `hops` looks up hops, and `routes` asks a store of
-//! routes. `quiet` replays half a million events that each touch one route among 200,000, `quiet_marks` asks after each of as many what
-//! changed, and the contracts of `ticks` say how many judgements each event of a row takes. `compared` judges all routes of plain lists
-//! from scratch after each of 2,000 drawn events, and compares these with the store's.
+//! The tables are texts that `reading` reads, with expected values worked out by hand. `judgements` judges paths in a small world, with
+//! their witnesses, `long_chains` the longest path there is, `confirming` puts claims to the checker, `hops` looks up hops, `copies` copies
+//! what a change of the table answers, and `routes` asks a store of routes. `quiet` replays half a million events that each touch one
+//! route among 200,000, `quiet_marks` asks after each of as many what changed (both by `replaying`), and the contracts of `ticks` say how
+//! many judgements each event of a row takes. `compared` judges all routes of plain lists (`plain`) from scratch after each of 2,000 drawn
+//! events (`drawing`, `drawn_events`), and compares these with the store's.
 #![tactic(auto)]
 
 #[cfg(test)]
 mod compared;
 #[cfg(test)]
 mod confirming;
+#[cfg(test)]
+mod copies;
+#[cfg(test)]
+mod drawing;
+#[cfg(test)]
+mod drawn_events;
 #[cfg(test)]
 mod hops;
 #[cfg(test)]
@@ -20,14 +27,18 @@ mod ladder;
 #[cfg(test)]
 mod long_chains;
 #[cfg(test)]
+mod plain;
+#[cfg(test)]
 mod quiet;
 #[cfg(test)]
 mod quiet_marks;
 #[cfg(test)]
+mod reading;
+#[cfg(test)]
+mod replaying;
+#[cfg(test)]
 mod routes;
 #[cfg(test)]
 mod ticks;
-#[cfg(test)]
-mod wording;
 #[cfg(test)]
 mod world;

@@ -2,7 +2,7 @@
 ghost use Rattle.std.specs.Prelude.{◌≡◌};
 
 use crate::ladder::Ladder;
-use crate::wording::in_words;
+use crate::reading::read_shown;
 use av_base::{NoMemory, Steps};
 use path_model::{Role, Trail, Verdict, Witness};
 use ramps::judge;
@@ -15,8 +15,8 @@ use witness_checker::confirm;
 // The path whose chain is the ASes from 1 to 65,535.
 fn long_trail(alloc: Global) -> Result<Trail, NoMemory> {
     let mut newest_first = Vec::new(alloc);
-    for k in 0..65_535u32 {
-        newest_first.push(65_535 - k)?;
+    for asn in (1..65_536u32).rev() {
+        newest_first.push(asn)?;
     }
     let ases = newest_first.as_slice();
     if ases.len() > 65_535 {
@@ -47,8 +47,8 @@ fn judge_longest(
     let table = Ladder { below };
     let trail = long_trail(alloc)?;
     let (verdict, witness) = judged::<Brand>(Blank::new(1), &table, role, &trail);
-    let words = in_words(alloc, verdict, witness)?;
-    assert_eq!(rt; words.as_str(), text);
+    let (right, printed) = read_shown(alloc, text)?;
+    assert!(rt; verdict == right && witness == printed);
     assert!(rt; confirm(&table, role, 65_535, &trail, verdict, witness));
     Ok(())
 }

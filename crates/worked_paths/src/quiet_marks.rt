@@ -2,14 +2,14 @@
 ghost use Rattle.std.specs.Prelude.{◌≡◌};
 
 use crate::quiet::routes;
+use crate::replaying::{assert_one, gather, happen, mark, unassert};
 use analyser::{Analyser, Event};
 use av_base::{NoMemory, Steps};
-use path_model::{Addr, AsList, Changes, Key, Peer, Prefix, Role, Trail};
+use path_model::{Addr, Changes, Key, Peer, Prefix, Role, Trail};
 use rib_store::RibStore;
 use std::alloc::Global;
 use std::marker::Brand;
 use std::sync::ledger::{Blank, Ledger};
-use vap_table::TableChange;
 
 // 10.0.0.2 in AS 1, as the peer of the other routes.
 const OTHER_PEER: Peer = Peer {
@@ -30,12 +30,6 @@ fn other_route(alloc: Global) -> Result<Event, NoMemory> {
     Ok(Event::Routes(changes))
 }
 
-// A customer attests one provider.
-fn assertion(alloc: Global, customer: u32, provider: u32) -> Result<Event, NoMemory> {
-    let providers = AsList::from_slice(alloc, &[provider])?;
-    Ok(Event::Table(TableChange::Assert(customer, providers)))
-}
-
 // How many keys differ from what was marked of them.
 fn changed(store: &RibStore) -> u32 {
     let mut keys = 0u32;
@@ -43,6 +37,22 @@ fn changed(store: &RibStore) -> u32 {
         keys = keys.saturating_add(1);
     }
     keys
+}
+
+// The changes are gathered, counted and marked.
+fn counted(analyser: Analyser, count: &mut u32) -> Result<Analyser, NoMemory> {
+    let analyser = gather(analyser)?;
+    *count = count.saturating_add(changed(analyser.store()));
+    Ok(mark(analyser))
+}
+
+// From providers, with all routes, marked; then from customers.
+fn loaded<L: Ledger>(alloc: Global, steps: &mut Steps<L>) -> Result<Analyser, NoMemory> {
+    let analyser = mark(Analyser::new(alloc));
+    let analyser = happen(analyser, Event::DefaultRole(Role::Provider), steps)?;
+    let analyser = happen(analyser, routes(alloc)?, steps)?;
+    let analyser = mark(happen(analyser, other_route(alloc)?, steps)?);
+    happen(analyser, Event::DefaultRole(Role::Customer), steps)
 }
 
 // How many changes are seen in all after 250,000 assertions, and after each was taken back; each time they are marked. All routes change
@@ -53,26 +63,15 @@ fn replayed<L: Ledger>(alloc: Global, blank: Blank) -> Result<(u32, u32, u32), N
     requires one { L.parts ≡ 1 }
 {
     let mut steps = Steps::<L>::new(blank);
-    let analyser = Analyser::new(alloc).mark();
-    let analyser = analyser.step(Event::DefaultRole(Role::Provider), &mut steps)?;
-    let analyser = analyser.step(routes(alloc)?, &mut steps)?;
-    let analyser = analyser.step(other_route(alloc)?, &mut steps)?.mark();
-    let analyser = analyser.step(Event::DefaultRole(Role::Customer), &mut steps)?;
-    let analyser = analyser.gather()?;
-    let first = changed(analyser.store());
-    let mut analyser = analyser.mark();
+    let mut first = 0u32;
     let mut there = 0u32;
     let mut gone = 0u32;
+    let mut analyser = counted(loaded(alloc, &mut steps)?, &mut first)?;
     for _ in 0..250_000u32 {
-        analyser = analyser.step(assertion(alloc, 300_000, 1)?, &mut steps)?;
-        analyser = analyser.gather()?;
-        there = there.saturating_add(changed(analyser.store()));
-        analyser = analyser.mark();
-        let unassertion = Event::Table(TableChange::Unassert(300_000));
-        analyser = analyser.step(unassertion, &mut steps)?;
-        analyser = analyser.gather()?;
-        gone = gone.saturating_add(changed(analyser.store()));
-        analyser = analyser.mark();
+        analyser = assert_one(alloc, analyser, 300_000, 1, &mut steps)?;
+        analyser = counted(analyser, &mut there)?;
+        analyser = unassert(analyser, 300_000, &mut steps)?;
+        analyser = counted(analyser, &mut gone)?;
     }
     Ok((first, there, gone))
 }

@@ -1,0 +1,131 @@
+//! What events are made of, drawn.
+use av_base::NoMemory;
+use path_model::{Addr, AsList, Changes, Key, Peer, Prefix, Role, Rows, Trail};
+use std::alloc::Global;
+
+/// Numbers that look drawn: two upper bits of a linear congruence.
+#[derive(Drop)]
+pub struct Draw {
+    pub state: u64,
+}
+
+impl Draw {
+    // One of 0, 1, 2 and 3.
+    pub fn four(&mut self) -> u32 {
+        self.state = self
+            .state
+            .wrapping_mul(6364136223846793005)
+            .wrapping_add(1442695040888963407);
+        (self.state >> 60) as u32 & 3
+    }
+
+    // An AS from 1 to 10.
+    pub fn asn(&mut self) -> u32 {
+        let sum = self.four().wrapping_add(self.four());
+        sum.wrapping_add(self.four()).wrapping_add(1)
+    }
+
+    pub fn role(&mut self) -> Role {
+        let kind = self.four();
+        let part = self.four();
+        match kind {
+            0 => rare_role(part),
+            1 if part == 0 => Role::Mutual,
+            1 | 2 => Role::Provider,
+            _ => Role::Customer,
+        }
+    }
+
+    // One of four addresses, in one of ten ASes.
+    fn peer(&mut self) -> Peer {
+        let bits = self.four();
+        let addr = if bits == 0 {
+            Addr::V6(1)
+        } else {
+            Addr::V4(bits)
+        };
+        Peer {
+            addr,
+            asn: self.asn(),
+        }
+    }
+
+    // A key to one of four prefixes.
+    fn key(&mut self) -> Option<Key> {
+        let bits = self.four();
+        let addr = if bits == 0 {
+            Addr::V6(0)
+        } else {
+            Addr::V4(bits << 24)
+        };
+        let prefix = Prefix::new(addr, 8)?;
+        let peer = self.peer();
+        Some(Key { peer, prefix })
+    }
+
+    // A list of one to four ASes, of which the first is this one most of the time.
+    pub fn ases(&mut self, alloc: Global, first: u32) -> Result<AsList, NoMemory> {
+        let mut ases = AsList::new(alloc);
+        let first = if self.four() == 0 { self.asn() } else { first };
+        ases.push(first)?;
+        for _ in 0..self.four() {
+            ases.push(self.asn())?;
+        }
+        Ok(ases)
+    }
+
+    // A few changes of the routes.
+    pub fn changes(&mut self, alloc: Global) -> Result<Changes, NoMemory> {
+        let mut changes = Changes::new(alloc);
+        for _ in 0..4 {
+            self.add_change(alloc, &mut changes)?;
+        }
+        Ok(changes)
+    }
+
+    fn add_change(&mut self, alloc: Global, changes: &mut Changes) -> Result<(), NoMemory> {
+        let Some(key) = self.key() else {
+            return Ok(());
+        };
+        let kind = self.four();
+        let part = self.four();
+        match kind {
+            0 if part == 0 => changes.remove_peer(key.peer),
+            0 | 1 => changes.remove(key),
+            _ => self.add_announcement(alloc, changes, key, part == 0),
+        }
+    }
+
+    fn add_announcement(
+        &mut self,
+        alloc: Global,
+        changes: &mut Changes,
+        key: Key,
+        set: bool,
+    ) -> Result<(), NoMemory> {
+        let path = self.ases(alloc, key.peer.asn)?;
+        if path.len() > 65_535 {
+            return Ok(());
+        }
+        let trail = Trail::new(alloc, set, path.as_slice())?;
+        changes.announce(key, trail)
+    }
+
+    // The rows of the one source.
+    pub fn rows(&mut self, alloc: Global) -> Result<Rows, NoMemory> {
+        let mut rows = Rows::new(alloc);
+        for _ in 0..4 {
+            let customer = self.asn();
+            rows.set(customer, self.ases(alloc, 2)?)?;
+        }
+        Ok(rows)
+    }
+}
+
+fn rare_role(part: u32) -> Role {
+    match part {
+        0 | 1 => Role::Peer,
+        2 => Role::Rs,
+        _ => Role::RsClient,
+    }
+}
