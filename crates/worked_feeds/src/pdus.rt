@@ -1,4 +1,6 @@
 //! PDUs: single ones, refused ones, a stream in every cut, and what is written.
+ghost use Rattle.std.specs.Prelude.{◌<◌, ◌≤◌, length};
+
 use av_base::NoMemory;
 use path_model::AsList;
 use rtr_pdu::{Framer, Pdu, PduFault, write};
@@ -229,25 +231,48 @@ fn each_front_of_a_stream_has_its_whole_units(rt: HostRuntime) -> Result<(), NoM
 }
 
 // The units of a stream that comes in pieces, each taken as soon as it is whole.
-fn units(alloc: Global, pieces: usize) -> Result<Vec<Said>, NoMemory> {
+fn units(alloc: Global, stream: &[u8], pieces: usize) -> Result<Vec<Said>, NoMemory> {
     let mut units = Vec::new(alloc);
     let mut framer = Framer::new(alloc);
-    for piece in STREAM.chunks(pieces.max(1)) {
+    for piece in stream.chunks(pieces.max(1)) {
         framer = framer.feed(piece)?;
-        for _ in 0..3 {
-            if let Answer::Unit(unit) = next(&mut framer) {
-                units.push(unit)?;
+        for _ in 0..stream.len() {
+            match next(&mut framer) {
+                Answer::Unit(unit) => units.push(unit)?,
+                _ => break,
             }
         }
     }
     Ok(units)
 }
 
+// How often the stream comes, and the sizes of its pieces.
+const IN_PIECES: [(usize, &[usize]); 2] = [
+    (
+        1,
+        &[
+            1, 2, 3, 4, 5, 6, 7, 8, 9, 10, 11, 12, 13, 14, 15, 16, 17, 18, 19, 20, 21, 22, 23, 24,
+            25, 26, 27, 28, 29, 30, 31, 32, 33, 34, 35, 36, 37, 38, 39, 40, 41, 42, 43, 44, 45, 46,
+            47, 48,
+        ],
+    ),
+    (334, &[7, 1_001]),
+];
+
 #[test]
 fn the_units_are_the_same_in_any_pieces(rt: HostRuntime) -> Result<(), NoMemory> {
-    for pieces in 1..=STREAM.len() {
-        let units = units(rt.alloc(), pieces)?;
-        assert_eq!(rt; units.as_slice(), IN_STREAM.as_slice());
+    for (times, sizes) in IN_PIECES {
+        let mut stream = Vec::new(rt.alloc());
+        for _ in 0..times {
+            stream.extend_from_slice(&STREAM)?;
+        }
+        for pieces in sizes {
+            let units = units(rt.alloc(), &stream, *pieces)?;
+            assert_eq!(rt; units.len(), times.wrapping_mul(3));
+            for (unit, want) in units.iter().zip(IN_STREAM.iter().cycle()) {
+                assert_eq!(rt; *unit, *want);
+            }
+        }
     }
     Ok(())
 }
@@ -268,7 +293,16 @@ fn written(alloc: Global, pdu: &Pdu) -> Option<Vec<u8>> {
 #[test]
 fn writes_what_is_sent(rt: HostRuntime) -> Result<(), Fail> {
     let alloc = rt.alloc();
-    let table: [(Pdu, &[u8]); 4] = [
+    let table: [(Pdu, &[u8]); 7] = [
+        (Pdu::CacheReset, &[2, 8, 0, 0, 0, 0, 0, 8]),
+        (Pdu::CacheResponse { session: 7 }, &[2, 3, 0, 7, 0, 0, 0, 8]),
+        (
+            Pdu::Notify {
+                session: 7,
+                serial: 1,
+            },
+            &[2, 0, 0, 7, 0, 0, 0, 12, 0, 0, 0, 1],
+        ),
         (Pdu::ResetQuery, &[2, 2, 0, 0, 0, 0, 0, 8]),
         (
             Pdu::SerialQuery {
@@ -298,18 +332,57 @@ fn writes_what_is_sent(rt: HostRuntime) -> Result<(), Fail> {
     Ok(())
 }
 
-#[test]
-fn writes_an_announcement(rt: HostRuntime) -> Result<(), NoMemory> {
-    let mut out = Vec::new(rt.alloc());
+// A written announcement of these providers.
+fn announcement(alloc: Global, customer: u32, providers: &[u32]) -> Result<Vec<u8>, NoMemory>
+    requires some { 0 < length providers.now }
+    requires fits { length providers.now ≤ 65533 }
+{
+    let mut out = Vec::new(alloc);
     let pdu = Pdu::Aspa {
         announce: true,
-        customer: 64_496,
-        providers: AsList::from_slice(rt.alloc(), &[64_497, 1])?,
+        customer,
+        providers: AsList::from_slice(alloc, providers)?,
     };
     write(&pdu, &mut out)?;
+    Ok(out)
+}
+
+#[test]
+fn writes_announcements_and_withdrawals(rt: HostRuntime) -> Result<(), NoMemory> {
+    let alloc = rt.alloc();
+    let out = announcement(alloc, 64_496, &[64_497, 1])?;
     let expected: [u8; 20] = [
         2, 11, 1, 0, 0, 0, 0, 20, 0, 0, 0xFB, 0xF0, 0, 0, 0xFB, 0xF1, 0, 0, 0, 1,
     ];
     assert_eq!(rt; out.as_slice(), expected.as_slice());
+    let mut out = Vec::new(alloc);
+    let withdrawal = Pdu::Aspa {
+        announce: false,
+        customer: 9,
+        providers: AsList::new(alloc),
+    };
+    write(&withdrawal, &mut out)?;
+    let expected: [u8; 12] = [2, 11, 0, 0, 0, 0, 0, 12, 0, 0, 0, 9];
+    assert_eq!(rt; out.as_slice(), expected.as_slice());
+    Ok(())
+}
+
+// 64496 announces the providers 1 to 300: 1,212 bytes, and a sum of 45,150.
+#[test]
+fn three_hundred_providers(rt: HostRuntime) -> Result<(), NoMemory> {
+    let alloc = rt.alloc();
+    let mut bytes = Vec::from_slice(alloc, &[2, 11, 1, 0, 0, 0, 4, 0xBC, 0, 0, 0xFB, 0xF0])?;
+    let mut providers = [0u32; 300];
+    for (place, provider) in providers.iter_mut().enumerate() {
+        *provider = (place as u32).wrapping_add(1);
+        bytes.extend_from_slice(&provider.to_be_bytes())?;
+    }
+    let mut framer = Framer::new(alloc).feed(&bytes)?;
+    assert_eq!(rt;
+        next(&mut framer),
+        Answer::Unit(Said::Announce(64_496, 300, 45_150))
+    );
+    let out = announcement(alloc, 64_496, &providers)?;
+    assert_eq!(rt; out.as_slice(), bytes.as_slice());
     Ok(())
 }

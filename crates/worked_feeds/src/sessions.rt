@@ -298,6 +298,37 @@ fn a_whole_answer_gives_all_rows(rt: HostRuntime) -> Result<(), Fail> {
     Ok(())
 }
 
+// The customers 1 to 1000 announce the next AS each, and the last of them 300 providers.
+#[test]
+fn a_thousand_rows(rt: HostRuntime) -> Result<(), Fail> {
+    let alloc = rt.alloc();
+    let mut session = in_phase(alloc, Phase::ReceivingWhole)?;
+    for customer in 1..=1_000u32 {
+        let (next, _) = take(session, aspa(alloc, customer, &[customer + 1])?)?;
+        session = next;
+    }
+    let mut providers = [0u32; 300];
+    for (place, provider) in providers.iter_mut().enumerate() {
+        *provider = place as u32;
+    }
+    let (session, _) = take(session, aspa(alloc, 1_000, &providers)?)?;
+    let (_, act) = take(session, pdu(alloc, Sent::End(7))?)?;
+    match &act {
+        Act::Apply(Delta::Whole(rows)) => {
+            assert_eq!(rt; rows.entries().count(), 1_000);
+            assert_eq!(rt; row(rows, 999), Some([1_000u32].as_slice()));
+            // 0 is none of them.
+            let last = row(rows, 1_000).unwrap_or(&[]);
+            assert_eq!(rt;
+                (last.len(), last.first(), last.last()),
+                (299, Some(&1), Some(&299))
+            );
+        }
+        _ => assert!(rt; false),
+    }
+    Ok(())
+}
+
 // The first provider of a row, and how many it has.
 fn first_and_count(row: &Option<AsList>) -> Option<(u32, usize)> {
     match row {

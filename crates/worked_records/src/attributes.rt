@@ -162,6 +162,71 @@ fn fields_and_their_paths(rt: HostRuntime) -> Result<(), NoMemory> {
     read_all(&rt, rt.alloc(), &FIELDS)
 }
 
+// Appends sequences of so many ASes from one on, each AS in four bytes or in two.
+fn put_sequences(
+    bytes: &mut Vec<u8>,
+    wide: bool,
+    from: u32,
+    counts: &[u8],
+) -> Result<(), NoMemory> {
+    let mut asn = from;
+    for count in counts {
+        bytes.extend_from_slice(&[2, *count])?;
+        for _ in 0..*count {
+            let [a, b, c, d] = asn.to_be_bytes();
+            if wide {
+                bytes.extend_from_slice(&[a, b])?;
+            }
+            bytes.extend_from_slice(&[c, d])?;
+            asn = asn.wrapping_add(1);
+        }
+    }
+    Ok(())
+}
+
+// An AS_PATH of the ASes 1000 to 1299, and an AS4_PATH of 200 ASes from 70000 on, each with its type and its length.
+const HEADS: [(&str, &str); 2] = [("50 02 04B4", ""), ("50 02 025C", "D0 11 0322")];
+
+// The ASes are those that the path ends with, and before them those of the one before, where there is one.
+fn is_merged(chain: &[u32], merged: bool) -> bool {
+    for (place, asn) in chain.iter().enumerate() {
+        let want = match (merged, place) {
+            (true, 0..200) => 70_199usize.wrapping_sub(place),
+            _ => 1_299usize.wrapping_sub(place),
+        };
+        if *asn as usize != want {
+            return false;
+        }
+    }
+    chain.len() == 300
+}
+
+// A merged path has the first 100 ASes of its AS_PATH and all of its AS4_PATH.
+#[test]
+fn paths_of_300_ases(rt: HostRuntime) -> Result<(), NoMemory> {
+    let alloc = rt.alloc();
+    for (head, head4) in HEADS {
+        let merged = !head4.is_empty();
+        let mut bytes = hex(alloc, head)?;
+        put_sequences(&mut bytes, !merged, 1_000, &[255, 45])?;
+        bytes.extend_from_slice(&hex(alloc, head4)?)?;
+        if merged {
+            put_sequences(&mut bytes, true, 70_000, &[200])?;
+        }
+        match read(&bytes, !merged, Form::Message) {
+            Ok(attrs) => match attrs.trail(alloc)? {
+                Some(trail) => {
+                    assert!(rt; !trail.is_set());
+                    assert!(rt; is_merged(trail.chain().as_slice(), merged), "{head4}");
+                }
+                None => assert!(rt; false, "{head}"),
+            },
+            Err(Attributes) => assert!(rt; false, "{head}"),
+        }
+    }
+    Ok(())
+}
+
 // AS_PATH, AS4_PATH and the items of the result; both paths are spelled with ASes of four bytes here.
 type Merge = (&'static str, &'static str, &'static [Item]);
 

@@ -355,3 +355,21 @@ fn records_that_are_cut(rt: HostRuntime) -> Result<(), NoMemory> {
     }
     Ok(())
 }
+
+// A table and a thousand routes, in pieces of sizes that no record has.
+#[test]
+fn a_thousand_records(rt: HostRuntime) -> Result<(), NoMemory> {
+    let alloc = rt.alloc();
+    let mut stream = hex(alloc, TABLE)?;
+    let route = hex(alloc, RIB)?;
+    let mut wants = Vec::new(alloc);
+    wants.push(Peers(2, ONE))?;
+    for _ in 0..1_000 {
+        stream.extend_from_slice(&route)?;
+        wants.push(Routes(&[ROUTE]))?;
+    }
+    for size in [77, 4_097] {
+        read_stream(&rt, alloc, &stream, size, &wants)?;
+    }
+    Ok(())
+}
