@@ -468,6 +468,7 @@ sink_stopped old now (Err e) is new keeps rose = record {
   sink = λ same. rose_later old.sink_faults now.sink_faults new.sink_faults keeps.sink_faults rose;
 }
 
-pub sink_ended : (P : Result ℕ Stop → Type 0) (result : Result ℕ Stop) → IsErrAnd result (λ e. e ≡ stops.Sink) → P (Err stops.Sink) → P result
-sink_ended P (Ok n) is holds = absurd is
-sink_ended P (Err e) is holds = subst (λ (e' : Stop). P (Err e')) (sym is) holds
+pub sink_ended : (world : World) (lines : List (List ℕ)) (old new : Outside) (result : Result ℕ Stop) → IsErrAnd result (λ e. e ≡ stops.Sink)
+    → EvaluatedIn world lines old new (Err stops.Sink) → EvaluatedIn world lines old new result
+sink_ended world lines old new (Ok n) is holds = absurd is
+sink_ended world lines old new (Err e) is holds = subst (λ (e' : Stop). EvaluatedIn world lines old new (Err e')) (sym is) holds

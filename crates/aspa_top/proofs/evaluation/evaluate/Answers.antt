@@ -61,7 +61,7 @@ returns-in_err-pour_piece g c =
     let keeps = Keeps-trans c.loop-line.invariant.keeps c.perform_line.ensures.keeps in
     record {
       keeps = Keeps-trans keeps (keeps_sink _ _ _ _ _ c.pour_piece.ensures.grows later);
-      evaluated = λ world meets. sink_ended _ c.from_residual.result c.from_residual.ensures.1
+      evaluated = λ world meets. sink_ended world _ _ _ c.from_residual.result c.from_residual.ensures.1
           (ended_between world _ _ _ _ _ _ _ meets (Performing-poured world _ _ _ _ _ _ _ _ c.pour_piece.ensures.same
           (Performing-next world _ _ _ _ _ _ _ _ _ (c.loop-line.invariant.so_far world meets.tells meets.begins) c.in-Some.ensures.first (Tells-names _ _ world c.loop-line.invariant.keeps.names meets.tells)
           c.perform_line.ensures.keeps did (g.met.K.Links.agrees c.perform_line.new.links))) grows c.in_err-pour_piece.ensures.err);
@@ -75,7 +75,7 @@ returns-in_err-pour g c =
     let grows = Grows-trans c.loop-line.invariant.keeps.grows c.pour.ensures.grows in
     record {
       keeps = Keeps-trans c.loop-line.invariant.keeps (keeps_sink _ _ _ _ _ c.pour.ensures.grows c.pour.ensures.cause.later);
-      evaluated = λ world meets. sink_ended _ c.from_residual-in_err-pour.result c.from_residual-in_err-pour.ensures.1
+      evaluated = λ world meets. sink_ended world _ _ _ c.from_residual-in_err-pour.result c.from_residual-in_err-pour.ensures.1
           (ended_between world _ _ _ _ _ _ _ meets (Performing-poured world _ _ _ _ _ _ _ _ c.pour.ensures.same (c.loop-line.invariant.so_far world meets.tells meets.begins)) grows c.in_err-pour.ensures.err);
       causes = sink_stopped _ _ c.from_residual-in_err-pour.result c.from_residual-in_err-pour.ensures.1 _ c.loop-line.invariant.keeps c.in_err-pour.ensures.cause.failed;
       adds = written_lines _ _ _ _ _ grows (front_poured _ _ _ _ _ c.pour.ensures.same (adds_front _ _ _ _ c.loop-line.invariant.adds));
