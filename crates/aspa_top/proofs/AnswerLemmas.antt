@@ -1,5 +1,5 @@
 -- A question that was answered, or refused.
-use Rattle.std.proofs.Common.{◌≡◌, ℕ, ◌+◌, ◌<◌, ◌≤◌, List, ◌++◌, length, false, Ok, refl, sym, ap, subst, ◌∙◌, arith}
+use Rattle.std.proofs.Common.{◌≡◌, ℕ, ◌+◌, ◌<◌, List, ◌++◌, length, false, Ok, refl, sym, ap, subst, ◌∙◌, arith}
 use Rattle.std.specs.declared.option.Option.{Option}
 use Rattle.std.specs.declared.option.Option.TheVariants.{Some, None}
 use Rattle.std.specs.Io.KnownBytes.{append_known}
@@ -15,7 +15,6 @@ use Rattle.report_text.specs.declared.summary.Summary.{Summary}
 use Rattle.report_text.specs.Summary.{summary_text}
 use Rattle.report_text.specs.Why.{why_text}
 use Rattle.report_text.specs.Refusals.{of_line, refusal_text}
-use Rattle.report_text.specs.Reported.{lines_text}
 use Rattle.report_text.proofs.ReportedLemmas.{adds_answers, adds_answers_front}
 use Rattle.rib_store.specs.Shown.{IsExplained}
 use Rattle.rib_store.specs.State.{State as Analysis, AreRows}

@@ -15,7 +15,7 @@ use Rattle.stream_lines.specs.Held.{HeldDump}
 use Rattle.aspa_top.specs.declared.working.Working.{Working}
 use Rattle.aspa_top.specs.Evaluation.{Asked, DoesAsked}
 use Rattle.aspa_top.specs.Outside.{Outside, all_of}
-use Rattle.aspa_top.specs.Performing.{Did, Done, EndedEarly, Goes, GoesSome, IsStoppedBy}
+use Rattle.aspa_top.specs.Performing.{Did, Done, EndedEarly, GoesSome, IsStoppedBy}
 use Rattle.aspa_top.specs.Standing.{IsBegun, StandsFor}
 use Rattle.aspa_top.specs.Tasks.{State}
 use Rattle.aspa_top.specs.Working.{dump_in}

@@ -28,17 +28,16 @@ use Rattle.stream_lines.proofs.UnitsLemmas.{TakesUnits-join}
 use Rattle.aspa_top.specs.declared.task.Task.TheVariants.{Open, Take}
 use Rattle.aspa_top.specs.declared.working.Working.{Working}
 use Rattle.aspa_top.specs.Bounds.{most}
-use Rattle.aspa_top.specs.Evaluation.{DoesAsked}
 use Rattle.aspa_top.specs.Outside.{Outside, all_of}
-use Rattle.aspa_top.specs.Performing.{Done, EndedEarly, Goes, GoesSome, IsStoppedBy}
-use Rattle.aspa_top.specs.Standing.{IsBegun, IsReady, IsSound, StandsFor}
+use Rattle.aspa_top.specs.Performing.{Done, EndedEarly, GoesSome, IsStoppedBy}
+use Rattle.aspa_top.specs.Standing.{IsBegun, StandsFor}
 use Rattle.aspa_top.specs.Tasks.{State, OpensNamed, Takes, TakesNamed, TakesOpen, is_stream, new_dump, with_dump, same_name, taking_of, after_taking}
 use Rattle.aspa_top.specs.Working.{NamesDump, dump_in, has_source, has_stream}
 use Rattle.aspa_top.specs.World.{Links, World, ending, names_of}
 use Rattle.aspa_top.proofs.DidLemmas.{done_refused, some_done}
 use Rattle.aspa_top.proofs.ReadyLemmas.{IsSound-put, feeds_kept}
 use Rattle.aspa_top.proofs.ReportingLemmas.{front_none, text_none}
-use Rattle.aspa_top.proofs.StandsLemmas.{HoldsOr-leaves, HoldsOr-some, HoldsOr-put, StandsFor-leaves, differ, is_same, same_stream}
+use Rattle.aspa_top.proofs.StandsLemmas.{HoldsOr-leaves, HoldsOr-some, HoldsOr-put, StandsFor-leaves, differ, same_stream}
 
 -- ---- `open`
 

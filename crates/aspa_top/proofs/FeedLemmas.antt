@@ -13,7 +13,7 @@ use Rattle.feed_lines.specs.declared.working.Work.TheVariants.{Take as TakePdus}
 use Rattle.feed_lines.specs.Holding.{AreWithin, HasMoved, Holds}
 use Rattle.feed_lines.specs.Holding.{Goes as FeedsGo, IsSound as FeedsAreSound}
 use Rattle.feed_lines.specs.Lines.{ConnectLine, ConnectPart, WorkLine, WorkPart}
-use Rattle.feed_lines.specs.Lines.{State as FeedState, World as Ends}
+use Rattle.feed_lines.specs.Lines.{State as FeedState}
 use Rattle.feed_lines.specs.Tellings.{Asking as FeedAsking}
 use Rattle.report_text.specs.declared.cause.Cause.TheVariants as causes
 use Rattle.report_text.specs.Refusals.{of_line, refusal_text}
@@ -121,15 +121,22 @@ module _ (working : Working) (name : List ℕ) (old : Outside) (links : Links) (
         (λ world before added now. ConnectPart world asking place before now) → held ≡ old.held → ticks ≡ old.ticks → old.link_faults ≤ faults
         → EndedEarly working (Ok (Connect name place)) old (record old { links = links; standings = standings; link_faults = faults; held = held; ticks = ticks }) stops.NoMemory
     connect_stopped goes silent unticked later = record {
-      part = inr (inr (ap (append_known old.written) silent, (Connect name place, refl, λ world state stands.
-          let did = goes.goes (feeds_of state) (feeds_held state stands) in
-          let asks_same = asks_for old.files old.links working state name asking asks stands in
-          record {
-            after = with_feeds state did.0;
-            moves = λ ends comes. record { after = did.0; does = subst (λ (a : FeedAsking). ConnectPart ends a place (feeds_of state) did.0) asks_same (did.2 ends comes); left = refl };
-            sent = did.1.0;
-            ticked = omega (arith, unticked);
-          })));
+      part = inr (inr (
+        ap (append_known old.written) silent,
+        (
+          Connect name place,
+          refl,
+          λ world state stands.
+              let did = goes.goes (feeds_of state) (feeds_held state stands) in
+              let asks_same = asks_for old.files old.links working state name asking asks stands in
+              record {
+                after = with_feeds state did.0;
+                moves = λ ends comes. record { after = did.0; does = subst (λ (a : FeedAsking). ConnectPart ends a place (feeds_of state) did.0) asks_same (did.2 ends comes); left = refl };
+                sent = did.1.0;
+                ticked = omega (arith, unticked);
+              },
+        ),
+      ));
       adds = front_none (all_of old) (append_known old.written held) old.link_faults faults later (ap (append_known old.written) silent);
       cause = tt;
     }
@@ -166,15 +173,22 @@ module _ (working : Working) (name : List ℕ) (old : Outside) (links : Links) (
         (λ world before added now. WorkPart world asking work before now) → held ≡ old.held → old.link_faults ≤ faults
         → EndedEarly working (Ok (OnFeed name work)) old (record old { links = links; standings = standings; link_faults = faults; held = held; ticks = ticks }) stops.NoMemory
     work_stopped goes silent later = record {
-      part = inr (inr (ap (append_known old.written) silent, (OnFeed name work, refl, λ world state stands.
-          let did = goes.goes (feeds_of state) (feeds_held state stands) in
-          let asks_same = asks_for old.files old.links working state name asking asks stands in
-          record {
-            after = with_feeds state did.0;
-            moves = λ ends comes. record { after = did.0; does = subst (λ (a : FeedAsking). WorkPart ends a work (feeds_of state) did.0) asks_same (did.2 ends comes); left = refl };
-            sent = did.1.0;
-            ticked = omega (arith, did.1.1);
-          })));
+      part = inr (inr (
+        ap (append_known old.written) silent,
+        (
+          OnFeed name work,
+          refl,
+          λ world state stands.
+              let did = goes.goes (feeds_of state) (feeds_held state stands) in
+              let asks_same = asks_for old.files old.links working state name asking asks stands in
+              record {
+                after = with_feeds state did.0;
+                moves = λ ends comes. record { after = did.0; does = subst (λ (a : FeedAsking). WorkPart ends a work (feeds_of state) did.0) asks_same (did.2 ends comes); left = refl };
+                sent = did.1.0;
+                ticked = omega (arith, did.1.1);
+              },
+        ),
+      ));
       adds = front_none (all_of old) (append_known old.written held) old.link_faults faults later (ap (append_known old.written) silent);
       cause = tt;
     }
@@ -220,21 +234,31 @@ module _ (working : Working) (name : List ℕ) (count : ℕ) (old new : Outside)
     ended_part part = elim part [
       | inl nothing ↦ inl nothing
       | inr more ↦ elim more [
-        | inl some ↦ inr (inl (some.0, λ world tells state stands.
-            let went = some.1 world tells state stands in
-            record {
-              part = went.part;
-              rest = went.rest;
-              after = went.after;
-              does = λ ends. subst (λ (dump : Option Dump). TakesNamed dump (ending world ends) state name count (went.part ++ went.rest) went.after) (sym (no_dump state stands)) (went.does ends);
-              added = went.added;
-              ticked = went.ticked;
-              came_to = λ ends dump is. let there : ⊥ = let no = no_dump state stands in cc in absurd there;
-            }))
-        | inr moves ↦ inr (inr (moves.0, (Take name count, refl, λ world state stands.
-            let is : moves.1.0 ≡ OnFeed name (TakePdus count) = let same = moves.1.1 in cc in
-            let went = (subst (λ (task : Task). MovesPart working task old new) is moves.1.2) world state stands in
-            record { after = went.after; moves = λ ends comes. (no_dump state stands, went.moves ends comes); sent = went.sent; ticked = went.ticked })))
+        | inl some ↦ inr (inl (
+          some.0,
+          λ world tells state stands.
+              let went = some.1 world tells state stands in
+              record {
+                part = went.part;
+                rest = went.rest;
+                after = went.after;
+                does = λ ends. subst (λ (dump : Option Dump). TakesNamed dump (ending world ends) state name count (went.part ++ went.rest) went.after) (sym (no_dump state stands)) (went.does ends);
+                added = went.added;
+                ticked = went.ticked;
+                came_to = λ ends dump is. let there : ⊥ = let no = no_dump state stands in cc in absurd there;
+              },
+        ))
+        | inr moves ↦ inr (inr (
+          moves.0,
+          (
+            Take name count,
+            refl,
+            λ world state stands.
+                let is : moves.1.0 ≡ OnFeed name (TakePdus count) = let same = moves.1.1 in cc in
+                let went = (subst (λ (task : Task). MovesPart working task old new) is moves.1.2) world state stands in
+                record { after = went.after; moves = λ ends comes. (no_dump state stands, went.moves ends comes); sent = went.sent; ticked = went.ticked },
+          ),
+        ))
       ]
     ]
 

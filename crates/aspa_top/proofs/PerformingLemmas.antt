@@ -1,5 +1,5 @@
 -- One line performed.
-use Rattle.std.proofs.Common.{◌≡◌, ℕ, ◌+◌, ◌≤◌, List, ◌++◌, Ok, Err, Some, refl, sym, subst, arith}
+use Rattle.std.proofs.Common.{◌≡◌, ℕ, ◌+◌, List, ◌++◌, Ok, Err, Some, refl, sym, subst, arith}
 use Rattle.std.specs.declared.option.Option.{Option}
 use Rattle.report_text.specs.declared.cause.Cause.{Cause}
 use Rattle.report_text.specs.Refusals.{of_line, refusal_text}
@@ -12,7 +12,7 @@ use Rattle.script_lines.proofs.SourceNameLemmas.{reading_named}
 use Rattle.stream_lines.proofs.FrameLemmas.{Leaves-refl}
 use Rattle.aspa_top.specs.declared.working.Working.{Working}
 use Rattle.aspa_top.specs.Bounds.{IsWithinBounds}
-use Rattle.aspa_top.specs.Evaluation.{Asked, DoesAsked, line_cause}
+use Rattle.aspa_top.specs.Evaluation.{line_cause}
 use Rattle.aspa_top.specs.Outside.{Outside}
 use Rattle.aspa_top.specs.Performing.{Done}
 use Rattle.aspa_top.specs.Standing.{IsBegun}

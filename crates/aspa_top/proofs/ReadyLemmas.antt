@@ -10,7 +10,7 @@ use Rattle.aspa_top.specs.Bounds.{most}
 use Rattle.aspa_top.specs.Outside.{Outside}
 use Rattle.aspa_top.specs.Standing.{AreSound, IsBegun, IsReady, IsSound}
 use Rattle.aspa_top.specs.Tasks.{same_name}
-use Rattle.aspa_top.specs.Working.{Happened, KeepsStreams, Marked, counted_in, dump_in}
+use Rattle.aspa_top.specs.Working.{KeepsStreams, counted_in, dump_in}
 use Rattle.aspa_top.proofs.StandsLemmas.{differ, is_same}
 
 -- ---- dumps

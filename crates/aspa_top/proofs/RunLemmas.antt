@@ -1,10 +1,9 @@
 -- Line after line: what a run has done where it stops.
-use Rattle.std.proofs.Common.{◌≡◌, ◌≢◌, ℕ, ◌+◌, ◌-◌, ◌*◌, ◌<◌, ◌≤◌, List, [], ◌∷◌, ◌++◌, length, None, Some, Ok, Err, IsErrAnd, IsErrOf, inl, inr, refl, sym, ap, subst, ◌∙◌, arith, zero-add, append_assoc, append-nil}
+use Rattle.std.proofs.Common.{◌≡◌, ℕ, ◌+◌, ◌-◌, ◌*◌, ◌<◌, ◌≤◌, List, [], ◌∷◌, ◌++◌, length, None, Some, Ok, Err, IsErrAnd, inl, inr, refl, sym, ap, subst, ◌∙◌, arith, zero-add, append_assoc, append-nil}
 use Rattle.std.specs.declared.option.Option.{Option}
 use Rattle.std.specs.declared.result.Result.{Result}
 use Rattle.std.specs.Io.KnownBytes.{append_known}
 use Rattle.av_base.specs.Connections.{Agrees, Attempt, Link}
-use Rattle.av_base.specs.declared.standing.Standing.{Standing}
 use Rattle.av_base.specs.Files.{Files}
 use Rattle.av_base.specs.Told.{AppendsFront, Grows, Rose}
 use Rattle.av_base.proofs.ToldLemmas.{append_known-nil, append_known-append}
@@ -27,9 +26,9 @@ use Rattle.aspa_top.specs.Tasks.{Moves, State, feeds_of, start}
 use Rattle.aspa_top.specs.Evaluated.{EvaluatedIn, Poured, StoppedByFault}
 use Rattle.aspa_top.specs.Evaluation.{Begins, MovesSome, asked_of, counted, Performs, Evaluates, task_of}
 use Rattle.aspa_top.specs.Outside.{Keeps, Outside, all_of}
-use Rattle.aspa_top.specs.Performing.{DidLine, EndedEarly, GoesPart, Moved, Performing}
-use Rattle.aspa_top.specs.Program.{AreTold, BeginsNext, HasMoved, WentSome, WentThrough, StopsAtFile, StopsWithin, Ended, WritesPart}
-use Rattle.aspa_top.specs.Standing.{AreSound, IsReady, StandsFor}
+use Rattle.aspa_top.specs.Performing.{DidLine, GoesPart, Performing}
+use Rattle.aspa_top.specs.Program.{AreTold, BeginsNext, HasMoved, WentSome, WentThrough, StopsAtFile, StopsWithin, WritesPart}
+use Rattle.aspa_top.specs.Standing.{IsReady, StandsFor}
 use Rattle.aspa_top.specs.Working.{counted_in}
 use Rattle.aspa_top.specs.World.{ComesTo, GoesOn, Links, Meets, Tells, World, ending, names_of}
 use Rattle.aspa_top.proofs.EvaluationLemmas.{begins_none, goes_on_behind}

@@ -1,5 +1,5 @@
 -- What is done within memory.
-use Rattle.std.proofs.Common.{◌≡◌, ℕ, ◌+◌, ◌≤◌, List, [], ◌++◌, Ok, refl, sym, ap, subst, ◌∙◌, arith}
+use Rattle.std.proofs.Common.{◌≡◌, ℕ, ◌+◌, ◌≤◌, List, [], Ok, refl, sym, ap, subst, ◌∙◌, arith}
 use Rattle.std.specs.Io.KnownBytes.{append_known}
 use Rattle.av_base.proofs.ToldLemmas.{append_known-nil}
 use Rattle.path_model.specs.declared.role.Role.{Role}
@@ -17,7 +17,6 @@ use Rattle.aspa_top.specs.declared.working.Working.{Working}
 use Rattle.aspa_top.specs.Outside.{Outside, all_of}
 use Rattle.aspa_top.specs.Performing.{Done, EndedEarly}
 use Rattle.aspa_top.specs.Standing.{IsBegun}
-use Rattle.aspa_top.specs.Tasks.{State}
 use Rattle.aspa_top.specs.Working.{Happened, Judges}
 use Rattle.aspa_top.proofs.DidLemmas.{some_done}
 use Rattle.aspa_top.proofs.ReadyLemmas.{kept_all, kept_analysed, ready_streams}

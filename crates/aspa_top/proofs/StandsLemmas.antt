@@ -1,7 +1,7 @@
 -- How the working state goes on standing for the evaluation of the lines so far.
 use Rattle.std.proofs.Common.{true≢false, ◌≡◌, ◌≢◌, ℕ, ◌+◌, Bool, true, false, cond, nat_eq, is_some, ◌&&◌, ◌||◌, List, [], ◌∷◌, ◌++◌, None, Some, refl, sym, ◌∙◌, ap, subst}
 use Rattle.std.specs.Cmp.Lexicographic.{pointwise, nat_list_eq_equiv}
-use Rattle.std.specs.Io.KnownBytes.{append_known, prepend_known}
+use Rattle.std.specs.Io.KnownBytes.{append_known}
 use Rattle.std.specs.declared.option.Option.{Option}
 use Rattle.std.proofs.lemmas.Map.Views.{exact_unsigned_eq}
 use Rattle.av_base.specs.Files.{Files, left_of}
@@ -20,7 +20,7 @@ use Rattle.aspa_top.specs.declared.loading.FileKind.{FileKind}
 use Rattle.aspa_top.specs.Tasks.{State, Loads, LoadsUnless, same_name, is_stream, is_taken}
 use Rattle.aspa_top.specs.Evaluation.{counted}
 use Rattle.aspa_top.specs.Standing.{HoldsOr, StandsFor}
-use Rattle.aspa_top.specs.Working.{counted_in, dump_in, has_source, has_stream}
+use Rattle.aspa_top.specs.Working.{counted_in, dump_in, has_stream}
 use Rattle.aspa_top.specs.World.{Links, World, Tells, ending}
 
 -- ---- names

@@ -1,7 +1,6 @@
 -- A file of payloads or a SLURM file that a line names.
-use Rattle.std.proofs.Common.{◌≡◌, ℕ, ◌+◌, ◌-◌, ◌≤◌, Bool, true, false, cond, List, [], ◌++◌, Some, Ok, Err, IsErrOf, inl, refl, sym, ◌∙◌, ap, subst, arith}
+use Rattle.std.proofs.Common.{◌≡◌, ℕ, ◌+◌, ◌-◌, ◌≤◌, Bool, true, false, cond, List, [], ◌++◌, Some, Ok, inl, refl, sym, ◌∙◌, ap, subst, arith}
 use Rattle.std.specs.declared.option.Option.{Option}
-use Rattle.std.specs.declared.result.Result.{Result}
 use Rattle.std.specs.Io.KnownBytes.{append_known}
 use Rattle.av_base.specs.Files.{Files}
 use Rattle.av_base.specs.Told.{Rose}
@@ -39,13 +38,13 @@ use Rattle.aspa_top.specs.LoadingSteps.{ComesTold}
 use Rattle.aspa_top.specs.Outside.{Outside, all_of}
 use Rattle.aspa_top.specs.Performing.{Done, EndedEarly, GoesSome}
 use Rattle.aspa_top.specs.Standing.{HoldsOr, IsBegun, StandsFor}
-use Rattle.aspa_top.specs.Tasks.{State, Refuses, TakesFile, Loads, LoadsUnless, is_taken, same_name, with_name}
+use Rattle.aspa_top.specs.Tasks.{State, Refuses, TakesFile, LoadsUnless, is_taken, same_name, with_name}
 use Rattle.aspa_top.specs.Working.{Acted, ActedWithin, Held, IsTakenIn, KeepsStreams, NamesBy, dump_in, has_source}
-use Rattle.aspa_top.specs.World.{Links, World, Tells, ending}
+use Rattle.aspa_top.specs.World.{Links, World, Tells}
 use Rattle.aspa_top.proofs.DidLemmas.{done_refused, some_done}
-use Rattle.aspa_top.proofs.ReadyLemmas.{kept_refused, ready_streams}
+use Rattle.aspa_top.proofs.ReadyLemmas.{ready_streams}
 use Rattle.aspa_top.proofs.ReportingLemmas.{front_none, text_none}
-use Rattle.aspa_top.proofs.StandsLemmas.{Loads-ending, StandsFor-leaves, added_text, same_stream}
+use Rattle.aspa_top.proofs.StandsLemmas.{Loads-ending, StandsFor-leaves, same_stream}
 use Rattle.aspa_top.proofs.TaskLemmas.{some_load}
 
 -- what came of a told file comes in the world
@@ -73,7 +72,6 @@ left_after : (kind : FileKind) (mid next : Working) → NamesBy kind mid next �
 left_after (Payloads name) mid next names = names.left
 left_after (PayloadLines name) mid next names = names.left
 left_after SlurmFile mid next names = names ∙ ap (λ (w : Working). record mid { sources = w.sources }) (sym names)
-
 
 -- a good file leaves the streams and the counts as they were
 Held-kept : (kind : FileKind) (working next : Working) (change : TableChange) → Held working kind change next → KeepsStreams working next
@@ -221,18 +219,18 @@ module _ (working : Working) (kind : FileKind) (file : List ℕ) (old : Outside)
             [],
             after,
             subst (λ (b : Bool). LoadsUnless b world state kind file [] after) (sym (taken_is old.files old.links working state kind false stands is))
-            (record {
-              outcome = Good change;
-              comes = comes_world old.files world kind told file (Good change) tells same comes;
-              takes = record {
-                silent = refl;
-                analysis = one.one;
-                happens = subst (λ (a : Analysis). Happens a (TableEvent change) one.one) stands.analysis one.is;
-                cost = cost.0;
-                costs = subst (λ (a : Analysis). Costs a (TableEvent change) one.one cost.0) stands.analysis cost.1;
-                left = refl;
-              };
-            }),
+                (record {
+                  outcome = Good change;
+                  comes = comes_world old.files world kind told file (Good change) tells same comes;
+                  takes = record {
+                    silent = refl;
+                    analysis = one.one;
+                    happens = subst (λ (a : Analysis). Happens a (TableEvent change) one.one) stands.analysis one.is;
+                    cost = cost.0;
+                    costs = subst (λ (a : Analysis). Costs a (TableEvent change) one.one cost.0) stands.analysis cost.1;
+                    left = refl;
+                  };
+                }),
             omega (arith, within one.one cost.0 one.is cost.1),
           )
 

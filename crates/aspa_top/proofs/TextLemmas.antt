@@ -16,7 +16,7 @@ use Rattle.feed_lines.specs.Lines.{State as FeedState, World as FeedWorld}
 use Rattle.feed_lines.specs.Tellings.{telling_text, tells_text}
 use Rattle.feed_lines.specs.Tellings.{Asking as FeedAsking}
 use Rattle.feed_lines.proofs.LawLemmas.{telling_is_one_line}
-use Rattle.report_text.specs.Laws.{IsPlaceInLine, IsAnswerLine, IsRefusalLine}
+use Rattle.report_text.specs.Laws.{IsPlaceInLine, IsRefusalLine}
 use Rattle.report_text.specs.declared.cause.Cause.{Cause}
 use Rattle.report_text.specs.declared.cause.Cause.TheVariants as causes
 use Rattle.report_text.specs.Refusals.{AnyPlace, of_line, of_unit}

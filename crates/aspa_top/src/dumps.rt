@@ -87,7 +87,15 @@ pub(crate) fn take<F: Shelf, K: Links, W: Sink, L: Ledger>(
 {
     let Some(dump) = working.dumps.get(name) else {
         return work_on(
-            alloc, working, name, Work::Take(count), shelf, links, out, text, steps,
+            alloc,
+            working,
+            name,
+            Work::Take(count),
+            shelf,
+            links,
+            out,
+            text,
+            steps,
         );
     };
     if dump.is_over() {

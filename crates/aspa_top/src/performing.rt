@@ -51,7 +51,16 @@ pub(crate) fn perform_line<F: Shelf, K: Links, W: Sink, L: Ledger>(
         // Nothing is made ready here that a command alone needs.
         Ok(Command::Idle) => Ok(counted),
         Ok(command) => {
-            perform_task(alloc, counted, task_of(command), shelf, links, out, text, steps)
+            perform_task(
+                alloc,
+                counted,
+                task_of(command),
+                shelf,
+                links,
+                out,
+                text,
+                steps,
+            )
         }
         Err(fault) => {
             let cause = line_cause(fault)?;
@@ -96,7 +105,9 @@ fn perform_task<F: Shelf, K: Links, W: Sink, L: Ledger>(
             take(alloc, working, &name, count, shelf, links, out, text, steps)
         }
         Task::Connect(name, place) => {
-            connect_feed(alloc, working, &name, &place, shelf, links, out, text, steps)
+            connect_feed(
+                alloc, working, &name, &place, shelf, links, out, text, steps,
+            )
         }
         Task::OnFeed(name, work) => {
             work_on(alloc, working, &name, work, shelf, links, out, text, steps)

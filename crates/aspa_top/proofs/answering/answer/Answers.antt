@@ -1,4 +1,4 @@
-use Rattle.std.proofs.Common.{Ok, Err, refl, sym, ap, ◌∙◌, arith}
+use Rattle.std.proofs.Common.{Err, refl, ap, ◌∙◌, arith}
 use Rattle.std.specs.Io.KnownBytes.{append_known}
 use Rattle.report_text.specs.declared.cause.Cause.TheVariants as causes
 use Rattle.stream_lines.specs.declared.stop.Stop.TheVariants as stops

@@ -1,5 +1,5 @@
-use Rattle.std.proofs.Common.{◌≡◌, ℕ, Ok, Err, refl, sym, ap, subst, ◌∙◌, arith}
-use Rattle.av_base.proofs.PouringLemmas.{Grows-refl, Grows-trans}
+use Rattle.std.proofs.Common.{◌≡◌, ℕ, sym, subst, arith}
+use Rattle.av_base.proofs.PouringLemmas.{Grows-trans}
 use Rattle.feed_lines.proofs.StandingLemmas.{start_sound}
 use Rattle.report_text.proofs.ReportedLemmas.{adds_front, adds_more, adds_more_front, written_lines}
 use Rattle.aspa_top.specs.Standing.{IsSound}

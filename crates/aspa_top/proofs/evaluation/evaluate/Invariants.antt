@@ -1,4 +1,4 @@
-use Rattle.std.proofs.Common.{◌≡◌, ◌+◌, ◌≤◌, [], length}
+use Rattle.std.proofs.Common.{◌+◌, ◌≤◌, [], length}
 use Rattle.std.specs.Io.KnownBytes.{append_known}
 use Rattle.av_text.specs.Lines.{lines_in}
 use Rattle.report_text.specs.Reported.{AddsLines}

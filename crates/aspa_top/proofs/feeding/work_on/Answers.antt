@@ -1,4 +1,4 @@
-use Rattle.std.proofs.Common.{Ok, refl, sym, ap, ◌∙◌, arith}
+use Rattle.std.proofs.Common.{refl, arith}
 use Rattle.stream_lines.specs.declared.stop.Stop.TheVariants as stops
 use Rattle.aspa_top.proofs.DidLemmas.{did_err}
 use Rattle.aspa_top.proofs.FeedLemmas.{work_stopped, worked}

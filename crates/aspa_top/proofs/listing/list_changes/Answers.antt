@@ -1,4 +1,4 @@
-use Rattle.std.proofs.Common.{◌≡◌, Ok, Err, refl, sym, ap, subst, ◌∙◌, arith}
+use Rattle.std.proofs.Common.{◌≡◌, Err, refl, ap, subst, ◌∙◌, arith}
 use Rattle.stream_lines.specs.declared.stop.Stop.TheVariants as stops
 use Rattle.aspa_top.specs.declared.working.Working.{Working}
 use Rattle.aspa_top.specs.Working.{Marked}

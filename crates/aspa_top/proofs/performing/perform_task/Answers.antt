@@ -1,4 +1,3 @@
-use Rattle.std.proofs.Common.{sym}
 use Rattle.aspa_top.proofs.performing.perform_task.Goals as goal
 
 pub perform_short-requires-clause-within : goal.perform_short-requires-clause-within

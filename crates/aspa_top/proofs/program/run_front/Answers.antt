@@ -1,4 +1,4 @@
-use Rattle.std.proofs.Common.{inr, refl, ap, Ok, Err, arith}
+use Rattle.std.proofs.Common.{inr, refl, ap, Err, arith}
 use Rattle.std.proofs.lemmas.List.{length-append}
 use Rattle.aspa_top.specs.declared.program.TheConstants.{SCRIPT_LIMIT}
 use Rattle.aspa_top.proofs.ProgramLemmas.{performed-front, runs_shelf, runs_sink, runs_starved, runs_whole}

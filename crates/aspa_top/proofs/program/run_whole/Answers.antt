@@ -1,4 +1,4 @@
-use Rattle.std.proofs.Common.{inl, inr, refl, ap, Ok, Err, arith}
+use Rattle.std.proofs.Common.{inl, inr, refl, ap, Err, arith}
 use Rattle.aspa_top.specs.declared.program.TheConstants.{SCRIPT_LIMIT}
 use Rattle.aspa_top.proofs.ProgramLemmas.{performed-whole, runs_shelf, runs_sink, runs_starved, runs_whole}
 use Rattle.aspa_top.proofs.program.run_whole.Goals as goal

@@ -1,6 +1,5 @@
-use Rattle.std.proofs.Common.{ℕ, List, Ok, Err, refl, sym, ap, subst, arith}
+use Rattle.std.proofs.Common.{Err, refl, ap, arith}
 use Rattle.std.specs.Io.KnownBytes.{append_known}
-use Rattle.av_text.specs.Spellings.{IsInLine}
 use Rattle.report_text.specs.declared.cause.Cause.TheVariants as causes
 use Rattle.report_text.specs.Refusals.{of_line}
 use Rattle.stream_lines.proofs.FrameLemmas.{Leaves-refl}
