@@ -6,7 +6,7 @@ use av_text::{
 };
 use path_model::{Addr, Key, Peer, Prefix, Role, Verdict, Witness};
 use report_text::{
-    Place, Summary, put_change, put_changed, put_refusal, put_row, put_summary, put_why,
+    Cause, Place, Summary, put_change, put_changed, put_refusal, put_row, put_summary, put_why,
 };
 use std::test::Fail;
 
@@ -225,9 +225,9 @@ fn puts_refusals(rt: HostRuntime) {
         name: "rrc-00.a_b",
         unit: 12,
     };
-    assert!(rt; put_refusal(&mut out, 1, Place::Line, 34).is_ok());
-    assert!(rt; put_refusal(&mut out, 2, slurm, 11).is_ok());
-    assert!(rt; put_refusal(&mut out, u64::MAX, dump, 27).is_ok());
+    assert!(rt; put_refusal(&mut out, 1, Place::Line, Cause::Number).is_ok());
+    assert!(rt; put_refusal(&mut out, 2, slurm, Cause::Json).is_ok());
+    assert!(rt; put_refusal(&mut out, u64::MAX, dump, Cause::CutShort).is_ok());
     assert_eq!(rt;
         out.as_slice(),
         b"! line 1 cause 34 Number
