@@ -1,4 +1,5 @@
 pub mod AnswerLemmas
+pub mod BeginningLemmas
 pub mod ConnectedLemmas
 pub mod DidLemmas
 pub mod DumpLemmas
@@ -20,6 +21,7 @@ pub mod ReportingLemmas
 pub mod RunLemmas
 pub mod ShortLemmas
 pub mod StandsLemmas
+pub mod StopLemmas
 pub mod TableLemmas
 pub mod TaskLemmas
 pub mod TextLemmas

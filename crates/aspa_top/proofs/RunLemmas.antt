@@ -1,43 +1,31 @@
 -- Line after line: what a run has done where it stops.
-use Rattle.std.proofs.Common.{◌≡◌, ℕ, ◌+◌, ◌-◌, ◌*◌, ◌<◌, ◌≤◌, List, [], ◌∷◌, ◌++◌, length, None, Some, Ok, Err, IsErrAnd, inl, inr, refl, sym, ap, subst, ◌∙◌, arith, zero-add, append_assoc, append-nil}
+use Rattle.std.proofs.Common.{◌≡◌, ℕ, ◌+◌, ◌-◌, ◌<◌, ◌≤◌, List, [], ◌∷◌, ◌++◌, length, Ok, Err, inl, inr, refl, sym, ap, subst, ◌∙◌, arith, zero-add, append_assoc, append-nil}
 use Rattle.std.specs.declared.option.Option.{Option}
-use Rattle.std.specs.declared.result.Result.{Result}
 use Rattle.std.specs.Io.KnownBytes.{append_known}
-use Rattle.av_base.specs.Connections.{Agrees, Attempt, Link}
+use Rattle.av_base.specs.Connections.{Agrees}
 use Rattle.av_base.specs.Files.{Files}
 use Rattle.av_base.specs.Told.{AppendsFront, Grows, Rose}
 use Rattle.av_base.proofs.ToldLemmas.{append_known-nil, append_known-append}
 use Rattle.av_base.proofs.PouringLemmas.{written_front, written_part}
 use Rattle.feed_lines.specs.Holding.{HasMoved as FeedsMoved}
 use Rattle.feed_lines.specs.Lines.{World as Ends}
-use Rattle.feed_lines.proofs.GoingLemmas.{ComesTo-earlier, ComesTo-now}
-use Rattle.feed_lines.proofs.NamedLemmas.{holds_moved}
-use Rattle.script_lines.specs.declared.command.Command.{Command}
-use Rattle.script_lines.specs.declared.command.LineFault.{LineFault}
-use Rattle.script_lines.specs.Grammar.{IsReading}
 use Rattle.stream_lines.specs.declared.stop.Stop.{Stop}
 use Rattle.stream_lines.specs.declared.stop.Stop.TheVariants as stops
-use Rattle.report_text.specs.Reported.{AddsFront}
 use Rattle.stream_lines.specs.Counts.{refusals_in}
-use Rattle.aspa_top.specs.declared.task.Task.{Task}
 use Rattle.aspa_top.specs.declared.working.Working.{Working}
-use Rattle.aspa_top.specs.Bounds.{most}
-use Rattle.aspa_top.specs.Tasks.{Moves, State, feeds_of, start}
-use Rattle.aspa_top.specs.Evaluated.{EvaluatedIn, Poured, StoppedByFault}
-use Rattle.aspa_top.specs.Evaluation.{Begins, MovesSome, asked_of, counted, Performs, Evaluates, task_of}
+use Rattle.aspa_top.specs.Tasks.{State, feeds_of, start}
+use Rattle.aspa_top.specs.Evaluated.{EvaluatedIn, Poured}
+use Rattle.aspa_top.specs.Evaluation.{counted, Performs, Evaluates}
 use Rattle.aspa_top.specs.Outside.{Keeps, Outside, all_of}
-use Rattle.aspa_top.specs.Performing.{DidLine, GoesPart, Performing}
-use Rattle.aspa_top.specs.Program.{AreTold, BeginsNext, HasMoved, WentSome, WentThrough, StopsAtFile, StopsWithin, WritesPart}
-use Rattle.aspa_top.specs.Standing.{IsReady, StandsFor}
-use Rattle.aspa_top.specs.Working.{counted_in}
-use Rattle.aspa_top.specs.World.{ComesTo, GoesOn, Links, Meets, Tells, World, ending, names_of}
+use Rattle.aspa_top.specs.Performing.{DidLine, Performing}
+use Rattle.aspa_top.specs.Program.{AreTold, BeginsNext, WentSome, WentThrough, StopsAtFile, StopsWithin, WritesPart}
+use Rattle.aspa_top.specs.Standing.{StandsFor}
+use Rattle.aspa_top.specs.World.{ComesTo, GoesOn, Links, Meets, Tells, World, ending}
 use Rattle.aspa_top.proofs.EvaluationLemmas.{begins_none, goes_on_behind}
 use Rattle.aspa_top.proofs.StandsLemmas.{counted_stands}
+use Rattle.aspa_top.proofs.BeginningLemmas.{begins_by, comes_here, earlier, moved_here, stands_moved}
 use Rattle.aspa_top.proofs.TextLemmas.{Evaluates-refused}
-
--- a count that rose later rose from what it was before
-rose_later : (a b c : ℕ) → a ≤ b → Rose b c → Rose a c
-rose_later a b c later rose = omega (arith, later, rose)
+use Rattle.aspa_top.proofs.StopLemmas.{rose_later}
 
 -- one more line is evaluated
 Evaluates-push : (world : World) (before : State) (done : List (List ℕ)) (line text piece : List ℕ) (mid next : State)
@@ -59,99 +47,6 @@ Evaluates-push world before (first ∷ more) line text piece mid next evaluates 
   goes_on = Evaluates-push world evaluates.next more line evaluates.rest piece mid next evaluates.goes_on performs;
   text_is = ap (λ (t : List ℕ). t ++ piece) evaluates.text_is ∙ append_assoc evaluates.first evaluates.rest piece;
 }
-
--- the shelf names what it named before
-pub Tells-names : (old new : Option Files) (world : World) → names_of new ≡ names_of old → Tells old world → Tells new world
-Tells-names old None world same tells = let some : names_of old ≡ Some tells.told.named = ap names_of tells.is in absurd (let no : ⊥ = cc in no)
-Tells-names old (Some told) world same tells =
-    let some : names_of old ≡ Some tells.told.named = ap names_of tells.is in
-    let named : told.named ≡ tells.told.named = cc in
-    record { told = told; is = refl; named = named ∙ tells.named }
-
--- ---- what becomes of the links
-
--- what comes of it later comes of what it was before
-earlier : {old new : Links} → GoesOn old new → (ends : Ends) → ComesTo new ends → ComesTo old ends
-earlier on ends comes = ComesTo-earlier on.attempts on.wire ends comes
-
--- as many attempts were made as the state says, and such bytes sent
-stands_moved : (now : Outside) (working : Working) (state : State) → Agrees now.links.wire now.standings → IsReady now working
-    → StandsFor now.files now.links working state → FeedsMoved now.links.attempts now.links.wire (feeds_of state)
-stands_moved now working state agrees ready stands =
-    holds_moved now.links.wire now.standings agrees (working.lines * most) now.links.attempts working.feeds (feeds_of state) ready.feeds (record { made = stands.made; each = stands.feeds })
-
--- where the run ends, its world's ends are what the links tell
-comes_here : (files : Option Files) (before after : Links) (world : World) → Meets files before after world → ComesTo after world.ends
-comes_here files before after world meets =
-    subst (λ (attempts : Option (List Attempt)). ComesTo (record { attempts = attempts; wire = after.wire }) world.ends) (sym meets.attempts)
-    (subst (λ (wire : Option (List Link)). ComesTo (record { attempts = world.ends.attempts; wire = wire }) world.ends) (sym meets.wire) (ComesTo-now world.ends.attempts world.ends.links))
-
-moved_here : (files : Option Files) (before after : Links) (world : World) (state : State) → Meets files before after world → FeedsMoved after.attempts after.wire (feeds_of state) → HasMoved world state
-moved_here files before after world state meets moved =
-    subst (λ (attempts : Option (List Attempt)). FeedsMoved attempts (Some world.ends.links) (feeds_of state)) meets.attempts
-    (subst (λ (wire : Option (List Link)). FeedsMoved after.attempts wire (feeds_of state)) meets.wire moved)
-
--- ---- one line
-
--- how far a line went that was read
-record BeginsBy (world : World) (state : State) (line : List ℕ) (old new : Outside) : Type 0 where
-  part : List ℕ
-  moved : State
-  begins : (ends : Ends) → ComesTo new.links ends → Begins (ending world ends) state line part (new.ticks - old.ticks) moved
-  sent : FeedsMoved new.links.attempts new.links.wire (feeds_of moved)
-  added : all_of new ≡ append_known (all_of old) part
-
--- only a command has a task that moves
-moves_some : (world : World) (state : State) (line : List ℕ) (reading : Result Command LineFault) (task : Task) (ticks : ℕ) (after : State) → IsReading line reading → asked_of reading ≡ Ok task
-    → Moves world (counted state) task after → ticks ≤ after.judgements - state.judgements → MovesSome world state line ticks after
-moves_some world state line (Ok command) task ticks after reads is moves judged =
-    let same : task_of command ≡ task = cc in
-    record { command = command; reads = reads; moves = subst (λ (t : Task). Moves world (counted state) t after) (sym same) moves; judged = judged }
-moves_some world state line (Err fault) task ticks after reads is moves judged = let none : ⊥ = cc in absurd none
-
-begins_by : (world : World) (working : Working) (state : State) (line : List ℕ) (reading : Result Command LineFault) (old new : Outside) → IsReading line reading
-    → Tells old.files world → StandsFor old.files old.links working state → FeedsMoved old.links.attempts old.links.wire (feeds_of state)
-    → GoesPart (counted_in working) (asked_of reading) old new → BeginsBy world state line old new
-begins_by world working state line reading old new reads tells stands moved part = elim part [
-  | inl nothing ↦ record {
-    part = [];
-    moved = state;
-    begins = λ ends comes. inl (refl, omega (arith, nothing.2), refl);
-    sent = subst (λ (links : Links). FeedsMoved links.attempts links.wire (feeds_of state)) (sym nothing.0) moved;
-    added = nothing.1 ∙ sym (append_known-nil (all_of old));
-  }
-  | inr more ↦ elim more [
-    | inl writes ↦
-        let went = writes.1 world tells (counted state) (counted_stands old.files old.links working state stands) in
-        record {
-          part = went.part;
-          moved = state;
-          begins = λ ends comes. inr (inl (
-            record {
-              own = went.part ++ went.rest;
-              next = went.after;
-              performs = record { reading = reading; reads = reads; does = went.does ends };
-              rest = went.rest;
-              whole = refl;
-              judged = went.ticked;
-              came_to = went.came_to ends;
-            },
-            refl,
-          ));
-          sent = subst (λ (links : Links). FeedsMoved links.attempts links.wire (feeds_of state)) (sym writes.0) moved;
-          added = went.added;
-        }
-    | inr moves ↦
-        let went = moves.1.2 world (counted state) (counted_stands old.files old.links working state stands) in
-        record {
-          part = [];
-          moved = went.after;
-          begins = λ ends comes. inr (inr (refl, moves_some (ending world ends) state line reading moves.1.0 (new.ticks - old.ticks) went.after reads moves.1.1 (went.moves ends comes) went.ticked));
-          sent = went.sent;
-          added = moves.0 ∙ sym (append_known-nil (all_of old));
-        }
-  ]
-]
 
 -- ---- all lines
 
@@ -428,46 +323,3 @@ module _ (world : World) (lines : List (List ℕ)) (begun : Outside) where
         }
     ended_within stops.NoMemory stops.Shelf did poured later behind = absurd poured
     ended_within stops.NoMemory stops.Sink did poured later behind = absurd poured
-
--- ---- what stopped the lines
-
-rose_before : (a b c : ℕ) → b ≤ c → Rose a b → Rose a c
-rose_before a b c later rose = omega (arith, later, rose)
-
--- where the shelf or the sink did, it counted a fault
-pub stopped_by : (working : Working) (line : List ℕ) (begun now mid : Outside) (written : Option (List ℕ)) (faults : ℕ) (held : List ℕ) (stop then : Stop)
-    → DidLine working line now mid (Err stop) → Poured stop then mid.held held (Rose mid.sink_faults faults) → Keeps begun now → Keeps now mid → mid.sink_faults ≤ faults
-    → StoppedByFault begun (record mid { written = written; sink_faults = faults; held = [] }) (Err then)
-stopped_by working line begun now mid written faults held stops.Shelf stops.Shelf did poured kept keeps later =
-    record { shelf = λ is. rose_later begun.shelf_faults now.shelf_faults mid.shelf_faults kept.shelf_faults did.did.cause.1; sink = λ is. let no : ⊥ = cc in absurd no }
-stopped_by working line begun now mid written faults held stops.Shelf stops.Sink did poured kept keeps later =
-    record { shelf = λ is. let no : ⊥ = cc in absurd no; sink = λ is. rose_later begun.sink_faults mid.sink_faults faults (omega (arith, kept.sink_faults, keeps.sink_faults)) poured.1 }
-stopped_by working line begun now mid written faults held stops.Shelf stops.NoMemory did poured kept keeps later = absurd poured
-stopped_by working line begun now mid written faults held stops.Sink stops.Shelf did poured kept keeps later = absurd poured
-stopped_by working line begun now mid written faults held stops.Sink stops.Sink did poured kept keeps later = record {
-  shelf = λ is. let no : ⊥ = cc in absurd no;
-  sink = λ is. rose_before begun.sink_faults mid.sink_faults faults later (rose_later begun.sink_faults now.sink_faults mid.sink_faults kept.sink_faults did.did.cause.1);
-}
-stopped_by working line begun now mid written faults held stops.Sink stops.NoMemory did poured kept keeps later = absurd poured
-stopped_by working line begun now mid written faults held stops.NoMemory stops.Shelf did poured kept keeps later = absurd poured
-stopped_by working line begun now mid written faults held stops.NoMemory stops.Sink did poured kept keeps later = absurd poured
-stopped_by working line begun now mid written faults held stops.NoMemory stops.NoMemory did poured kept keeps later =
-    record { shelf = λ is. let no : ⊥ = cc in absurd no; sink = λ is. let no : ⊥ = cc in absurd no }
-
--- a line that ended early added a front of whole lines
-pub adds_within : (working : Working) (line : List ℕ) (now mid : Outside) (stop : Stop) → DidLine working line now mid (Err stop) → AddsFront (all_of now) (all_of mid) now.link_faults mid.link_faults
-adds_within working line now mid stop did = did.did.adds
-
--- the sink stopped them between two lines
-pub sink_stopped : (old now : Outside) (result : Result ℕ Stop) → IsErrAnd result (λ e. e ≡ stops.Sink) → (new : Outside) → Keeps old now → Rose now.sink_faults new.sink_faults
-    → StoppedByFault old new result
-sink_stopped old now (Ok n) is new keeps rose = absurd is
-sink_stopped old now (Err e) is new keeps rose = record {
-  shelf = λ same. let no : ⊥ = cc in absurd no;
-  sink = λ same. rose_later old.sink_faults now.sink_faults new.sink_faults keeps.sink_faults rose;
-}
-
-pub sink_ended : (world : World) (lines : List (List ℕ)) (old new : Outside) (result : Result ℕ Stop) → IsErrAnd result (λ e. e ≡ stops.Sink)
-    → EvaluatedIn world lines old new (Err stops.Sink) → EvaluatedIn world lines old new result
-sink_ended world lines old new (Ok n) is holds = absurd is
-sink_ended world lines old new (Err e) is holds = subst (λ (e' : Stop). EvaluatedIn world lines old new (Err e')) (sym is) holds

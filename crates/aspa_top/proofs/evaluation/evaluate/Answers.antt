@@ -5,7 +5,9 @@ use Rattle.report_text.proofs.ReportedLemmas.{adds_front, adds_more, adds_more_f
 use Rattle.aspa_top.specs.Standing.{IsSound}
 use Rattle.aspa_top.proofs.KeepLemmas.{Keeps-trans, keeps_all, keeps_sink}
 use Rattle.aspa_top.proofs.ReportingLemmas.{front_poured, lines_begun, lines_poured}
-use Rattle.aspa_top.proofs.RunLemmas.{Performing-next, Performing-poured, Performing-start, Tells-names, ended_all, ended_between, ended_within, sink_ended, sink_stopped, stopped_by}
+use Rattle.aspa_top.proofs.BeginningLemmas.{Tells-names}
+use Rattle.aspa_top.proofs.RunLemmas.{Performing-next, Performing-poured, Performing-start, ended_all, ended_between, ended_within}
+use Rattle.aspa_top.proofs.StopLemmas.{sink_ended, sink_stopped, stopped_by}
 use Rattle.aspa_top.proofs.evaluation.evaluate.Goals as goal
 
 pub loop-line-init : goal.loop-line-init
