@@ -16,7 +16,7 @@ use Rattle.aspa_payload.specs.declared.fault.PayloadFault.{PayloadFault}
 use Rattle.aspa_payload.specs.declared.fault.PayloadFault.TheVariants.{NotDer, Version, NoProviders, Order, SelfProvider, Base64, NoMemory as PayloadMemory}
 use Rattle.aspa_payload.proofs.FileLawLemmas.{each_file}
 use Rattle.aspa_payload.proofs.LinesLawLemmas.{each_file_of_lines}
-use Rattle.slurm_rules.specs.Reading.{IsReading}
+use Rattle.slurm_rules.specs.Reading.{IsReading as IsSlurmReading}
 use Rattle.slurm_rules.specs.declared.slurm.Slurm.{Slurm as SlurmContent}
 use Rattle.slurm_rules.specs.declared.fault.SlurmFault.{SlurmFault}
 use Rattle.slurm_rules.specs.declared.fault.SlurmFault.TheVariants.{Json, Version as SlurmVersion, Member, Number, NoMemory as SlurmMemory}
@@ -144,7 +144,7 @@ payload_has_cause SelfProvider other = (_, refl)
 payload_has_cause Base64 other = (_, refl)
 payload_has_cause PayloadMemory other = absurd (other refl)
 
-slurm_has_cause : (bytes : List ℕ) (fault : SlurmFault) → IsReading bytes (Err fault) → (cause : Cause) × (slurm_cause fault ≡ Some cause)
+slurm_has_cause : (bytes : List ℕ) (fault : SlurmFault) → IsSlurmReading bytes (Err fault) → (cause : Cause) × (slurm_cause fault ≡ Some cause)
 slurm_has_cause bytes Json reads = (_, refl)
 slurm_has_cause bytes SlurmVersion reads = (_, refl)
 slurm_has_cause bytes Member reads = (_, refl)
@@ -169,7 +169,7 @@ rows_within kind name bytes Due within makes fails remembers none (Err (Bad unit
     (Flawed (record { unit = unit; cause = cause.0 }), record { bytes = bytes; is = refl; within = within; holds = fails unit fault cause.0 reads cause.1 })
 rows_within kind name bytes Due within makes fails remembers none (Err NoMemory) reads = absurd (none reads)
 
-slurm_within : (bytes : List ℕ) → length bytes ≤ 67108864 → (reading : Result SlurmContent SlurmFault) → IsReading bytes reading
+slurm_within : (bytes : List ℕ) → length bytes ≤ 67108864 → (reading : Result SlurmContent SlurmFault) → IsSlurmReading bytes reading
     → (outcome : Outcome) × ComesOf Slurm (Some bytes) outcome
 slurm_within bytes within (Ok slurm) reads =
     (Good (BySlurm slurm.filters slurm.assertions), record { bytes = bytes; is = refl; within = within; holds = (slurm, reads, refl) })

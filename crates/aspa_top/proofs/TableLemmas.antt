@@ -39,7 +39,7 @@ use Rattle.aspa_top.specs.Outside.{Outside, all_of}
 use Rattle.aspa_top.specs.Performing.{Done, EndedEarly, GoesSome}
 use Rattle.aspa_top.specs.Standing.{HoldsOr, IsBegun, StandsFor}
 use Rattle.aspa_top.specs.Tasks.{State, Refuses, TakesFile, LoadsUnless, is_taken, same_name, with_name}
-use Rattle.aspa_top.specs.Working.{Acted, ActedWithin, Held, IsTakenIn, KeepsStreams, NamesBy, dump_in, has_source}
+use Rattle.aspa_top.specs.Working.{Acted, ActedWithin, Loaded, IsTakenIn, KeepsStreams, NamesBy, dump_in, has_source}
 use Rattle.aspa_top.specs.World.{Links, World, Tells}
 use Rattle.aspa_top.proofs.DidLemmas.{done_refused, some_done}
 use Rattle.aspa_top.proofs.ReadyLemmas.{ready_streams}
@@ -74,8 +74,8 @@ left_after (PayloadLines name) mid next names = names.left
 left_after SlurmFile mid next names = names ∙ ap (λ (w : Working). record mid { sources = w.sources }) (sym names)
 
 -- a good file leaves the streams and the counts as they were
-Held-kept : (kind : FileKind) (working next : Working) (change : TableChange) → Held working kind change next → KeepsStreams working next
-Held-kept kind working next change held =
+Loaded-kept : (kind : FileKind) (working next : Working) (change : TableChange) → Loaded working kind change next → KeepsStreams working next
+Loaded-kept kind working next change held =
     let is : next ≡ record held.mid { sources = next.sources } = left_after kind held.mid next held.names in
     let mid = held.happened.left in
     let refused : next.refused ≡ working.refused = ap (λ (w : Working). w.refused) is ∙ ap (λ (w : Working). w.refused) mid in
@@ -116,7 +116,7 @@ module _ (working : Working) (kind : FileKind) (file : List ℕ) (old : Outside)
 
   -- the file is good, and changes the table
   load_held : (next : Working) (told : List ℕ) (change : TableChange) → IsTakenIn working kind false → told ≡ file → ComesTold old.files kind told (Good change)
-      → Held working kind change next → TicksWithin working.analyser (TableEvent change) old.ticks ticks → held ≡ old.held
+      → Loaded working kind change next → TicksWithin working.analyser (TableEvent change) old.ticks ticks → held ≡ old.held
       → Done working (Ok (Load kind file)) old (record old { files = files; opened = opened; shelf_faults = faulted; held = held; ticks = ticks }) next
   load_held next told change is same comes holds within kept =
       let new : Outside = record old { files = files; opened = opened; shelf_faults = faulted; held = held; ticks = ticks } in
@@ -124,7 +124,7 @@ module _ (working : Working) (kind : FileKind) (file : List ℕ) (old : Outside)
       let mid_is = event.left in
       let next_is = left_after kind holds.mid next holds.names in
       let cost = some_cost working.analyser (TableEvent change) event.analysis in
-      let keeps = Held-kept kind working next change holds in
+      let keeps = Loaded-kept kind working next change holds in
       record {
         goes = λ world tells state stands.
             let stayed = StandsFor-leaves old.files files old.links working state leaves given stands in

@@ -33,7 +33,7 @@ use Rattle.aspa_top.specs.declared.task.Short.{Short as ShortTask}
 use Rattle.aspa_top.specs.declared.task.Short.TheVariants.{Idle, Happen, Judge}
 use Rattle.aspa_top.specs.declared.task.Task.{Task}
 use Rattle.aspa_top.specs.declared.task.Task.TheVariants.{Short, Load, Open, Take, Connect, OnFeed, Answer, Changes}
-use Rattle.aspa_top.specs.Tasks.{State, Causes, Holds, TakesFile, LoadsUnless, OpensNamed, TakesOpen, TakesNamed, Works, ConnectsUnless, ShowsChanges, DoesShort, DoesTask, is_stream, is_taken, with_name, asking_of, asking_on, feeds_of, with_feeds, taking_of, after_taking}
+use Rattle.aspa_top.specs.Tasks.{State, MakesHappen, Holds, TakesFile, LoadsUnless, OpensNamed, TakesOpen, TakesNamed, Works, ConnectsUnless, ShowsChanges, DoesShort, DoesTask, is_stream, is_taken, with_name, asking_of, asking_on, feeds_of, with_feeds, taking_of, after_taking}
 use Rattle.aspa_top.specs.World.{World}
 use Rattle.aspa_top.proofs.JudgedLemmas.{IsJudged-unique}
 use Rattle.aspa_top.proofs.OutcomeLemmas.{some_outcome, outcome_unique}
@@ -45,7 +45,7 @@ use Rattle.aspa_top.proofs.QuestionLemmas.{replies_unique, some_reply}
 abbrev pub Some_that : (List ℕ → State → Type 0) → Type 0
 Some_that Says = (text : List ℕ) × (next : State) × Says text next
 
-some_event : (state : State) (event : Event) → Some_that (Causes state event)
+some_event : (state : State) (event : Event) → Some_that (MakesHappen state event)
 some_event state event =
     let one = one_outcome_of state.analysis event in
     let cost = some_cost state.analysis event one.one in (
@@ -157,9 +157,9 @@ outcome_and_cost old event new other cost more a b x y =
     let same = outcome.only new a ∙ sym (outcome.only other b) in
     (same, Costs-unique old event other cost more (subst (λ (n : Analysis). Costs old event n cost) same x) y)
 
-Causes-unique : (state : State) (event : Event) (one other : List ℕ) (end last : State)
-    → Causes state event one end → Causes state event other last → (one ≡ other) × (end ≡ last)
-Causes-unique state event one other end last a b =
+MakesHappen-unique : (state : State) (event : Event) (one other : List ℕ) (end last : State)
+    → MakesHappen state event one end → MakesHappen state event other last → (one ≡ other) × (end ≡ last)
+MakesHappen-unique state event one other end last a b =
     let same = outcome_and_cost state.analysis event a.analysis b.analysis a.cost b.cost a.happens b.happens a.costs b.costs in (
       a.silent ∙ sym b.silent,
       a.left ∙ (λ i. record state { analysis = same.0 i; judgements = state.judgements + same.1 i }) ∙ sym b.left,
@@ -232,7 +232,7 @@ ShowsChanges-unique state one other end last a b =
 DoesShort-unique : (state : State) (short : ShortTask) (one other : List ℕ) (end last : State)
     → DoesShort state short one end → DoesShort state short other last → (one ≡ other) × (end ≡ last)
 DoesShort-unique state Idle one other end last a b = both one other _ end last _ a b
-DoesShort-unique state (Happen event) one other end last a b = Causes-unique state event one other end last a b
+DoesShort-unique state (Happen event) one other end last a b = MakesHappen-unique state event one other end last a b
 DoesShort-unique state (Judge role neighbour path) one other end last a b =
     (IsJudged-unique state.analysis.parts role neighbour path one other a.0 b.0, a.1 ∙ sym b.1)
 

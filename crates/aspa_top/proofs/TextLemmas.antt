@@ -37,7 +37,7 @@ use Rattle.aspa_top.specs.declared.task.Question.{Question}
 use Rattle.aspa_top.specs.declared.task.Task.{Task}
 use Rattle.aspa_top.specs.declared.task.Task.TheVariants.{Short, Load, Open, Take, Connect, OnFeed, Answer, Changes}
 use Rattle.aspa_top.specs.Loading.{unit_name}
-use Rattle.aspa_top.specs.Tasks.{State, Causes, Refuses, TakesFile, LoadsUnless, OpensNamed, TakesOpen, TakesNamed, Works, ConnectsUnless, DoesShort, DoesTask, is_stream, is_taken, asking_of, asking_on, feeds_of, with_feeds, taking_of}
+use Rattle.aspa_top.specs.Tasks.{State, MakesHappen, Refuses, TakesFile, LoadsUnless, OpensNamed, TakesOpen, TakesNamed, Works, ConnectsUnless, DoesShort, DoesTask, is_stream, is_taken, asking_of, asking_on, feeds_of, with_feeds, taking_of}
 use Rattle.aspa_top.specs.Answers.{AnswersUnless, Replies, refused_for}
 use Rattle.aspa_top.specs.Evaluation.{Asked, DoesAsked, asked_of, counted, Evaluates}
 use Rattle.aspa_top.specs.World.{World}
@@ -63,9 +63,9 @@ changes_counted (change ∷ changes) rest =
 -- ---- what is counted, whatever text comes behind
 
 -- an event writes nothing
-Causes-refused : (state : State) (event : Event) (text : List ℕ) (next : State) (rest : List ℕ)
-    → Causes state event text next → next.refused + refusals_in rest ≡ state.refused + refusals_in (text ++ rest)
-Causes-refused state event text next rest causes = silent text rest state.refused next.refused causes.silent (ap (λ (s : State). s.refused) causes.left)
+MakesHappen-refused : (state : State) (event : Event) (text : List ℕ) (next : State) (rest : List ℕ)
+    → MakesHappen state event text next → next.refused + refusals_in rest ≡ state.refused + refusals_in (text ++ rest)
+MakesHappen-refused state event text next rest causes = silent text rest state.refused next.refused causes.silent (ap (λ (s : State). s.refused) causes.left)
 
 -- a refusal is counted
 Refuses-refused : (state : State) (place : AnyPlace) (cause : Cause) (text : List ℕ) (next : State) (rest : List ℕ) → IsPlaceInLine place
@@ -166,7 +166,7 @@ Replies-refused state question text next rest replies = by_cause (refused_for st
 DoesShort-refused : (state : State) (short : ShortTask) (text : List ℕ) (next : State) (rest : List ℕ)
     → DoesShort state short text next → next.refused + refusals_in rest ≡ state.refused + refusals_in (text ++ rest)
 DoesShort-refused state Nothing text next rest does = silent text rest state.refused next.refused does.0 (ap (λ (s : State). s.refused) does.1)
-DoesShort-refused state (Happen event) text next rest does = Causes-refused state event text next rest does
+DoesShort-refused state (Happen event) text next rest does = MakesHappen-refused state event text next rest does
 DoesShort-refused state (JudgePath role neighbour path) text next rest does =
     answered state next text (verdict_text does.0.verdict ++ 10 ∷ []) rest does.0.text_is (refusals_in-verdict does.0.verdict rest) (ap (λ (s : State). s.refused) does.1)
 

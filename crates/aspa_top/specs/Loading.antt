@@ -13,7 +13,7 @@ use Rattle.aspa_payload.specs.Lines.{IsLinesReading}
 use Rattle.aspa_payload.specs.declared.file.FileFault.TheVariants.{Bad}
 use Rattle.aspa_payload.specs.declared.fault.PayloadFault.{PayloadFault}
 use Rattle.aspa_payload.specs.declared.fault.PayloadFault.TheVariants.{NotDer, Version, NoProviders, Order, SelfProvider, Base64, NoMemory}
-use Rattle.slurm_rules.specs.Reading.{IsReading}
+use Rattle.slurm_rules.specs.Reading.{IsReading as IsSlurmReading}
 use Rattle.slurm_rules.specs.declared.slurm.Slurm.{Slurm as SlurmContent}
 use Rattle.slurm_rules.specs.declared.fault.SlurmFault.{SlurmFault}
 use Rattle.slurm_rules.specs.declared.fault.SlurmFault.TheVariants.{Json, Version as SlurmVersion, Member, Number, NoMemory as SlurmNoMemory}
@@ -53,7 +53,7 @@ abbrev pub Makes : FileKind → List ℕ → TableChange → Type 0
 Makes (Payloads name) bytes change = (rows : RowMap) × IsFileReading bytes (Ok rows) × (change ≡ Replace name rows)
 Makes (PayloadLines name) bytes change = (rows : RowMap) × IsLinesReading bytes (Ok rows) × (change ≡ Replace name rows)
 Makes Slurm bytes change =
-    (slurm : SlurmContent) × IsReading bytes (Ok slurm) × (change ≡ BySlurm slurm.filters slurm.assertions)
+    (slurm : SlurmContent) × IsSlurmReading bytes (Ok slurm) × (change ≡ BySlurm slurm.filters slurm.assertions)
 
 -- The file is refused at this unit for this cause. A SLURM file is one unit.
 abbrev pub Fails : FileKind → List ℕ → Flaw → Type 0
@@ -62,7 +62,7 @@ Fails (Payloads name) bytes flaw =
 Fails (PayloadLines name) bytes flaw =
     (fault : PayloadFault) × IsLinesReading bytes (Err (Bad flaw.unit fault)) × (payload_cause fault ≡ Some flaw.cause)
 Fails Slurm bytes flaw =
-    (fault : SlurmFault) × IsReading bytes (Err fault) × (flaw.unit ≡ 1) × (slurm_cause fault ≡ Some flaw.cause)
+    (fault : SlurmFault) × IsSlurmReading bytes (Err fault) × (flaw.unit ≡ 1) × (slurm_cause fault ≡ Some flaw.cause)
 
 -- a file that is there, and has no more bytes than a file may have; of these this holds
 pub record IsWithin (named : Option (List ℕ)) (P : List ℕ → Type 0) : Type 0 where

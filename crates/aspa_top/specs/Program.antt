@@ -8,7 +8,7 @@ use Rattle.av_text.specs.Number.{IsNumber}
 use Rattle.stated_workload.specs.Text as demo
 use Rattle.av_base.specs.Connections.{Attempt}
 use Rattle.av_base.specs.Files.{Files}
-use Rattle.feed_lines.specs.Holding.{HasMoved as Moved}
+use Rattle.feed_lines.specs.Holding.{HasMoved as FeedsMoved}
 use Rattle.av_base.specs.Told.{AppendsFront, AppendsPart}
 use Rattle.script_lines.specs.declared.command.Command.{Command}
 use Rattle.script_lines.specs.declared.command.LineFault.{LineFault}
@@ -41,7 +41,7 @@ BeginsNext world state (line ∷ more) part ticks moved = Begins world state lin
 -- as many attempts were made as in this state, and these bytes were sent on the connections of the feeds that go on, none of which is
 -- closed or broken
 abbrev pub HasMoved : World → State → Type 0
-HasMoved world state = Moved world.ends.attempts (Some world.ends.links) (feeds_of state)
+HasMoved world state = FeedsMoved world.ends.attempts (Some world.ends.links) (feeds_of state)
 
 -- Some first lines were evaluated, and the next went some way, with this said of their text; as many attempts were made, and such bytes
 -- were sent. The counter ticked at most as often as the first lines may judge, and the next one on its way.
@@ -153,7 +153,8 @@ RanIfTold limit script files links_old links_new script_failed shelf_failed old 
     Ran limit (world_of told links_old.attempts links_new.attempts connections) bytes script_failed shelf_failed
     old new ticks_old ticks_new status)))
 
--- Where memory ran out, and the sink didn't fail: all the text was written that was held, up to the line within which that was.
+-- Where memory ran out, and the sink didn't fail: what was written is the whole text of some first lines and of what the next one had added,
+-- which account for each attempt, each byte sent and each judgement counted.
 abbrev pub StarvedIfTold : ℕ → Option (List ℕ) → Option Files → Links → Links → Option (List ℕ) → Option (List ℕ) → ℕ → ℕ → Type 0
 StarvedIfTold limit script files links_old links_new old new ticks_old ticks_new =
     IfSome script (λ bytes. IfSome files (λ told. IfSome links_new.wire (λ connections.

@@ -39,7 +39,7 @@ pub use Rattle.aspa_top.specs.State.{State, start, same_name, is_stream, Refuses
 use Rattle.aspa_top.specs.World.{World}
 
 -- nothing is written, an event happens, its judgements are counted, and nothing else changes
-pub record Causes (state : State) (event : Event) (text : List ℕ) (next : State) : Type 0 where
+pub record MakesHappen (state : State) (event : Event) (text : List ℕ) (next : State) : Type 0 where
   pub silent : text ≡ []
   pub analysis : Analysis
   pub happens : Happens state.analysis event analysis
@@ -228,7 +228,7 @@ pub record ShowsChanges (state : State) (text : List ℕ) (next : State) : Type 
 -- What a short task writes, and what it leaves.
 abbrev pub DoesShort : State → ShortTask → List ℕ → State → Type 0
 DoesShort state Idle text next = (text ≡ []) × (next ≡ state)
-DoesShort state (Happen event) text next = Causes state event text next
+DoesShort state (Happen event) text next = MakesHappen state event text next
 DoesShort state (Judge role neighbour path) text next =
     IsJudged state.analysis.parts role neighbour path text × (next ≡ record state { judgements = state.judgements + 1 })
 

@@ -68,7 +68,7 @@ NamesBy (PayloadLines name) working next = Names working name next
 NamesBy SlurmFile working next = next ≡ working
 
 -- the change of a good file is made, and its name is noted
-pub record Held (working : Working) (kind : FileKind) (change : TableChange) (next : Working) : Type 0 where
+pub record Loaded (working : Working) (kind : FileKind) (change : TableChange) (next : Working) : Type 0 where
   pub mid : Working
   pub happened : Happened working (TableEvent change) mid
   pub names : NamesBy kind mid next
@@ -83,7 +83,7 @@ abbrev pub Acted : Working → FileKind → Outcome → List ℕ → List ℕ �
 Acted working kind NoFile text_old text_new next = IsRefused working of_line causes.NoFile text_old text_new next
 Acted working kind Long text_old text_new next = IsRefused working of_line causes.FileLong text_old text_new next
 Acted working kind (Flawed flaw) text_old text_new next = IsRefused working (of_unit (unit_name kind) flaw.unit) flaw.cause text_old text_new next
-Acted working kind (Good change) text_old text_new next = (text_new ≡ text_old) × Held working kind change next
+Acted working kind (Good change) text_old text_new next = (text_new ≡ text_old) × Loaded working kind change next
 
 -- the change judges no more than its event may, and without one nothing is judged
 abbrev pub ActedWithin : Working → Outcome → ℕ → ℕ → Type 0

@@ -35,7 +35,8 @@ pub const SCRIPT_LIMIT: usize = 67_108_864;
 /// | 5 | there was no memory |
 /// | 6 | the script has more than [`SCRIPT_LIMIT`] bytes; the lines whose LF is among the first so many were performed |
 ///
-/// At 3, 4 and 5 what was written is a front of that text; at 3 and 5 all that was held, so far as the sink takes it. A failed call on a connection ends no run.
+/// At 3, 4 and 5 what was written is a front of that text; at 3 and 5 the text that is held is
+/// written first, so far as the sink takes it. A failed call on a connection ends no run.
 pub fn run<S: Source, F: Shelf, K: Links, W: Sink, L: Ledger>(
     alloc: Global,
     words: &Vec<String>,
@@ -78,7 +79,8 @@ pub fn run<S: Source, F: Shelf, K: Links, W: Sink, L: Ledger>(
         (Rose (S.faults script.old) (S.faults script.new)) (Rose (F.faults shelf.old) (F.faults shelf.new))
         (Rose (W.faults out.old) (W.faults out.new)) result }
 
-    // Where memory ran out and the sink didn't fail, all the text was written that was held.
+    // Where memory ran out and the sink didn't fail, what was written is the whole text of some first lines and of what the next one had
+    // added, and these account for each attempt, each byte sent and each judgement counted.
     ensures starved { IsRun (map string_bytes words.now.items) → result ≡ 5
         → ¬ Rose (W.faults out.old) (W.faults out.new) → StarvedIfTold SCRIPT_LIMIT
         (S.left script.old) (F.files shelf.old)

@@ -6,7 +6,7 @@ ghost use Rattle.aspa_top.specs.declared.task.Task.TheVariants.{Load};
 ghost use Rattle.aspa_top.specs.Outside.{Keeps, outside};
 ghost use Rattle.aspa_top.specs.Performing.{Did};
 ghost use Rattle.aspa_top.specs.Standing.{IsBegun};
-ghost use Rattle.aspa_top.specs.Working.{Acted, ActedWithin, Held, Names};
+ghost use Rattle.aspa_top.specs.Working.{Acted, ActedWithin, Loaded, Names};
 
 use crate::acting::{happen, refuse};
 use crate::loading::{FileKind, Outcome, load_file};
@@ -86,7 +86,7 @@ fn hold<L: Ledger>(
     made: TableChange,
     steps: &mut Steps<L>,
 ) -> Result<Working, NoMemory>
-    ensures held { IfOk result (Held working kind made) }
+    ensures held { IfOk result (Loaded working kind made) }
     ensures ticks { TicksWithin working.analyser (TableEvent made) steps.old steps.new }
 {
     let changed = happen(working, Event::Table(made), steps)?;

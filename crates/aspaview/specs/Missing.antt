@@ -1,4 +1,4 @@
--- Which errors say that a name isn't there. Only private contracts cite this module.
+-- Which errors say that a name isn't there.
 use Rattle.std.specs.Prelude.{Bool, true, false}
 use Rattle.std.specs.declared.io.ErrorKind.{ErrorKind}
 use Rattle.std.specs.declared.io.ErrorKind.TheVariants.{NotFound, NotADirectory, InvalidFilename, FilesystemLoop}

@@ -1,7 +1,7 @@
 //! The program `aspaview`: it gives [`aspa_top::run`] the real standard input and output and the system's files and connections, and ends
 //! with its answer.
 //!
-//! `main` makes the objects, and `perform` runs over them with `run`'s own clauses. The adapters in `input.rt`, `output.rt`,
+//! `main` makes the objects, and `perform` runs over them with some of `run`'s clauses. The adapters in `input.rt`, `output.rt`,
 //! `file_shelf.rt` and `tcp_links.rt` keep the contracts of a source, of a sink, of a shelf and of links, and tell no bytes; those that
 //! the reader, writer, file or stream behind them knows go through unchanged. What the system really gives and takes is trusted. Nothing
 //! is written to standard error.
