@@ -1,6 +1,6 @@
 #!/usr/bin/env bash
-# Tests of the built program: its statuses, what it says of names that aren't there and of places that are none, and that it lets go of
-# files that it is done with. The last line is 'N passed, M failed', and the status is 0 where none failed.
+# Tests of the built program: its statuses, what it says of names that aren't there and of places that are none, that it lets go of
+# files that it is done with, and what it makes of standard streams that are closed or don't wait. The last line is 'N passed, M failed', and the status is 0 where none failed.
 set -u
 cd "$(dirname "$0")/.." || exit
 program=$PWD/crates/aspaview/out/aspaview
@@ -121,6 +121,98 @@ for place in localhost localhost: localhost:0 localhost:65536 localhost:0323 loc
     ::1:323 '[127.0.0.1]:323' '[localhost]:323' '[::1%lo]:323' .localhost:323 localhost.:323 'local/host:323'; do
     lines "feed c $place" | runs "the place $place" 1 '! line 1 c unreachable'
 done
+
+# ---- standard streams that are closed: no file and no connection has their number
+
+"$program" run <&-
+check 'standard input is closed' 3 $?
+lines 'judge customer 64501 64501' | "$program" run >&-
+check 'standard output is closed' 4 $?
+"$program" demo 1 >&- <&-
+check 'both are closed' 4 $?
+
+# listen PORT HEARD: waits for one connection, at a port that it writes to a file, and writes there what was heard till its end.
+listen() {
+    python3 - "$1" "$2" <<'END'
+import os, socket, sys
+
+listener = socket.create_server(("127.0.0.1", 0))
+listener.settimeout(20)
+with open(sys.argv[1] + "~", "w") as port:
+    port.write(str(listener.getsockname()[1]))
+os.rename(sys.argv[1] + "~", sys.argv[1])
+connection, _ = listener.accept()
+connection.settimeout(20)
+heard = b""
+while piece := connection.recv(4096):
+    heard += piece
+with open(sys.argv[2], "w") as text:
+    text.write(heard.hex())
+END
+}
+
+# within SECONDS COMMAND..: tries until it succeeds
+within() {
+    local end=$((SECONDS + $1))
+    shift
+    until "$@"; do
+        [ "$SECONDS" -le "$end" ] || return 1
+        sleep 0.02
+    done
+}
+
+listen "$work/port" "$work/heard" &
+within 20 test -e "$work/port"
+lines "feed c 127.0.0.1:$(cat "$work/port")" 'judge customer 64501 64501' | "$program" run >&-
+check 'standard output is closed, and a feed is connected' 4 $?
+wait
+check 'the feed hears its query and nothing else' 0202000000000008 "$(cat "$work/heard")"
+
+# ---- standard streams that don't wait are waited for
+
+# unwaiting WHICH: the program, over the script that standard input gives, with a stream of its own that doesn't wait: 'input', which has
+# nothing for a while, or 'output', which is full for a while.
+unwaiting() {
+    python3 -c '
+import os, subprocess, sys, time
+
+taken, given = os.pipe()
+if sys.argv[2] == "input":
+    os.set_blocking(taken, False)
+    run = subprocess.Popen([sys.argv[1], "run"], stdin=taken)
+    os.close(taken)
+    time.sleep(0.2)
+    with open(given, "wb") as script:
+        script.write(sys.stdin.buffer.read())
+    sys.exit(run.wait())
+os.set_blocking(given, False)
+run = subprocess.Popen([sys.argv[1], "run"], stdout=given)
+os.close(given)
+time.sleep(0.2)
+with open(taken, "rb") as text:
+    sys.stdout.buffer.write(text.read())
+sys.exit(run.wait())
+' "$program" "$1"
+}
+check 'standard input has nothing yet' 'valid 0' "$(lines 'judge customer 64501 64501' | unwaiting input | tr '\n' ' '; echo "${PIPESTATUS[1]}")"
+for ((i = 1; i <= 20000; i++)); do lines 'judge customer 64501 64501'; done >"$work/script"
+check 'standard output is full' "$(lines 20000 0)" "$(unwaiting output <"$work/script" | grep -c '^valid$'; echo "${PIPESTATUS[0]}")"
+
+# ---- before a call that may wait the text is written that is held
+
+holds() {
+    [ "$(cat "$work/held")" = "$1" ]
+}
+mkfifo "$work/fifo"
+lines 'judge customer 64501 64501' "open d $work/fifo" 'take d 9' 'summary' | "$program" run >"$work/held" &
+check 'a dump that is opened is waited for' 0 "$(within 10 holds valid; echo $?)"
+exec 5>"$work/fifo"
+printf '\0\0\0\0\0\15\0\2\0\0\0\37\0\0\0\0\30\306\63\144\0\1\0\0\0\0\0\0\0\15\100\2\12\2\2\0\0\373\365\0\0\373\364' >&5
+check 'a record is waited for' 0 "$(within 10 holds "$(lines valid '! line 3 d unit 1 cause 29 NoPeerTable')"; echo $?)"
+exec 5>&-
+wait
+check 'the text is whole' "$(lines valid '! line 3 d unit 1 cause 29 NoPeerTable' \
+    'summary routes 0 valid 0 unknown 0 invalid 0 customers 0 passed 0 refused 1')" "$(cat "$work/held")"
 
 echo "$(wc -l <"$work/passed") passed, $(wc -l <"$work/failed") failed"
 [ ! -s "$work/failed" ]

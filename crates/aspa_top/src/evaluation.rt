@@ -1,7 +1,7 @@
 //! The lines of a script performed one after another.
-ghost use Rattle.std.specs.Prelude.{◌≡◌, ◌^◌, ◌<◌, ◌≤◌, [], length};
+ghost use Rattle.std.specs.Prelude.{◌≡◌, ◌^◌, ◌<◌, ◌≤◌, [], length, OnErr};
 ghost use Rattle.std.specs.Io.KnownBytes.{append_known};
-ghost use Rattle.av_base.specs.Told.{Grows, Rose};
+ghost use Rattle.av_base.specs.Told.{Grows, HasCause, Rose};
 ghost use Rattle.av_text.specs.Lines.{lines_in};
 ghost use Rattle.report_text.specs.Reported.{AddsFront};
 ghost use Rattle.aspa_top.specs.Evaluated.{Evaluated, Poured, StoppedByFault};
@@ -9,14 +9,14 @@ ghost use Rattle.aspa_top.specs.Outside.{Keeps, outside};
 
 use crate::performing::perform_line;
 use crate::working::Working;
-use av_base::{Links, Shelf, Sink, Steps, pour, pour_piece};
+use av_base::{Fault, Links, Shelf, Sink, Steps, pour, pour_piece};
 use av_text::next_line;
 use std::alloc::Global;
 use std::sync::ledger::Ledger;
 use stream_lines::Stop;
 
 /// Performs the lines of a whole script, or of the front of one, and answers how many were refused. Their text is held, and written in
-/// pieces. Where the shelf fails, or memory runs out, the text before that is written first; there the sink's own faults count for
+/// pieces, and before a line that may wait. Where the shelf fails, or memory runs out, the text before that is written first; there the sink's own faults count for
 /// nothing where memory ran out.
 pub(crate) fn evaluate<F: Shelf, K: Links, W: Sink, L: Ledger>(
     alloc: Global,
@@ -52,10 +52,36 @@ pub(crate) fn evaluate<F: Shelf, K: Links, W: Sink, L: Ledger>(
             Err(stop) => return Err(write_held(stop, out, &mut text)),
         }
         left = more;
-        pour_piece(out, &mut text)?;
+        pour_before(left, out, &mut text)?;
     }
     pour(out, &mut text)?;
     Ok(working.refused)
+}
+
+// Writes what is held once that is a whole piece, and all of it where what is left begins with a line that may wait.
+fn pour_before<W: Sink>(left: &[u8], out: &mut W, text: &mut Vec<u8>) -> Result<(), Fault>
+    ensures same { append_known (W.written out.new) text.new.items
+        ≡ append_known (W.written out.old) text.old.items }
+    ensures grows { Grows (W.written out.old) (W.written out.new) }
+    ensures err { OnErr result (0 < length text.new.items) }
+    ensures cause { HasCause (W.faults out.old) (W.faults out.new) result }
+{
+    if may_wait(left) {
+        pour(out, text)
+    } else {
+        pour_piece(out, text)
+    }
+}
+
+// Whether the first of these lines may wait for others when it is performed: it opens or reads a file, or speaks with a cache.
+fn may_wait(lines: &[u8]) -> bool {
+    let waiting: [&[u8]; 7] = [b"ask", b"aspa", b"feed", b"open", b"slurm", b"sync", b"take"];
+    let blanks = lines
+        .iter()
+        .take_while(|byte| matches!(byte, b' ' | b'\t'))
+        .count();
+    let (_, line) = lines.split_at(blanks);
+    waiting.iter().any(|word| line.starts_with(word))
 }
 
 // Writes what is held where a line ended early, unless the sink failed in it, and answers what stops the lines.

@@ -5,10 +5,12 @@ ghost use Rattle.av_base.specs.Connections.{new_standing};
 ghost use Rattle.av_base.specs.declared.standing.Break.TheVariants.{BySend, ByRecv};
 ghost use Rattle.aspaview.specs.Known.{new_known};
 
+use crate::again::{read_again, write_again};
 use av_base::{Break, Fault};
 use std::io::{Read, Write};
 use std::marker::Model;
 use std::net::{OpenStream, Shutdown};
+use std::time::Clock;
 
 /// A connection: its stream until it is closed, and the call by which it broke. It is closed where its stream is dropped.
 #[derive(Drop)]
@@ -42,7 +44,7 @@ impl<S: Read + Write + OpenStream + Drop> Connection<S> {
     }
 
     /// Sends bytes from the front of the buffer, at least one, and answers how many. A fault breaks the connection.
-    pub fn send(&mut self, buf: &[u8]) -> Result<usize, Fault>
+    pub fn send<C: Clock>(&mut self, clock: &C, buf: &[u8]) -> Result<usize, Fault>
         requires some_bytes { 0 < length buf.now }
         requires usable { self.old.standing ≡ new_standing }
         ensures some { IfOk result (λ n. 0 < n) }
@@ -57,9 +59,9 @@ impl<S: Read + Write + OpenStream + Drop> Connection<S> {
         let Some(stream) = &mut self.stream else {
             return Err(Fault);
         };
-        match stream.write(buf) {
-            Ok(count) if count > 0 => Ok(count),
-            _ => {
+        match write_again(stream, clock, buf) {
+            Ok(count) => Ok(count),
+            Err(Fault) => {
                 self.broken = Some(Break::BySend);
                 Err(Fault)
             }
@@ -68,7 +70,7 @@ impl<S: Read + Write + OpenStream + Drop> Connection<S> {
 
     /// Receives bytes into the front of the buffer, and answers how many: 0 only where nothing is to come. It waits for the
     /// first of them. A fault breaks the connection.
-    pub fn recv(&mut self, buf: &mut [u8]) -> Result<usize, Fault>
+    pub fn recv<C: Clock>(&mut self, clock: &C, buf: &mut [u8]) -> Result<usize, Fault>
         requires some_room { 0 < length buf.old }
         requires usable { self.old.standing ≡ new_standing }
         ensures bound { IfOk result (λ n. n ≤ length buf.new) }
@@ -82,9 +84,9 @@ impl<S: Read + Write + OpenStream + Drop> Connection<S> {
         let Some(stream) = &mut self.stream else {
             return Err(Fault);
         };
-        match stream.read(buf) {
+        match read_again(stream, clock, buf) {
             Ok(count) => Ok(count),
-            Err(_) => {
+            Err(Fault) => {
                 self.broken = Some(Break::ByRecv);
                 Err(Fault)
             }

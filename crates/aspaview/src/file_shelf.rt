@@ -11,18 +11,18 @@ use av_base::{Fault, Shelf};
 use std::alloc::Global;
 use std::fs::File;
 use std::io::{self, ErrorKind};
-use std::rt::Files;
+use std::rt::{Clock, Files};
 
 /// The files of the system as a shelf, which counts each error but a name that isn't there as a fault. As a shelf it tells no names and no bytes;
 /// what it does to those that an opened file knows is said by its own clause.
 #[derive(Drop)]
-pub struct FileShelf<R: Files> {
+pub struct FileShelf<R: Files + Clock> {
     runtime: R,
     opened: Vec<OpenedFile<R::File>>,
     faults: u64,
 }
 
-impl<R: Files> FileShelf<R> {
+impl<R: Files + Clock> FileShelf<R> {
     /// The files that the runtime reaches.
     pub fn new(alloc: Global, runtime: R) -> FileShelf<R>
         ensures opened { result.opened.items ≡ [] }
@@ -86,7 +86,7 @@ impl<R: Files> FileShelf<R> {
     }
 }
 
-impl<R: Files> Shelf for FileShelf<R> {
+impl<R: Files + Clock> Shelf for FileShelf<R> {
     ghost files = { λ _. None };
 
     ghost opened = { λ shelf. length shelf.opened.items };
@@ -116,7 +116,7 @@ impl<R: Files> Shelf for FileShelf<R> {
             IfSome (slice_get self.new.opened.items file) (λ new.
             ReadConsumes (left_in R.File.remaining old.reader) (left_in R.File.remaining new.reader) result buf.new)) }
     {
-        match self.opened[file as usize].read(buf) {
+        match self.opened[file as usize].read(&self.runtime, buf) {
             Ok(count) => Ok(count),
             Err(Fault) => {
                 self.faults = self.faults.saturating_add(1);

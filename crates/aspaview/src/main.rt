@@ -14,6 +14,7 @@ ghost use Rattle.av_base.specs.Told.{Rose};
 ghost use Rattle.aspa_top.specs.Program.{AreOwn, Completes, Demonstrates, IsDemo, IsRun, IsStatus, RanIfTold};
 ghost use Rattle.aspa_top.specs.World.{linked, names_of};
 
+mod again;
 mod connection;
 mod file_shelf;
 mod input;
@@ -30,6 +31,7 @@ use input::InputSource;
 use output::OutputSink;
 use std::alloc::{AllocError, Global};
 use std::env;
+use std::fs::File;
 use std::io::{self, ErrorKind};
 use std::marker::Brand;
 use std::process::ExitCode;
@@ -39,19 +41,27 @@ use tcp_links::TcpLinks;
 // The status of other words than the program's own.
 const OTHER_WORDS: u8 = 2;
 
+// A folder that is always there.
+const FOLDER: &str = "/";
+
 // The status where there is no memory.
 const NO_MEMORY: u8 = 5;
 
 fn main(rt: HostRuntime) -> ExitCode {
+    // Where a standard stream is closed, its number goes to one of these folders, which can be neither read nor written, and is no file's
+    // and no connection's until the end.
+    let _first = File::open(&rt, FOLDER);
+    let _second = File::open(&rt, FOLDER);
+    let _third = File::open(&rt, FOLDER);
     let status = match env::args(&rt) {
         Ok(arguments) => match arguments.skip(1).collect(rt.alloc()) {
             Ok(words) => perform::<_, _, _, _, Brand>(
                 rt.alloc(),
                 &words,
-                &mut InputSource::new(rt.reader()),
+                &mut InputSource::new(rt.reader(), &rt),
                 &mut FileShelf::new(rt.alloc(), &rt),
                 &mut TcpLinks::new(rt.alloc(), &rt),
-                &mut OutputSink::new(io::writer(&rt)),
+                &mut OutputSink::new(io::writer(&rt), &rt),
                 Blank::new(1),
             ),
             Err(AllocError) => NO_MEMORY,

@@ -3,8 +3,10 @@ ghost use Rattle.std.specs.Prelude.{◌≡◌, ◌<◌, ◌≤◌, None, Ok, Som
 ghost use Rattle.std.specs.Io.KnownBytes.{ReadConsumes};
 ghost use Rattle.aspaview.specs.Known.{left_in};
 
+use crate::again::read_again;
 use av_base::Fault;
 use std::io::Read;
+use std::time::Clock;
 
 /// A file that was opened. It is dropped once its end was met or it was let go, and gives nothing from then on.
 #[derive(Drop)]
@@ -23,7 +25,7 @@ impl<F: Read + Drop> OpenedFile<F> {
     }
 
     /// Moves bytes from the front of what is left to the front of the buffer, and answers how many.
-    pub fn read(&mut self, buf: &mut [u8]) -> Result<usize, Fault>
+    pub fn read<C: Clock>(&mut self, clock: &C, buf: &mut [u8]) -> Result<usize, Fault>
         requires { 0 < length buf.old }
         ensures bound { IfOk result (λ n. n ≤ length buf.new) }
 
@@ -38,14 +40,11 @@ impl<F: Read + Drop> OpenedFile<F> {
         let Some(reader) = &mut self.reader else {
             return Ok(0);
         };
-        match reader.read(buf) {
-            Ok(0) => {
-                self.reader = None;
-                Ok(0)
-            }
-            Ok(count) => Ok(count),
-            Err(_) => Err(Fault),
+        let count = read_again(reader, clock, buf)?;
+        if count == 0 {
+            self.reader = None;
         }
+        Ok(count)
     }
 
     /// Lets the file go. It gives nothing from then on.

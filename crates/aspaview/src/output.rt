@@ -2,27 +2,34 @@ ghost use Rattle.std.specs.Prelude.{◌≡◌, ◌<◌, ◌≤◌, length, IfOk}
 ghost use Rattle.std.specs.Io.KnownBytes.{WriteAppends};
 ghost use Rattle.av_base.specs.Told.{HasCause};
 
+use crate::again::write_again;
 use av_base::{Fault, Sink};
 use std::io::Write;
+use std::time::Clock;
 
-/// A writer as a sink, which counts each error of the writer as a fault, and each write that takes nothing. As a sink it tells no bytes,
+/// A writer as a sink, which counts each error of the writer as a fault, but where it is to be written again, and each write that takes nothing. As a sink it tells no bytes,
 /// since a writer may come to know its bytes late; what it does to those that the writer knows is said by its own clause.
 #[derive(Drop)]
-pub struct OutputSink<W: Write> {
+pub struct OutputSink<W: Write, C: Clock> {
     writer: W,
+    clock: C,
     faults: u64,
 }
 
-impl<W: Write> OutputSink<W> {
+impl<W: Write, C: Clock> OutputSink<W, C> {
     /// The sink of what the writer takes.
-    pub fn new(writer: W) -> OutputSink<W>
-        ensures { result ≡ record { writer = writer; faults = 0 } }
+    pub fn new(writer: W, clock: C) -> OutputSink<W, C>
+        ensures { result ≡ record { writer = writer; clock = clock; faults = 0 } }
     {
-        OutputSink { writer, faults: 0 }
+        OutputSink {
+            writer,
+            clock,
+            faults: 0,
+        }
     }
 }
 
-impl<W: Write> Sink for OutputSink<W> {
+impl<W: Write, C: Clock> Sink for OutputSink<W, C> {
     ghost use Rattle.std.specs.Prelude.{None};
 
     ghost written = { λ _. None };
@@ -38,9 +45,9 @@ impl<W: Write> Sink for OutputSink<W> {
         // Bytes that the writer knows grow by those that were taken, and at a fault they stay.
         ensures known { WriteAppends (W.contents self.old.writer) (W.contents self.new.writer) result buf.now }
     {
-        match self.writer.write(buf) {
-            Ok(count) if count > 0 => Ok(count),
-            _ => {
+        match write_again(&mut self.writer, &self.clock, buf) {
+            Ok(count) => Ok(count),
+            Err(Fault) => {
                 self.faults = self.faults.saturating_add(1);
                 Err(Fault)
             }

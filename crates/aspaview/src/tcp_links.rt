@@ -148,7 +148,7 @@ impl<R: Net + Clock> Links for TcpLinks<R> {
             IfSome (slice_get self.new.links link) (λ new.
             WriteAppends old.sent new.sent result buf.now)) }
     {
-        match self.links[link as usize].send(buf) {
+        match self.links[link as usize].send(&self.runtime, buf) {
             Ok(count) => Ok(count),
             Err(Fault) => {
                 self.faults = self.faults.saturating_add(1);
@@ -178,7 +178,7 @@ impl<R: Net + Clock> Links for TcpLinks<R> {
             IfSome (slice_get self.new.links link) (λ new.
             ReadConsumes old.to_come new.to_come result buf.new)) }
     {
-        match self.links[link as usize].recv(buf) {
+        match self.links[link as usize].recv(&self.runtime, buf) {
             Ok(count) => Ok(count),
             Err(Fault) => {
                 self.faults = self.faults.saturating_add(1);

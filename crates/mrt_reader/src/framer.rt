@@ -89,6 +89,11 @@ impl Framer {
         }
     }
 
+    /// Whether `next` has an answer other than `None` for what is held.
+    pub fn is_ready(&self) -> bool {
+        !matches!(whole_head(self.held.front()), Ok(None))
+    }
+
     /// Whether the stream may end here: 27 CutShort comes exactly where some byte is held. Where `next` answered `None` that byte
     /// begins a record that is cut.
     pub fn finish(&self) -> Result<(), FrameFault>

@@ -70,6 +70,11 @@ impl OpenDump {
         self.over
     }
 
+    /// Whether what comes next is held already, so that no read is waited for.
+    pub(crate) fn is_ready(&self) -> bool {
+        self.framer.is_ready()
+    }
+
     /// How many units were taken.
     pub(crate) fn taken(&self) -> u64
         ensures { result ≡ self.now.taken }

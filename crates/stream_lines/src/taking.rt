@@ -2,7 +2,7 @@
 ghost use Rattle.std.specs.Prelude.{◌≡◌, ◌<◌, ◌≤◌, ◌≢◌, ◌+◌, ◌++◌, ◌^◌, ℕ, List, IfOk, OnOk, OnErr, IsErrOf, length};
 ghost use Rattle.std.specs.Io.KnownBytes.{append_known};
 ghost use Rattle.std.specs.declared.option.Option.{Option};
-ghost use Rattle.av_base.specs.Told.{Grows, Rose};
+ghost use Rattle.av_base.specs.Told.{Grows, HasCause, Rose};
 ghost use Rattle.av_text.specs.Spellings.{IsInLine};
 ghost use Rattle.report_text.specs.Refusals.{of_unit, refusal_text};
 ghost use Rattle.report_text.specs.Reported.{AddsQuiet};
@@ -15,7 +15,7 @@ use crate::body::{body_cause, take_body};
 use crate::dump::{Next, OpenDump};
 use crate::stop::{ReadFault, Stop};
 use analyser::Analyser;
-use av_base::{NoMemory, Shelf, Sink, Steps, pour_piece};
+use av_base::{Fault, NoMemory, Shelf, Sink, Steps, pour, pour_piece};
 use report_text::{Cause, Place, put_refusal};
 use std::alloc::Global;
 use std::sync::ledger::Ledger;
@@ -100,9 +100,24 @@ pub fn take_units<F: Shelf, W: Sink, L: Ledger>(
             return Ok(progress);
         }
         progress = take_unit(alloc, dump, asking, progress, shelf, text, steps)?;
-        pour_piece(out, text)?;
+        pour_before(dump, out, text)?;
     }
     Ok(progress)
+}
+
+// Writes what is held once that is a whole piece, and all of it before a read that may wait.
+fn pour_before<W: Sink>(dump: &OpenDump, out: &mut W, text: &mut Vec<u8>) -> Result<(), Fault>
+    ensures same { append_known (W.written out.new) text.new.items
+        ≡ append_known (W.written out.old) text.old.items }
+    ensures grows { Grows (W.written out.old) (W.written out.new) }
+    ensures err { OnErr result (0 < length text.new.items) }
+    ensures cause { HasCause (W.faults out.old) (W.faults out.new) result }
+{
+    if dump.is_ready() {
+        pour_piece(out, text)
+    } else {
+        pour(out, text)
+    }
 }
 
 // Takes what comes next in a dump that isn't over.

@@ -29,13 +29,13 @@ pub loop-line-preserved : goal.loop-line-preserved
 loop-line-preserved g c =
     let did = c.in-Ok.ensures.did in
     record {
-      so_far = λ world tells begins. Performing-poured world _ _ _ _ _ _ _ _ c.pour_piece.ensures.same
+      so_far = λ world tells begins. Performing-poured world _ _ _ _ _ _ _ _ c.pour_before.ensures.same
           (Performing-next world _ _ _ _ _ _ _ _ _ (c.loop-line.invariant.so_far world tells begins) c.in-Some.ensures.first (Tells-names _ _ world c.loop-line.invariant.keeps.names tells)
           c.perform_line.ensures.keeps did (g.met.K.Links.agrees c.perform_line.new.links));
-      keeps = Keeps-trans c.loop-line.invariant.keeps (Keeps-trans c.perform_line.ensures.keeps (keeps_sink _ _ _ _ _ c.pour_piece.ensures.grows c.pour_piece.ensures.cause.later));
+      keeps = Keeps-trans c.loop-line.invariant.keeps (Keeps-trans c.perform_line.ensures.keeps (keeps_sink _ _ _ _ _ c.pour_before.ensures.grows c.pour_before.ensures.cause.later));
       count = omega (arith, c.loop-line.invariant.count, c.in-Some.ensures.less, did.did.lines);
       ready = record { sound = did.did.ready.sound; feeds = did.did.ready.feeds };
-      adds = lines_poured _ _ _ _ _ c.pour_piece.ensures.same (adds_more _ _ _ _ _ _ c.loop-line.invariant.adds did.did.adds);
+      adds = lines_poured _ _ _ _ _ c.pour_before.ensures.same (adds_more _ _ _ _ _ _ c.loop-line.invariant.adds did.did.adds);
     }
 
 -- a line ended early
@@ -55,20 +55,20 @@ returns-in-Err g c =
     }
 
 -- the sink failed between two lines
-pub returns-in_err-pour_piece : goal.returns-in_err-pour_piece
-returns-in_err-pour_piece g c =
+pub returns-in_err-pour_before : goal.returns-in_err-pour_before
+returns-in_err-pour_before g c =
     let did = c.in-Ok.ensures.did in
-    let grows = Grows-trans c.loop-line.invariant.keeps.grows (Grows-trans c.perform_line.ensures.keeps.grows c.pour_piece.ensures.grows) in
-    let later = c.pour_piece.ensures.cause.later in
+    let grows = Grows-trans c.loop-line.invariant.keeps.grows (Grows-trans c.perform_line.ensures.keeps.grows c.pour_before.ensures.grows) in
+    let later = c.pour_before.ensures.cause.later in
     let keeps = Keeps-trans c.loop-line.invariant.keeps c.perform_line.ensures.keeps in
     record {
-      keeps = Keeps-trans keeps (keeps_sink _ _ _ _ _ c.pour_piece.ensures.grows later);
+      keeps = Keeps-trans keeps (keeps_sink _ _ _ _ _ c.pour_before.ensures.grows later);
       evaluated = λ world meets. sink_ended world _ _ _ c.from_residual.result c.from_residual.ensures.1
-          (ended_between world _ _ _ _ _ _ _ meets (Performing-poured world _ _ _ _ _ _ _ _ c.pour_piece.ensures.same
+          (ended_between world _ _ _ _ _ _ _ meets (Performing-poured world _ _ _ _ _ _ _ _ c.pour_before.ensures.same
           (Performing-next world _ _ _ _ _ _ _ _ _ (c.loop-line.invariant.so_far world meets.tells meets.begins) c.in-Some.ensures.first (Tells-names _ _ world c.loop-line.invariant.keeps.names meets.tells)
-          c.perform_line.ensures.keeps did (g.met.K.Links.agrees c.perform_line.new.links))) grows c.in_err-pour_piece.ensures.err);
-      causes = sink_stopped _ _ c.from_residual.result c.from_residual.ensures.1 _ keeps c.in_err-pour_piece.ensures.cause.failed;
-      adds = written_lines _ _ _ _ _ grows (front_poured _ _ _ _ _ c.pour_piece.ensures.same (adds_front _ _ _ _ (adds_more _ _ _ _ _ _ c.loop-line.invariant.adds did.did.adds)));
+          c.perform_line.ensures.keeps did (g.met.K.Links.agrees c.perform_line.new.links))) grows c.in_err-pour_before.ensures.err);
+      causes = sink_stopped _ _ c.from_residual.result c.from_residual.ensures.1 _ keeps c.in_err-pour_before.ensures.cause.failed;
+      adds = written_lines _ _ _ _ _ grows (front_poured _ _ _ _ _ c.pour_before.ensures.same (adds_front _ _ _ _ (adds_more _ _ _ _ _ _ c.loop-line.invariant.adds did.did.adds)));
     }
 
 -- or behind the last

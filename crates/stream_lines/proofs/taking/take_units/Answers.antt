@@ -41,24 +41,24 @@ returns-in_err-progress-clause-some g c =
     (ap (append_known (g.W.Sink.written c.loop-turn.out)) c.in_err-progress.ensures.err)
     (ticks_next _ c.loop-turn._turn _ _ _ _ _ _ _ _ _ _ _ c.loop-turn.invariant.took c.loop-turn.invariant.ticks (sym c.is_over.ensures ∙ c.if-is_over.false) c.take_unit.ensures.ticks)
 
-pub returns-in_err-pour_piece-clause-some : goal.returns-in_err-pour_piece-clause-some
-returns-in_err-pour_piece-clause-some g c =
+pub returns-in_err-pour_before-clause-some : goal.returns-in_err-pour_before-clause-some
+returns-in_err-pour_before-clause-some g c =
     TookUnits-some _ _ _ _ _ (c.loop-turn._turn + 1) (c.loop-turn._turn + 1) _ _ _ _ (append_known (g.W.Sink.written c.loop-turn.out) c.take_unit.new.text.items) _ _ _ (omega arith) (omega arith) (omega arith)
     (TookUnits-next _ _ _ _ _ c.loop-turn._turn _ _ _ _ _ _ _ _ (g.W.Sink.written c.loop-turn.out) _ _ c.loop-turn.invariant.took (sym c.is_over.ensures ∙ c.if-is_over.false) c.in_ok-progress.ensures.took refl refl)
-    c.pour_piece.ensures.same
+    c.pour_before.ensures.same
     (ticks_next _ c.loop-turn._turn _ _ _ _ _ _ _ _ _ _ _ c.loop-turn.invariant.took c.loop-turn.invariant.ticks (sym c.is_over.ensures ∙ c.if-is_over.false) c.take_unit.ensures.ticks)
 
-pub returns-in_err-pour_piece-clause-others : goal.returns-in_err-pour_piece-clause-others
-returns-in_err-pour_piece-clause-others g c =
+pub returns-in_err-pour_before-clause-others : goal.returns-in_err-pour_before-clause-others
+returns-in_err-pour_before-clause-others g c =
     Leaves-trans c.loop-turn.invariant.others
     (subst (λ (file : ℕ). Leaves (λ other. other ≢ file) (g.F.Shelf.files c.loop-turn.shelf) (g.F.Shelf.files c.take_unit.new.shelf)) c.loop-turn.invariant.file c.take_unit.ensures.others)
 
-pub returns-in_err-pour_piece-clause-grows : goal.returns-in_err-pour_piece-clause-grows
-returns-in_err-pour_piece-clause-grows g c = Grows-trans c.loop-turn.invariant.grows c.pour_piece.ensures.grows
+pub returns-in_err-pour_before-clause-grows : goal.returns-in_err-pour_before-clause-grows
+returns-in_err-pour_before-clause-grows g c = Grows-trans c.loop-turn.invariant.grows c.pour_before.ensures.grows
 
 pub loop-turn-preserved : goal.loop-turn-preserved
 loop-turn-preserved g c = record {
-  took = TookUnits-next _ _ _ _ _ c.loop-turn._turn _ _ _ _ _ _ _ _ (g.W.Sink.written c.loop-turn.out) _ _ c.loop-turn.invariant.took (sym c.is_over.ensures ∙ c.if-is_over.false) c.in_ok-progress.ensures.took refl c.pour_piece.ensures.same;
+  took = TookUnits-next _ _ _ _ _ c.loop-turn._turn _ _ _ _ _ _ _ _ (g.W.Sink.written c.loop-turn.out) _ _ c.loop-turn.invariant.took (sym c.is_over.ensures ∙ c.if-is_over.false) c.in_ok-progress.ensures.took refl c.pour_before.ensures.same;
   within = omega arith;
   file = c.take_unit.ensures.file ∙ c.loop-turn.invariant.file;
   lets_go = LetsGo-next c.args.dump.now c.loop-turn.dump c.take_unit.new.dump _ (sym c.is_over.ensures ∙ c.if-is_over.false) c.in_ok-progress.ensures.lets_go;
@@ -72,10 +72,10 @@ loop-turn-preserved g c = record {
       (subst (λ (file : ℕ). Leaves (λ other. other ≢ file) (g.F.Shelf.files c.loop-turn.shelf) (g.F.Shelf.files c.take_unit.new.shelf)) c.loop-turn.invariant.file c.take_unit.ensures.others);
   opened = c.take_unit.ensures.opened ∙ c.loop-turn.invariant.opened;
   shelf_faults = omega (arith, c.take_unit.ensures.faults, c.loop-turn.invariant.shelf_faults);
-  grows = Grows-trans c.loop-turn.invariant.grows c.pour_piece.ensures.grows;
-  sink_faults = omega (arith, c.pour_piece.ensures.cause.later, c.loop-turn.invariant.sink_faults);
+  grows = Grows-trans c.loop-turn.invariant.grows c.pour_before.ensures.grows;
+  sink_faults = omega (arith, c.pour_before.ensures.cause.later, c.loop-turn.invariant.sink_faults);
   reports = λ in_line. units_reported _ _ (g.W.Sink.written c.loop-turn.out) _ _ (c.loop-turn.invariant.reports in_line)
-      (c.take_unit.ensures.reports in_line (g.W.Sink.written c.loop-turn.out)) c.pour_piece.ensures.same;
+      (c.take_unit.ensures.reports in_line (g.W.Sink.written c.loop-turn.out)) c.pour_before.ensures.same;
 }
 
 pub returns-clause-took : goal.returns-clause-took
@@ -96,8 +96,8 @@ pub returns-in_err-progress-clause-ticks : goal.returns-in_err-progress-clause-t
 returns-in_err-progress-clause-ticks g c = ticks_more _ (c.loop-turn._turn + 1) _ _ _ _ _ _ (omega arith)
     (ticks_next _ c.loop-turn._turn _ _ _ _ _ _ _ _ _ _ _ c.loop-turn.invariant.took c.loop-turn.invariant.ticks (sym c.is_over.ensures ∙ c.if-is_over.false) c.take_unit.ensures.ticks)
 
-pub returns-in_err-pour_piece-clause-ticks : goal.returns-in_err-pour_piece-clause-ticks
-returns-in_err-pour_piece-clause-ticks g c = ticks_more _ (c.loop-turn._turn + 1) _ _ _ _ _ _ (omega arith)
+pub returns-in_err-pour_before-clause-ticks : goal.returns-in_err-pour_before-clause-ticks
+returns-in_err-pour_before-clause-ticks g c = ticks_more _ (c.loop-turn._turn + 1) _ _ _ _ _ _ (omega arith)
     (ticks_next _ c.loop-turn._turn _ _ _ _ _ _ _ _ _ _ _ c.loop-turn.invariant.took c.loop-turn.invariant.ticks (sym c.is_over.ensures ∙ c.if-is_over.false) c.take_unit.ensures.ticks)
 
 pub returns-clause-ticks : goal.returns-clause-ticks
@@ -113,10 +113,10 @@ returns-in_err-progress-clause-reports g c =
     λ in_line. units_reported _ _ (g.W.Sink.written c.loop-turn.out) _ _ (c.loop-turn.invariant.reports in_line)
     (c.take_unit.ensures.reports in_line (g.W.Sink.written c.loop-turn.out)) refl
 
-pub returns-in_err-pour_piece-clause-reports : goal.returns-in_err-pour_piece-clause-reports
-returns-in_err-pour_piece-clause-reports g c =
+pub returns-in_err-pour_before-clause-reports : goal.returns-in_err-pour_before-clause-reports
+returns-in_err-pour_before-clause-reports g c =
     λ in_line. units_reported _ _ (g.W.Sink.written c.loop-turn.out) _ _ (c.loop-turn.invariant.reports in_line)
-    (c.take_unit.ensures.reports in_line (g.W.Sink.written c.loop-turn.out)) c.pour_piece.ensures.same
+    (c.take_unit.ensures.reports in_line (g.W.Sink.written c.loop-turn.out)) c.pour_before.ensures.same
 
 pub returns-clause-reports : goal.returns-clause-reports
 returns-clause-reports g c = c.loop-turn.invariant.reports
