@@ -175,7 +175,7 @@ find . -path ./.git -prune -o -type f -print | sed 's/^\.//' >"$work/files"
 # shellcheck disable=SC2086,SC2016
 grep -ohE '`[A-Za-z0-9_./-]+\.(rt|antt|md|txt|py|sh|awk|mrt|json|base64|payloads)`' $pages | tr -d '`' >"$work/names"
 awk '/^\.Pa / { sub(/^\.\//, "", $2); print $2 }' "$manual" >>"$work/names"
-sort -u "$work/names" >"$work/named"
+grep -v '/out/' "$work/names" | sort -u >"$work/named"
 while read -r name; do
     check "the file $name, which a page names, is there" 0 "$(grep -q "/${name//./\\.}\$" "$work/files"; echo $?)"
 done <"$work/named"
