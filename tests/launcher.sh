@@ -276,6 +276,20 @@ rm "$work/stub/refuse"
 call run
 ran 'the kit from before' ci
 
+cat >"$work/elsewhere/rt" <<end
+#!/bin/sh
+if [ "\$1" = version ]; then echo 'rattle-kit-3c logic 22dd'; else exec $work/kit/rattle/bin/rt "\$@"; fi
+end
+here_path=$work/elsewhere:/usr/bin:/bin
+call run
+ran 'a kit that only rt version tells' ci
+holds 'a kit that only rt version tells' "$err" 'the kit on the PATH is rattle-kit-3c logic 22dd, '
+call run
+quiet 'a kit that only rt version tells, a second call'
+here_path=$work/path:/usr/bin:/bin
+call run
+ran 'the kit from before, again' ci
+
 # ---- other ways to prove
 
 echo '//  More' >"$here/crates/part/src/lib.rt"
@@ -306,7 +320,7 @@ fi
 
 # ---- two at once, and what is stopped
 
-# until COMMAND..: waits at most ten seconds.
+# until_so COMMAND..: waits at most ten seconds.
 until_so() {
     local i
     for ((i = 0; i < 200; i++)); do
