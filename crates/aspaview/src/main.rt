@@ -17,6 +17,8 @@ ghost use Rattle.aspa_top.specs.World.{linked, names_of};
 mod again;
 mod connection;
 mod file_shelf;
+#[cfg(test)]
+mod hesitant;
 mod input;
 #[cfg(test)]
 mod loopback;
