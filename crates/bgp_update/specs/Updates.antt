@@ -1,11 +1,10 @@
 -- UPDATE messages (RFC 4271, section 4.3), and the changes that they make.
-use Rattle.std.specs.Prelude.{◌≡◌, ◌≢◌, ℕ, Bool, false, List, [], ◌++◌, map, unwrap_or, ◌⊎◌, Some, None, Ok, Err}
+use Rattle.std.specs.Prelude.{◌≡◌, ◌≢◌, ℕ, Bool, false, List, [], ◌++◌, unwrap_or, ◌⊎◌, Some, None, Ok, Err}
 use Rattle.std.specs.declared.option.Option.{Option}
 use Rattle.std.specs.declared.result.Result.{Result}
 use Rattle.path_model.specs.declared.change.Change.{Change}
-use Rattle.path_model.specs.declared.change.Change.TheVariants.{Remove, Announce}
-use Rattle.path_model.specs.declared.key.Key.{Key}
 use Rattle.path_model.specs.declared.peer.Peer.{Peer}
+use Rattle.path_model.specs.Batches.{removals, announcements}
 use Rattle.path_model.specs.Prefix.{Subnet}
 use Rattle.path_model.specs.Trail.{Path}
 use Rattle.bgp_attrs.specs.declared.form.Form.TheVariants.{Message}
@@ -40,18 +39,6 @@ pub record IsUpdate (rest : List ℕ) (update : Update) : Type 0 where
 abbrev pub IsMessage : List ℕ → Option Update → Type 0
 IsMessage message None = (kind : ℕ) × (rest : List ℕ) × IsFramed message kind rest × (kind ≢ 2)
 IsMessage message (Some update) = (rest : List ℕ) × IsFramed message 2 rest × IsUpdate rest update
-
--- the key of a peer's route
-abbrev pub key_of : Peer → Subnet → Key
-key_of peer prefix = record { peer = peer; prefix = prefix }
-
--- the peer withdraws the prefixes
-abbrev pub removals : Peer → List Subnet → List Change
-removals peer prefixes = map (λ prefix. Remove (key_of peer prefix)) prefixes
-
--- the peer announces the prefixes, all with one path
-abbrev pub announcements : Peer → Path → List Subnet → List Change
-announcements peer trail prefixes = map (λ prefix. Announce (key_of peer prefix) trail) prefixes
 
 -- all prefixes that are withdrawn: those of the UPDATE, and those of MP_UNREACH_NLRI
 abbrev pub withdrawn_in : Update → Reading → List Subnet

@@ -1,8 +1,8 @@
 //! The changes that a message makes.
-ghost use Rattle.std.specs.Prelude.{◌≡◌, ◌++◌, [], IsTrue, ◌↔◌, OnOk};
+ghost use Rattle.std.specs.Prelude.{◌≡◌, ◌++◌, IfOk, OnOk};
 ghost use Rattle.bgp_attrs.specs.Left.{prefixes_left};
 ghost use Rattle.bgp_update.specs.Outcomes.{IsOutcomeBy, IsOutcomeOf, some_left};
-ghost use Rattle.bgp_update.specs.Updates.{removals, announcements, IsMessageOutcome};
+ghost use Rattle.bgp_update.specs.Updates.{IsMessageOutcome};
 ghost use Rattle.bgp_update.specs.Views.{update_of};
 
 use crate::fault::UpdateFault;
@@ -10,10 +10,12 @@ use crate::parting::Parts;
 use crate::shaping::message_parts;
 use av_base::NoMemory;
 use bgp_attrs::{Attrs, Form, Prefixes};
-use path_model::{Changes, Key, Peer, Trail};
+use path_model::{Changes, Peer, PrefixList};
 use std::alloc::Global;
 
 /// The changes that a message from a peer makes: its removals, and then its announcements. A message that is no UPDATE makes none.
+///
+/// All announcements share one path, so it takes the memory of the path once, and 24 bytes for each prefix.
 ///
 /// `wide` says that ASes have four bytes. The refusals are tested over the whole message in this order: 24 Message, 23 Attributes,
 /// 25 NoPath.
@@ -52,16 +54,16 @@ fn changes_by(
     ensures { IsOutcomeBy peer (update_of parts.entry) attrs.now result }
 {
     let mut changes = Changes::new(alloc);
-    remove_all(&mut changes, peer, parts.withdrawn)?;
-    remove_some(&mut changes, peer, attrs.withdrawn())?;
+    let withdrawn = all_of(alloc, parts.withdrawn, attrs.withdrawn())?;
+    changes.remove_all(peer, withdrawn)?;
+    let announced = all_of(alloc, parts.announced, attrs.announced())?;
     match attrs.trail(alloc)? {
         Some(trail) => {
-            announce_all(&mut changes, peer, parts.announced, &trail)?;
-            announce_some(&mut changes, peer, attrs.announced(), &trail)?;
+            changes.announce_all(peer, trail, announced)?;
             Ok(changes)
         }
         None => {
-            if is_empty(parts.announced, attrs.announced()) {
+            if announced.is_empty() {
                 Ok(changes)
             } else {
                 Err(UpdateFault::NoPath)
@@ -70,70 +72,41 @@ fn changes_by(
     }
 }
 
-fn remove_all(changes: &mut Changes, peer: Peer, prefixes: Prefixes<'_>) -> Result<(), NoMemory>
-    ensures { OnOk result (changes.new
-        ≡ changes.old ++ removals peer (prefixes_left prefixes.entry)) }
-{
-    for prefix in prefixes {
-        changes.remove(Key { peer, prefix })?;
-    }
-    Ok(())
-}
-
-fn remove_some(
-    changes: &mut Changes,
-    peer: Peer,
-    prefixes: Option<Prefixes<'_>>,
-) -> Result<(), NoMemory>
-    ensures { OnOk result (changes.new
-        ≡ changes.old ++ removals peer (some_left prefixes.entry)) }
-{
-    match prefixes {
-        Some(prefixes) => remove_all(changes, peer, prefixes),
-        None => Ok(()),
-    }
-}
-
-fn announce_all(
-    changes: &mut Changes,
-    peer: Peer,
+// The prefixes of an UPDATE and then those of an attribute, in one list without room to spare.
+fn all_of(
+    alloc: Global,
     prefixes: Prefixes<'_>,
-    trail: &Trail,
-) -> Result<(), NoMemory>
-    ensures { OnOk result (changes.new
-        ≡ changes.old ++ announcements peer trail.now (prefixes_left prefixes.entry)) }
+    others: Option<Prefixes<'_>>,
+) -> Result<PrefixList, NoMemory>
+    ensures { IfOk result (λ list.
+        list ≡ prefixes_left prefixes.entry ++ some_left others.entry) }
+{
+    let number = match others {
+        Some(others) => count(prefixes).saturating_add(count(others)),
+        None => count(prefixes),
+    };
+    let mut list = PrefixList::with_capacity(alloc, number)?;
+    put_all(&mut list, prefixes)?;
+    if let Some(others) = others {
+        put_all(&mut list, others)?;
+    }
+    Ok(list)
+}
+
+// How many prefixes there are.
+fn count(prefixes: Prefixes<'_>) -> usize {
+    let mut number = 0usize;
+    for _ in prefixes {
+        number = number.saturating_add(1);
+    }
+    number
+}
+
+fn put_all(list: &mut PrefixList, prefixes: Prefixes<'_>) -> Result<(), NoMemory>
+    ensures { OnOk result (list.new ≡ list.old ++ prefixes_left prefixes.entry) }
 {
     for prefix in prefixes {
-        changes.announce(Key { peer, prefix }, trail.copy()?)?;
+        list.push(prefix)?;
     }
     Ok(())
-}
-
-fn announce_some(
-    changes: &mut Changes,
-    peer: Peer,
-    prefixes: Option<Prefixes<'_>>,
-    trail: &Trail,
-) -> Result<(), NoMemory>
-    ensures { OnOk result (changes.new
-        ≡ changes.old ++ announcements peer trail.now (some_left prefixes.entry)) }
-{
-    match prefixes {
-        Some(prefixes) => announce_all(changes, peer, prefixes, trail),
-        None => Ok(()),
-    }
-}
-
-// Whether there is no prefix at all.
-fn is_empty(prefixes: Prefixes<'_>, others: Option<Prefixes<'_>>) -> bool
-    ensures { IsTrue result ↔ (prefixes_left prefixes.entry ++ some_left others.entry ≡ []) }
-{
-    let mut prefixes = prefixes;
-    if prefixes.next().is_some() {
-        return false;
-    }
-    match others {
-        Some(mut others) => others.next().is_none(),
-        None => true,
-    }
 }

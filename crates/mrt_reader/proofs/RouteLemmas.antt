@@ -9,7 +9,7 @@ use Rattle.path_model.specs.declared.change.Change.TheVariants.{Announce}
 use Rattle.path_model.specs.declared.key.Key.{Key}
 use Rattle.path_model.specs.declared.peer.Peer.{Peer}
 use Rattle.path_model.specs.Prefix.{Subnet}
-use Rattle.bgp_update.specs.Updates.{key_of}
+use Rattle.path_model.specs.Batches.{key_of}
 use Rattle.mrt_reader.specs.declared.body.Body.{Body}
 use Rattle.mrt_reader.specs.declared.body.Body.TheVariants as bodies
 use Rattle.mrt_reader.specs.declared.fault.BodyFault.{BodyFault}

@@ -16,7 +16,7 @@ use Rattle.bgp_attrs.specs.Reading.{IsUnreadable}
 use Rattle.bgp_attrs.specs.Segments.{Segment}
 use Rattle.bgp_attrs.proofs.JoinedLemmas.{joined_same}
 use Rattle.bgp_attrs.proofs.LawLemmas as attrs
-use Rattle.bgp_update.specs.Updates.{key_of}
+use Rattle.path_model.specs.Batches.{key_of}
 use Rattle.bgp_update.proofs.MessageLemmas as messages
 use Rattle.mrt_reader.specs.declared.body.Body.{Body}
 use Rattle.mrt_reader.specs.declared.body.Body.TheVariants as bodies

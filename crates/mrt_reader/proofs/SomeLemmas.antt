@@ -19,7 +19,7 @@ use Rattle.bgp_attrs.specs.Reading.{Reading, IsRead}
 use Rattle.bgp_attrs.specs.Segments.{Segment}
 use Rattle.bgp_attrs.proofs.DecideLemmas.{SomeOrNone, joined_decided, reading_decided}
 use Rattle.bgp_attrs.proofs.JoinedLemmas.{joined_same}
-use Rattle.bgp_update.specs.Updates.{key_of}
+use Rattle.path_model.specs.Batches.{key_of}
 use Rattle.bgp_update.proofs.MessageLemmas as messages
 use Rattle.mrt_reader.specs.declared.body.Body.TheVariants as bodies
 use Rattle.mrt_reader.specs.declared.fault.BodyFault.TheVariants as faults

@@ -10,7 +10,7 @@ use Rattle.path_model.specs.Trail.{Path}
 use Rattle.bgp_attrs.specs.declared.form.Form.TheVariants.{Table}
 use Rattle.bgp_attrs.specs.Merging.{trail_in}
 use Rattle.bgp_attrs.specs.Reading.{Reading, IsRead, IsUnreadable}
-use Rattle.bgp_update.specs.Updates.{key_of}
+use Rattle.path_model.specs.Batches.{key_of}
 use Rattle.mrt_reader.specs.declared.body.Body.{Body}
 use Rattle.mrt_reader.specs.declared.body.Body.TheVariants as bodies
 use Rattle.mrt_reader.specs.declared.fault.BodyFault.{BodyFault}

@@ -1,5 +1,6 @@
 pub mod AscendingLemmas
 pub mod AuthorityLemmas
+pub mod BatchLemmas
 pub mod Decide
 pub mod HalvesLemmas
 pub mod LawLemmas

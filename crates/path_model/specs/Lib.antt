@@ -1,4 +1,5 @@
 pub mod Authority
+pub mod Batches
 pub mod Codes
 pub mod ComputedTable
 pub mod CurrentTable

@@ -1,27 +1,31 @@
 //! The changes that one message or record makes, in order.
-ghost use Rattle.std.specs.Prelude.{◌≡◌, length, slice_get, option_copied, ◌∷◌, ◌++◌, [], IfOk, OnOk, OnErr, IsTrue, ◌↔◌};
-ghost use Rattle.std.specs.Slice.Iter.{iter_rest};
+ghost use Rattle.std.specs.Prelude.{◌≡◌, length, ◌∷◌, ◌++◌, [], IfOk, OnOk, OnErr, IsTrue, ◌↔◌};
 ghost use Rattle.path_model.specs.declared.change.Change.TheVariants.{Remove, Announce, RemovePeer};
+ghost use Rattle.path_model.specs.Batches.{all_changes, announcements, changes_in, removals};
 
-use crate::{Change, Key, Peer, Trail};
+use crate::{Batch, Change, Key, Peer, PrefixList, Trail};
 use av_base::NoMemory;
 use std::alloc::Global;
 use std::marker::Model;
-use std::slice::Iter;
 
-/// A list of changes, performed from the first to the last.
+/// A list of changes, performed from the first to the last. It takes 32 bytes, and what its batches take.
 #[derive(Debug, Drop)]
 pub struct Changes {
-    items: Vec<Change>,
+    batches: Vec<Batch>,
+    // how many changes they have together
+    len: usize,
 }
 
 impl Model for Changes {
-    ghost use Rattle.std.specs.Prelude.{List};
+    ghost use Rattle.std.specs.Prelude.{◌≡◌, List, length};
     ghost use Rattle.path_model.specs.declared.change.Change.{Change as AnyChange};
+    ghost use Rattle.path_model.specs.Batches.{all_changes};
 
     ghost Value = { List AnyChange };
 
-    ghost view = { λ c. c.items.items };
+    ghost view = { λ c. all_changes c.batches.items };
+
+    ghost invariant = { λ c. c.len ≡ length (all_changes c.batches.items) };
 }
 
 impl Changes {
@@ -30,7 +34,8 @@ impl Changes {
         ensures { result ≡ [] }
     {
         Changes {
-            items: Vec::new(alloc),
+            batches: Vec::new(alloc),
+            len: 0,
         }
     }
 
@@ -39,8 +44,7 @@ impl Changes {
         ensures ok { OnOk result (self.new ≡ self.old ++ Remove key ∷ []) }
         ensures err { OnErr result (self.new ≡ self.old) }
     {
-        self.items.push(Change::Remove(key))?;
-        Ok(())
+        self.push(Batch::One(Change::Remove(key)), 1)
     }
 
     /// Appends an announcement.
@@ -48,8 +52,7 @@ impl Changes {
         ensures ok { OnOk result (self.new ≡ self.old ++ Announce key trail ∷ []) }
         ensures err { OnErr result (self.new ≡ self.old) }
     {
-        self.items.push(Change::Announce(key, trail))?;
-        Ok(())
+        self.push(Batch::One(Change::Announce(key, trail)), 1)
     }
 
     /// Appends the end of a peer's session.
@@ -57,43 +60,51 @@ impl Changes {
         ensures ok { OnOk result (self.new ≡ self.old ++ RemovePeer peer ∷ []) }
         ensures err { OnErr result (self.new ≡ self.old) }
     {
-        self.items.push(Change::RemovePeer(peer))?;
-        Ok(())
+        self.push(Batch::One(Change::RemovePeer(peer)), 1)
+    }
+
+    /// Appends withdrawals by one peer.
+    pub fn remove_all(&mut self, peer: Peer, prefixes: PrefixList) -> Result<(), NoMemory>
+        ensures ok { OnOk result (self.new ≡ self.old ++ removals peer prefixes) }
+        ensures err { OnErr result (self.new ≡ self.old) }
+    {
+        let count = prefixes.len();
+        self.push(Batch::RemoveAll(peer, prefixes), count)
+    }
+
+    /// Appends announcements by one peer, all with one path. It takes the memory of the path once.
+    pub fn announce_all(
+        &mut self,
+        peer: Peer,
+        trail: Trail,
+        prefixes: PrefixList,
+    ) -> Result<(), NoMemory>
+        ensures ok { OnOk result (self.new ≡ self.old ++ announcements peer trail prefixes) }
+        ensures err { OnErr result (self.new ≡ self.old) }
+    {
+        let count = prefixes.len();
+        self.push(Batch::AnnounceAll(peer, trail, prefixes), count)
     }
 
     /// The number of changes.
     pub fn len(&self) -> usize
         ensures { result ≡ length self.now }
     {
-        self.items.len()
+        self.len
     }
 
     /// Whether there are none.
     pub fn is_empty(&self) -> bool
         ensures { IsTrue result ↔ (self.now ≡ []) }
     {
-        self.items.is_empty()
+        self.len == 0
     }
 
-    /// The change at a place from 0, or `None` past the end.
-    pub fn get(&self, i: usize) -> Option<&Change>
-        ensures { option_copied result ≡ slice_get self.now i }
+    /// All changes in order, in batches.
+    pub fn batches(&self) -> &[Batch]
+        ensures { all_changes result.now ≡ self.now }
     {
-        self.items.get(i)
-    }
-
-    /// All changes in order.
-    pub fn as_slice(&self) -> &[Change]
-        ensures { result.now ≡ self.now }
-    {
-        self.items.as_slice()
-    }
-
-    /// The changes one after another.
-    pub fn iter(&self) -> Iter<'_, Change>
-        ensures { iter_rest result ≡ self.now }
-    {
-        self.items.iter()
+        self.batches.as_slice()
     }
 
     /// The same changes once more.
@@ -101,14 +112,28 @@ impl Changes {
         ensures { IfOk result (λ changes. changes ≡ self.now) }
     {
         Ok(Changes {
-            items: self.items.clone()?,
+            batches: self.batches.clone()?,
+            len: self.len,
         })
     }
 
-    /// The changes themselves, in order.
-    pub fn into_vec(self) -> Vec<Change>
-        ensures { result.items ≡ self }
+    /// The changes themselves in order, in batches.
+    pub fn into_batches(self) -> Vec<Batch>
+        ensures { all_changes result.items ≡ self }
     {
-        self.items
+        self.batches
+    }
+
+    // Appends a batch of so many changes.
+    #[tactic(auto, using(crate::proofs::BatchLemmas::all_changes_append, crate::proofs::BatchLemmas::length_all_changes))]
+    fn push(&mut self, batch: Batch, count: usize) -> Result<(), NoMemory>
+        requires { count ≡ length (changes_in batch) }
+        ensures ok { OnOk result (self.new ≡ self.old ++ changes_in batch) }
+        ensures err { OnErr result (self.new ≡ self.old) }
+    {
+        let len = self.len.checked_add(count).ok_or(NoMemory)?;
+        self.batches.push(batch)?;
+        self.len = len;
+        Ok(())
     }
 }

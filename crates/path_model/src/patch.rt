@@ -1,5 +1,6 @@
 //! Changes of rows by customer.
 ghost use Rattle.std.specs.Prelude.{◌≡◌, List, ℕ, Option, IfOk, OnOk, OnErr};
+ghost use Rattle.std.specs.Option.{option_copied};
 ghost use Rattle.std.specs.Ordering.{nat_cmp};
 ghost use Rattle.std.specs.FinMap as map;
 ghost use Rattle.std.specs.Borrow.{Bor};
@@ -53,6 +54,14 @@ impl Patch {
         let row = row_as_set(row);
         self.rows.insert(customer, row)?;
         Ok(())
+    }
+
+    /// What is said of a customer: its row, or that it has none; `None` exactly where nothing is said of it.
+    pub fn of(&self, customer: u32) -> Option<&Option<AsList>>
+        ensures said { option_copied result ≡ map.get self.now customer }
+        ensures sets { PatchHasSets self.now }
+    {
+        self.rows.get(&customer)
     }
 
     /// The pairs of a customer and what is said of it, by rising customer. It takes no memory.

@@ -156,11 +156,11 @@ impl SharedCases {
     {
         let name = CaseName::new(asn, trail);
         if let Some(number) = self.hinted(&name) {
-            self.join(number)?;
+            self.take_again(number)?;
             return Ok(number);
         }
         if let Some(number) = self.find(&name) {
-            self.join(number)?;
+            self.take_again(number)?;
             self.hints.keep(name.word, number);
             return Ok(number);
         }
@@ -169,6 +169,15 @@ impl SharedCases {
         let (cases, number) = held.add(name, judged)?;
         let _empty = mem::replace(self, cases);
         Ok(number)
+    }
+
+    /// One route more has the case under a number that some route has already, as where [`SharedCases::take`] has just given it: no path is
+    /// read. Where there is no case nothing changes. For 2^32 routes of one case there is no memory.
+    pub fn take_again(&mut self, number: u32) -> Result<(), NoMemory>
+        ensures { OnOk result (Rewrites self.old self.new number (raised (at self.old number))) }
+    {
+        slots::raise(&mut self.slab, number as usize)?;
+        Ok(())
     }
 
     /// One route less has the case. The last one takes the case along. It takes no memory.
@@ -269,14 +278,6 @@ impl SharedCases {
         ensures none { IfNone result (IsAbsent self.now name.now.asn name.now.trail) }
     {
         self.names.find(&self.slab, name)
-    }
-
-    // One user more.
-    fn join(&mut self, number: u32) -> Result<(), NoMemory>
-        ensures { OnOk result (Rewrites self.old self.new number (raised (at self.old number))) }
-    {
-        slots::raise(&mut self.slab, number as usize)?;
-        Ok(())
     }
 
     // A new case.

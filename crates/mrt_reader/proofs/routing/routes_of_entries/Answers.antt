@@ -1,7 +1,7 @@
 use Rattle.std.proofs.Common.{sym, subst, true, Ok}
 use Rattle.std.specs.Prelude.{Bool}
 use Rattle.std.proofs.lemmas.Result.{err_from_is_err_and}
-use Rattle.bgp_update.specs.Updates.{key_of}
+use Rattle.path_model.specs.Batches.{key_of}
 use Rattle.mrt_reader.specs.Left.{entry_of, entries_left}
 use Rattle.mrt_reader.specs.Routing.{IsPut}
 use Rattle.mrt_reader.proofs.RouteLemmas.{next_route, next_no_path, stops, stops_beyond}
