@@ -167,6 +167,8 @@ if [ $nobody = yes ]; then
 else
     echo 'skipped: a read-only checkout, since this is not root or there is no setpriv'
 fi
+TMPDIR=$work/nowhere call run
+refused 'no place for temporary files' "isn't built yet, and $work/nowhere can't be written to, where a build has its files$"
 cp aspaview "$work/elsewhere/"
 here=$work/elsewhere
 call run
@@ -380,10 +382,11 @@ call run
 ran 'the repository'"'"'s crates' ci
 holds 'the repository'"'"'s crates' "$(cat "$work/stub/copy")" '^./crates/path_model/src/lib.rt$'
 check 'no crate of tests is needed' '' "$(grep -E '/(worked_|witness_checker)' "$work/stub/copy")"
-# least COMMAND..: the microseconds that the fastest of some runs takes.
+# least LIMIT COMMAND..: the microseconds that the fastest of some runs takes; the first one below the limit ends them.
 least() {
-    local i began took found=1000000
-    for ((i = 0; i < 30; i++)); do
+    local limit=$1 i began took found=1000000
+    shift
+    for ((i = 0; i < 60 && found >= limit; i++)); do
         began=${EPOCHREALTIME/./}
         PATH=$here_path "$@" </dev/null >/dev/null
         took=$((${EPOCHREALTIME/./} - began))
@@ -391,13 +394,23 @@ least() {
     done
     echo "$found"
 }
-# (where other work slows the machine, it slows a find over the same files too)
-looked=$(least find "$here"/crates/*/{src,specs,proofs} -type f -size +99M 2>/dev/null)
-limit=$((3 * looked > 20000 ? 3 * looked : 20000))
-own=$(least "$here/crates/aspaview/out/aspaview" run)
-took=$(($(least "$here/aspaview" run) - own))
-check "a call takes less than 20 ms beside the program's own time ($took µs; a find takes $looked µs)" yes \
-    "$( ((took < limit)) && echo yes || echo no)"
+
+# is_busy: whether other work has all processors, each time that one looks.
+is_busy() {
+    local i running
+    for ((i = 0; i < 20; i++)); do
+        read -r _ _ _ running _ </proc/loadavg
+        ((${running%/*} > $(nproc))) || return 1
+        sleep 0.05
+    done
+}
+own=$(least 2000 "$here/crates/aspaview/out/aspaview" run)
+took=$(($(least $((own + 20000)) "$here/aspaview" run) - own))
+if ((took >= 20000)) && is_busy; then
+    echo "skipped: that a call takes less than 20 ms ($took µs), since other work has all processors"
+else
+    check "a call takes less than 20 ms beside the program's own time ($took µs)" yes "$( ((took < 20000)) && echo yes || echo no)"
+fi
 
 # ---- the kit that the README names
 
