@@ -1,17 +1,21 @@
 #!/usr/bin/env python3
-"""Writes the example dumps and their attestations: neighbours.base64, table.mrt and updates.mrt, beside this file.
+"""Writes the example dumps and their attestations: neighbours.base64, table.mrt, updates.mrt and own.mrt, beside this file.
 
-We are AS 64500. Our customer is 64501, our peer 64502, our provider 64503; each has one router that speaks with our collector.
+We are AS 64500. Our customer is 64501, our peer 64502, our provider 64503; each has one router that speaks with our collector. own.mrt is a
+table of our own router 192.0.2.254, which speaks with 64501 and, inside our AS, with our router 192.0.2.9.
 The numbers and addresses are those that are kept for documentation (RFC 5398, RFC 5737, RFC 3849)."""
 import base64
 import ipaddress
 import pathlib
 import struct
 
+from json_to_aspa64 import payload
+
 HERE = pathlib.Path(__file__).parent
 TIME = 1_735_689_600
 
 PEERS = [("192.0.2.1", 64501), ("192.0.2.2", 64502), ("192.0.2.3", 64503)]
+OWN_PEERS = [("192.0.2.1", 64501), ("192.0.2.9", 64500)]
 
 # customer: providers; 0 says that there is none
 ATTESTED = {64501: [64500, 64503], 64502: [0], 64503: [0], 64510: [64501], 64520: [64502], 64530: [64503]}
@@ -24,17 +28,13 @@ TABLE = [
     ("2001:db8:40::/48", [(2, [64503, 64541, 64540])]),
 ]
 
-
-def number(n):
-    digits = n.to_bytes(n.bit_length() // 8 + 1, "big")
-    return bytes([0x02, len(digits)]) + digits
-
-
-def payload(customer, providers):
-    """A payload of draft-ietf-sidrops-aspa-profile, version 1, in DER."""
-    body = b"".join(number(p) for p in sorted(providers))
-    content = bytes([0xA0, 3, 2, 1, 1]) + number(customer) + bytes([0x30, len(body)]) + body
-    return bytes([0x30, len(content)]) + content
+# the same; ASes in braces are an AS_SET, and what our routers tell each other doesn't begin with our AS
+OWN_TABLE = [
+    ("192.0.2.0/24", [(1, [])]),
+    ("198.51.100.0/24", [(0, [64501, 64510]), (1, [64502, 64510])]),
+    ("203.0.113.0/24", [(0, [64501, 64503, 64530])]),
+    ("2001:db8:10::/48", [(0, [64501, {64510, 64511}])]),
+]
 
 
 def prefix_bytes(text):
@@ -42,18 +42,25 @@ def prefix_bytes(text):
     return bytes([net.prefixlen]) + net.network_address.packed[: (net.prefixlen + 7) // 8]
 
 
+def segment(kind, ases):
+    return struct.pack(f">BB{len(ases)}I", kind, len(ases), *sorted(ases) if kind == 1 else ases)
+
+
 def as_path(path):
-    segment = struct.pack(">BB", 2, len(path)) + b"".join(struct.pack(">I", a) for a in path)
-    return struct.pack(">BBB", 0x40, 2, len(segment)) + segment
+    sequence = [a for a in path if isinstance(a, int)]
+    segments = segment(2, sequence) if sequence else b""
+    for ases in path[len(sequence):]:
+        segments += segment(1, ases)
+    return struct.pack(">BBB", 0x40, 2, len(segments)) + segments
 
 
-def record(kind, subkind, body):
-    return struct.pack(">IHHI", TIME, kind, subkind, len(body)) + body
+def record(kind, subkind, body, time=TIME):
+    return struct.pack(">IHHI", time, kind, subkind, len(body)) + body
 
 
-def peer_table():
-    body = ipaddress.ip_address("192.0.2.254").packed + struct.pack(">HH", 0, len(PEERS))
-    for address, asn in PEERS:
+def peer_table(peers):
+    body = ipaddress.ip_address("192.0.2.254").packed + struct.pack(">HH", 0, len(peers))
+    for address, asn in peers:
         packed = ipaddress.ip_address(address).packed
         body += struct.pack(">B4s4sI", 2, packed, packed, asn)
     return record(13, 1, body)
@@ -67,24 +74,29 @@ def rib(sequence, prefix, entries):
     return record(13, 4 if ":" in prefix else 2, body)
 
 
-def update(peer, withdrawn, attributes, announced):
+def table(peers, routes):
+    return peer_table(peers) + b"".join(rib(i, prefix, entries) for i, (prefix, entries) in enumerate(routes))
+
+
+def update(time, peer, withdrawn, attributes, announced):
     gone = b"".join(map(prefix_bytes, withdrawn))
     new = b"".join(map(prefix_bytes, announced))
     inner = struct.pack(">H", len(gone)) + gone + struct.pack(">H", len(attributes)) + attributes + new
     message = b"\xff" * 16 + struct.pack(">HB", 19 + len(inner), 2) + inner
     address, asn = PEERS[peer]
     head = struct.pack(">IIHH", asn, 64500, 0, 1)
-    return record(16, 4, head + ipaddress.ip_address(address).packed + ipaddress.ip_address("192.0.2.254").packed + message)
+    head += ipaddress.ip_address(address).packed + ipaddress.ip_address("192.0.2.254").packed
+    return record(16, 4, head + message, time)
 
 
 def main():
     lines = [base64.b64encode(payload(c, p)).decode() + "\n" for c, p in ATTESTED.items()]
     (HERE / "neighbours.base64").write_text("".join(lines))
-    ribs = [rib(i, prefix, entries) for i, (prefix, entries) in enumerate(TABLE)]
-    (HERE / "table.mrt").write_bytes(peer_table() + b"".join(ribs))
+    (HERE / "table.mrt").write_bytes(table(PEERS, TABLE))
+    (HERE / "own.mrt").write_bytes(table(OWN_PEERS, OWN_TABLE))
     news = [
-        update(0, ["203.0.113.0/24"], b"", []),
-        update(1, [], as_path([64502, 64503, 64530]), ["203.0.113.0/24"]),
+        update(TIME + 60, 0, ["203.0.113.0/24"], b"", []),
+        update(TIME + 420, 1, [], as_path([64502, 64503, 64530]), ["203.0.113.0/24"]),
     ]
     (HERE / "updates.mrt").write_bytes(b"".join(news))
 

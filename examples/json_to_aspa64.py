@@ -1,0 +1,55 @@
+#!/usr/bin/env python3
+"""Writes the attestations of a validator's JSON as base64 lines, which a line 'aspa64 NAME FILE' reads.
+
+Give it the JSON that rpki-client, Routinator or FORT writes, as a file or on standard input. Each line is one payload in DER, as
+docs/formats.md says under 'Payload files'. What else the JSON has (prefixes, router keys, times) is passed over."""
+import base64
+import json
+import sys
+
+
+def value(tag, content):
+    """A value in DER: its tag, its length in the shortest form, and its content."""
+    size = len(content)
+    if size < 0x80:
+        return bytes([tag, size]) + content
+    length = size.to_bytes((size.bit_length() + 7) // 8, "big")
+    return bytes([tag, 0x80 + len(length)]) + length + content
+
+
+def number(n):
+    return value(0x02, n.to_bytes(n.bit_length() // 8 + 1, "big"))
+
+
+def payload(customer, providers):
+    """A payload of draft-ietf-sidrops-aspa-profile, version 1."""
+    listed = b"".join(number(p) for p in sorted(set(providers)))
+    return value(0x30, value(0xA0, number(1)) + number(customer) + value(0x30, listed))
+
+
+def asn(word):
+    """The number of an AS, which Routinator writes as AS64500."""
+    return int(str(word).removeprefix("AS"))
+
+
+def attestations(tree):
+    """Each customer with its providers."""
+    if "aspas" in tree:
+        entries = tree["aspas"]
+        rows = [(e["customer_asid"] if "customer_asid" in e else e["customer"], e["providers"]) for e in entries]
+    elif "aspa" in tree:
+        rows = tree["aspa"].items()
+    else:
+        sys.exit("json_to_aspa64.py: this JSON has neither a member 'aspas' nor a member 'aspa'")
+    return [(asn(customer), [asn(p) for p in providers]) for customer, providers in rows]
+
+
+def main():
+    with open(sys.argv[1] if len(sys.argv) > 1 else "/dev/stdin") as file:
+        tree = json.load(file)
+    for customer, providers in attestations(tree):
+        print(base64.b64encode(payload(customer, providers)).decode())
+
+
+if __name__ == "__main__":
+    main()
