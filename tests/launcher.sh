@@ -82,6 +82,7 @@ checkout() {
     mkdir -p "$1"
     cp "$top/aspaview" "$1/"
     echo 'Proved with the kit rattle-kit-1a logic 00ff.' >"$1/README.md"
+    printf '%s\n' '# What came when' '' '## 1 May 2001' '' '## 1 May 2000' >"$1/CHANGELOG.md"
     echo 'Handles allowed: Net.' >"$1/HANDLES"
     printf '%s\n' 'base: slab' 'part: base' 'aspaview: part base' 'worked: base' >"$1/crates.txt"
     for name in base part aspaview worked; do
@@ -140,7 +141,7 @@ for word in --help -h help; do
     check "$word" "0|$usage||" "$status|$out|$err|$calls"
 done
 call --version
-holds '--version' "$status|$out|$err|$calls" '^0\|aspaview [0-9.]+, to be built with rattle-kit-1a logic 00ff\|\|$'
+holds '--version' "$status|$out|$err|$calls" '^0\|aspaview of 1 May 2001, to be built with rattle-kit-1a logic 00ff\|\|$'
 check 'nothing is built for these words' no "$([ -e "$here/crates/aspaview/out" ] && echo yes || echo no)"
 
 # ---- where it can't be built
@@ -152,7 +153,7 @@ else
     call run
     refused 'no kit' "isn't built yet, and no Rattle kit is there .* rt must be on the PATH$"
     call --version
-    holds '--version without a kit' "$status|$out|$err" '^0\|aspaview [0-9.]+, to be built with rattle-kit-1a logic 00ff\|$'
+    holds '--version without a kit' "$status|$out|$err" '^0\|aspaview of 1 May 2001, to be built with rattle-kit-1a logic 00ff\|$'
 fi
 printf '#!/bin/sh\n' >"$work/elsewhere/rt"
 chmod 755 "$work/elsewhere/rt"
@@ -167,6 +168,8 @@ if [ $nobody = yes ]; then
 else
     echo 'skipped: a read-only checkout, since this is not root or there is no setpriv'
 fi
+TMPDIR=$work/nowhere call run
+refused 'no place for temporary files' "isn't built yet, and $work/nowhere can't be written to, where a build has its files$"
 cp aspaview "$work/elsewhere/"
 here=$work/elsewhere
 call run
@@ -200,7 +203,7 @@ check 'the first build: nothing is left' '' "$(ls "$work/tmp")"
 call run
 quiet 'a second call'
 call --version
-holds '--version' "$status|$out|$err|$calls" '^0\|aspaview [0-9.]+, built with rattle-kit-1a logic 00ff\|\|$'
+holds '--version' "$status|$out|$err|$calls" '^0\|aspaview of 1 May 2001, built with rattle-kit-1a logic 00ff\|\|$'
 if ! PATH=/usr/bin:/bin command -v rt >/dev/null; then
     here_path=/usr/bin:/bin
     call run
@@ -375,15 +378,16 @@ set +m
 
 here=$work/repository
 mkdir "$here"
-tar --exclude=out --exclude=.git -cf - aspaview README.md HANDLES crates.txt crates | tar -C "$here" -xf -
+tar --exclude=out --exclude=.git -cf - aspaview README.md CHANGELOG.md HANDLES crates.txt crates | tar -C "$here" -xf -
 call run
 ran 'the repository'"'"'s crates' ci
 holds 'the repository'"'"'s crates' "$(cat "$work/stub/copy")" '^./crates/path_model/src/lib.rt$'
 check 'no crate of tests is needed' '' "$(grep -E '/(worked_|witness_checker)' "$work/stub/copy")"
-# least COMMAND..: the microseconds that the fastest of some runs takes.
+# least LIMIT COMMAND..: the microseconds that the fastest of some runs takes; the first one below the limit ends them.
 least() {
-    local i began took found=1000000
-    for ((i = 0; i < 30; i++)); do
+    local limit=$1 i began took found=1000000
+    shift
+    for ((i = 0; i < 60 && found >= limit; i++)); do
         began=${EPOCHREALTIME/./}
         PATH=$here_path "$@" </dev/null >/dev/null
         took=$((${EPOCHREALTIME/./} - began))
@@ -391,16 +395,28 @@ least() {
     done
     echo "$found"
 }
-# (where other work slows the machine, it slows a find over the same files too)
-looked=$(least find "$here"/crates/*/{src,specs,proofs} -type f -size +99M 2>/dev/null)
-limit=$((3 * looked > 20000 ? 3 * looked : 20000))
-own=$(least "$here/crates/aspaview/out/aspaview" run)
-took=$(($(least "$here/aspaview" run) - own))
-check "a call takes less than 20 ms beside the program's own time ($took µs; a find takes $looked µs)" yes \
-    "$( ((took < limit)) && echo yes || echo no)"
 
-# ---- the kit that the README names
+# is_busy: whether other work has all processors, each time that one looks.
+is_busy() {
+    local i running
+    for ((i = 0; i < 20; i++)); do
+        read -r _ _ _ running _ </proc/loadavg
+        ((${running%/*} > $(nproc))) || return 1
+        sleep 0.05
+    done
+}
+own=$(least 2000 "$here/crates/aspaview/out/aspaview" run)
+took=$(($(least $((own + 20000)) "$here/aspaview" run) - own))
+if ((took >= 20000)) && is_busy; then
+    echo "skipped: that a call takes less than 20 ms ($took µs), since other work has all processors"
+else
+    check "a call takes less than 20 ms beside the program's own time ($took µs)" yes "$( ((took < 20000)) && echo yes || echo no)"
+fi
 
+# ---- what the launcher reads of the pages
+
+call --version
+holds 'the day and the kit' "$out" '^aspaview of [0-9]+ [A-Z][a-z]+ 20[0-9]+, built with rattle-kit-1a logic 00ff$'
 holds 'the kit that the README names' "$(cat README.md)" 'rattle-kit-[a-z0-9]+ logic [0-9a-f]+'
 
 passed=$(wc -l <"$work/passed")
