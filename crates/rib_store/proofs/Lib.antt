@@ -1,4 +1,5 @@
 pub mod ApartLemmas
+pub mod BatchLemmas
 pub mod CasedLemmas
 pub mod ChangeLawLemmas
 pub mod ChangeLemmas

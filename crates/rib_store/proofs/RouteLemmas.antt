@@ -1,5 +1,5 @@
 -- What a change of one route makes of the state.
-use Rattle.std.proofs.Common.{◌≡◌, ℕ, Bool, cond, List, None, Some, refl, ap, sym, ◌∙◌}
+use Rattle.std.proofs.Common.{◌≡◌, ℕ, ◌<◌, Bool, cond, List, None, Some, refl, ap, sym, ◌∙◌, arith}
 use Rattle.std.specs.declared.option.Option.{Option}
 use Rattle.std.specs.BTreeMap.{is_at, insert_entry}
 use Rattle.std.specs.FinMap as fin
@@ -11,10 +11,10 @@ use Rattle.path_model.specs.Key.{key_cmp}
 use Rattle.path_model.specs.Roles.{Relations}
 use Rattle.path_model.specs.Trail.{Path}
 use Rattle.shared_cases.specs.declared.case.StoredCase.{StoredCase}
-use Rattle.shared_cases.specs.Cases.{Slots, at, IsSameCase, AreSameCases, has_differed, marked_or}
+use Rattle.shared_cases.specs.Cases.{Slots, at, IsSameCase, IsStoredAs, AreSameCases, has_differed, marked_or}
 use Rattle.shared_cases.specs.Grounds.{Grounds}
 use Rattle.shared_cases.specs.Taking.{raised, lowered, Takes}
-use Rattle.rib_store.specs.Cased.{Noted, Numbered, path_or, routes_by, marked_by, AreStored}
+use Rattle.rib_store.specs.Cased.{Noted, Numbered, path_or, routes_by, marked_by, users_of, IsCounted, IsOfAs, AreStored}
 use Rattle.rib_store.specs.Marks.{AreNoted}
 use Rattle.rib_store.specs.State.{State, Marked}
 use Rattle.rib_store.specs.Steps.{Leaves, NotesMove}
@@ -24,7 +24,7 @@ use Rattle.rib_store.proofs.CountedLemmas.{users_positive}
 use Rattle.rib_store.proofs.KeyLemmas.{key_itself}
 use Rattle.rib_store.proofs.MarksLemmas.{raised_differed, lowered_differed, noted_move}
 use Rattle.rib_store.proofs.NotedLemmas.{mark_at, marked_move}
-use Rattle.rib_store.proofs.StoredLemmas.{ArePending, settled_part, inserted, removed, taken_part, taken_path}
+use Rattle.rib_store.proofs.StoredLemmas.{ArePending, settled, settled_part, inserted, removed, taken_part, taken_path}
 
 raised_path : (c : Option StoredCase) → path_or (raised c) ≡ path_or c
 raised_path None = refl
@@ -41,6 +41,10 @@ raised_mark (Some c) = refl
 lowered_mark : (c : Option StoredCase) → marked_or (lowered c) ≡ marked_or c
 lowered_mark None = refl
 lowered_mark (Some c) = refl
+
+stored_with : (c : Option StoredCase) (asn : ℕ) (path : Path) (users : ℕ) → IsCounted c users → 0 < users → IsOfAs c asn → path_or c ≡ path → IsStoredAs c asn path
+stored_with None asn path users counted used of_as is = absurd (omega (arith, counted, used))
+stored_with (Some c) asn path users counted used of_as is = (of_as, is)
 
 -- the state by these parts
 abbrev pub state_by : Parts → Relations → Bool → Slots → Numbered → Noted → State
@@ -71,10 +75,18 @@ module _ (g : Grounds) (parts : Parts) (relations : Relations) (is_marked : Bool
     kept part up down q j here was = settled_part part down g after mid new (lookup (is_at (key_cmp k)) before) pending leaves j (users_positive after q j here)
         ∙ taken_part g before after old mid k n path stored takes part up j (users_positive before q j was)
 
+    here : lookup (is_at (key_cmp k)) after ≡ Some n
+    here = updates k ∙ ap (λ (b : Bool). cond b (Some n) (lookup (is_at (key_cmp k)) before)) (key_itself k)
+
     came : path_or (at new n) ≡ path
-    came = settled_part path_or lowered_path g after mid new (lookup (is_at (key_cmp k)) before) pending leaves n (users_positive after k n
-        (updates k ∙ ap (λ (b : Bool). cond b (Some n) (lookup (is_at (key_cmp k)) before)) (key_itself k)))
+    came = settled_part path_or lowered_path g after mid new (lookup (is_at (key_cmp k)) before) pending leaves n (users_positive after k n here)
         ∙ taken_path g before after old mid k n path stored takes
+
+    -- the case of the route's AS and path has the number still
+    pub announced_case : IsStoredAs (at new n) k.peer.asn path
+    announced_case =
+        let stored_after = settled g after mid new (lookup (is_at (key_cmp k)) before) pending leaves in
+        stored_with (at new n) k.peer.asn path (users_of after n) (stored_after.counted n) (users_positive after k n here) (stored_after.of_peers k n here) came
 
     pub announced_state : state_by parts relations is_marked new after notes' ≡ record (state_by parts relations is_marked old before notes) { routes = fin.insert (routes_by old before) k path }
     announced_state = same_state parts relations _ _ _ _

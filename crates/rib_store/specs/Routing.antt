@@ -1,9 +1,14 @@
 -- The routes with their cases and marks, by a table and roles. Private contracts alone cite it.
+use Rattle.std.specs.Prelude.{ℕ, ⊤}
 use Rattle.path_model.specs.CurrentTable.{Parts}
 use Rattle.path_model.specs.Roles.{Relations}
+use Rattle.path_model.specs.Trail.{Path as AnyPath}
+use Rattle.shared_cases.specs.Cases.{Slots, at, IsStoredAs}
 use Rattle.shared_cases.specs.Grounds.{grounds}
+use Rattle.rib_store.specs.declared.routing.CaseBy.{CaseBy}
+use Rattle.rib_store.specs.declared.routing.CaseBy.TheVariants.{Path, Number}
 use Rattle.rib_store.specs.declared.routing.Routing.{Routing}
-use Rattle.rib_store.specs.Cased.{routes_by, marked_by}
+use Rattle.rib_store.specs.Cased.{path_or, routes_by, marked_by}
 use Rattle.rib_store.specs.Marks.{AreSound}
 use Rattle.rib_store.specs.State.{State}
 
@@ -19,3 +24,13 @@ routed_state parts relations r = record {
 -- the cases and the marks are those of the routes
 abbrev pub AreRouted : Parts → Relations → Routing → Type 0
 AreRouted parts relations r = AreSound (grounds parts relations) r.routes r.cases r.marks
+
+-- the path of a case that is found so
+abbrev pub path_by : Slots → CaseBy → AnyPath
+path_by cases (Path trail) = trail
+path_by cases (Number n) = path_or (at cases n)
+
+-- where it is found by its number, it is there, and of this AS
+abbrev pub IsFound : Slots → ℕ → CaseBy → Type 0
+IsFound cases asn (Path trail) = ⊤
+IsFound cases asn (Number n) = IsStoredAs (at cases n) asn (path_or (at cases n))

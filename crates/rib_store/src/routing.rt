@@ -1,16 +1,20 @@
 //! Changes of the routes, one by one.
-ghost use Rattle.std.specs.Prelude.{◌≡◌, ◌≤◌, ◌+◌, not, IfNone, IfSome, OnOk};
+ghost use Rattle.std.specs.Prelude.{◌≡◌, ◌≤◌, ◌+◌, not, IfNone, IfOk, IfSome, OnOk};
 ghost use Rattle.std.specs.FinMap as fin;
+ghost use Rattle.path_model.specs.Batches.{announcements, changes_in, removals};
 ghost use Rattle.path_model.specs.Routes.{changed, performed, is_of_peer};
+ghost use Rattle.shared_cases.specs.Cases.{at, IsStoredAs};
+ghost use Rattle.shared_cases.specs.Grounds.{grounds};
+ghost use Rattle.shared_cases.specs.Taking.{Takes};
 ghost use Rattle.rib_store.specs.Cased.{routes_by};
 ghost use Rattle.rib_store.specs.OfPeer.{HasNoRouteOf, IsRouteOf};
-ghost use Rattle.rib_store.specs.Routing.{routed_state, AreRouted};
+ghost use Rattle.rib_store.specs.Routing.{routed_state, AreRouted, path_by, IsFound};
 ghost use Rattle.rib_store.specs.Steps.{Leaves};
 ghost use Rattle.rib_store.specs.Touched.{announces, announced};
 
 use crate::marks::Marks;
 use av_base::{NoMemory, Steps};
-use path_model::{Change, Changes, Key, Peer, Roles, Trail};
+use path_model::{Batch, Change, Changes, Key, Peer, PrefixList, Roles, Trail};
 use route_map::RouteMap;
 use shared_cases::SharedCases;
 use std::sync::ledger::Ledger;
@@ -24,8 +28,18 @@ pub(crate) struct Routing {
     pub(crate) marks: Marks,
 }
 
+// How the case of an announcement is found.
+#[derive(Drop)]
+pub(crate) enum CaseBy {
+    // by its path
+    Path(Trail),
+    // it is the one that has this number
+    Number(u32),
+}
+
 impl Routing {
     // Performs changes of the routes, from the first to the last.
+    #[tactic(auto, using(crate::proofs::BatchLemmas::performed_append, crate::proofs::BatchLemmas::announced_append))]
     pub(crate) fn perform_all<L: Ledger>(
         &mut self,
         changes: Changes,
@@ -41,10 +55,36 @@ impl Routing {
             }) }
         ensures ticks { steps.new ≤ steps.old + announced changes }
     {
-        for change in changes.into_vec() {
-            self.perform(change, table, roles, steps)?;
+        for batch in changes.into_batches() {
+            self.perform_batch(batch, table, roles, steps)?;
         }
         Ok(())
+    }
+
+    // Performs the changes of one batch.
+    fn perform_batch<L: Ledger>(
+        &mut self,
+        batch: Batch,
+        table: &Vaps,
+        roles: &Roles,
+        steps: &mut Steps<L>,
+    ) -> Result<(), NoMemory>
+        requires { AreRouted table.now roles.now self.old }
+        ensures routed { OnOk result (AreRouted table.now roles.now self.new) }
+        ensures state { OnOk result (routed_state table.now roles.now self.new
+            ≡ record (routed_state table.now roles.now self.old) {
+              routes = performed (changes_in batch)
+                  (routed_state table.now roles.now self.old).routes;
+            }) }
+        ensures ticks { steps.new ≤ steps.old + announced (changes_in batch) }
+    {
+        match batch {
+            Batch::One(change) => self.perform(change, table, roles, steps),
+            Batch::RemoveAll(peer, prefixes) => self.withdraw_all(peer, prefixes, table, roles),
+            Batch::AnnounceAll(peer, trail, prefixes) => {
+                self.announce_all(peer, trail, prefixes, table, roles, steps)
+            }
+        }
     }
 
     // Performs one change of the routes.
@@ -65,17 +105,20 @@ impl Routing {
     {
         match change {
             Change::Remove(key) => self.withdraw(&key, table, roles)?,
-            Change::Announce(key, trail) => self.announce(key, trail, table, roles, steps)?,
+            Change::Announce(key, trail) => {
+                self.announce(key, CaseBy::Path(trail), table, roles, steps)?;
+            }
             Change::RemovePeer(peer) => self.withdraw_peer(&peer, table, roles)?,
         }
         Ok(())
     }
 
-    // The key has this path from now on.
-    fn announce<L: Ledger>(
+    // The peer's keys of these prefixes have this path from now on. Its case is found once.
+    fn announce_all<L: Ledger>(
         &mut self,
-        key: Key,
+        peer: Peer,
         trail: Trail,
+        prefixes: PrefixList,
         table: &Vaps,
         roles: &Roles,
         steps: &mut Steps<L>,
@@ -84,16 +127,68 @@ impl Routing {
         ensures routed { OnOk result (AreRouted table.now roles.now self.new) }
         ensures state { OnOk result (routed_state table.now roles.now self.new
             ≡ record (routed_state table.now roles.now self.old) {
-              routes = fin.insert (routed_state table.now roles.now self.old).routes key trail;
+              routes = performed (announcements peer trail prefixes)
+                  (routed_state table.now roles.now self.old).routes;
             }) }
+        ensures ticks { steps.new ≤ steps.old + announced (announcements peer trail prefixes) }
+    {
+        let mut by = CaseBy::Path(trail);
+        for prefix in prefixes.into_vec() {
+            let number = self.announce(Key { peer, prefix }, by, table, roles, steps)?;
+            by = CaseBy::Number(number);
+        }
+        Ok(())
+    }
+
+    // The key has this path from now on. The answer is the number of its case.
+    fn announce<L: Ledger>(
+        &mut self,
+        key: Key,
+        by: CaseBy,
+        table: &Vaps,
+        roles: &Roles,
+        steps: &mut Steps<L>,
+    ) -> Result<u32, NoMemory>
+        requires routed { AreRouted table.now roles.now self.old }
+        requires found { IsFound self.old.cases key.peer.asn by }
+        ensures routed { OnOk result (AreRouted table.now roles.now self.new) }
+        ensures state { OnOk result (routed_state table.now roles.now self.new
+            ≡ record (routed_state table.now roles.now self.old) {
+              routes = fin.insert (routed_state table.now roles.now self.old).routes key
+                  (path_by self.old.cases by);
+            }) }
+        ensures case { IfOk result (λ n.
+            IsStoredAs (at self.new.cases n) key.peer.asn (path_by self.old.cases by)) }
         ensures ticks { steps.new ≤ steps.old + 1 }
     {
         // it comes with the order of the keys
         let _length = self.routes.len();
-        let number = self.cases.take(key.peer.asn, trail, table, roles, steps)?;
+        let number = take(&mut self.cases, key.peer.asn, by, table, roles, steps)?;
         let before = self.routes.insert(key, number)?;
         self.marks.follow(&self.cases, &key, before, Some(number))?;
         leave(&mut self.cases, before);
+        Ok(number)
+    }
+
+    // The peer's keys of these prefixes have no route from now on.
+    fn withdraw_all(
+        &mut self,
+        peer: Peer,
+        prefixes: PrefixList,
+        table: &Vaps,
+        roles: &Roles,
+    ) -> Result<(), NoMemory>
+        requires { AreRouted table.now roles.now self.old }
+        ensures routed { OnOk result (AreRouted table.now roles.now self.new) }
+        ensures state { OnOk result (routed_state table.now roles.now self.new
+            ≡ record (routed_state table.now roles.now self.old) {
+              routes = performed (removals peer prefixes)
+                  (routed_state table.now roles.now self.old).routes;
+            }) }
+    {
+        for prefix in prefixes.into_vec() {
+            self.withdraw(&Key { peer, prefix }, table, roles)?;
+        }
         Ok(())
     }
 
@@ -140,6 +235,29 @@ impl Routing {
         match self.routes.first_of(peer) {
             None => None,
             Some(key) => Some(key),
+        }
+    }
+}
+
+// One route more has the case.
+fn take<L: Ledger>(
+    cases: &mut SharedCases,
+    asn: u32,
+    by: CaseBy,
+    table: &Vaps,
+    roles: &Roles,
+    steps: &mut Steps<L>,
+) -> Result<u32, NoMemory>
+    requires { IsFound cases.old asn by }
+    ensures taken { IfOk result (λ n. Takes (grounds table.now roles.now) asn
+        (path_by cases.old by) cases.old cases.new n) }
+    ensures ticks { steps.new ≤ steps.old + 1 }
+{
+    match by {
+        CaseBy::Path(trail) => cases.take(asn, trail, table, roles, steps),
+        CaseBy::Number(number) => {
+            cases.take_again(number)?;
+            Ok(number)
         }
     }
 }

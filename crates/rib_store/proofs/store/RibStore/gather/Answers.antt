@@ -1,7 +1,5 @@
-use Rattle.std.proofs.Common.{ap, ◌∙◌}
+use Rattle.std.proofs.Common.{◌∙◌}
 use Rattle.shared_cases.specs.Grounds.{grounds}
-use Rattle.rib_store.specs.State.{State}
-use Rattle.rib_store.specs.Stored.{Stored}
 use Rattle.rib_store.proofs.EventLemmas.{gathered_sound, noted_state}
 use Rattle.rib_store.proofs.store.RibStore.gather.Goals as goal
 
