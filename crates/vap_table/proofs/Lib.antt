@@ -2,11 +2,14 @@ pub mod AlteredLemmas
 pub mod ChangeLemmas
 pub mod CountingLemmas
 pub mod CurrentLemmas
+pub mod IdleLemmas
 pub mod MemberLemmas
 pub mod MovesLemmas
 pub mod NamingLemmas
 pub mod PatchLemmas
+pub mod ShownLemmas
 pub mod SourcesLemmas
+pub mod SteppingLemmas
 pub mod TalliesLemmas
-pub mod UnitingLemmas
+pub mod TallyingLemmas
 pub mod VapsLemmas

@@ -5,7 +5,8 @@ pub mod Current
 pub mod Laws
 pub mod Moves
 pub mod Naming
+pub mod Shown
 pub mod Sources
+pub mod Stepping
 pub mod Tally
-pub mod Uniting
 pub mod Vaps

@@ -1,9 +1,6 @@
 //! The current table with its parts.
 ghost use Rattle.std.specs.Prelude.{◌≡◌, IfOk};
 ghost use Rattle.std.specs.Option.{option_copied};
-ghost use Rattle.std.specs.List.Sorted.{IsStrictlySortedBy};
-ghost use Rattle.std.specs.Ordering.{nat_cmp};
-ghost use Rattle.path_model.specs.Authority.{has};
 ghost use Rattle.path_model.specs.CurrentTable.{no_parts, IsCurrentRow};
 ghost use Rattle.path_model.specs.ComputedTable.{table_of};
 ghost use Rattle.vap_table.specs.Change.{Alters};
@@ -14,6 +11,7 @@ ghost use Rattle.vap_table.specs.Vaps.{IsNumberOfRows};
 use crate::current::Current;
 use crate::parts::HeldParts;
 use crate::refreshing::refreshed;
+use crate::searching::holds;
 use crate::tallies::Tallies;
 use crate::{Moves, TableChange, Tally};
 use av_base::NoMemory;
@@ -68,8 +66,21 @@ impl Vaps {
         }
     }
 
-    /// The table after a change, and the customers whose current row moved. It visits only the customers that the change names.
+    /// The table after a change, and the customers whose current row moved. It visits only the customers that the change names, and takes for
+    /// each the time of its row and of what the change says of it. A change by hand that changes nothing takes a look-up.
     pub fn change(self, change: TableChange) -> Result<(Vaps, Moves), NoMemory>
+        ensures parts { IfOk result (λ r. Alters self change r.0) }
+        ensures moves { IfOk result (λ r. AreMoves (table_of self) (table_of r.0) r.1) }
+    {
+        if self.parts.is_idle(&change) {
+            let moves = Moves::with_capacity(self.parts.alloc, 0)?;
+            return Ok((self, moves));
+        }
+        self.changed(change)
+    }
+
+    // The same, where something may change.
+    fn changed(self, change: TableChange) -> Result<(Vaps, Moves), NoMemory>
         ensures parts { IfOk result (λ r. Alters self change r.0) }
         ensures moves { IfOk result (λ r. AreMoves (table_of self) (table_of r.0) r.1) }
     {
@@ -80,8 +91,9 @@ impl Vaps {
         } = self;
         let names = parts.named(&change)?;
         let before = current.rows_of(parts.alloc, &parts, &names)?;
+        let tallies = tallies.follow(&parts, &change, &names)?;
         parts.change(change)?;
-        let (current, tallies, moves) = refreshed(&parts, current, tallies, &before, &names)?;
+        let (current, moves) = refreshed(&parts, current, &tallies, &before, &names)?;
         let vaps = Vaps {
             parts,
             current,
@@ -136,12 +148,4 @@ impl Table for Vaps {
             }
         }
     }
-}
-
-// Whether a rising list has a provider.
-fn holds(row: &[u32], provider: u32) -> bool
-    requires { IsStrictlySortedBy nat_cmp row.now }
-    ensures { result ≡ has row.now provider }
-{
-    row.binary_search(&provider).is_ok()
 }

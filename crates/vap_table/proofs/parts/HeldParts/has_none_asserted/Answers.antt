@@ -1,0 +1,18 @@
+use Rattle.std.proofs.Common.{ap, sym, ◌∙◌}
+use Rattle.std.specs.Option.{option_copied}
+use Rattle.path_model.specs.CurrentTable.{Parts}
+use Rattle.vap_table.specs.declared.change.TableChange.TheVariants.{Unassert}
+use Rattle.vap_table.specs.Change.{Alters}
+use Rattle.vap_table.proofs.IdleLemmas.{idle_unassert}
+use Rattle.vap_table.proofs.parts.HeldParts.has_none_asserted.Goals as goal
+
+pub returns-in-None : goal.returns-in-None
+returns-in-None c = λ yes.
+    let held : Parts = record {
+      sources = c.self.inside.sources;
+      slurm_filters = c.self.inside.slurm_filters;
+      slurm_assertions = c.self.inside.slurm_assertions;
+      filters = c.self.inside.filters;
+      assertions = c.self.inside.assertions;
+    } in
+    rw (← c.self.view_is) (idle_unassert held c.args.customer (sym c.row.ensures.row ∙ ap option_copied c.in-None.is))

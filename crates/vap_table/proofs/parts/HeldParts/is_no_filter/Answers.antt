@@ -1,0 +1,19 @@
+use Rattle.std.proofs.Common.{◌≡◌, Bool, true, false, not, refl, sym, ◌∙◌}
+use Rattle.path_model.specs.CurrentTable.{Parts}
+use Rattle.vap_table.proofs.IdleLemmas.{idle_unfilter}
+use Rattle.vap_table.proofs.parts.HeldParts.is_no_filter.Goals as goal
+
+turned : (b : Bool) → not b ≡ true → b ≡ false
+turned true e = sym e
+turned false e = refl
+
+pub returns : goal.returns
+returns c = λ yes.
+    let held : Parts = record {
+      sources = c.self.inside.sources;
+      slurm_filters = c.self.inside.slurm_filters;
+      slurm_assertions = c.self.inside.slurm_assertions;
+      filters = c.self.inside.filters;
+      assertions = c.self.inside.assertions;
+    } in
+    rw (← c.self.view_is) (idle_unfilter held c.args.customer c.len-number.ensures.rising (sym c.contains.ensures ∙ turned c.contains.result yes))
