@@ -1,13 +1,9 @@
 -- Lists whose items each stand for something.
-use Rattle.std.proofs.Common.{◌≡◌, ℕ, zero, suc, ◌+◌, ◌<◌, List, [], ◌∷◌, ◌++◌, length, get_or, take, map, refl, ap, sym, arith, add-one, subst, Option, Some, None}
+use Rattle.std.proofs.Common.{◌≡◌, ℕ, zero, suc, ◌+◌, ◌<◌, List, [], ◌∷◌, ◌++◌, length, get_or, take, map, sym, arith, add-one, subst}
 use Rattle.slurm_rules.specs.Each.{Each}
 use Rattle.slurm_rules.specs.Answers.{Misses}
 use Rattle.slurm_rules.specs.declared.fault.SlurmFault.{SlurmFault}
 use Rattle.slurm_rules.specs.declared.fault.SlurmFault.TheVariants.{Json, Version, Member, Number, NoMemory}
-
-map_push : {A B : Type 0} (f : A → B) (xs : List A) (x : A) → map f (xs ++ x ∷ []) ≡ map f xs ++ f x ∷ []
-map_push f [] x = refl
-map_push f (y ∷ xs) x = ap (λ zs. f y ∷ zs) (map_push f xs x)
 
 pub each_next : {D A V : Type 0} (R : D → A → Type 0) (look : V → D) (vs : List V) (i : ℕ) (v : V) (list : List A) (a : A)
     → i < length vs → Each R (map look (take i vs)) list → R (look (get_or vs i v)) a
@@ -27,13 +23,6 @@ each_never R look (v ∷ vs) zero d (a ∷ list) h never each = never a each.0
 each_never R look (v ∷ vs) (suc i) d [] h never each = each
 each_never R look (v ∷ vs) (suc i) d (a ∷ list) h never each = each_never R look vs i d list (omega arith) never each.1
 
--- the step of a loop that reads each item and pushes what it stands for, both seen through a view
-pub each_pushed : {D A V X : Type 0} (R : D → A → Type 0) (look : V → D) (see : X → A) (vs : List V) (i : ℕ) (v : V) (old new : List X)
-    (x : X) → i < length vs → v ≡ get_or vs i v → Each R (map look (take i vs)) (map see old)
-    → R (look v) (see x) → new ≡ old ++ x ∷ [] → Each R (map look (take (i + 1) vs)) (map see new)
-each_pushed {V = V} R look see vs i v old new x h at each holds is =
-    rw (is, map_push see old x, add-one) (each_next R look vs i v (map see old) (see x) h each (subst (λ (v : V). R (look v) (see x)) at holds))
-
 -- the loop's refusal
 pub each_refused : {D A V : Type 0} (R : D → A → Type 0) (look : V → D) (vs : List V) (i : ℕ) (v : V) → i < length vs
     → v ≡ get_or vs i v → ((a : A) → R (look v) a → ⊥) → (list : List A) → Each R (map look vs) list → ⊥
@@ -48,10 +37,7 @@ misses_by cause P Q Json f h = (h.0, f h.1)
 misses_by cause P Q Version f h = (h.0, f h.1)
 misses_by cause P Q Number f h = (h.0, f h.1)
 
-pub none_holds : {A : Type 0} {o : Option A} → None ≡ o → (a : A) → o ≡ Some a → ⊥
-none_holds none a some = cc
-
--- the same where what is pushed is seen as it is
+-- the step of a loop that reads each item and pushes what it stands for
 pub each_grown : {D A V : Type 0} (R : D → A → Type 0) (look : V → D) (vs : List V) (i : ℕ) (v : V) (old new : List A) (x : A)
     → i < length vs → v ≡ get_or vs i v → Each R (map look (take i vs)) old
     → R (look v) x → new ≡ old ++ x ∷ [] → Each R (map look (take (i + 1) vs)) new

@@ -1,6 +1,11 @@
 mod DecideLemmas
 mod EachLemmas
 pub mod LawLemmas
+mod FaultLemmas
+mod KeptLemmas
+mod ListsLemmas
 mod NumbersLemmas
 mod ObjectLemmas
 mod OneLemmas
+mod TokensLemmas
+mod TurnsLemmas

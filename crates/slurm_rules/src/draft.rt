@@ -1,4 +1,4 @@
-//! What the first pass finds: the form of a file, with numbers as the tree holds them.
+//! The form of a file, with numbers as the tree holds them.
 use serde_json::Number;
 
 // The version of a file.

@@ -1,6 +1,6 @@
 //! Why a SLURM file is refused.
 ghost use Rattle.std.specs.Prelude.{◌≡◌};
-ghost use Rattle.slurm_rules.specs.declared.fault.SlurmFault.TheVariants.{NoMemory as OutOfMemory};
+ghost use Rattle.slurm_rules.specs.declared.fault.SlurmFault.TheVariants.{Json as NoJson, NoMemory as OutOfMemory};
 
 use av_base::NoMemory;
 use std::alloc::{AllocError, AllocFailed};
@@ -24,6 +24,14 @@ pub enum SlurmFault {
     /// There was no memory.
     #[error("no memory")]
     NoMemory,
+}
+
+impl From<json::Invalid> for SlurmFault {
+    ghost from_gives = { λ _ e. e ≡ NoJson };
+
+    fn from(_: json::Invalid) -> SlurmFault {
+        SlurmFault::Json
+    }
 }
 
 impl From<AllocError> for SlurmFault {

@@ -2,18 +2,26 @@
 //!
 //! The layer above uses one contract: **[`read`] answers the reading of the file**, which is the filters and the assertions of a good
 //! one, or the first cause for which it is refused. Each file has exactly one reading (`laws`). The definitions speak of the tree that
-//! `serde_json` gives; the file is read in two passes over it, first its form and then its numbers, so that a wrong member anywhere
-//! comes before a wrong number anywhere.
+//! `serde_json` gives. No tree is built: the file is read from its tokens, what is passed over is dropped at once, and of the rest is
+//! kept what decides (`element`, `part`, `file`). First comes the form of the whole file and then its numbers, so that a wrong member
+//! anywhere comes before a wrong number anywhere.
 //!
-//! Begin with `specs/Reading.antt`, and then `specs/Form.antt` and `specs/Numbers.antt`.
+//! Begin with `specs/Reading.antt`, and then `specs/Form.antt` and `specs/Numbers.antt`; how tokens are taken is in `specs/Tokens.antt`.
 #![tactic(auto)]
 
 mod draft;
+mod element;
 mod fault;
-mod form;
+mod fields;
+mod file;
+mod kind;
 mod laws;
+mod lists;
+mod names;
 mod numbers;
-mod object;
+mod numeral;
+mod part;
+mod passing;
 mod reading;
 mod slurm;
 

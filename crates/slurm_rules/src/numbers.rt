@@ -1,4 +1,4 @@
-//! The second pass: the numbers of a form, and what they come to.
+//! The numbers of a form, and what they come to.
 ghost use Rattle.std.specs.Prelude.{◌≡◌, map, Some, None, IfSome, IfNone};
 ghost use Rattle.serde_json.specs.View.{number_view};
 ghost use Rattle.slurm_rules.specs.Each.{Each};

@@ -1,47 +1,44 @@
 //! A SLURM file, from its bytes on.
-ghost use Rattle.std.specs.Prelude.{◌≡◌, Some, IfSome, IfNone};
-ghost use Rattle.serde_json.specs.View.{view};
-ghost use Rattle.slurm_rules.specs.Answers.{Answers, Reads};
-ghost use Rattle.slurm_rules.specs.Form.{draft_view, IsFile};
-ghost use Rattle.slurm_rules.specs.Reading.{HasVersion, IsReading, IsTree};
+ghost use Rattle.std.specs.Prelude.{◌≡◌};
+ghost use Rattle.slurm_rules.specs.Answers.{Answers};
+ghost use Rattle.slurm_rules.specs.Kept.{FileIs};
+ghost use Rattle.slurm_rules.specs.Reading.{IsReading};
+ghost use Rattle.slurm_rules.specs.Tokens.{IsOfText};
 
-use crate::draft::Version;
 use crate::fault::SlurmFault;
-use crate::form::read_file;
+use crate::fields::read_object;
+use crate::file::File;
 use crate::numbers::read_content;
-use crate::object::number_at;
 use crate::slurm::Slurm;
-use serde_json::Value;
+use json::{Reader, Scratch};
+use simdutf8::basic::from_utf8;
 use std::alloc::Global;
+
+// How deep arrays and objects may nest.
+const MAX_DEPTH: usize = 127;
 
 /// Reads a SLURM file. A refusal is the first cause in order that holds anywhere in the file. Of members of one name the last counts.
 pub fn read(alloc: Global, bytes: &[u8]) -> Result<Slurm, SlurmFault>
     ensures { Answers (IsReading bytes.now) result }
 {
-    let file = match Value::from_slice(alloc, bytes) {
-        Ok(file) => file,
-        Err(error) => {
-            return Err(if error.is_memory() {
-                SlurmFault::NoMemory
-            } else {
-                SlurmFault::Json
-            });
-        }
+    let Ok(text) = from_utf8(bytes) else {
+        return Err(SlurmFault::Json);
     };
-    let version = read_version(&file).ok_or(SlurmFault::Version)?;
-    let draft = read_file(alloc, version, &file)?;
-    drop(file);
+    let file = read_text(alloc, text)?;
+    let version = file.version().ok_or(SlurmFault::Version)?;
+    let draft = file.into_draft(alloc, version).ok_or(SlurmFault::Member)?;
     read_content(alloc, &draft)
 }
 
-// The version of a file, if it is known.
-fn read_version(file: &Value) -> Option<Version>
-    ensures some { IfSome result (λ version. HasVersion version (view file.now)) }
-    ensures none { IfNone result ((version : _) → HasVersion version (view file.now) → ⊥) }
+// What is kept of a text. Beside it this takes memory for a copy of the text at most.
+fn read_text(alloc: Global, text: &str) -> Result<File, SlurmFault>
+    ensures { IsOfText FileIs text.now result }
 {
-    match number_at(file, "slurmVersion")?.as_u64()? {
-        1 => Some(Version::One),
-        2 => Some(Version::Two),
-        _ => None,
+    let mut scratch = Scratch::new(alloc);
+    let mut reader = Reader::new(text, &mut scratch)?;
+    let file: File = read_object(alloc, &mut reader, MAX_DEPTH)?;
+    if reader.next().is_some() {
+        return Err(SlurmFault::Json);
     }
+    Ok(file)
 }

@@ -1,0 +1,33 @@
+use Rattle.std.proofs.Common.{codes, refl, sym, ◌∙◌}
+use Rattle.slurm_rules.specs.Form.{IsNumber, numbers_view}
+use Rattle.slurm_rules.proofs.ListsLemmas.{list_replaced, list_kept}
+use Rattle.slurm_rules.proofs.ObjectLemmas.{not_that, number_other, text_other}
+use Rattle.slurm_rules.proofs.element.AssertionFieldsFields.read_member.Goals as goal
+
+pub returns-then-eq : goal.returns-then-eq
+returns-then-eq c =
+    let here = c.in_ok-providers.ensures in
+    let k = c.args.name.now in
+    let same = sym c.eq.ensures ∙ c.if-eq.true in (
+      here.0,
+      here.1,
+      λ ms is. record {
+        only = c.only_after-only.ensures here.0 ms is.only;
+        comment = is.comment ∙ text_other (codes "comment") k here.0 ms (not_that k (codes "providerAsns") (codes "comment") same refl);
+        customer = is.customer ∙ number_other (codes "customerAsn") k here.0 ms (not_that k (codes "providerAsns") (codes "customerAsn") same refl);
+        providers = list_replaced numbers_view IsNumber c.in_ok-providers.providers (codes "providerAsns") k here.0 ms same here.2;
+      },
+    )
+
+pub returns : goal.returns
+returns c =
+    let here = c.in_ok-kind.ensures in (
+      here.0,
+      here.1,
+      λ ms is. record {
+        only = c.only_after-only.ensures here.0 ms is.only;
+        comment = c.text_after-comment.ensures here.0 ms here.2 is.comment;
+        customer = c.number_after-customer.ensures here.0 ms here.2 is.customer;
+        providers = list_kept numbers_view IsNumber c.args.self.providers (codes "providerAsns") c.args.name.now here.0 ms (sym c.eq.ensures ∙ c.if-eq.false) is.providers;
+      },
+    )

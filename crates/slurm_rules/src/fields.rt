@@ -1,0 +1,124 @@
+//! What is kept of an object: its members are read in order, and of those of one name the last counts.
+ghost use Rattle.std.specs.Prelude.{◌≡◌, None, is_some, map, option_map};
+ghost use Rattle.serde_json.specs.Data.{Data, Members, object, no_members, put};
+ghost use Rattle.serde_json.specs.Find.{as_object};
+ghost use Rattle.serde_json.specs.View.{number_view};
+ghost use Rattle.slurm_rules.specs.Object.{number_at, array_at, has_only, may_have_text};
+ghost use Rattle.slurm_rules.specs.Tokens.{KindIs, Takes, TakesObject};
+
+use crate::fault::SlurmFault;
+use crate::kind::Kind;
+use crate::names::is_among;
+use crate::passing::opens_object;
+use json::Reader;
+use serde_json::Number;
+use std::alloc::Global;
+
+// What is kept of the objects of one kind.
+pub(crate) trait Fields: Drop {
+    ghost keeps: { Self → Data → Type 0 };
+
+    // Of an object that has no member.
+    fn of_empty() -> Self
+        ensures { keeps result (object no_members) };
+
+    // Of what is no object.
+    fn of_other() -> Self
+        ensures { (d : Data) → as_object d ≡ None → keeps result d };
+
+    // Reads one more member, after its name.
+    fn read_member(
+        self,
+        alloc: Global,
+        name: &str,
+        reader: &mut Reader<'_>,
+        depth: usize,
+    ) -> Result<Self, SlurmFault>
+        ensures { Takes
+            (λ kept d. (ms : Members) → keeps self (object ms) → keeps kept (object (put name.now d ms)))
+            depth reader.old reader.new result };
+}
+
+// What is kept of the next value.
+pub(crate) fn read_object<F: Fields>(
+    alloc: Global,
+    reader: &mut Reader<'_>,
+    depth: usize,
+) -> Result<F, SlurmFault>
+    ensures { Takes F.keeps depth reader.old reader.new result }
+{
+    let opens = opens_object(reader, depth)?;
+    if !opens {
+        return Ok(F::of_other());
+    }
+    read_members(alloc, reader, depth - 1)
+}
+
+// What is kept of an object, after its opening bracket.
+fn read_members<F: Fields>(
+    alloc: Global,
+    reader: &mut Reader<'_>,
+    depth: usize,
+) -> Result<F, SlurmFault>
+    ensures { TakesObject F.keeps depth reader.old reader.new result }
+{
+    let mut kept = F::of_empty();
+    'members: while let Some(name) = reader.next_key()? {
+        let more = kept.read_member(alloc, name, reader, depth)?;
+        kept = more;
+    }
+    Ok(kept)
+}
+
+// Whether all members have these names, after one more member.
+pub(crate) fn only_after(before: bool, names: &[&str], name: &str) -> bool
+    ensures { (d : Data) (ms : Members)
+        → before ≡ has_only (map (λ name. name.now) names.now) (object ms)
+        → result ≡ has_only (map (λ name. name.now) names.now) (object (put name.now d ms)) }
+{
+    if before { is_among(names, name) } else { false }
+}
+
+// The number that is the member of the wanted name, after one more member.
+pub(crate) fn number_after(
+    before: Option<Number>,
+    wanted: &str,
+    name: &str,
+    kind: Kind,
+) -> Option<Number>
+    ensures { (d : Data) (ms : Members) → KindIs kind d
+        → option_map number_view before ≡ number_at wanted.now (object ms)
+        → option_map number_view result ≡ number_at wanted.now (object (put name.now d ms)) }
+{
+    if name == wanted {
+        kind.number()
+    } else {
+        before
+    }
+}
+
+// Whether the member of the wanted name is a text, if there is one, after one more member.
+pub(crate) fn text_after(before: bool, wanted: &str, name: &str, kind: Kind) -> bool
+    ensures { (d : Data) (ms : Members) → KindIs kind d
+        → before ≡ may_have_text wanted.now (object ms)
+        → result ≡ may_have_text wanted.now (object (put name.now d ms)) }
+{
+    if name == wanted {
+        kind.is_text()
+    } else {
+        before
+    }
+}
+
+// Whether the member of the wanted name is an array, after one more member.
+pub(crate) fn array_after(before: bool, wanted: &str, name: &str, kind: Kind) -> bool
+    ensures { (d : Data) (ms : Members) → KindIs kind d
+        → before ≡ is_some (array_at wanted.now (object ms))
+        → result ≡ is_some (array_at wanted.now (object (put name.now d ms))) }
+{
+    if name == wanted {
+        kind.is_array()
+    } else {
+        before
+    }
+}

@@ -1,0 +1,132 @@
+//! The whole file: its version and its two parts, in whatever order they stand.
+ghost use Rattle.std.specs.Prelude.{◌≡◌, option_map};
+ghost use Rattle.serde_json.specs.Data.{Data};
+ghost use Rattle.serde_json.specs.View.{number_view};
+ghost use Rattle.slurm_rules.specs.Form.{draft_view, IsFile};
+ghost use Rattle.slurm_rules.specs.Kept.{FileIs, IsVersion};
+ghost use Rattle.slurm_rules.specs.Reading.{HasVersion};
+ghost use Rattle.slurm_rules.specs.Tokens.{Holds};
+
+use crate::draft::{Draft, Version};
+use crate::fault::SlurmFault;
+use crate::fields::{Fields, number_after, only_after, read_object};
+use crate::part::{AssertionPart, FilterPart};
+use crate::passing::pass;
+use json::Reader;
+use serde_json::Number;
+use std::alloc::Global;
+
+// What is kept of a file.
+#[derive(Drop)]
+pub(crate) struct File {
+    // its members are those that are listed
+    only: bool,
+    version: Option<Number>,
+    filters: FilterPart,
+    assertions: AssertionPart,
+}
+
+impl Fields for File {
+    ghost keeps = { FileIs };
+
+    fn of_empty() -> File {
+        File {
+            only: true,
+            version: None,
+            filters: FilterPart::absent(),
+            assertions: AssertionPart::absent(),
+        }
+    }
+
+    fn of_other() -> File {
+        File {
+            only: false,
+            version: None,
+            filters: FilterPart::absent(),
+            assertions: AssertionPart::absent(),
+        }
+    }
+
+    fn read_member(
+        self,
+        alloc: Global,
+        name: &str,
+        reader: &mut Reader<'_>,
+        depth: usize,
+    ) -> Result<File, SlurmFault> {
+        let only = only_after(
+            self.only,
+            &[
+                "locallyAddedAssertions",
+                "slurmVersion",
+                "validationOutputFilters",
+            ],
+            name,
+        );
+        if name == "validationOutputFilters" {
+            let filters: FilterPart = read_object(alloc, reader, depth)?;
+            return Ok(File {
+                only,
+                version: self.version,
+                filters,
+                assertions: self.assertions,
+            });
+        }
+        if name == "locallyAddedAssertions" {
+            let assertions: AssertionPart = read_object(alloc, reader, depth)?;
+            return Ok(File {
+                only,
+                version: self.version,
+                filters: self.filters,
+                assertions,
+            });
+        }
+        let kind = pass(reader, depth)?;
+        let version = number_after(self.version, "slurmVersion", name, kind);
+        Ok(File {
+            only,
+            version,
+            filters: self.filters,
+            assertions: self.assertions,
+        })
+    }
+}
+
+impl File {
+    // The version of the file, if it is known.
+    pub(crate) fn version(&self) -> Option<Version>
+        ensures { (d : Data) → FileIs self.now d → Holds (λ v. v) result (λ v. HasVersion v d) }
+    {
+        version_of(self.version)
+    }
+
+    // What the file says, where it has the form of this version.
+    pub(crate) fn into_draft(self, alloc: Global, version: Version) -> Option<Draft>
+        ensures { (d : Data) → FileIs self d → Holds draft_view result (IsFile version d) }
+    {
+        if !self.only {
+            return None;
+        }
+        let Some(filters) = self.filters.into_filters(alloc, version) else {
+            return None;
+        };
+        let Some(assertions) = self.assertions.into_assertions(alloc, version) else {
+            return None;
+        };
+        Some(Draft {
+            filters,
+            assertions,
+        })
+    }
+}
+
+// The version that a number is.
+fn version_of(number: Option<Number>) -> Option<Version>
+    ensures { Holds (λ v. v) result (IsVersion (option_map number_view number)) }
+{
+    match number?.as_u64()? {
+        1 => Some(Version::One),
+        2 => Some(Version::Two),
+        _ => None,
+    }
+}
