@@ -50,9 +50,15 @@ impl Write for Hesitant {
 fn a_call_that_comes_to_something_later_is_made_again(rt: HostRuntime) {
     for kind in [ErrorKind::Interrupted, ErrorKind::WouldBlock] {
         let mut buffer = [0u8; 4];
-        assert_eq!(rt; read_again(&mut Hesitant { calls: 3, kind }, &rt, &mut buffer), Ok(1));
+        assert_eq!(rt;
+            read_again(&mut Hesitant { calls: 3, kind }, &rt, &mut buffer),
+            Ok(1)
+        );
         assert_eq!(rt; buffer, *b"x\0\0\0");
-        assert_eq!(rt; write_again(&mut Hesitant { calls: 3, kind }, &rt, b"text"), Ok(1));
+        assert_eq!(rt;
+            write_again(&mut Hesitant { calls: 3, kind }, &rt, b"text"),
+            Ok(1)
+        );
     }
     let mut failing = Hesitant {
         calls: 1,

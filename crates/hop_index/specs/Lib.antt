@@ -1,7 +1,9 @@
+pub mod Held
 pub mod Hops
 pub mod Index
 pub mod Kept
 pub mod Laws
+pub mod NumberIter
 pub mod Numbers
 pub mod Pairs
 pub mod Through

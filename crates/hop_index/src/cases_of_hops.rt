@@ -4,11 +4,12 @@ ghost use Rattle.hop_index.specs.declared.pair.Pair.{Pair};
 ghost use Rattle.hop_index.specs.Index.{at};
 ghost use Rattle.hop_index.specs.Kept.{stands, is_pair, AddsCase, RemovesCase, HaveCases, AreRising};
 
+use crate::number_iter::NumberIter;
 use crate::numbers::Numbers;
 use crate::pair::Pair;
 use av_base::NoMemory;
 use std::alloc::Global;
-use std::collections::{BTreeMap, btree_set};
+use std::collections::BTreeMap;
 
 // One case more of a hop, where it isn't there yet, and whether the hop had none before. It takes a look-up, and a second one where the
 // hop is new.
@@ -51,10 +52,7 @@ pub(crate) fn remove(hops: &mut BTreeMap<Pair, Numbers>, pair: Pair, case: u32) 
 }
 
 // The cases of a hop, rising; none where it has no entry.
-pub(crate) fn of<'a>(
-    hops: &'a BTreeMap<Pair, Numbers>,
-    pair: Pair,
-) -> Option<btree_set::Iter<'a, u32>>
+pub(crate) fn of<'a>(hops: &'a BTreeMap<Pair, Numbers>, pair: Pair) -> Option<NumberIter<'a>>
     ensures { result ≡ at hops.now.entries pair }
 {
     match hops.get(&pair) {

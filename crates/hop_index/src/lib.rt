@@ -8,9 +8,11 @@
 #![tactic(auto)]
 
 mod cases_of_hops;
+mod held;
 mod index;
 mod laws;
 mod neighbours;
+mod number_iter;
 mod numbers;
 mod pair;
 mod through;

@@ -5,10 +5,11 @@ ghost use Rattle.std.specs.Ordering.{nat_cmp};
 ghost use Rattle.hop_index.specs.Kept.{neighbours_found, AddsNeighbour, RemovesNeighbour, HaveNeighbours};
 ghost use Rattle.hop_index.specs.Numbers.{numbers_or};
 
+use crate::number_iter::NumberIter;
 use crate::numbers::Numbers;
 use av_base::NoMemory;
 use std::alloc::Global;
-use std::collections::{BTreeMap, btree_set};
+use std::collections::BTreeMap;
 
 // One neighbour of an AS more, where it isn't there yet.
 pub(crate) fn insert(
@@ -40,7 +41,7 @@ pub(crate) fn remove(ends: &mut BTreeMap<u32, Numbers>, x: u32, y: u32)
 }
 
 // The neighbours of an AS, rising; none where it has no entry.
-pub(crate) fn of<'a>(ends: &'a BTreeMap<u32, Numbers>, x: u32) -> Option<btree_set::Iter<'a, u32>>
+pub(crate) fn of<'a>(ends: &'a BTreeMap<u32, Numbers>, x: u32) -> Option<NumberIter<'a>>
     ensures whole { numbers_or result ≡ numbers_or (neighbours_found ends.now.entries x) }
     ensures rising { IsStrictlySortedBy nat_cmp (numbers_or result) }
 {

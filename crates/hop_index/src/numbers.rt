@@ -4,24 +4,30 @@ ghost use Rattle.std.specs.List.Sorted.{IsStrictlySortedBy};
 ghost use Rattle.std.specs.Ordering.{nat_cmp};
 ghost use Rattle.hop_index.specs.Numbers.{has_number};
 
+use crate::held::{self, Held};
+use crate::number_iter::{Left, NumberIter};
 use av_base::NoMemory;
 use std::alloc::Global;
-use std::collections::{BTreeSet, btree_set};
 use std::marker::Model;
 
-// A set of numbers, which a contract sees as a rising list. Each takes 4 to 9 bytes with its share of tree nodes; a set of at most 15 has one
-// node of 64 bytes, whatever their number.
+// A set of numbers, which a contract sees as a rising list. It takes 16 bytes, and up to three numbers take no more.
 #[derive(Drop)]
 pub(crate) struct Numbers {
-    numbers: BTreeSet<u32>,
+    alloc: Global,
+    held: Held,
 }
 
 impl Model for Numbers {
     ghost use Rattle.std.specs.Prelude.{List, ℕ};
+    ghost use Rattle.std.specs.List.Sorted.{IsStrictlySortedBy};
+    ghost use Rattle.std.specs.Ordering.{nat_cmp};
+    ghost use Rattle.hop_index.specs.Held.{numbers_held};
 
     ghost Value = { List ℕ };
 
-    ghost view = { λ a. a.numbers.keys };
+    ghost view = { λ a. numbers_held a.held };
+
+    ghost invariant = { λ a. IsStrictlySortedBy nat_cmp (numbers_held a.held) };
 }
 
 impl Numbers {
@@ -30,7 +36,8 @@ impl Numbers {
         ensures { result ≡ [] }
     {
         Numbers {
-            numbers: BTreeSet::new(alloc),
+            alloc,
+            held: Held::Empty,
         }
     }
 
@@ -41,7 +48,7 @@ impl Numbers {
         ensures some { OnOk result (self.new ≢ []) }
         ensures rising { OnOk result (IsStrictlySortedBy nat_cmp self.new) }
     {
-        self.numbers.insert(number)?;
+        held::insert(&mut self.held, self.alloc, number)?;
         Ok(())
     }
 
@@ -51,21 +58,32 @@ impl Numbers {
             → has_number self.new n ≡ (has_number self.old n && not (nat_eq n number)) }
         ensures rising { IsStrictlySortedBy nat_cmp self.new }
     {
-        self.numbers.remove(&number);
+        held::remove(&mut self.held, number);
     }
 
     // Whether there are none.
     pub(crate) fn is_empty(&self) -> bool
         ensures { IsTrue result ↔ (self.now ≡ []) }
     {
-        self.numbers.is_empty()
+        match &self.held {
+            Held::Empty => true,
+            Held::Many(numbers) => numbers.is_empty(),
+            _ => false,
+        }
     }
 
     // The numbers, rising.
-    pub(crate) fn iter(&self) -> btree_set::Iter<'_, u32>
+    pub(crate) fn iter(&self) -> NumberIter<'_>
         ensures whole { result ≡ self.now }
         ensures rising { IsStrictlySortedBy nat_cmp self.now }
     {
-        self.numbers.iter()
+        let left = match &self.held {
+            Held::Empty => Left::End,
+            Held::One(a) => Left::Last(*a),
+            Held::Two(a, b) => Left::LastTwo(*a, *b),
+            Held::Three(a, b, c) => Left::LastThree(*a, *b, *c),
+            Held::Many(numbers) => Left::OfMany(numbers.iter()),
+        };
+        NumberIter { left }
     }
 }

@@ -3,9 +3,10 @@ ghost use Rattle.std.specs.Iterator.{YieldsFirstBy, item_count};
 ghost use Rattle.hop_index.specs.Through.{ends_left};
 
 use crate::cases_of_hops;
+use crate::number_iter::NumberIter;
 use crate::numbers::Numbers;
 use crate::pair::Pair;
-use std::collections::{BTreeMap, btree_set};
+use std::collections::BTreeMap;
 
 /// The other ends of one AS's hops: each AS with a case that has a hop to it, by rising AS and then by rising case.
 #[derive(Drop)]
@@ -13,10 +14,10 @@ pub struct Through<'a> {
     pub(crate) hops: &'a BTreeMap<Pair, Numbers>,
     pub(crate) x: u32,
     // the neighbours of x whose cases are still to come; none where no case has a hop of x
-    pub(crate) neighbours: Option<btree_set::Iter<'a, u32>>,
+    pub(crate) neighbours: Option<NumberIter<'a>>,
     // the neighbour that is gone through, if one is, and what is left of its cases
     pub(crate) y: u32,
-    pub(crate) cases: Option<btree_set::Iter<'a, u32>>,
+    pub(crate) cases: Option<NumberIter<'a>>,
 }
 
 impl<'a> Iterator for Through<'a> {
@@ -30,7 +31,7 @@ impl<'a> Iterator for Through<'a> {
         loop {
             if let Some(cases) = &mut self.cases {
                 if let Some(case) = cases.next() {
-                    return Some((self.y, *case as usize));
+                    return Some((self.y, case as usize));
                 }
             }
             let Some(neighbours) = &mut self.neighbours else {
@@ -39,8 +40,8 @@ impl<'a> Iterator for Through<'a> {
             match neighbours.next() {
                 None => return None,
                 Some(y) => {
-                    self.y = *y;
-                    self.cases = cases_of_hops::of(self.hops, Pair::of(self.x, *y));
+                    self.y = y;
+                    self.cases = cases_of_hops::of(self.hops, Pair::of(self.x, y));
                 }
             }
         }

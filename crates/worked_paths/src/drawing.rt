@@ -1,6 +1,6 @@
 //! What events are made of, drawn.
 use av_base::NoMemory;
-use path_model::{Addr, AsList, Changes, Key, Peer, Prefix, Role, Rows, Trail};
+use path_model::{Addr, AsList, Changes, Key, Peer, Prefix, PrefixList, Role, Rows, Trail};
 use std::alloc::Global;
 
 /// Numbers that look drawn: two upper bits of a linear congruence.
@@ -89,11 +89,24 @@ impl Draw {
         };
         let kind = self.four();
         let part = self.four();
-        match kind {
-            0 if part == 0 => changes.remove_peer(key.peer),
-            0 | 1 => changes.remove(key),
-            _ => self.add_announcement(alloc, changes, key, part == 0),
+        match (kind, part) {
+            (0, 0) => changes.remove_peer(key.peer),
+            (0, 1) => changes.remove_all(key.peer, self.prefixes(alloc, key.prefix)?),
+            (0 | 1, _) => changes.remove(key),
+            (_, _) => self.add_announcement(alloc, changes, key, part),
         }
+    }
+
+    // A few prefixes, of which the first is this one; some may stand there twice.
+    fn prefixes(&mut self, alloc: Global, first: Prefix) -> Result<PrefixList, NoMemory> {
+        let mut prefixes = PrefixList::new(alloc);
+        prefixes.push(first)?;
+        for _ in 0..3 {
+            if let Some(key) = self.key() {
+                prefixes.push(key.prefix)?;
+            }
+        }
+        Ok(prefixes)
     }
 
     fn add_announcement(
@@ -101,13 +114,17 @@ impl Draw {
         alloc: Global,
         changes: &mut Changes,
         key: Key,
-        set: bool,
+        part: u32,
     ) -> Result<(), NoMemory> {
         let path = self.ases(alloc, key.peer.asn)?;
         if path.len() > 65_535 {
             return Ok(());
         }
-        let trail = Trail::new(alloc, set, path.as_slice())?;
+        let trail = Trail::new(alloc, part == 0, path.as_slice())?;
+        if part == 1 {
+            let prefixes = self.prefixes(alloc, key.prefix)?;
+            return changes.announce_all(key.peer, trail, prefixes);
+        }
         changes.announce(key, trail)
     }
 

@@ -21,8 +21,8 @@ pub fn next_event(draw: &mut Draw, plain: &mut Plain) -> Result<Event, NoMemory>
 
 fn change_routes(draw: &mut Draw, plain: &mut Plain) -> Result<Event, NoMemory> {
     let changes = draw.changes(plain.alloc)?;
-    for change in changes.iter() {
-        plain.change(change)?;
+    for batch in changes.batches() {
+        plain.perform(batch)?;
     }
     Ok(Event::Routes(changes))
 }

@@ -1,6 +1,6 @@
 //! What stands, as plain lists, and all routes judged from scratch.
 use av_base::{NoMemory, Steps};
-use path_model::{Change, Key, Name, Peer, Roles, Rows, Trail, Verdict};
+use path_model::{Batch, Change, Key, Name, Peer, PrefixList, Roles, Rows, Trail, Verdict};
 use ramps::judge;
 use std::alloc::Global;
 use std::collections::{BTreeMap, BTreeSet};
@@ -33,8 +33,40 @@ impl Plain {
         }
     }
 
+    // Performs the changes of one batch.
+    pub fn perform(&mut self, batch: &Batch) -> Result<(), NoMemory> {
+        match batch {
+            Batch::One(change) => self.change(change),
+            Batch::RemoveAll(peer, prefixes) => {
+                self.remove_all(*peer, prefixes);
+                Ok(())
+            }
+            Batch::AnnounceAll(peer, trail, prefixes) => self.announce_all(*peer, trail, prefixes),
+        }
+    }
+
+    fn remove_all(&mut self, peer: Peer, prefixes: &PrefixList) {
+        for prefix in prefixes.iter() {
+            let prefix = *prefix;
+            self.routes.remove(&Key { peer, prefix });
+        }
+    }
+
+    fn announce_all(
+        &mut self,
+        peer: Peer,
+        trail: &Trail,
+        prefixes: &PrefixList,
+    ) -> Result<(), NoMemory> {
+        for prefix in prefixes.iter() {
+            let prefix = *prefix;
+            self.routes.insert(Key { peer, prefix }, trail.copy()?)?;
+        }
+        Ok(())
+    }
+
     // Performs one change of the routes.
-    pub fn change(&mut self, change: &Change) -> Result<(), NoMemory> {
+    fn change(&mut self, change: &Change) -> Result<(), NoMemory> {
         match change {
             Change::Remove(key) => {
                 self.routes.remove(key);

@@ -1,11 +1,13 @@
 //! Tests of the readers of dumps: path attributes, messages and records.
 //!
 //! Each table has its expected values worked out by hand, or, for the dumps that routing daemons wrote, by `bgpdump`. `attributes` reads
-//! attribute fields, `records` single records and streams in any pieces, `daemons` whole dumps of two daemons.
+//! attribute fields, `records` single records and streams in any pieces (`comparing`), `daemons` whole dumps of two daemons.
 #![tactic(auto)]
 
 #[cfg(test)]
 mod attributes;
+#[cfg(test)]
+mod comparing;
 #[cfg(test)]
 mod daemons;
 #[cfg(test)]

@@ -1,8 +1,9 @@
 //! Records of dumps: what each says, by itself and in a stream that is cut in any pieces.
+use crate::comparing::compare_changes;
 use crate::hex::hex;
 use av_base::NoMemory;
 use mrt_reader::{Body, BodyFault, FrameFault, Framer, PeerTable, read_body};
-use path_model::{Addr, Change, Changes, Key, Peer};
+use path_model::{Addr, Peer};
 use std::alloc::Global;
 use std::process::Abort;
 
@@ -290,28 +291,6 @@ fn compare(
         _ => assert!(rt; false),
     }
     Ok(None)
-}
-
-fn compare_changes(rt: &impl Abort, changes: &Changes, wants: &[Wanted]) {
-    assert_eq!(rt; changes.len(), wants.len());
-    for (change, want) in changes.as_slice().iter().zip(wants) {
-        assert!(rt; is_wanted(change, want));
-    }
-}
-
-fn is_wanted(change: &Change, want: &Wanted) -> bool {
-    match (change, want) {
-        (Change::Remove(key), Remove(peer, addr, len)) => is_key(key, *peer, *addr, *len),
-        (Change::Announce(key, trail), Announce(peer, addr, len, chain)) => {
-            is_key(key, *peer, *addr, *len) && !trail.is_set() && trail.chain().as_slice() == *chain
-        }
-        (Change::RemovePeer(one), RemovePeer(peer)) => *one == *peer,
-        _ => false,
-    }
-}
-
-fn is_key(key: &Key, peer: Peer, addr: Addr, len: u8) -> bool {
-    key.peer == peer && key.prefix.addr() == addr && key.prefix.len() == len
 }
 
 #[test]

@@ -1,0 +1,12 @@
+-- What is still to come of a set of numbers. Private contracts alone cite it.
+use Rattle.std.specs.Prelude.{ℕ, List, [], ◌∷◌}
+use Rattle.hop_index.specs.declared.number_iter.Left.{Left}
+use Rattle.hop_index.specs.declared.number_iter.Left.TheVariants.{End, Last, LastTwo, LastThree, OfMany}
+
+-- the numbers that are still to come
+abbrev pub numbers_left : Left → List ℕ
+numbers_left End = []
+numbers_left (Last a) = a ∷ []
+numbers_left (LastTwo a b) = a ∷ b ∷ []
+numbers_left (LastThree a b c) = a ∷ b ∷ c ∷ []
+numbers_left (OfMany numbers) = numbers

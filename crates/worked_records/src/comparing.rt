@@ -1,0 +1,67 @@
+//! The changes of a record beside those that are wanted.
+use crate::records::Wanted;
+use path_model::{Addr, Batch, Change, Changes, Key, Peer, Prefix, Trail};
+use std::process::Abort;
+use std::slice::Iter;
+
+/// Compares all changes, one by one.
+pub(crate) fn compare_changes(rt: &impl Abort, changes: &Changes, wants: &[Wanted]) {
+    assert_eq!(rt; changes.len(), wants.len());
+    let mut wants = wants.iter();
+    for batch in changes.batches() {
+        compare_batch(rt, batch, &mut wants);
+    }
+}
+
+fn compare_batch(rt: &impl Abort, batch: &Batch, wants: &mut Iter<'_, Wanted>) {
+    match batch {
+        Batch::One(change) => assert!(rt; is_wanted(change, wants.next())),
+        Batch::RemoveAll(peer, prefixes) => {
+            for prefix in prefixes.iter() {
+                let key = key_of(*peer, *prefix);
+                assert!(rt; is_removal(&key, wants.next()));
+            }
+        }
+        Batch::AnnounceAll(peer, trail, prefixes) => {
+            for prefix in prefixes.iter() {
+                let key = key_of(*peer, *prefix);
+                assert!(rt; is_announcement(&key, trail, wants.next()));
+            }
+        }
+    }
+}
+
+fn key_of(peer: Peer, prefix: Prefix) -> Key {
+    Key { peer, prefix }
+}
+
+fn is_wanted(change: &Change, want: Option<&Wanted>) -> bool {
+    match change {
+        Change::Remove(key) => is_removal(key, want),
+        Change::Announce(key, trail) => is_announcement(key, trail, want),
+        Change::RemovePeer(one) => match want {
+            Some(Wanted::RemovePeer(peer)) => *one == *peer,
+            _ => false,
+        },
+    }
+}
+
+fn is_removal(key: &Key, want: Option<&Wanted>) -> bool {
+    match want {
+        Some(Wanted::Remove(peer, addr, len)) => is_key(key, *peer, *addr, *len),
+        _ => false,
+    }
+}
+
+fn is_announcement(key: &Key, trail: &Trail, want: Option<&Wanted>) -> bool {
+    match want {
+        Some(Wanted::Announce(peer, addr, len, chain)) => {
+            is_key(key, *peer, *addr, *len) && !trail.is_set() && trail.chain().as_slice() == *chain
+        }
+        _ => false,
+    }
+}
+
+fn is_key(key: &Key, peer: Peer, addr: Addr, len: u8) -> bool {
+    key.peer == peer && key.prefix.addr() == addr && key.prefix.len() == len
+}
