@@ -1,8 +1,9 @@
 #!/usr/bin/env python3
-"""Writes the attestations of a validator's JSON as base64 lines, which a line 'aspa64 NAME FILE' reads.
+"""Writes the attestations of a validator's JSON as base64 lines for 'aspa64 NAME FILE': python3 examples/json_to_aspa64.py FILE
 
-Give it the JSON that rpki-client, Routinator or FORT writes, as a file or on standard input. Each line is one payload in DER, as
-docs/formats.md says under 'Payload files'. What else the JSON has (prefixes, router keys, times) is passed over."""
+FILE is the JSON that rpki-client, Routinator or FORT writes; /dev/stdin is standard input. Each line is one payload in DER, as
+docs/formats.md says under 'Payload files'. What else the JSON has (prefixes, router keys, times) is passed over. A JSON without an
+attestation, or of another layout, is refused with status 1."""
 import base64
 import json
 import sys
@@ -45,10 +46,21 @@ def attestations(tree):
 
 
 def main():
-    with open(sys.argv[1] if len(sys.argv) > 1 else "/dev/stdin") as file:
-        tree = json.load(file)
-    for customer, providers in attestations(tree):
-        print(base64.b64encode(payload(customer, providers)).decode())
+    if len(sys.argv) != 2:
+        sys.exit(__doc__.split("\n")[0])
+    with open(sys.argv[1], "rb") as file:
+        text = file.read()
+    try:
+        tree = json.loads(text)
+    except ValueError as fault:
+        sys.exit(f"json_to_aspa64.py: this is no JSON: {fault}")
+    try:
+        lines = [base64.b64encode(payload(*row)).decode() for row in attestations(tree)]
+    except (AttributeError, KeyError, TypeError, ValueError, OverflowError):
+        sys.exit("json_to_aspa64.py: an entry isn't in a known layout")
+    if not lines:
+        sys.exit("json_to_aspa64.py: this JSON has no attestation")
+    print(*lines, sep="\n")
 
 
 if __name__ == "__main__":

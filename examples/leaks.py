@@ -1,12 +1,13 @@
 #!/usr/bin/env python3
 """Who leaked? Lists suspects for the invalid routes of a table dump: python3 examples/leaks.py SCRIPT TABLE
 
-SCRIPT is one for aspaview that loads attestations and roles and takes the table dump TABLE; its own text is passed over. It is performed
-twice: for the routes that are invalid, and for why each one is.
+SCRIPT is one for aspaview that loads attestations and roles and takes the table dump TABLE, and no updates behind it. Its own text is
+passed over, but for what is refused, of which standard error tells. It is performed twice: for the routes that are invalid, and for why
+each one is.
 
 Each line has one or more ASes with commas between them, and how many routes one of them leaked, if the attestations are right and the path
 isn't forged; then the first such route as a report has it, without its verdict, and its path. The last line counts the invalid routes of
-which no hop is refused. Tables of the type TABLE_DUMP_V2 are read, as route collectors write them."""
+which no hop is refused, and all routes. Tables of the type TABLE_DUMP_V2 are read, as route collectors write them."""
 import collections
 import ipaddress
 import pathlib
@@ -25,13 +26,22 @@ def text_of(script):
     return done.stdout.splitlines()
 
 
-def witnesses(script):
-    """Each invalid route, 'ADDRESS AS PREFIX', with the words of its witness."""
+def judged(script):
+    """The number of routes, and each invalid one, 'ADDRESS AS PREFIX', with the words of its witness."""
+    if sum(line.split()[:1] == ["open"] for line in script.splitlines()) != 1:
+        sys.exit("leaks.py: the script must open one dump, the table: behind updates a route may have another path than there")
     text = text_of(script + "\nsummary\nreport\n")
+    if refused := [line for line in text if line.startswith("! ")]:
+        print(f"leaks.py: {len(refused)} refused, the first: {refused[0]}", file=sys.stderr)
     last = max(i for i, line in enumerate(text) if line.startswith("summary "))
+    words = text[last].split()
+    if "0" in (words[2], words[10]):
+        sys.exit(f"leaks.py: nothing is judged: {text[last]}")
     routes = [line.rsplit(" ", 1)[0] for line in text[last + 1:] if line.endswith(" invalid")]
     answers = text_of(script + "\n" + "".join(f"why {route}\n" for route in routes))[-len(routes):] if routes else []
-    return {route: answer.split()[1:] for route, answer in zip(routes, answers)}
+    if len(answers) < len(routes) or any(answer.startswith("! ") for answer in answers):
+        sys.exit("leaks.py: the second run had other routes than the first")
+    return int(words[2]), {route: answer.split()[1:] for route, answer in zip(routes, answers)}
 
 
 def records(file):
@@ -98,7 +108,9 @@ def suspects(path, hops):
 
 
 def main():
-    why = witnesses(pathlib.Path(sys.argv[1]).read_text())
+    if len(sys.argv) != 3:
+        sys.exit(__doc__.split("\n")[0])
+    count, why = judged(pathlib.Path(sys.argv[1]).read_text())
     blocked = {route: [int(i) for i in words[1:]] for route, words in why.items() if words[0] == "blocked"}
     with open(sys.argv[2], "rb") as table:
         found = paths(table, blocked)
@@ -111,7 +123,7 @@ def main():
         path = " ".join(map(str, found[routes[0]]))
         print(",".join(map(str, ases)), len(routes), routes[0], "path", path)
     others = collections.Counter(words[0] for words in why.values())
-    print(f"no hop is refused: set {others['set']} neighbour {others['neighbour']} empty {others['empty']}")
+    print(f"no hop is refused: set {others['set']} neighbour {others['neighbour']} empty {others['empty']} of {count} routes")
 
 
 if __name__ == "__main__":

@@ -26,11 +26,11 @@ function end() {
     kind = ""
 }
 kind == "fence" {
-    if (/^```/) end()
+    if (/^(```|~~~)/) end()
     else print > (name ".text")
     next
 }
-/^```/ { end(); begin(); kind = "fence"; next }
+/^(```|~~~)/ { end(); begin(); kind = "fence"; next }
 kind == "table" && /^\|/ { print > (name ".text"); next }
 /^<!-- .* -->$/ {
     end()

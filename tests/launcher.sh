@@ -34,7 +34,8 @@ echo 'rattle-kit-1a logic 00ff' >"$work/kit/rattle/KIT-ID"
 ln -s "$work/kit/rattle/bin/rt" "$work/path/rt"
 cat >"$work/kit/rattle/bin/rt" <<end
 #!/bin/sh
-# Says in calls what it was asked; while the file hold is there it waits, and where the file refuse is there it fails.
+# Says in calls what it was asked; while the file hold is there it waits, where the file refuse is there it fails, and where the file during
+# is there it does once what that says.
 stub=$work/stub
 end
 cat >>"$work/kit/rattle/bin/rt" <<'end'
@@ -48,10 +49,15 @@ printf '<%s>' "$@"
 echo
 pwd
 cat
+{ cat <&9; } 2>/dev/null
 exit 6
 program
     chmod 755 "$1/aspaview"
 }
+if [ -e "$stub/during" ]; then
+    mv "$stub/during" "$stub/done"
+    . "$stub/done"
+fi
 case "$*" in
 ci)
     find . -type f | LC_ALL=C sort >"$stub/copy"
@@ -70,7 +76,10 @@ ci)
         program crates/aspaview/out
     fi
     ;;
-'all check --jobs '*) printf '== base\n== part\n== aspaview\n== summary\n' ;;
+'all check --jobs '*)
+    printf '== base\n== part\n== aspaview\n== summary\n'
+    [ ! -e "$stub/refuse" ]
+    ;;
 'run -- run') program out ;;
 esac
 end
@@ -142,6 +151,11 @@ for word in --help -h help; do
 done
 call --version
 holds '--version' "$status|$out|$err|$calls" '^0\|aspaview of 1 May 2001, to be built with rattle-kit-1a logic 00ff\|\|$'
+for words in rnu 'run run' 'demo' 'demo x' 'demo 01' 'demo 4294967296' 'demo 99999999999999999999' 'demo 1 2' --demo; do
+    # shellcheck disable=SC2086
+    call $words
+    check "$words: status, output, errors and calls" "2||$usage|" "$status|$out|$err|$calls"
+done
 check 'nothing is built for these words' no "$([ -e "$here/crates/aspaview/out" ] && echo yes || echo no)"
 
 # ---- where it can't be built
@@ -188,9 +202,9 @@ rm "$work/stub/refuse"
 ln -s "$here/aspaview" "$work/elsewhere/link"
 mkdir "$work/folder"
 : >"$work/stub/calls"
-(cd "$work/folder" && echo input | PATH=$here_path "$work/elsewhere/link" run 'a  b' '' '*' $'c\nd' -- >"$work/out" 2>"$work/err")
+(cd "$work/folder" && echo input | PATH=$here_path "$work/elsewhere/link" demo 4294967295 9< <(echo nine) >"$work/out" 2>"$work/err")
 check 'the first build: the status is the program'"'"'s' 6 $?
-check 'words, folder and input' "$(printf '%s\n' $'<run><a  b><><*><c\nd><-->' "$work/folder" input)" "$(cat "$work/out")"
+check 'words, folder, input and what is open as 9' "$(printf '%s\n' '<demo><4294967295>' "$work/folder" input nine)" "$(cat "$work/out")"
 check 'the first build: asked' ci "$(cat "$work/stub/calls")"
 check 'what is proved' "$(printf './%s\n' HANDLES crates.txt crates/{aspaview,base,part}/{specs/Lib.antt,src/lib.rt} | LC_ALL=C sort)" \
     "$(cat "$work/stub/copy")"
@@ -202,6 +216,8 @@ done
 check 'the first build: nothing is left' '' "$(ls "$work/tmp")"
 call run
 quiet 'a second call'
+POSIXLY_CORRECT=1 call run
+quiet 'a second call in a shell by POSIX'
 call --version
 holds '--version' "$status|$out|$err|$calls" '^0\|aspaview of 1 May 2001, built with rattle-kit-1a logic 00ff\|\|$'
 if ! PATH=/usr/bin:/bin command -v rt >/dev/null; then
@@ -218,6 +234,11 @@ if [ $nobody = yes ]; then
     PATH=$here_path as_nobody "$here/aspaview" run >"$work/out" 2>"$work/err" </dev/null
     check 'the same with another kit' '6|' "$?|$(cat "$work/err")"
     echo 'rattle-kit-1a logic 00ff' >"$work/kit/rattle/KIT-ID"
+    chmod 700 "$here/crates/aspaview/out"
+    PATH=$here_path as_nobody "$here/aspaview" run >"$work/out" 2>"$work/err" </dev/null
+    status=$? err=$(cat "$work/err")
+    refused 'a build that only its user may read' "what was built can't be read \($here/crates/aspaview/out\), and .* can't be written to: "
+    chmod 755 "$here/crates/aspaview/out"
 fi
 
 # ---- what is built again
@@ -252,6 +273,12 @@ ran 'a source that is gone' ci
 sed -i 's/^part: base/part: base slab/' "$here/crates.txt"
 call run
 ran 'a crate that uses another' ci
+echo "sed -i 's/^base: slab/base: slab itoa/' $here/crates.txt" >"$work/stub/during"
+echo '// more' >>"$here/crates/part/src/lib.rt"
+call run
+ran 'crates.txt changes during the build' ci
+call run
+ran 'crates.txt changed during the build' ci
 echo '# a comment' >>"$here/crates.txt"
 call run
 quiet 'a comment in crates.txt'
@@ -308,6 +335,24 @@ ran 'over kept checks' "$(printf '%s\n' "all check --jobs $(sed -n 's/^all check
 holds 'over kept checks' "$err" '3 of 3 crates done'
 call run
 quiet 'over kept checks, a second call'
+cp "$here/crates/part/src/lib.rt" "$work/old.rt"
+echo '// more' >>"$here/crates/part/src/lib.rt"
+touch "$work/stub/refuse"
+call run
+check 'over kept checks, refused: status' 70 "$status"
+rm "$work/stub/refuse"
+cp "$work/old.rt" "$here/crates/part/src/lib.rt"
+call run
+quiet 'over kept checks, the source as it was before the refusal'
+echo '// more' >>"$here/crates/part/src/lib.rt"
+printf '%s\n' "cp $here/crates/base/src/lib.rt $work/old.rt" "echo '// other' >>$here/crates/base/src/lib.rt" \
+    "cp $work/old.rt $here/crates/base/src/lib.rt" >"$work/stub/during"
+call run
+holds 'over kept checks, a source that changes back and forth' "$status|$calls" '^6\|all check '
+call run
+holds 'over kept checks, a source that changed back and forth' "$status|$calls" '^6\|all check '
+call run
+quiet 'over kept checks, the call behind these'
 rmdir "$here/crates/base/out/incremental"
 if [ "$(id -u)" -eq 0 ]; then
     mkdir "$work/kit/rattle-kept"

@@ -10,13 +10,16 @@
 #   <!-- prints -->                    it is all that the run above it has written
 #   <!-- prints some -->               it is some of these lines, in their order
 #   <!-- prints of: COMMAND -->        it is all that this command writes; so with 'prints some of: COMMAND'
-#   <!-- judged -->                    above a table: the lines of the first column, behind the script above, print the words of the second
+#   <!-- judged -->                    above a table: the lines of the first column, behind the script above, have the verdict of the second,
+#                                      and the witness, if it has one, where a number that is 0 is left out
 #   <!-- not run: REASON -->           it is neither, or can't be run here
 #
-# Behind the first three ', status N' may stand, where the status isn't 0, and behind each ', needs PROGRAM': it is skipped where that isn't
-# there. A block without such a comment fails. In the manual page a line that begins with '$ ' is a command, and what follows is what it writes.
+# Behind the first three ', status N' may stand, where the status isn't 0, or ', not shown', where the page doesn't show what is written; and
+# behind each ', needs PROGRAM': it is skipped where that isn't there. A block without such a comment fails. In the manual page a line that
+# begins with '$ ' is a command, and what follows is what it writes.
 set -u
 cd "$(dirname "$0")/.." || exit
+top=$PWD
 program=$PWD/crates/aspaview/out/aspaview
 pages='README.md CHANGELOG.md docs/*.md'
 manual=docs/aspaview.1
@@ -76,10 +79,10 @@ performs() {
     check "$1: status, and nothing on standard error" "$2" "$status$(cat "$work/err")"
 }
 
-# obeys PLACE STATUS FILE: so do the commands in the file. The cache, which some of them start, runs already.
+# obeys PLACE STATUS FILE: so do the commands in the file. The cache, which some of them start, runs already; the launcher has words of its own.
 obeys() {
     local status
-    sed '/python3 examples\/cache\.py &/d' "$3" | tee -a "$work/commands" >"$work/script"
+    sed "/python3 examples\/cache\.py &/d; s:^\./aspaview --:$top/aspaview --:" "$3" | tee -a "$work/commands" >"$work/script"
     (cd "$box" && timeout 100 bash "$work/script") </dev/null >"$work/out" 2>"$work/err"
     status=$?
     check "$1: status, and nothing on standard error" "$2" "$status$(cat "$work/err")"
@@ -90,44 +93,78 @@ in_order() {
     awk 'NR == FNR { line[++n] = $0; next } at < n && $0 == line[at + 1] { at++; print }' "$1" "$work/out"
 }
 
+# made NEIGHBOUR AS..: a table dump of one route with this path.
+made() {
+    (cd "$box/examples" && python3 -B -c 'import sys; from make_dumps import table; peer, *path = map(int, sys.argv[1:])
+sys.stdout.buffer.write(table([("192.0.2.1", peer)], [("192.0.2.0/24", [(0, path)])]))' "$@" </dev/null)
+}
+
 # judged PLACE FILE: the rows of a table, behind the script that was run
 judged() {
-    local line verdict rest
-    while IFS='|' read -r _ line verdict rest; do
-        [[ $line =~ \`(.*)\` ]] || continue
-        verdict=$(grep -oE '^ (valid|unknown|invalid)' <<<"$verdict")
-        { cat "$work/last"; echo "${BASH_REMATCH[1]}"; } >"$work/row"
-        performs "$1: ${BASH_REMATCH[1]}" 0 "$work/row"
-        check "$1: ${BASH_REMATCH[1]}" "${verdict# }" "$(tail -n 1 "$work/out")"
+    local place line cell words
+    while IFS='|' read -r _ line cell _; do
+        [[ $line =~ \`(judge .*)\` ]] || continue
+        line=${BASH_REMATCH[1]}
+        place="$1: $line"
+        read -ra words <<<"$line"
+        made "${words[@]:2}" >"$box/made.mrt"
+        { cat "$work/last"; printf '%s\n' "$line" "role ${words[2]} ${words[1]}" 'open made made.mrt' 'take made 2' \
+            "why 192.0.2.1 ${words[2]} 192.0.2.0/24"; } >"$work/row"
+        performs "$place" 0 "$work/row"
+        read -r cell <<<"${cell//,/}"
+        check "$place" "${cell%% *}" "$(tail -n 2 "$work/out" | head -n 1)"
+        [[ $cell != *' '* ]] || check "$place: witness" "$cell" "$(tail -n 1 "$work/out" | sed -E 's/ (climbs|free|descents) 0\>//g')"
     done <"$2"
+}
+
+# shown: what the last run wrote is shown by a block behind it, unless it is said that it isn't.
+unshown=
+shown() {
+    [ -z "$unshown" ] || check "$unshown: what it writes is shown" yes no
+    unshown=
 }
 
 # block PLACE MARKER FILE
 block() {
-    local place=$1 how=$2 text=$3 status=0
+    local place=$1 how=$2 text=$3 status=0 hidden=no
     if [[ $how =~ ^(.*),\ needs\ ([a-z0-9]+)$ ]]; then
         how=${BASH_REMATCH[1]}
         command -v "${BASH_REMATCH[2]}" >/dev/null || { echo "skipped: $place needs ${BASH_REMATCH[2]}"; return; }
+    fi
+    if [[ $how =~ ^(.*),\ not\ shown$ ]]; then
+        how=${BASH_REMATCH[1]}
+        hidden=yes
     fi
     if [[ $how =~ ^(.*),\ status\ ([0-9]+)$ ]]; then
         how=${BASH_REMATCH[1]}
         status=${BASH_REMATCH[2]}
     fi
     case $how in
+    prints | 'prints some') unshown= ;;
+    *) shown ;;
+    esac
+    case $how in
     run | 'run: '*)
         [ "$how" = run ] || check "$place: the text of ${how#run: }" "$(cat "${how#run: }")" "$(cat "$text")"
         cp "$text" "$work/last"
         performs "$place" "$status" "$text"
+        [ $hidden = yes ] || [ ! -s "$work/out" ] || unshown=$place
         ;;
-    shell) obeys "$place" "$status" "$text" ;;
+    shell)
+        obeys "$place" "$status" "$text"
+        [ $hidden = yes ] || [ ! -s "$work/out" ] || unshown=$place
+        ;;
     'prints of: '* | 'prints some of: '*)
         echo "${how#*of: }" >"$work/command"
         obeys "$place" "$status" "$work/command"
         ;;&
     prints | 'prints of: '*) check "$place" "$(cat "$text")" "$(cat "$work/out")" ;;
-    'prints some' | 'prints some of: '*) check "$place" "$(cat "$text")" "$(in_order "$text")" ;;
+    'prints some' | 'prints some of: '*)
+        check "$place: some lines" yes "$([ -s "$text" ] && echo yes)"
+        check "$place" "$(cat "$text")" "$(in_order "$text")"
+        ;;
     judged) judged "$place" "$text" ;;
-    'not run: '?*) ;;
+    'not run: '?*) echo 'nothing was run for the block above' >"$work/out" ;;
     *) check "$place: a comment above the block says what it is" 'run, shell, prints, judged or not run' "${how:-none}" ;;
     esac
 }
@@ -140,6 +177,7 @@ for page in $pages; do
         [ -e "$how" ] || continue
         block "$(cat "${how%.how}.place")" "$(cat "$how")" "${how%.how}.text"
     done
+    shown
 done
 
 # ---- the manual page: its examples, and its lint
@@ -158,6 +196,34 @@ if command -v mandoc >/dev/null; then
 else
     echo 'skipped: the lint of the manual page needs mandoc'
 fi
+
+# ---- what pages say alike: the causes with their words, large numbers, the kit, and verdicts within sentences
+
+# causes: of lines 'N WORD' those that are a cause with its word
+causes() {
+    awk '$1 >= 5 && $1 <= 40 && $2 ~ /^[A-Z][a-z]+[A-Za-z0-9]*$/ {print $1, $2}' | sort -u
+}
+rows='s/^\| ([0-9]+) \| ([A-Za-z0-9]+) \|.*/\1 \2/p'
+sed -nE "$rows" docs/formats.md | causes >"$work/causes"
+check 'the causes of docs/formats.md' 36 "$(wc -l <"$work/causes")"
+check 'the causes of docs/guide.md' "$(cat "$work/causes")" "$(sed -nE "$rows" docs/guide.md | causes)"
+check "the causes of $manual" "$(cat "$work/causes")" "$(sed -n 's/^\.It //p' "$manual" | causes)"
+# shellcheck disable=SC2086
+check 'the causes within sentences' '' "$(grep -ohE 'cause [0-9]+ [A-Z][A-Za-z0-9]+' $pages | sed 's/cause //' | sort -u | comm -23 - "$work/causes")"
+# shellcheck disable=SC2086
+check 'large numbers' '100000000 4194304 4294967295 67108864 ' \
+    "$(grep -ohE '\<[0-9]{1,3}(,[0-9]{3}){2,}\>|\<[0-9]{7,}\>' $pages "$manual" | tr -d , | grep -vxE '20250101|500000000' | sort -u | tr '\n' ' ')"
+# shellcheck disable=SC2086
+check 'mebibytes' '4 MiB 64 MiB ' "$(grep -ohE '[0-9]+ MiB' $pages "$manual" | sort -u | tr '\n' ' ')"
+# shellcheck disable=SC2086
+check 'one kit' 1 "$(grep -ohE 'rattle-kit-\w+ logic [0-9a-f]+' $pages | sort -u | wc -l)"
+# shellcheck disable=SC2086,SC2016
+cat $pages | tr -s ' \n' ' ' | grep -oE '`judge [^`]+` is `[a-z]+`' >"$work/sentences"
+while IFS='`' read -r _ line _ verdict _; do
+    echo "$line" >"$work/row"
+    performs "$line" 0 "$work/row"
+    check "$line" "$verdict" "$(cat "$work/out")"
+done <"$work/sentences"
 
 # ---- nothing is left out: each example is on a page, each file that a page names is there, and the README stays short
 
