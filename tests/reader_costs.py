@@ -1,0 +1,140 @@
+#!/usr/bin/env python3
+"""What each reader of the program costs at its worst, by inputs that are chosen for it: processor seconds a megabyte, and the peak of memory
+in bytes for each byte of the input. These are the figures of 'What hostile input may cost' in docs/proved.md. It isn't run by tests/all.sh.
+
+usage: reader_costs.py PROGRAM [MEGABYTES]"""
+import base64
+import os
+import socket
+import struct
+import subprocess
+import sys
+import tempfile
+import threading
+
+from hostile_lines import der, number
+from newases import update
+
+
+def payload(customer, providers):
+    listed = der(0x30, b"".join(number(asn) for asn in providers))
+    return der(0x30, der(0xA0, number(1)) + number(customer) + listed)
+
+
+def fill(size, item):
+    """Items one after another, each of a number from 0 on, until there are so many bytes."""
+    parts, held, at = [], 0, 0
+    while held < size:
+        part = item(at)
+        parts.append(part)
+        held += len(part)
+        at += 1
+    return b"".join(parts)
+
+
+def prefix(at):
+    return bytes([32]) + struct.pack(">I", at & 0xFFFFFFFF)
+
+
+def record(subtype, body):
+    return struct.pack(">IHHI", 0, 13, subtype, len(body)) + body
+
+
+def route(at, path):
+    """A record of one route, from the first peer, with this path and a prefix of its own."""
+    hops = struct.pack(">BB", 2, len(path)) + b"".join(struct.pack(">I", asn) for asn in path)
+    attributes = bytes([0x40, 2, len(hops)]) + hops
+    entry = struct.pack(">HIH", 0, 0, len(attributes)) + attributes
+    return record(2, struct.pack(">I", at) + prefix(at) + struct.pack(">H", 1) + entry)
+
+
+PEERS = record(1, struct.pack(">IHH", 1, 0, 1) + struct.pack(">BIII", 2, 1, 1, 64501))
+SLURM = (
+    b'{"slurmVersion":2,"validationOutputFilters":{"prefixFilters":[%s],"bgpsecFilters":[],"aspaFilters":[]},'
+    b'"locallyAddedAssertions":{"prefixAssertions":[],"bgpsecAssertions":[],"aspaAssertions":[%s]}}'
+)
+DUMP = "open d input\ntake d 100000000\n"
+
+
+def pdu(customer):
+    return struct.pack(">BBHIII", 2, 11, 0x0100, 16, customer, 7)
+
+
+def inputs(size):
+    """What is read, its bytes, and the script; `None` where the input is the script itself."""
+    yield "script: lines that are no command", fill(size, lambda at: b"x\n"), None
+    yield "script: a customer asserted by each line", fill(size, lambda at: b"assert %d 1\n" % (1 + at)), None
+    yield "script: a role set by each line", fill(size, lambda at: b"role %d peer\n" % (1 + at)), None
+    yield "payloads: one provider each", fill(size, lambda at: payload(1 + at, [4294967295])), "aspa a input\n"
+    yield "payloads: one with many providers", payload(1, range(2, 2 + size // 5)), "aspa a input\n"
+    yield "base64 lines: one provider each", fill(
+        size, lambda at: base64.b64encode(payload(1 + at, [4294967295])) + b"\n"
+    ), "aspa64 a input\n"
+    yield "SLURM: filters that are passed over", SLURM % (b",".join([b'{"asn":1}'] * (size // 10)), b""), "slurm input\n"
+    yield "SLURM: one assertion of many providers", SLURM % (
+        b"", b'{"customerAsn":1,"providerAsns":[%s]}' % b",".join(b"%d" % asn for asn in range(2, 2 + size // 8))
+    ), "slurm input\n"
+    yield "table: a route with a path of its own each", PEERS + fill(size, lambda at: route(at, [64501, 100_000 + at])), DUMP
+    yield "table: routes with one path", PEERS + fill(size, lambda at: route(at, [64501, 7])), DUMP
+    yield "table: records that are refused", fill(size, lambda at: record(2, b"")), DUMP
+    yield "updates: withdrawals of what isn't there", fill(
+        size, lambda at: update([64501], b"")[:0] + withdrawals(at)
+    ), DUMP
+    yield "updates: paths of ASes never seen before", fill(
+        size, lambda at: update([64501] + list(range(1000 + 16000 * at, 17000 + 16000 * at)), prefix(at))
+    ), DUMP
+    yield "feed: a customer in each PDU", fill(size, lambda at: pdu(1 + at)), "feed"
+
+
+def withdrawals(at):
+    """An UPDATE that withdraws some 13,000 prefixes."""
+    body = b"".join(prefix(13_000 * at + i) for i in range(13_000))
+    message = b"\xff" * 16 + struct.pack(">HBH", 23 + len(body), 2, len(body)) + body + b"\0\0"
+    head = struct.pack(">IIHHII", 64501, 64511, 0, 1, 0xC0000201, 0xC00002FE)
+    return struct.pack(">IHHI", 0, 16, 4, len(head) + len(message)) + head + message
+
+
+def serve(stream, given):
+    listener = socket.create_server(("127.0.0.1", 0))
+
+    def answer():
+        connection, _ = listener.accept()
+        connection.recv(8)
+        end = struct.pack(">BBHIIIII", 2, 7, 7, 24, 1, 3600, 600, 7200)
+        connection.sendall(struct.pack(">BBHI", 2, 3, 7, 8) + given + end)
+        connection.recv(1)
+
+    threading.Thread(target=answer, daemon=True).start()
+    return f"feed c 127.0.0.1:{listener.getsockname()[1]}\nsync c 100000000\n"
+
+
+def run(program, folder, script):
+    with open(os.path.join(folder, "script"), "wb") as file:
+        file.write(script)
+    with open(os.path.join(folder, "script"), "rb") as given:
+        process = subprocess.Popen([program, "run"], stdin=given, stdout=subprocess.DEVNULL, cwd=folder)
+        _, status, used = os.wait4(process.pid, 0)
+    return os.waitstatus_to_exitcode(status), used.ru_utime + used.ru_stime, used.ru_maxrss * 1024
+
+
+def main():
+    if len(sys.argv) not in (2, 3):
+        sys.exit(__doc__)
+    program = os.path.abspath(sys.argv[1])
+    size = int(float(sys.argv[2] if len(sys.argv) == 3 else 8) * 1_000_000)
+    print("| Input | Seconds a megabyte | Bytes of memory a byte |\n|---|---|---|")
+    with tempfile.TemporaryDirectory() as folder:
+        _, _, least = run(program, folder, b"")
+        for what, given, script in inputs(size):
+            if script == "feed":
+                script = serve(None, given)
+            elif script is not None:
+                with open(os.path.join(folder, "input"), "wb") as file:
+                    file.write(given)
+            status, seconds, peak = run(program, folder, given if script is None else script.encode())
+            if status not in (0, 1):
+                sys.exit(f"{what}: status {status}")
+            print(f"| {what} | {seconds * 1e6 / len(given):.3f} | {(peak - least) / len(given):.1f} |", flush=True)
+
+
+main()
