@@ -4,6 +4,7 @@ in bytes for each byte of the input. These are the figures of 'What hostile inpu
 
 usage: reader_costs.py PROGRAM [MEGABYTES]"""
 import base64
+import itertools
 import os
 import socket
 import struct
@@ -12,8 +13,20 @@ import sys
 import tempfile
 import threading
 
-from hostile_lines import der, number
-from newases import update
+
+
+def der(tag, content):
+    """A value in DER."""
+    size = len(content)
+    if size < 128:
+        return bytes([tag, size]) + content
+    length = size.to_bytes((size.bit_length() + 7) // 8, "big")
+    return bytes([tag, 128 + len(length)]) + length + content
+
+
+def number(value):
+    """An INTEGER in DER."""
+    return der(2, value.to_bytes(value.bit_length() // 8 + 1, "big"))
 
 
 def payload(customer, providers):
@@ -48,6 +61,9 @@ def route(at, path):
     return record(2, struct.pack(">I", at) + prefix(at) + struct.pack(">H", 1) + entry)
 
 
+# How many inputs there are.
+COUNT = 14
+
 PEERS = record(1, struct.pack(">IHH", 1, 0, 1) + struct.pack(">BIII", 2, 1, 1, 64501))
 SLURM = (
     b'{"slurmVersion":2,"validationOutputFilters":{"prefixFilters":[%s],"bgpsecFilters":[],"aspaFilters":[]},'
@@ -78,30 +94,46 @@ def inputs(size):
     yield "table: routes with one path", PEERS + fill(size, lambda at: route(at, [64501, 7])), DUMP
     yield "table: records that are refused", fill(size, lambda at: record(2, b"")), DUMP
     yield "updates: withdrawals of what isn't there", fill(
-        size, lambda at: update([64501], b"")[:0] + withdrawals(at)
+        size, withdrawals
     ), DUMP
     yield "updates: paths of ASes never seen before", fill(
-        size, lambda at: update([64501] + list(range(1000 + 16000 * at, 17000 + 16000 * at)), prefix(at))
+        size, lambda at: announcement([64501, *range(100_000 + 16_000 * at, 116_000 + 16_000 * at)], prefix(at))
     ), DUMP
     yield "feed: a customer in each PDU", fill(size, lambda at: pdu(1 + at)), "feed"
 
 
 def withdrawals(at):
-    """An UPDATE that withdraws some 13,000 prefixes."""
+    """An UPDATE that withdraws 13,000 prefixes."""
     body = b"".join(prefix(13_000 * at + i) for i in range(13_000))
-    message = b"\xff" * 16 + struct.pack(">HBH", 23 + len(body), 2, len(body)) + body + b"\0\0"
+    return message(struct.pack(">H", len(body)) + body + b"\0\0")
+
+
+def announcement(path, announced):
+    """An UPDATE that announces prefixes with a path."""
+    segments = [path[at : at + 255] for at in range(0, len(path), 255)]
+    content = b"".join(struct.pack(f">BB{len(ases)}I", 2, len(ases), *ases) for ases in segments)
+    attributes = struct.pack(">BBH", 0x50, 2, len(content)) + content
+    return message(struct.pack(">HH", 0, len(attributes)) + attributes + announced)
+
+
+def message(body):
+    """A record of BGP4MP_MESSAGE_AS4 with this UPDATE."""
+    update = b"\xff" * 16 + struct.pack(">HB", 19 + len(body), 2) + body
     head = struct.pack(">IIHHII", 64501, 64511, 0, 1, 0xC0000201, 0xC00002FE)
-    return struct.pack(">IHHI", 0, 16, 4, len(head) + len(message)) + head + message
+    return struct.pack(">IHHI", 0, 16, 4, len(head) + len(update)) + head + update
 
 
-def serve(stream, given):
+def serve(name):
+    """The lines of a feed on a cache that sends the file's PDUs as its answer."""
     listener = socket.create_server(("127.0.0.1", 0))
 
     def answer():
         connection, _ = listener.accept()
         connection.recv(8)
-        end = struct.pack(">BBHIIIII", 2, 7, 7, 24, 1, 3600, 600, 7200)
-        connection.sendall(struct.pack(">BBHI", 2, 3, 7, 8) + given + end)
+        connection.sendall(struct.pack(">BBHI", 2, 3, 7, 8))
+        with open(name, "rb") as given:
+            connection.sendfile(given)
+        connection.sendall(struct.pack(">BBHIIIII", 2, 7, 7, 24, 1, 3600, 600, 7200))
         connection.recv(1)
 
     threading.Thread(target=answer, daemon=True).start()
@@ -109,32 +141,42 @@ def serve(stream, given):
 
 
 def run(program, folder, script):
-    with open(os.path.join(folder, "script"), "wb") as file:
-        file.write(script)
-    with open(os.path.join(folder, "script"), "rb") as given:
+    """The status, the processor seconds and the peak of memory in bytes. (The peak takes in that of this process, which holds no input.)"""
+    with open(script, "rb") as given:
         process = subprocess.Popen([program, "run"], stdin=given, stdout=subprocess.DEVNULL, cwd=folder)
         _, status, used = os.wait4(process.pid, 0)
     return os.waitstatus_to_exitcode(status), used.ru_utime + used.ru_stime, used.ru_maxrss * 1024
 
 
+def write(name, text):
+    with open(name, "wb") as file:
+        file.write(text)
+
+
 def main():
+    if len(sys.argv) == 4:
+        place, size, folder = sys.argv[1:]
+        what, given, script = next(itertools.islice(inputs(int(size)), int(place), None))
+        write(os.path.join(folder, "input"), given)
+        print(what, script or "", sep="\n", end="")
+        return
     if len(sys.argv) not in (2, 3):
         sys.exit(__doc__)
     program = os.path.abspath(sys.argv[1])
     size = int(float(sys.argv[2] if len(sys.argv) == 3 else 8) * 1_000_000)
     print("| Input | Seconds a megabyte | Bytes of memory a byte |\n|---|---|---|")
     with tempfile.TemporaryDirectory() as folder:
-        _, _, least = run(program, folder, b"")
-        for what, given, script in inputs(size):
-            if script == "feed":
-                script = serve(None, given)
-            elif script is not None:
-                with open(os.path.join(folder, "input"), "wb") as file:
-                    file.write(given)
-            status, seconds, peak = run(program, folder, given if script is None else script.encode())
+        given, script = os.path.join(folder, "input"), os.path.join(folder, "script")
+        for place in range(COUNT):
+            # (by a process of its own, so that this one stays small)
+            said = subprocess.run([sys.executable, __file__, str(place), str(size), folder], stdout=subprocess.PIPE, text=True, check=True)
+            what, _, lines = said.stdout.partition("\n")
+            write(script, (serve(given) if lines == "feed" else lines).encode())
+            status, seconds, peak = run(program, folder, script if lines else given)
             if status not in (0, 1):
                 sys.exit(f"{what}: status {status}")
-            print(f"| {what} | {seconds * 1e6 / len(given):.3f} | {(peak - least) / len(given):.1f} |", flush=True)
+            length = os.path.getsize(given)
+            print(f"| {what} | {seconds * 1e6 / length:.3f} | {peak / length:.1f} |", flush=True)
 
 
 main()
