@@ -4,6 +4,17 @@
 # 'N passed, M failed', and the status is 0 where none failed.
 set -u
 cd "$(dirname "$0")/.." || exit
+# A shell can't heed a signal that was ignored when it began, as SIGINT is of what another one started in the background. So this begins anew
+# with none of them ignored.
+if [ -z "${LAUNCHER_TEST-}" ]; then
+    export LAUNCHER_TEST=heeds
+    exec python3 -c '
+import os, signal, sys
+for heeded in (signal.SIGINT, signal.SIGTERM, signal.SIGHUP):
+    signal.signal(heeded, signal.SIG_DFL)
+os.execvp("bash", ["bash", sys.argv[1]])' tests/launcher.sh
+fi
+unset LAUNCHER_TEST
 top=$PWD
 work=$(readlink -f "$(mktemp -d)")
 trap 'rm -rf "$work"' EXIT
@@ -406,8 +417,13 @@ for signal in INT:130 TERM:143 HUP:129; do
     until_so grep -q . "$work/stub/calls"
     until_so grep -q 'of 3 crates done' "$work/err"
     kill -s "${signal%:*}" -- -$first
+    # (where it isn't heeded the wait would have no end)
+    (sleep 30 && kill -s KILL -- -$first) 2>/dev/null &
+    guard=$!
     wait $first 2>/dev/null
     check "$signal: status" "${signal#*:}" $?
+    kill -s KILL -- -$guard 2>/dev/null
+    wait $guard 2>/dev/null
     holds "$signal" "$(cat "$work/err")" '^aspaview: stopped; the next call goes on from what is proved$'
     check "$signal: nothing is left" '' "$(ls "$work/tmp")"
     check "$signal: the log alone is left" launcher.log "$(ls "$here/crates/aspaview/out")"

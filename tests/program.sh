@@ -163,7 +163,7 @@ within() {
 
 listen "$work/port" "$work/heard" &
 within 20 test -e "$work/port"
-lines "feed c 127.0.0.1:$(cat "$work/port")" 'judge customer 64501 64501' | "$program" run >&-
+lines "feed c 127.0.0.1:$(cat "$work/port")" 'judge customer 64501 64501' | timeout 60 "$program" run >&-
 check 'standard output is closed, and a feed is connected' 4 $?
 wait
 check 'the feed hears its query and nothing else' 0202000000000008 "$(cat "$work/heard")"
@@ -204,9 +204,11 @@ holds() {
     [ "$(cat "$work/held")" = "$1" ]
 }
 mkfifo "$work/fifo"
-lines 'judge customer 64501 64501' "open d $work/fifo" 'take d 9' 'summary' | "$program" run >"$work/held" &
+lines 'judge customer 64501 64501' "open d $work/fifo" 'take d 9' 'summary' |
+    timeout 60 "$program" run >"$work/held" &
 check 'a dump that is opened is waited for' 0 "$(within 10 holds valid; echo $?)"
-exec 5>"$work/fifo"
+# (opened both ways, so that this never waits for a reader)
+exec 5<>"$work/fifo"
 printf '\0\0\0\0\0\15\0\2\0\0\0\37\0\0\0\0\30\306\63\144\0\1\0\0\0\0\0\0\0\15\100\2\12\2\2\0\0\373\365\0\0\373\364' >&5
 check 'a record is waited for' 0 "$(within 10 holds "$(lines valid '! line 3 d unit 1 cause 29 NoPeerTable')"; echo $?)"
 exec 5>&-
