@@ -19,17 +19,7 @@ top=$PWD
 work=$(readlink -f "$(mktemp -d)")
 trap 'rm -rf "$work"' EXIT
 chmod 755 "$work"
-touch "$work/passed" "$work/failed"
-
-# check WHAT WANTED GOT
-check() {
-    if [ "$2" = "$3" ]; then
-        echo "$1" >>"$work/passed"
-    else
-        echo "$1" >>"$work/failed"
-        printf 'failed: %s\nwanted: %s\ngot: %s\n' "$1" "$2" "$3"
-    fi
-}
+. tests/checks.bash
 
 # holds WHAT TEXT PATTERN: some line of the text is like the pattern.
 holds() {

@@ -28,17 +28,8 @@ box=$work/box
 cache=
 trap '[ -z "$cache" ] || kill "$cache"; rm -rf "$work"' EXIT
 mkdir "$work/blocks"
-touch "$work/passed" "$work/failed" "$work/commands"
-
-# check WHAT WANTED GOT
-check() {
-    if [ "$2" = "$3" ]; then
-        echo "$1" >>"$work/passed"
-    else
-        echo "$1" >>"$work/failed"
-        printf 'failed: %s\nwanted: %s\ngot: %s\n' "$1" "$2" "$3"
-    fi
-}
+touch "$work/commands"
+. tests/checks.bash
 
 # `rt ci` has built the program; where it hasn't, the launcher does.
 [ -x "$program" ] || ./aspaview run </dev/null

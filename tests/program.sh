@@ -6,17 +6,7 @@ cd "$(dirname "$0")/.." || exit
 program=$PWD/crates/aspaview/out/aspaview
 work=$(mktemp -d)
 trap 'rm -rf "$work"' EXIT
-touch "$work/passed" "$work/failed"
-
-# check WHAT WANTED GOT: counted in files, since the end of a pipe is a shell of its own.
-check() {
-    if [ "$2" = "$3" ]; then
-        echo "$1" >>"$work/passed"
-    else
-        echo "$1" >>"$work/failed"
-        printf 'failed: %s\nwanted: %s\ngot: %s\n' "$1" "$2" "$3"
-    fi
-}
+. tests/checks.bash
 
 # runs WHAT STATUS TEXT: the program, over the script that standard input gives, ends with this status and has written this text.
 runs() {
