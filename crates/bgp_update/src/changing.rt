@@ -15,7 +15,7 @@ use std::alloc::Global;
 
 /// The changes that a message from a peer makes: its removals, and then its announcements. A message that is no UPDATE makes none.
 ///
-/// All announcements share one path, so it takes the memory of the path once, and 24 bytes for each prefix.
+/// All announcements share one path, so it takes the memory of the path once, and some 10 bytes for each prefix.
 ///
 /// `wide` says that ASes have four bytes. The refusals are tested over the whole message in this order: 24 Message, 23 Attributes,
 /// 25 NoPath.

@@ -8,6 +8,7 @@ pub mod MapLemmas
 pub mod MemberLemmas
 pub mod NameLemmas
 pub mod OrderLemmas
+pub mod PackedLemmas
 pub mod PartsLemmas
 pub mod PrintedLemmas
 pub mod RampLemmas

@@ -1,8 +1,8 @@
--- How a prefix is held: cited by the type's own model alone.
+-- How a prefix is held: private contracts alone cite it.
 use Rattle.std.specs.Prelude.{◌≡◌, ℕ, ◌+◌, ◌*◌, ◌/◌, ◌%◌, ◌^◌, ◌<◌, Bool, true, false}
 use Rattle.path_model.specs.declared.addr.Addr.{Addr}
 use Rattle.path_model.specs.declared.addr.Addr.TheVariants.{V4, V6}
-use Rattle.path_model.specs.Prefix.{IsSubnet}
+use Rattle.path_model.specs.Prefix.{Subnet, IsSubnet}
 
 -- an address from its family and its two halves
 abbrev pub addr_from : Bool → ℕ → ℕ → Addr
@@ -26,7 +26,11 @@ abbrev pub AreHalves : Bool → ℕ → ℕ → Type 0
 AreHalves true high low = low < 2 ^ 64
 AreHalves false high low = high ≡ 0
 
+-- the prefix of a length from the two halves of its address
+abbrev pub subnet_of : Bool → ℕ → ℕ → ℕ → Subnet
+subnet_of six high low len = record { addr = addr_from six high low; len = len }
+
 -- the halves of the address of a prefix
 pub record IsHeld (six : Bool) (high low len : ℕ) : Type 0 where
   pub halves : AreHalves six high low
-  pub subnet : IsSubnet (record { addr = addr_from six high low; len = len })
+  pub subnet : IsSubnet (subnet_of six high low len)

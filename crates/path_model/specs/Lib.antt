@@ -9,6 +9,7 @@ pub mod Key
 pub mod Labelling
 pub mod Laws
 pub mod Name
+pub mod Packed
 pub mod Order
 pub mod Prefix
 pub mod PrintedWitness

@@ -2,10 +2,12 @@
 ghost use Rattle.std.specs.Prelude.{◌≡◌, ◌<◌, ◌≤◌, ◌^◌, Some, refl};
 ghost use Rattle.std.specs.Ordering.{eq_by_cmp};
 ghost use Rattle.std.specs.Cmp.{eq_by_cmp_equiv, partial_equiv_from_equiv, partial_order_from_agreeing_total};
+ghost use Rattle.path_model.specs.Halves.{subnet_of, IsHeld};
 ghost use Rattle.path_model.specs.Order.{subnet_total};
 ghost use Rattle.path_model.specs.Prefix.{prefix_of, without_last, subnet_cmp, IsSubnet};
 
 use crate::Addr;
+use crate::packed::Held;
 use std::cmp::Ordering;
 use std::marker::Model;
 
@@ -92,6 +94,32 @@ impl Prefix {
         ensures is_subnet { IsSubnet self.now }
     {
         self.len
+    }
+
+    // As it is held.
+    pub(crate) fn held(&self) -> Held
+        ensures held { IsHeld result.six result.high result.low result.len }
+        ensures prefix { self.now ≡ subnet_of result.six result.high result.low result.len }
+    {
+        Held {
+            high: self.high,
+            low: self.low,
+            len: self.len,
+            six: self.six,
+        }
+    }
+
+    // The prefix that is held so.
+    pub(crate) fn from_held(held: Held) -> Prefix
+        requires { IsHeld held.six held.high held.low held.len }
+        ensures { result ≡ subnet_of held.six held.high held.low held.len }
+    {
+        Prefix {
+            high: held.high,
+            low: held.low,
+            len: held.len,
+            six: held.six,
+        }
     }
 }
 

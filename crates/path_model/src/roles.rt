@@ -1,5 +1,5 @@
 //! The roles of the peers.
-ghost use Rattle.std.specs.Prelude.{◌≡◌, IfOk, OnOk, OnErr};
+ghost use Rattle.std.specs.Prelude.{◌≡◌, is_some, IfOk, OnOk, OnErr};
 ghost use Rattle.std.specs.FinMap as map;
 ghost use Rattle.path_model.specs.Roles.{role_of, set_role, no_roles};
 
@@ -64,13 +64,17 @@ impl Roles {
         }
     }
 
-    /// The same roles once more.
-    pub fn copy(&self) -> Result<Roles, NoMemory>
-        ensures { IfOk result (λ roles. roles ≡ self.now) }
+    /// The default.
+    pub fn default(&self) -> Role
+        ensures { result ≡ self.now.default }
     {
-        Ok(Roles {
-            set: self.set.clone()?,
-            default: self.default,
-        })
+        self.default
+    }
+
+    /// Whether a role was set for the AS.
+    pub fn has_own(&self, asn: u32) -> bool
+        ensures { result ≡ is_some (map.get self.now.set asn) }
+    {
+        self.set.contains_key(&asn)
     }
 }
