@@ -1,6 +1,6 @@
 #!/usr/bin/env python3
-"""UPDATE messages with a path of 16,000 ASes and many prefixes cost about what messages of as many bytes with a short path cost: at most three
-times the time, and twice the memory with 100 bytes for each byte of a message beside it, for the hops of a path are kept (some 300 bytes each).
+"""UPDATE messages with a path of 16,000 ASes and many prefixes cost about what messages of as many bytes with a short path cost: at most twice the
+time, and 20 bytes of memory for each byte of a message, beside what is kept of it: at most 128 bytes for each hop of a path, and 64 for each route.
 
 Usage: one_update.py PROGRAM. Writes two dumps of such messages, has the program take each, and compares the time and the peak memory. The last
 line is 'N passed, M failed', and the status is 0 where none failed.
@@ -15,6 +15,13 @@ import time
 # How many messages a dump has, and how many bytes each of them: the most that its length can say.
 MESSAGES = 20
 LONGEST = 65_535
+
+# How many ASes a long path has.
+LONG_PATH = 16_000
+
+# How many bytes of memory a hop and a route that are kept may take.
+HOP = 128
+ROUTE = 64
 
 # An AS_SEQUENCE has at most so many ASes.
 SEGMENT = 255
@@ -108,7 +115,8 @@ def taken(program, folder, name, data):
     memory = max(0, min(r[3] for r in runs) - min(r[3] for r in empty))
     summary = runs[0][0].split("\n", 1)[0]
     print(f"{name}: {len(data):,} bytes, {seconds:.3f} s, {memory / LONGEST:.1f} bytes of memory for each byte of a message, {summary}")
-    return summary, runs[0][1], seconds, memory
+    routes = int(summary.split()[2])
+    return summary, runs[0][1], seconds, memory - ROUTE * routes
 
 
 def main():
@@ -116,12 +124,13 @@ def main():
     passed, failed = 0, 0
     with tempfile.TemporaryDirectory() as folder:
         for what, prefix_of in (("everything", everything), ("networks", network)):
-            long = taken(program, folder, f"{what}_long_path", dump(16_000, prefix_of))
+            long = taken(program, folder, f"{what}_long_path", dump(LONG_PATH, prefix_of))
             short = taken(program, folder, f"{what}_short_path", dump(2, prefix_of))
             for good, wanted in (
                 (long[1] == 0 and short[1] == 0, "both dumps are taken"),
-                (long[2] <= 3 * short[2] + 0.5, "a long path takes little more time"),
-                (long[3] <= 2 * short[3] + 100 * LONGEST, "a long path takes little more memory"),
+                (long[2] <= 2 * short[2] + 0.3, "a long path takes little more time"),
+                (short[3] <= 20 * LONGEST, "a message takes at most 20 bytes of memory a byte beside its routes"),
+                (long[3] <= 20 * LONGEST + HOP * LONG_PATH, "a long path takes at most 128 bytes a hop beside that"),
             ):
                 if good:
                     passed += 1

@@ -1,10 +1,8 @@
 //! The program `aspaview`: it gives [`aspa_top::run`] the real standard input and output and the system's files and connections, and ends
 //! with its answer.
 //!
-//! `main` makes the objects, and `perform` runs over them with some of `run`'s clauses. The adapters in `input.rt`, `output.rt`,
-//! `file_shelf.rt` and `tcp_links.rt` keep the contracts of a source, of a sink, of a shelf and of links, and tell no bytes; those that
-//! the reader, writer, file or stream behind them knows go through unchanged. What the system really gives and takes is trusted. Nothing
-//! is written to standard error.
+//! `main` makes the objects of `system_objects`, and `perform` runs over them with some of `run`'s clauses. Nothing is written to standard
+//! error.
 #![tactic(auto)]
 
 ghost use Rattle.std.specs.Prelude.{◌≡◌, ◌≢◌, ◌≤◌, ◌⊎◌, ℕ, map};
@@ -14,23 +12,8 @@ ghost use Rattle.av_base.specs.Told.{Rose};
 ghost use Rattle.aspa_top.specs.Program.{AreOwn, Completes, Demonstrates, IsDemo, IsRun, IsStatus, RanIfTold};
 ghost use Rattle.aspa_top.specs.World.{linked, names_of};
 
-mod again;
-mod connection;
-mod file_shelf;
-#[cfg(test)]
-mod hesitant;
-mod input;
-#[cfg(test)]
-mod loopback;
-mod opened_file;
-mod output;
-mod tcp_links;
-
 use aspa_top::{SCRIPT_LIMIT, run};
 use av_base::{Links, Shelf, Sink, Source, Steps};
-use file_shelf::FileShelf;
-use input::InputSource;
-use output::OutputSink;
 use std::alloc::{AllocError, Global};
 use std::env;
 use std::fs::File;
@@ -38,7 +21,7 @@ use std::io::{self, ErrorKind};
 use std::marker::Brand;
 use std::process::ExitCode;
 use std::sync::ledger::{Blank, Ledger};
-use tcp_links::TcpLinks;
+use system_objects::{FileShelf, InputSource, OutputSink, TcpLinks};
 
 // The status of other words than the program's own.
 const OTHER_WORDS: u8 = 2;

@@ -1,7 +1,7 @@
 //! A file that was opened.
 ghost use Rattle.std.specs.Prelude.{◌≡◌, ◌<◌, ◌≤◌, None, Ok, Some, length, IfOk};
 ghost use Rattle.std.specs.Io.KnownBytes.{ReadConsumes};
-ghost use Rattle.aspaview.specs.Known.{left_in};
+ghost use Rattle.system_objects.specs.Known.{left_in};
 
 use crate::again::read_again;
 use av_base::Fault;

@@ -6,7 +6,7 @@ ghost use Rattle.av_base.specs.Connections.{IsUsable, new_standing, stands_broke
 ghost use Rattle.av_base.specs.Told.{HasCause};
 ghost use Rattle.av_base.specs.declared.standing.Break.TheVariants.{BySend, ByRecv};
 ghost use Rattle.av_text.specs.HostPort.{IsNoHostPort};
-ghost use Rattle.aspaview.specs.Known.{new_known, standings_of};
+ghost use Rattle.system_objects.specs.Known.{new_known, standings_of};
 
 use crate::connection::Connection;
 use av_base::{Fault, Links};
@@ -35,7 +35,7 @@ pub struct TcpLinks<R: Net + Clock> {
 
 /// A contract sees the connections and the faults counted.
 impl<R: Net + Clock> Model for TcpLinks<R> {
-    ghost use Rattle.aspaview.specs.Known.{KnownLinks};
+    ghost use Rattle.system_objects.specs.Known.{KnownLinks};
 
     ghost Value = { KnownLinks };
 

@@ -3,8 +3,8 @@ ghost use Rattle.std.specs.Prelude.{◌≡◌, ◌≢◌, ◌++◌, ◌∷◌, �
 ghost use Rattle.std.specs.Io.KnownBytes.{ReadConsumes};
 ghost use Rattle.std.specs.IoError.{error_kind};
 ghost use Rattle.av_base.specs.Told.{HasCause};
-ghost use Rattle.aspaview.specs.Known.{left_in};
-ghost use Rattle.aspaview.specs.Missing.{is_missing as says_missing};
+ghost use Rattle.system_objects.specs.Known.{left_in};
+ghost use Rattle.system_objects.specs.Missing.{is_missing as says_missing};
 
 use crate::opened_file::OpenedFile;
 use av_base::{Fault, Shelf};

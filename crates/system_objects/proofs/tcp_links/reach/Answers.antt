@@ -1,6 +1,6 @@
 use Rattle.std.proofs.Common.{List, ℕ, subst}
 use Rattle.av_text.specs.HostPort.{IsHostPort}
-use Rattle.aspaview.proofs.tcp_links.reach.Goals as goal
+use Rattle.system_objects.proofs.tcp_links.reach.Goals as goal
 
 pub returns-in-Some : goal.returns-in-Some
 returns-in-Some g c = λ none.

@@ -3,7 +3,7 @@ ghost use Rattle.std.specs.Prelude.{◌≡◌, ◌<◌, ◌≤◌, Some, true, l
 ghost use Rattle.std.specs.Io.KnownBytes.{ReadConsumes, WriteAppends};
 ghost use Rattle.av_base.specs.Connections.{new_standing};
 ghost use Rattle.av_base.specs.declared.standing.Break.TheVariants.{BySend, ByRecv};
-ghost use Rattle.aspaview.specs.Known.{new_known};
+ghost use Rattle.system_objects.specs.Known.{new_known};
 
 use crate::again::{read_again, write_again};
 use av_base::{Break, Fault};
@@ -21,7 +21,7 @@ pub struct Connection<S: Read + Write + OpenStream> {
 
 /// A contract sees how it stands, and the bytes that its stream knows.
 impl<S: Read + Write + OpenStream> Model for Connection<S> {
-    ghost use Rattle.aspaview.specs.Known.{KnownLink, known_in, stands};
+    ghost use Rattle.system_objects.specs.Known.{KnownLink, known_in, stands};
 
     ghost Value = { KnownLink };
 

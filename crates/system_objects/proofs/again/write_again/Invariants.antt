@@ -1,6 +1,6 @@
 -- a failed write appends nothing
 use Rattle.std.specs.Io.KnownBytes.{Keeps}
-use Rattle.aspaview.proofs.again.write_again.Given as goal
+use Rattle.system_objects.proofs.again.write_again.Given as goal
 
 abbrev pub invariant-loop-turn : goal.invariant-loop-turn
 invariant-loop-turn g l = Keeps (g.W.Write.contents l.initial.writer) (g.W.Write.contents l.writer)

@@ -1,6 +1,6 @@
 -- a failed read consumes nothing
 use Rattle.std.specs.Io.KnownBytes.{Keeps}
-use Rattle.aspaview.proofs.again.read_again.Given as goal
+use Rattle.system_objects.proofs.again.read_again.Given as goal
 
 abbrev pub invariant-loop-turn : goal.invariant-loop-turn
 invariant-loop-turn g l = Keeps (g.R.Read.remaining l.initial.reader) (g.R.Read.remaining l.reader)

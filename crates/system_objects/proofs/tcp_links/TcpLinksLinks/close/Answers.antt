@@ -1,7 +1,7 @@
 use Rattle.std.proofs.Common.{true}
 use Rattle.av_base.specs.declared.standing.Standing.{Standing}
-use Rattle.aspaview.proofs.LinkLemmas.{stand_changed}
-use Rattle.aspaview.proofs.tcp_links.TcpLinksLinks.close.Goals as goal
+use Rattle.system_objects.proofs.LinkLemmas.{stand_changed}
+use Rattle.system_objects.proofs.tcp_links.TcpLinksLinks.close.Goals as goal
 
 pub returns-clause-standings : goal.returns-clause-standings
 returns-clause-standings g c =

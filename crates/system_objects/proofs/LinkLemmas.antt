@@ -5,7 +5,7 @@ use Rattle.std.specs.Prelude.{slice_get, slice_set, IfSome}
 use Rattle.av_base.specs.declared.standing.Standing.{Standing}
 use Rattle.av_base.specs.Places.{change_at}
 use Rattle.av_base.proofs.PlacesLemmas.{get-change_other, written_is_change}
-use Rattle.aspaview.specs.Known.{KnownLink, KnownLinks, standings_of}
+use Rattle.system_objects.specs.Known.{KnownLink, KnownLinks, standings_of}
 
 -- the kept connections and the count are what a contract sees
 abbrev AreSeen : List KnownLink → ℕ → KnownLinks → Type 0

@@ -1,8 +1,8 @@
 use Rattle.std.proofs.Common.{Some}
 use Rattle.av_base.specs.declared.standing.Break.TheVariants.{ByRecv}
 use Rattle.av_base.specs.declared.standing.Standing.{Standing}
-use Rattle.aspaview.proofs.LinkLemmas.{stand_so, stand_changed, others_stay, known_of_both}
-use Rattle.aspaview.proofs.tcp_links.TcpLinksLinks.recv.Goals as goal
+use Rattle.system_objects.proofs.LinkLemmas.{stand_so, stand_changed, others_stay, known_of_both}
+use Rattle.system_objects.proofs.tcp_links.TcpLinksLinks.recv.Goals as goal
 
 pub returns-in-Ok-clause-ok_standings : goal.returns-in-Ok-clause-ok_standings
 returns-in-Ok-clause-ok_standings g c = stand_so c.self.view_is c.args.link c.index_mut.result.now c.recv.new.self c.index_mut.ensures.value c.in-Ok.ensures.ok
