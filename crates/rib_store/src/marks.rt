@@ -86,8 +86,8 @@ impl Marks {
         insert_all(&mut self.pending, numbers)
     }
 
-    // The keys of the pending cases are noted. It takes the time of these keys, of a look-up for each pending case and peer of its AS, and
-    // the first time that of all routes.
+    // The keys of the pending cases are noted. It takes the time of these keys, with a look-up for each pending case and each peer that has
+    // one of its keys, and the first time that of all routes.
     pub(crate) fn gather(
         &mut self,
         alloc: Global,

@@ -306,8 +306,8 @@ impl RibStore {
     }
 
     /// The store as it is, with the keys of the cases gathered that got another verdict since verdicts were marked, so that [`RibStore::changes`]
-    /// goes over the changed keys alone. It takes the time and the memory of these keys, a look-up for each such case and peer of its AS, and
-    /// the first time the time and the memory of all routes.
+    /// goes over the changed keys alone. It takes the time and the memory of these keys, with a look-up for each such case and each peer that has
+    /// one of its keys, and the first time the time and the memory of all routes.
     pub fn gather(self) -> Result<RibStore, NoMemory>
         ensures { IfOk result (λ s. s ≡ self) }
     {
