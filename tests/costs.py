@@ -1,0 +1,226 @@
+#!/usr/bin/env python3
+"""Where the number of a script's lines, or of what they go over, doubles, their time grows at most by the factor 2.6, counted from 0.15 s on.
+Only lines that give one customer a provider more may each cost the customer's row: there it is the factor 5, and 10,000 assertions take at most
+2.5 s.
+
+Usage: costs.py PROGRAM. Runs scripts with lines of each kind and prints a table of the processor seconds that these lines take, beside a run
+of the same script without them. The last line is 'N passed, M failed', and the status is 0 where none failed.
+"""
+import os
+import struct
+import subprocess
+import sys
+import tempfile
+
+# By how much the time may grow where the size doubles, where a line may cost the row too, and the seconds that count as none.
+LINEAR = 2.6
+ROW = 5.0
+FLOOR = 0.15
+
+# The seconds that the most asserted lines of one customer may take.
+MOST_SECONDS = 2.5
+
+# How often the sizes of a kind are measured at most; it is twice where nothing is wrong.
+MOST_TURNS = 5
+
+# The AS of all peers of a dump.
+PEER = 64_501
+
+# As many records as a line can take: all of a dump.
+ALL = 100_000_000
+
+
+def record(subtype, body):
+    """A record of TABLE_DUMP_V2 (RFC 6396, section 4.3)."""
+    return struct.pack(">IHHI", 0, 13, subtype, len(body)) + body
+
+
+def peer_table(count):
+    """So many peers, each with an IPv4 address of its own and an AS of 4 bytes."""
+    peers = b"".join(struct.pack(">BIII", 2, 1 + i, 0x0A000000 + i, PEER) for i in range(count))
+    return record(1, struct.pack(">IHH", 1, 0, count) + peers)
+
+
+def route(number, peer, path):
+    """A route of a peer with this path, to the network of 24 bits of that number."""
+    hops = struct.pack(f">BB{len(path)}I", 2, len(path), *path)
+    attributes = bytes([0x40, 2, len(hops)]) + hops
+    prefix = bytes([24]) + struct.pack(">I", (0x0B000000 + 256 * number) & 0xFFFFFFFF)[:3]
+    entry = struct.pack(">HIH", peer, 0, len(attributes)) + attributes
+    return record(2, struct.pack(">I", number) + prefix + struct.pack(">H", 1) + entry)
+
+
+def der(tag, content):
+    """A value in DER."""
+    size = len(content)
+    if size < 128:
+        return bytes([tag, size]) + content
+    length = size.to_bytes((size.bit_length() + 7) // 8, "big")
+    return bytes([tag, 128 + len(length)]) + length + content
+
+
+def number(value):
+    """An INTEGER in DER."""
+    return der(2, value.to_bytes(value.bit_length() // 8 + 1, "big"))
+
+
+def payload(customer, providers):
+    """What one customer attests."""
+    listed = der(0x30, b"".join(number(asn) for asn in providers))
+    return der(0x30, der(0xA0, number(1)) + number(customer) + listed)
+
+
+def write(folder, name, data):
+    """A file of the folder, by its whole name."""
+    path = os.path.join(folder, name)
+    with open(path, "wb") as file:
+        file.write(data)
+    return path
+
+
+# ---- the lines that are measured, each behind those that aren't
+
+def changes(folder, size):
+    """A list of changes after one assertion that changes each verdict: so many peers of one AS have a path of their own each."""
+    routes = b"".join(route(i, i, [PEER, 7, 100_000 + i]) for i in range(size))
+    dump = write(folder, "dump", peer_table(size) + routes)
+    before = f"role default customer\nopen d {dump}\ntake d {ALL}\nchanges\nassert 7 1\n"
+    return before, "changes\n"
+
+
+def assertions(folder, size):
+    """The providers of one customer, asserted one by one."""
+    return "", "".join(f"assert 1 {2 + i}\n" for i in range(size))
+
+
+def sources(folder, size):
+    """So many sources that attest one customer, each with the same provider."""
+    file = write(folder, "payload", payload(1, [2]))
+    return "", "".join(f"aspa s{i} {file}\n" for i in range(size))
+
+
+def other_sources(folder, size):
+    """The same, each with a provider of its own."""
+    files = [write(folder, f"payload{i}", payload(1, [2 + i])) for i in range(size)]
+    return "", "".join(f"aspa s{i} {file}\n" for i, file in enumerate(files))
+
+
+def roles(folder, size):
+    """The role of all others, turned over, where so many ASes have a role."""
+    before = "".join(f"role {1 + i} peer\n" for i in range(size))
+    return before, "role default customer\nrole default peer\n" * 100
+
+
+def summaries(folder, size):
+    """Summaries of 100,000 routes."""
+    routes = b"".join(route(i, 0, [PEER, 7, 100_000 + i // 10]) for i in range(100_000))
+    dump = write(folder, "dump", peer_table(1) + routes)
+    return f"open d {dump}\ntake d {ALL}\n", "summary\n" * size
+
+
+def filters(folder, size):
+    """Filters that are there already, and ones that aren't and go, of an AS on each path of a table."""
+    routes = b"".join(route(i, 0, [PEER, 7, 100_000 + i]) for i in range(10_000))
+    dump = write(folder, "dump", peer_table(1) + routes)
+    return f"open d {dump}\ntake d {ALL}\nfilter 7\n", "filter 7\nunfilter 8\n" * size
+
+
+def rows(folder, size):
+    """So many customers with 10,000 providers each, loaded by one line."""
+    file = write(folder, "payloads", b"".join(payload(1 + i, range(1_000, 11_000)) for i in range(size)))
+    return "", f"aspa a {file}\n"
+
+
+# What is measured, for which sizes, and by how much the time may grow where the size doubles.
+KINDS = (
+    ("changes where so many peers of an AS have a path each", changes, (4_000, 8_000, 16_000), LINEAR),
+    ("assertions of one customer, one provider each", assertions, (2_500, 5_000, 10_000), ROW),
+    ("sources that attest one customer, the same provider", sources, (2_000, 4_000, 8_000), LINEAR),
+    ("sources that attest one customer, one provider each", other_sources, (500, 1_000, 2_000), ROW),
+    ("roles, where the default role is turned 200 times", roles, (10_000, 20_000, 40_000), LINEAR),
+    ("summaries of 100,000 routes", summaries, (50, 100, 200), LINEAR),
+    ("filters that change nothing, two lines each", filters, (20_000, 40_000, 80_000), LINEAR),
+    ("rows of 10,000 providers in one line", rows, (25, 50, 100), LINEAR),
+)
+
+
+def run(program, folder, script):
+    """The status and the processor seconds."""
+    lines = write(folder, "script", script.encode())
+    with open(lines, "rb") as given:
+        child = subprocess.Popen([program, "run"], stdin=given, stdout=subprocess.DEVNULL)
+        _, status, used = os.wait4(child.pid, 0)
+    child.returncode = os.waitstatus_to_exitcode(status)
+    return child.returncode, used.ru_utime + used.ru_stime
+
+
+class Measured:
+    """Lines of one kind and one size: whether all runs had status 0, and the least seconds with the lines and without them so far."""
+
+    def __init__(self, folder, lines, size):
+        self.size = size
+        self.folder = os.path.join(folder, str(size))
+        os.mkdir(self.folder)
+        before, measured = lines(self.folder, size)
+        self.scripts = (before + measured, before)
+        self.least = [float("inf")] * 2
+        self.ends = True
+
+    def again(self, program):
+        """Two more runs."""
+        for place, script in enumerate(self.scripts):
+            status, used = run(program, self.folder, script)
+            self.ends = self.ends and status == 0
+            self.least[place] = min(self.least[place], used)
+
+    def seconds(self):
+        """What the lines take."""
+        return max(0.0, self.least[0] - self.least[1])
+
+
+def grow_little(sizes, most):
+    """Whether no doubling costs more than this factor."""
+    return all(more.seconds() <= most * max(FLOOR, less.seconds()) for less, more in zip(sizes, sizes[1:]))
+
+
+def measured(program, folder, lines, sizes, most):
+    """The sizes of one kind. Where they seem to cost too much, they are measured again: another program may have been in the way."""
+    os.mkdir(folder)
+    kind = [Measured(folder, lines, size) for size in sizes]
+    for turn in range(MOST_TURNS):
+        for size in kind:
+            size.again(program)
+        if turn > 0 and grow_little(kind, most):
+            break
+    return kind
+
+
+def main():
+    if len(sys.argv) != 2:
+        sys.exit(__doc__)
+    program = os.path.abspath(sys.argv[1])
+    passed, failed = 0, 0
+
+    def check(good, what):
+        nonlocal passed, failed
+        if good:
+            passed += 1
+        else:
+            failed += 1
+            print(f"failed: {what}")
+
+    with tempfile.TemporaryDirectory() as folder:
+        for what, lines, sizes, most in KINDS:
+            kind = measured(program, os.path.join(folder, lines.__name__), lines, sizes, most)
+            for size in kind:
+                print(f"{what:54} {size.size:>7,} {size.seconds():8.3f}", flush=True)
+            check(all(size.ends for size in kind), f"{what}: each run has status 0")
+            check(grow_little(kind, most), f"{what}: where the size doubles the time grows at most by {most}")
+            if lines is assertions:
+                check(kind[-1].seconds() <= MOST_SECONDS, f"{what}: {sizes[-1]:,} take at most {MOST_SECONDS} s")
+    print(f"{passed} passed, {failed} failed")
+    return 0 if failed == 0 else 1
+
+
+if __name__ == "__main__":
+    sys.exit(main())
