@@ -1,0 +1,98 @@
+-- What the steps on chunks come to. Each value is a variable, and each fact that the code has of it an equation.
+use Rattle.std.proofs.Common.{◌≡◌, ◌≢◌, ℕ, zero, suc, ◌-◌, ◌<◌, List, [], ◌∷◌, ◌++◌, length, get_or, set, take, drop, slice_get, Some, Result, Ok, Err, OnOk, OnErr, arith, ap, sym, subst, ◌∙◌, append_assoc}
+use Rattle.std.specs.declared.cmp.Ordering.{Ordering}
+use Rattle.std.specs.declared.cmp.Ordering.TheVariants.{Less, Equal, Greater}
+use Rattle.std.specs.BTreeMap.{insert_entry}
+use Rattle.std.specs.Cmp.{IsTotalOrder}
+use Rattle.std.specs.List.{insert}
+use Rattle.std.specs.List.Sorted.{IsStrictlySortedBy}
+use Rattle.std.specs.Map.{keys_of}
+use Rattle.std.specs.Ordering.{match_ordering}
+use Rattle.std.proofs.lemmas.List.{get_or_default, get_or-set_same, nil_from_length}
+use Rattle.std.proofs.lemmas.List.Edits.{get_or-insert_below}
+use Rattle.std.proofs.lemmas.Option.{get_or_from_slice_get}
+use Rattle.sorted_map.specs.Chunk.{AreBelow}
+use Rattle.sorted_map.specs.Joined.{joined, AreInOrder, HaveEntries}
+use Rattle.sorted_map.proofs.JoinedLemmas.{joined_halves, have_halves, some_at, sorted_at, below_by_last}
+
+module _ {K V : Type 0} where
+  -- ---- at the end
+  pub joined_last : (cs : List (List (K × V))) (n : ℕ) (c b : List (K × V)) (e : K × V) → 0 < length cs → n ≡ length cs - 1 → c ≡ get_or cs n c → b ≡ c ++ e ∷ [] → joined (set cs n b) ≡ joined cs ++ e ∷ []
+  joined_last [] n c b e some last here is = absurd (omega (arith, some))
+  joined_last (a ∷ []) zero c b e some last here is = ap (λ (es : List (K × V)). es ++ []) (is ∙ ap (λ (es : List (K × V)). es ++ e ∷ []) here) ∙ append_assoc a (e ∷ []) [] ∙ sym (append_assoc a [] (e ∷ []))
+  joined_last (a ∷ []) (suc n) c b e some last here is = absurd (omega (arith, last))
+  joined_last (a ∷ z ∷ cs) zero c b e some last here is = absurd (omega (arith, last))
+  joined_last (a ∷ z ∷ cs) (suc n) c b e some last here is =
+      ap (λ (es : List (K × V)). a ++ es) (joined_last (z ∷ cs) n c b e (omega arith) (omega (arith, last)) here is) ∙ sym (append_assoc a (joined (z ∷ cs)) (e ∷ []))
+
+  one_more : (c : List (K × V)) (e : K × V) → c ++ e ∷ [] ≢ []
+  one_more [] e = λ is. cc
+  one_more (x ∷ xs) e = λ is. cc
+
+  -- ---- halves
+  take_some : (h : ℕ) (es : List (K × V)) → 0 < h → h < length es → take h es ≢ []
+  take_some zero es more less = absurd (omega (arith, more))
+  take_some (suc h) [] more less = absurd (omega (arith, less))
+  take_some (suc h) (e ∷ es) more less = λ is. cc
+
+  drop_some : (h : ℕ) (es : List (K × V)) → h < length es → drop h es ≢ []
+  drop_some zero [] less = absurd (omega (arith, less))
+  drop_some zero (e ∷ es) less = λ is. cc
+  drop_some (suc h) [] less = absurd (omega (arith, less))
+  drop_some (suc h) (e ∷ es) less = drop_some h es (omega (arith, less))
+
+  module _ (cs : List (List (K × V))) (i j h : ℕ) (c more b rest : List (K × V)) (bs : List (List (K × V))) (within : i < length cs) (next : j ≡ suc i)
+      (here : c ≡ get_or cs i c) (upper : more ≡ drop h c) (put : bs ≡ insert cs j more) (again : b ≡ get_or bs i b) (lower : rest ≡ take h b) where
+    same_chunk : b ≡ c
+    same_chunk = again ∙ ap (λ (xs : List (List (K × V))). get_or xs i b) (put ∙ ap (λ (n : ℕ). insert cs n more) next) ∙ get_or-insert_below cs (suc i) more b i (omega arith) (omega (arith, within)) ∙ get_or_default cs i b c within ∙ sym here
+
+    halved_is : set bs i rest ≡ set (insert cs (suc i) (drop h c)) i (take h c)
+    halved_is = ap (λ (xs : List (List (K × V))). set xs i rest) (put ∙ ap (λ (n : ℕ). insert cs n more) next ∙ ap (λ (a : List (K × V)). insert cs (suc i) a) upper)
+        ∙ ap (λ (a : List (K × V)). set (insert cs (suc i) (drop h c)) i a) (lower ∙ ap (take h) same_chunk)
+
+    pub halved_same : joined (set bs i rest) ≡ joined cs
+    halved_same = ap joined halved_is
+        ∙ ap (λ (a : List (K × V)). joined (set (insert cs (suc i) (drop h a)) i (take h a))) here ∙ joined_halves cs i h c within
+
+    pub halved_have : HaveEntries cs → 0 < h → h < length c → HaveEntries (set bs i rest)
+    halved_have have more less = subst HaveEntries (sym halved_is) (have_halves cs i (drop h c) (take h c) have (drop_some h c less) (take_some h c more less))
+
+  -- ---- order and entries of one chunk
+  module _ (R : K → K → Ordering) where
+    pub sorted_here : (cs : List (List (K × V))) (i : ℕ) (c : List (K × V)) → c ≡ get_or cs i c → i < length cs → AreInOrder R cs → IsStrictlySortedBy R (keys_of c)
+    sorted_here cs i c here within sorted = subst (λ (es : List (K × V)). IsStrictlySortedBy R (keys_of es)) (sym here) (sorted_at R cs i c within sorted)
+
+    pub same_order : (cs bs : List (List (K × V))) → joined bs ≡ joined cs → AreInOrder R cs → AreInOrder R bs
+    same_order cs bs same sorted = subst (λ (es : List (K × V)). IsStrictlySortedBy R (keys_of es)) (sym same) sorted
+
+    pub sorted_last : (cs : List (List (K × V))) (c : List (K × V)) → Some c ≡ slice_get cs (length cs - 1) → AreInOrder R cs → IsStrictlySortedBy R (keys_of c)
+    sorted_last [] c last sorted = absurd cc
+    sorted_last (b ∷ cs) c last sorted = sorted_here (b ∷ cs) (length (b ∷ cs) - 1) c (sym (get_or_from_slice_get (b ∷ cs) (length (b ∷ cs) - 1) c c (sym last))) (omega arith) sorted
+
+    inserted_some : (k : K) (v : V) (es : List (K × V)) → insert_entry R es k v ≢ []
+    inserted_some k v [] = λ e. cc
+    inserted_some k v (x ∷ es) = by_order (R k x.0) where
+      by_order : (o : Ordering) → match_ordering o ((k, v) ∷ x ∷ es) ((x.0, v) ∷ es) (x ∷ insert_entry R es k v) ≢ []
+      by_order Less e = cc
+      by_order Equal e = cc
+      by_order Greater e = cc
+
+    pub some_after : {T E : Type 0} (r : Result T E) (k : K) (v : V) (old new : List (K × V)) → OnOk r (new ≡ insert_entry R old k v) → OnErr r (new ≡ old) → old ≢ [] → new ≢ []
+    some_after (Ok x) k v old new put same some is = inserted_some k v old (sym put ∙ is)
+    some_after (Err e) k v old new put same some is = some (sym same ∙ is)
+
+pub some_here : {K V : Type 0} (cs : List (List (K × V))) (i : ℕ) (c : List (K × V)) → c ≡ get_or cs i c → i < length cs → HaveEntries cs → c ≢ []
+some_here cs i c here within have is = some_at cs i c have within (sym here ∙ is)
+
+pub below_by_last_chunk : {K V : Type 0} {R : K → K → Ordering} → IsTotalOrder R → (k : K) (cs : List (List (K × V))) (c : List (K × V)) → Some c ≡ slice_get cs (length cs - 1) → AreInOrder R cs → HaveEntries cs → AreBelow R k c → AreBelow R k (joined cs)
+below_by_last_chunk total k [] c last sorted have above = absurd cc
+below_by_last_chunk {R = R} total k (b ∷ cs) c last sorted have above =
+    below_by_last total k (b ∷ cs) (length (b ∷ cs) - 1) c (omega arith) sorted have
+    (subst (AreBelow R k) (sym (get_or_from_slice_get (b ∷ cs) (length (b ∷ cs) - 1) c c (sym last))) above)
+
+pub same_here : {K V : Type 0} (cs : List (List (K × V))) (i : ℕ) (c d : List (K × V)) → i < length cs → c ≡ get_or cs i c → d ≡ get_or cs i d → c ≡ d
+same_here cs i c d within here there = here ∙ get_or_default cs i c d within ∙ sym there
+
+-- a chunk that has nothing left
+pub left_empty : {K V : Type 0} (cs : List (List (K × V))) (i n : ℕ) (b d : List (K × V)) → i < length cs → d ≡ get_or (set cs i b) i d → n ≡ length d → n ≡ 0 → b ≡ []
+left_empty cs i n b d within here long none = sym (get_or-set_same cs i b d within) ∙ sym here ∙ nil_from_length d (sym long ∙ none)

@@ -1,0 +1,105 @@
+//! The map.
+ghost use Rattle.std.specs.Prelude.{◌≡◌, ◌<◌, ◌^◌, [], length, IfOk, OnOk, OnErr, option_copied};
+ghost use Rattle.std.specs.BTreeMap.{insert_entry, is_at};
+ghost use Rattle.std.specs.List.Sorted.{IsStrictlySortedBy};
+ghost use Rattle.std.specs.Map.{keys_of, lookup, remove_entry};
+
+use crate::chunk::Chunk;
+use crate::iter::Iter;
+use crate::places::{get, put, take};
+use av_base::NoMemory;
+use std::alloc::Global;
+use std::marker::Model;
+
+// How many entries there may be: their number is that of a `Vec`'s elements at most.
+const MOST_ENTRIES: usize = 0x7fff_ffff_ffff_ffff;
+
+/// A value for each key, by rising key, in chunks of at most 512 entries. Where keys come in order, an entry takes the bytes of its key and
+/// of its value and hardly more; where they come in any other order or go again, chunks are less full: half full or more, until entries go.
+/// To find a key takes two binary searches, among the chunks and within one.
+#[derive(Drop)]
+pub struct Sorted<K: Ord, V> {
+    alloc: Global,
+    // by rising key, none of them empty, as the invariant says
+    chunks: Vec<Chunk<K, V>>,
+    // how many entries there are
+    len: usize,
+}
+
+impl<K: Ord, V> Model for Sorted<K, V> {
+    ghost use Rattle.std.specs.Prelude.{List};
+    ghost use Rattle.sorted_map.specs.Joined.{joined, AreChunks};
+
+    ghost Value = { List (K × V) };
+
+    ghost view = { λ m. joined m.chunks.items };
+
+    ghost invariant = { λ m. AreChunks K.cmp m.chunks.items m.len };
+}
+
+impl<K: Ord, V> Sorted<K, V> {
+    /// A map of no entries. It takes no memory.
+    pub fn new(alloc: Global) -> Sorted<K, V>
+        ensures { result ≡ [] }
+    {
+        Sorted {
+            alloc,
+            chunks: Vec::new(alloc),
+            len: 0,
+        }
+    }
+
+    /// How many entries there are.
+    pub fn len(&self) -> usize
+        ensures len { result ≡ length self.now }
+        ensures few { result < 2 ^ 63 }
+        ensures in_order { IsStrictlySortedBy K.cmp (keys_of self.now) }
+    {
+        self.len
+    }
+
+    /// The value of a key; `None` exactly where it has none.
+    pub fn get(&self, key: &K) -> Option<&V>
+        ensures { option_copied result ≡ lookup (is_at (K.cmp key.now)) self.now }
+    {
+        get(&self.chunks, key)
+    }
+
+    /// All entries, by rising key.
+    pub fn iter(&self) -> Iter<'_, K, V>
+        ensures { result ≡ self.now }
+    {
+        Iter::of(&self.chunks)
+    }
+}
+
+impl<K: Ord + Copy, V: Copy> Sorted<K, V> {
+    /// Gives a key a value, and answers the one that it had. Where there was no memory, nothing changed. A key above all others goes to the
+    /// end at once; else a new one takes its look-up and a move of at most 512 entries, and where it finds its chunk full, that is halved
+    /// and the list of chunks moves.
+    pub fn insert(&mut self, key: K, value: V) -> Result<Option<V>, NoMemory>
+        ensures before { IfOk result (λ v. v ≡ lookup (is_at (K.cmp key)) self.old) }
+        ensures inserted { OnOk result (self.new ≡ insert_entry K.cmp self.old key value) }
+        ensures same { OnErr result (self.new ≡ self.old) }
+    {
+        if self.len == MOST_ENTRIES {
+            return Err(NoMemory);
+        }
+        let before = put(&mut self.chunks, self.alloc, key, value)?;
+        self.len += usize::from(before.is_none());
+        Ok(before)
+    }
+}
+
+impl<K: Ord + Copy, V: Drop> Sorted<K, V> {
+    /// Takes the value of a key out, where it has one, and answers it. It takes no memory; what a chunk took is given back with its last
+    /// entry. It takes the time of a look-up and of a move of at most 512 entries, and with a chunk's last entry the list of chunks moves.
+    pub fn remove(&mut self, key: &K) -> Option<V>
+        ensures before { result ≡ lookup (is_at (K.cmp key.now)) self.old }
+        ensures removed { self.new ≡ remove_entry (is_at (K.cmp key.now)) self.old }
+    {
+        let before = take(&mut self.chunks, key);
+        self.len -= usize::from(before.is_some());
+        before
+    }
+}
