@@ -5,4 +5,5 @@ pub mod Holders
 pub mod Keys
 pub mod Numbered
 pub mod OfPeer
+pub mod Packed
 pub mod Updates

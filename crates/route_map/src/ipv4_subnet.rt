@@ -11,24 +11,32 @@ use path_model::{Addr, Prefix};
 use std::cmp::Ordering;
 use std::marker::Model;
 
-// A prefix of IPv4. It takes 8 bytes, a third of what a `Prefix` takes. The order is that of prefixes.
+// A prefix of IPv4. It takes 5 bytes, where a `Prefix` takes 24. The order is that of prefixes.
 #[derive(Clone, Copy, Debug)]
 pub(crate) struct Ipv4Subnet {
-    bits: u32,
+    // the bytes of the address, the highest first; a `u32` would be padded
+    bits: [u8; 4],
+    // how many bits the prefix has
     len: u8,
 }
 
 impl Model for Ipv4Subnet {
-    ghost use Rattle.path_model.specs.Prefix.{Subnet, IsSubnet, number_of};
-    ghost use Rattle.path_model.specs.declared.addr.Addr.TheVariants.{V4};
+    ghost use Rattle.std.specs.Prelude.{ℕ, List, refl};
+    ghost use Rattle.std.proofs.Common.{ap};
+    ghost use Rattle.std.specs.Int.{w32, from_be_bytes, to_be_bytes};
+    ghost use Rattle.std.proofs.lemmas.Nat.{be_bytes_4};
+    ghost use Rattle.path_model.specs.Prefix.{Subnet, number_of};
+    ghost use Rattle.route_map.specs.Packed.{packed_subnet, IsPacked};
 
     ghost Value = { Subnet };
 
-    ghost view = { λ s. record { addr = V4 s.bits; len = s.len } };
+    ghost view = { λ s. packed_subnet s.bits s.len };
 
-    ghost inverse = { λ s. record { bits = number_of s.addr; len = s.len } };
+    ghost inverse = { λ s. record { bits = to_be_bytes w32 (number_of s.addr); len = s.len } };
 
-    ghost invariant = { λ s. IsSubnet (record { addr = V4 s.bits; len = s.len }) };
+    ghost inverse_ok = { λ a packed. ap (λ (b : List ℕ). record { bits = b; len = a.len }) (be_bytes_4 a.bits (from_be_bytes w32 a.bits) packed.four packed.small refl) };
+
+    ghost invariant = { λ s. IsPacked s.bits s.len };
 }
 
 impl Ipv4Subnet {
@@ -36,7 +44,10 @@ impl Ipv4Subnet {
     pub(crate) fn least() -> Ipv4Subnet
         ensures { result ≡ least_subnet }
     {
-        Ipv4Subnet { bits: 0, len: 0 }
+        Ipv4Subnet {
+            bits: [0, 0, 0, 0],
+            len: 0,
+        }
     }
 
     // The prefix, if it is one of IPv4.
@@ -45,7 +56,10 @@ impl Ipv4Subnet {
     {
         let len = prefix.len();
         match prefix.addr() {
-            Addr::V4(bits) => Some(Ipv4Subnet { bits, len }),
+            Addr::V4(bits) => Some(Ipv4Subnet {
+                bits: bits.to_be_bytes(),
+                len,
+            }),
             Addr::V6(_) => None,
         }
     }
@@ -54,7 +68,7 @@ impl Ipv4Subnet {
     pub(crate) fn prefix(&self) -> Prefix
         ensures { result ≡ self.now }
     {
-        Prefix::new(Addr::V4(self.bits), self.len).unwrap()
+        Prefix::new(Addr::V4(u32::from_be_bytes(self.bits)), self.len).unwrap()
     }
 }
 
@@ -92,6 +106,8 @@ impl Ord for Ipv4Subnet {
     ghost matches_eq = { λ a b. refl };
 
     fn cmp(&self, other: &Ipv4Subnet) -> Ordering {
-        self.bits.cmp(&other.bits).then(self.len.cmp(&other.len))
+        u32::from_be_bytes(self.bits)
+            .cmp(&u32::from_be_bytes(other.bits))
+            .then(self.len.cmp(&other.len))
     }
 }

@@ -5,25 +5,21 @@ ghost use Rattle.std.specs.Map.{lookup, remove_entry};
 ghost use Rattle.path_model.specs.Prefix.{subnet_cmp};
 ghost use Rattle.route_map.specs.Flat.{of_peer};
 
-use crate::filling::{FIRST_FILLED, fill};
 use crate::ipv4_subnet::Ipv4Subnet;
 use crate::peer_iter::PeerIter;
 use crate::prefix_iter::PrefixIter;
 use av_base::NoMemory;
 use path_model::{Peer, Prefix};
+use sorted_map::Sorted;
 use std::alloc::Global;
-use std::collections::BTreeMap;
 use std::marker::Model;
 
 // The value of each prefix that one peer has a route to.
 #[derive(Drop)]
 pub(crate) struct PeerRoutes<V> {
-    // an IPv4 prefix takes 8 bytes, and an IPv6 prefix 24
-    v4: BTreeMap<Ipv4Subnet, V>,
-    v6: BTreeMap<Prefix, V>,
-    // how many there are when the leaves are filled next
-    fill_v4_at: usize,
-    fill_v6_at: usize,
+    // an IPv4 prefix takes 5 bytes, and an IPv6 prefix 24
+    v4: Sorted<Ipv4Subnet, V>,
+    v6: Sorted<Prefix, V>,
 }
 
 impl<V> Model for PeerRoutes<V> {
@@ -33,9 +29,9 @@ impl<V> Model for PeerRoutes<V> {
 
     ghost Value = { List (Subnet × V) };
 
-    ghost view = { λ r. r.v4.entries ++ r.v6.entries };
+    ghost view = { λ r. r.v4 ++ r.v6 };
 
-    ghost invariant = { λ r. AreByFamily r.v4.entries r.v6.entries };
+    ghost invariant = { λ r. AreByFamily r.v4 r.v6 };
 }
 
 impl<V> PeerRoutes<V> {
@@ -44,10 +40,8 @@ impl<V> PeerRoutes<V> {
         ensures { result ≡ [] }
     {
         PeerRoutes {
-            v4: BTreeMap::new(alloc),
-            v6: BTreeMap::new(alloc),
-            fill_v4_at: FIRST_FILLED,
-            fill_v6_at: FIRST_FILLED,
+            v4: Sorted::new(alloc),
+            v6: Sorted::new(alloc),
         }
     }
 
@@ -55,7 +49,7 @@ impl<V> PeerRoutes<V> {
     pub(crate) fn is_empty(&self) -> bool
         ensures { IsTrue result ↔ (self.now ≡ []) }
     {
-        self.v4.is_empty() && self.v6.is_empty()
+        self.v4.len() == 0 && self.v6.len() == 0
     }
 
     // The value of a prefix.
@@ -82,7 +76,7 @@ impl<V> PeerRoutes<V> {
     }
 }
 
-impl<V: Drop> PeerRoutes<V> {
+impl<V: Copy> PeerRoutes<V> {
     // Gives a prefix a value, and answers the one that it had. Where there was no memory nothing changed.
     pub(crate) fn insert(&mut self, prefix: Prefix, value: V) -> Result<Option<V>, NoMemory>
         ensures before { IfOk result (λ v. v ≡ lookup (is_at (subnet_cmp prefix)) self.old) }
@@ -94,7 +88,9 @@ impl<V: Drop> PeerRoutes<V> {
             None => Ok(self.v6.insert(prefix, value)?),
         }
     }
+}
 
+impl<V: Drop> PeerRoutes<V> {
     // Takes the value of a prefix out, where it has one. It takes no memory.
     pub(crate) fn remove(&mut self, prefix: &Prefix) -> Option<V>
         ensures before { result ≡ lookup (is_at (subnet_cmp prefix.now)) self.old }
@@ -104,15 +100,5 @@ impl<V: Drop> PeerRoutes<V> {
             Some(subnet) => self.v4.remove(&subnet),
             None => self.v6.remove(prefix),
         }
-    }
-}
-
-impl<V: Copy> PeerRoutes<V> {
-    // Fills the leaves of a tree that has doubled since the last time. The routes stay.
-    pub(crate) fn fill(&mut self, alloc: Global)
-        ensures { self.new ≡ self.old }
-    {
-        fill(&mut self.v4, &mut self.fill_v4_at, alloc);
-        fill(&mut self.v6, &mut self.fill_v6_at, alloc);
     }
 }

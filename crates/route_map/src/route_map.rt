@@ -23,8 +23,10 @@ use std::marker::Model;
 // How many routes there may be: their number is that of a `Vec`'s elements at most.
 const MOST_ROUTES: usize = 0x7fff_ffff_ffff_ffff;
 
-/// A value for each route. With values of 4 bytes an IPv4 route takes 14 to 22 bytes and an IPv6 route 30 to 48, less where the routes don't
-/// come in the order of their prefixes. The first route of a peer takes 450 to 700.
+/// A value for each route. With values of 4 bytes an IPv4 route takes 9 bytes and an IPv6 route 28 where the routes of a peer come in the
+/// order of their prefixes, and up to twice that where they don't. What up to 512 neighbouring routes took is given back with the last of
+/// them. The first route of a peer takes 350 to 500. To find a route takes a look-up among the peers, and two searches among the routes of
+/// one.
 #[derive(Drop)]
 pub struct RouteMap<V> {
     alloc: Global,
@@ -163,7 +165,6 @@ fn put<V: Copy>(
 {
     if let Some(routes) = peers.get_mut(&key.peer) {
         let before = routes.insert(key.prefix, value)?;
-        routes.fill(alloc);
         return Ok(before);
     }
     let mut routes = PeerRoutes::new(alloc);

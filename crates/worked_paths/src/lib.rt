@@ -2,10 +2,10 @@
 //!
 //! The tables are texts that `reading` reads, with expected values worked out by hand. `judgements` judges paths in a small world, with
 //! their witnesses, `long_chains` the longest path there is, `confirming` puts claims to the checker, `hops` looks up hops, `copies` copies
-//! what a change of the table answers, and `routes` asks a store of routes. `quiet` replays half a million events that each touch one
-//! route among 200,000, `quiet_marks` asks after each of as many what changed (both by `replaying`), and the contracts of `ticks` say how
-//! many judgements each event of a row takes. `compared` judges all routes of plain lists (`plain`) from scratch after each of 2,000 drawn
-//! events (`drawing`, `drawn_events`), and compares these with the store's.
+//! what a change of the table answers, `held_routes` puts a map of routes beside an ordered map, and `routes` asks a store of routes.
+//! `quiet` replays half a million events that each touch one route among 200,000, `quiet_marks` asks after each of as many what changed
+//! (both by `replaying`), and the contracts of `ticks` say how many judgements each event of a row takes. `compared` judges all routes of
+//! plain lists (`plain`) from scratch after each of 2,000 drawn events (`drawing`, `drawn_events`), and compares these with the store's.
 #![tactic(auto)]
 
 #[cfg(test)]
@@ -18,6 +18,8 @@ mod copies;
 mod drawing;
 #[cfg(test)]
 mod drawn_events;
+#[cfg(test)]
+mod held_routes;
 #[cfg(test)]
 mod hops;
 #[cfg(test)]
