@@ -1,13 +1,17 @@
 -- In a stream exactly one thing comes next.
-use Rattle.std.proofs.Common.{◌≡◌, ◌≢◌, ℕ, ◌+◌, ◌≤◌, Bool, true, false, List, [], ◌∷◌, ◌++◌, length, take, drop, Some, None, refl, sym, ap, subst, ◌∙◌, append_assoc, arith}
-use Rattle.std.specs.Prelude.{nat_lt, nat_le, IfSome}
+use Rattle.std.proofs.Common.{true≢false, ◌≡◌, ◌≢◌, ℕ, ◌+◌, ◌≤◌, Bool, true, false, List, [], ◌∷◌, ◌++◌, length, take, drop, Some, None, Ok, Err, refl, sym, ap, subst, ◌∙◌, append_assoc, arith}
+use Rattle.std.specs.Prelude.{◌↔◌, nat_lt, nat_le, is_some, IfSome, IsTrue}
 use Rattle.std.specs.declared.option.Option.{Option}
 use Rattle.std.proofs.lemmas.Option.{same_Some}
 use Rattle.std.proofs.lemmas.List.{take-append-drop, length-take}
 use Rattle.std.proofs.lemmas.Bool.Decides.{nat_tests}
 use Rattle.av_base.specs.One.{HasOne}
 use Rattle.held_bytes.specs.Units.{Begins}
+use Rattle.mrt_reader.specs.declared.fault.FrameFault.{FrameFault}
+use Rattle.mrt_reader.specs.declared.fault.FrameFault.TheVariants as faults
+use Rattle.mrt_reader.specs.declared.heading.Heading.{Heading}
 use Rattle.mrt_reader.specs.Coming.{Coming, Whole, TooLong, CutShort, End, IsComing, IsTooLong, IsPartial}
+use Rattle.mrt_reader.specs.Headed.{IsHeaded, head_of}
 use Rattle.mrt_reader.specs.Records.{Recorded, IsRecord, Head, head_at, limit}
 use Rattle.mrt_reader.proofs.RecordLemmas.{head_front, head_long, record_head, record_made, partial_short, partial_cut, one_record}
 
@@ -80,3 +84,12 @@ too_long_stays bytes more long =
     let joined : bytes ++ more ≡ take 12 bytes ++ (drop 12 bytes ++ more) = ap (λ (xs : List ℕ). xs ++ more) (sym (take-append-drop 12 bytes)) ∙ append_assoc (take 12 bytes) (drop 12 bytes) more in
     let here : head_at (take 12 bytes) ≡ head_at bytes = sym (head_front (take 12 bytes) (drop 12 bytes) twelve) ∙ ap head_at (take-append-drop 12 bytes) in
     (long.0, ap head_at joined ∙ head_front (take 12 bytes) (drop 12 bytes ++ more) twelve ∙ here ∙ long.1, long.2)
+
+-- what the header says tells whether more has to come
+pub ready_by_head : (left : List ℕ) (head : Option Heading) (ready : Bool) → ready ≡ is_some head → IsHeaded left (Ok head) → IsTrue ready ↔ ¬ IsPartial left
+ready_by_head left None ready e is = (λ on. absurd (true≢false (sym on ∙ e)), λ apart. absurd (apart is))
+ready_by_head left (Some h) ready e is = (λ on partial. partial.no_record _ _ (record_made left (head_of h) is.0 is.1 is.2), λ apart. e)
+
+pub ready_by_fault : (left : List ℕ) (fault : FrameFault) → IsHeaded left (Err fault) → IsTrue true ↔ ¬ IsPartial left
+ready_by_fault left faults.TooLong is = (λ on. long_not_partial left is, λ apart. refl)
+ready_by_fault left faults.CutShort is = absurd is

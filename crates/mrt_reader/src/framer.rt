@@ -1,5 +1,5 @@
 //! Records cut out of a stream that comes in pieces.
-ghost use Rattle.std.specs.Prelude.{◌≡◌, ◌≢◌, ◌++◌, [], OnOk, OnErr, IfOk, IsErrOf};
+ghost use Rattle.std.specs.Prelude.{◌≡◌, ◌≢◌, ◌↔◌, ◌++◌, [], OnOk, OnErr, IfOk, IsErrOf, IsTrue};
 ghost use Rattle.std.specs.Borrow.{sem};
 ghost use Rattle.std.specs.Io.BufRead.{Rests};
 
@@ -41,7 +41,7 @@ impl Model for Framer {
 }
 
 impl Framer {
-    ghost use Rattle.mrt_reader.specs.Coming.{Answers};
+    ghost use Rattle.mrt_reader.specs.Coming.{Answers, IsPartial};
     ghost use Rattle.mrt_reader.specs.contracts.framer.Framer.{the_row};
 
     /// Nothing is held. It takes no memory.
@@ -90,8 +90,13 @@ impl Framer {
     }
 
     /// Whether `next` has an answer other than `None` for what is held.
-    pub fn is_ready(&self) -> bool {
-        !matches!(whole_head(self.held.front()), Ok(None))
+    pub fn is_ready(&self) -> bool
+        ensures { IsTrue result ↔ ¬ IsPartial self.now }
+    {
+        match whole_head(self.held.front()) {
+            Ok(head) => head.is_some(),
+            Err(_) => true,
+        }
     }
 
     /// Whether the stream may end here: 27 CutShort comes exactly where some byte is held. Where `next` answered `None` that byte
