@@ -14,7 +14,7 @@ use Rattle.path_model.specs.CurrentTable.{Parts}
 use Rattle.path_model.proofs.MemberLemmas.{has-append}
 use Rattle.vap_table.specs.declared.change.TableChange.TheVariants.{Filter, Unfilter, Assert, Unassert}
 use Rattle.vap_table.specs.Change.{Alters, without}
-use Rattle.vap_table.specs.Counting.{holds, missing}
+use Rattle.vap_table.specs.Counting.{missing}
 use Rattle.vap_table.proofs.MemberLemmas.{set_of_members}
 use Rattle.vap_table.proofs.NamingLemmas.{has_without}
 use Rattle.vap_table.proofs.TallyingLemmas.{has_missing}

@@ -7,6 +7,7 @@ pub mod MemberLemmas
 pub mod MovesLemmas
 pub mod NamingLemmas
 pub mod PatchLemmas
+pub mod PlacesLemmas
 pub mod ShownLemmas
 pub mod SourcesLemmas
 pub mod SteppingLemmas

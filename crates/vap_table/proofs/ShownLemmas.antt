@@ -1,12 +1,11 @@
 -- The row that is read off a tally is the current one.
-use Rattle.std.proofs.Common.{◌≡◌, ℕ, suc, nat_eq, ◌+◌, ◌<◌, Bool, true, false, cond, not, ◌||◌, ◌&&◌, List, [], ◌∷◌, ◌++◌, length, filter, Some, None, Less, refl, sym, ap, subst, ◌∙◌, arith, true≢false}
+use Rattle.std.proofs.Common.{◌≡◌, ℕ, suc, nat_eq, ◌+◌, ◌<◌, Bool, true, false, cond, not, ◌||◌, ◌&&◌, List, [], ◌∷◌, length, filter, Some, None, Less, refl, sym, ap, subst, ◌∙◌, arith, true≢false}
 use Rattle.std.specs.Prelude.{is_some}
 use Rattle.std.specs.declared.option.Option.{Option}
 use Rattle.std.specs.List.{AllByRecursion}
 use Rattle.std.specs.List.Sorted.{IsStrictlySortedBy}
 use Rattle.std.specs.Ordering.{nat_cmp}
 use Rattle.std.specs.FinMap as map
-use Rattle.std.specs.Cmp.{nat_eq_equiv}
 use Rattle.std.proofs.lemmas.Bool.Decides.{nat_tests}
 use Rattle.std.proofs.lemmas.Bool.{false_from_ne_true}
 use Rattle.std.proofs.lemmas.Map.Keys.{sorted_head, sorted_tail}
@@ -18,7 +17,7 @@ use Rattle.path_model.proofs.MemberLemmas.{has-append, has-nonzero}
 use Rattle.vap_table.specs.declared.tally.Given.{Given}
 use Rattle.vap_table.specs.declared.tally.Tally.{Tally}
 use Rattle.vap_table.specs.Counting.{one, holds, asserted_with}
-use Rattle.vap_table.specs.Shown.{some_go, goes_in, has_row, shown, row_shown}
+use Rattle.vap_table.specs.Shown.{some_go, goes_in, shown, row_shown}
 use Rattle.vap_table.specs.Stepping.{numbers_of}
 use Rattle.vap_table.specs.Tally.{holding, counted, IsTallyOf, IsTallyOfRows}
 use Rattle.vap_table.proofs.CountingLemmas.{rows_counted, numbers_counted, ordered}
@@ -136,7 +135,7 @@ module _ (f : Bool) (sourced asserted : List (List ℕ)) where
   shown_is : (tally : Tally) (r : List ℕ) (rs : List (List ℕ)) → IsTallyOfRows sourced asserted (Some tally)
       → ((y : ℕ) → some_go f (holding y sourced, holding y asserted) ≡ not (nat_eq (holding y (r ∷ rs)) 0)) → shown f tally.given ≡ union_of (r ∷ rs)
   shown_is tally r rs is held =
-      let rising = ordered sourced asserted (Some tally) is in
+      let rising : IsStrictlySortedBy nat_cmp (numbers_of tally.given) = (ordered sourced asserted (Some tally) is).rising in
       set_is_ascending (filter (λ y. not (nat_eq y 0)) (joined (r ∷ rs))) (shown f tally.given) (set_of_members (filter (λ y. not (nat_eq y 0)) (joined (r ∷ rs))) (shown f tally.given) (shown_rise f tally.given rising)
       (λ y. has_shown f tally.given y rising
       ∙ ap (λ (p : ℕ × ℕ). not (nat_eq y 0) && some_go f p) (numbers_counted sourced asserted (Some tally) y is)

@@ -1,22 +1,25 @@
 -- Counts and a row gone through together, from the least number on.
-use Rattle.std.proofs.Common.{◌≡◌, ◌⊎◌, inl, inr, ℕ, nat_eq, ◌+◌, ◌<◌, ◌≤◌, Bool, true, false, cond, ◌||◌, ◌&&◌, List, [], ◌∷◌, ◌++◌, length, Less, refl, sym, ap, subst, ◌∙◌, arith, true≢false}
+use Rattle.std.proofs.Common.{◌≡◌, ◌⊎◌, inl, inr, ℕ, zero, suc, nat_eq, ◌+◌, ◌<◌, ◌≤◌, ◌≢◌, Bool, true, false, cond, ◌||◌, ◌&&◌, List, [], ◌∷◌, ◌++◌, length, take, drop, take-append-drop, slice_index_or, append_assoc, append-nil, Some, None, unwrap_or, option_to_list, IfSome, Less, refl, sym, ap, subst, ◌∙◌, arith, true≢false}
+use Rattle.std.specs.declared.option.Option.{Option}
 use Rattle.std.specs.Ordering.{nat_cmp}
 use Rattle.std.specs.Cmp.{nat_eq_equiv, nat_cmp_is}
-use Rattle.std.specs.List.{AllByRecursion}
-use Rattle.std.specs.List.Sorted.{IsStrictlySortedBy}
+use Rattle.std.specs.List.{All, AllByRecursion}
+use Rattle.std.specs.List.Sorted.{IsStrictlySortedBy, IsNonDecreasingBy, IsPartitionPoint}
 use Rattle.std.proofs.Math.Bool.{or-true}
+use Rattle.std.proofs.Math.ListN.{get_or-map}
 use Rattle.std.proofs.lemmas.Bool.{false_from_ne_true}
 use Rattle.std.proofs.lemmas.Bool.Decides.{nat_tests}
 use Rattle.std.proofs.lemmas.Grind.{common_steps}
-use Rattle.std.proofs.lemmas.List.Elements.{All-from_recursion}
-use Rattle.std.proofs.lemmas.Map.Keys.{sorted_head, sorted_tail}
+use Rattle.std.proofs.lemmas.List.{length-map}
+use Rattle.std.proofs.lemmas.List.Elements.{All-from_recursion, recursion_from_All}
+use Rattle.std.proofs.lemmas.Map.Keys.{sorted_head, sorted_tail, non_decreasing_from_sorted}
 use Rattle.std.proofs.lemmas.Map.Views.{exact_unsigned_eq}
 use Rattle.path_model.specs.Authority.{has}
 use Rattle.vap_table.specs.declared.tally.Given.{Given}
 use Rattle.vap_table.specs.declared.stepping.Step.{Step}
 use Rattle.vap_table.specs.declared.stepping.Step.TheVariants.{SourceMore, SourceLess, AssertionMore, AssertionLess}
 use Rattle.vap_table.specs.Tally.{counted}
-use Rattle.vap_table.specs.Stepping.{numbers_of, pair_of, stepped, step_if, stepped_pair, pair_if, listed, is_left, AreStepped, IsNextOf}
+use Rattle.vap_table.specs.Stepping.{numbers_of, pair_of, stepped, step_if, pair_if, listed, uncounted, ArePartedAt, AreStepped}
 use Rattle.vap_table.proofs.MovesLemmas.{or_left, or_right}
 
 less_is : (a b : ℕ) → a < b → nat_cmp a b ≡ Less
@@ -126,7 +129,23 @@ member_more (g ∷ gs) one b x there = elim (or_cases (nat_eq g.provider x) (has
 
 -- ---- the least number
 
-pub count_next : (g : Given) (gs : List Given) (ys : List ℕ) → IsStrictlySortedBy nat_cmp (numbers_of (g ∷ gs)) → IsStrictlySortedBy nat_cmp ys → ((y : ℕ) → has ys y ≡ true → g.provider < y)
+-- the number is counted or in the row
+abbrev pub is_left : List Given → List ℕ → ℕ → Bool
+is_left counts numbers y = has (numbers_of counts) y || has numbers y
+
+-- The least number of these counts and of this row, with what is counted of it, whether the row holds it, and what is left behind it.
+pub record IsNextOf (counts : List Given) (numbers : List ℕ) (one : Given) (is_in_row : Bool) (counts' : List Given) (numbers' : List ℕ) : Type 0 where
+  pub there : is_left counts numbers one.provider ≡ true
+  pub pair : counted counts one.provider ≡ pair_of one
+  pub in_row : has numbers one.provider ≡ is_in_row
+  pub below : (y : ℕ) → is_left counts' numbers' y ≡ true → one.provider < y
+  pub other_counts : (y : ℕ) → nat_eq one.provider y ≡ false → counted counts' y ≡ counted counts y
+  pub others_left : (y : ℕ) → nat_eq one.provider y ≡ false → is_left counts' numbers' y ≡ is_left counts numbers y
+  pub other_numbers : (y : ℕ) → nat_eq one.provider y ≡ false → has numbers' y ≡ has numbers y
+  pub counts_rise : IsStrictlySortedBy nat_cmp (numbers_of counts')
+  pub numbers_rise : IsStrictlySortedBy nat_cmp numbers'
+
+count_next : (g : Given) (gs : List Given) (ys : List ℕ) → IsStrictlySortedBy nat_cmp (numbers_of (g ∷ gs)) → IsStrictlySortedBy nat_cmp ys → ((y : ℕ) → has ys y ≡ true → g.provider < y)
     → IsNextOf (g ∷ gs) ys g false gs ys
 count_next g gs ys counts_rise numbers_rise above = let p : ℕ = g.provider in record {
   there = ap (λ (b : Bool). (b || has (numbers_of gs) p) || has ys p) (itself p);
@@ -141,11 +160,10 @@ count_next g gs ys counts_rise numbers_rise above = let p : ℕ = g.provider in 
   other_numbers = λ y other. refl;
   counts_rise = sorted_tail nat_cmp p (numbers_of gs) counts_rise;
   numbers_rise = numbers_rise;
-  fewer = omega arith;
 }
 
-pub number_next : (gs : List Given) (n : ℕ) (ys : List ℕ) → IsStrictlySortedBy nat_cmp (numbers_of gs) → IsStrictlySortedBy nat_cmp (n ∷ ys) → ((y : ℕ) → has (numbers_of gs) y ≡ true → n < y)
-    → IsNextOf gs (n ∷ ys) (record { provider = n; sources = 0; assertions = 0 }) true gs ys
+number_next : (gs : List Given) (n : ℕ) (ys : List ℕ) → IsStrictlySortedBy nat_cmp (numbers_of gs) → IsStrictlySortedBy nat_cmp (n ∷ ys) → ((y : ℕ) → has (numbers_of gs) y ≡ true → n < y)
+    → IsNextOf gs (n ∷ ys) (uncounted n) true gs ys
 number_next gs n ys counts_rise numbers_rise above = record {
   there = or_second (has (numbers_of gs) n) (nat_eq n n || has ys n) (or_first (nat_eq n n) (has ys n) (itself n));
   pair = not_counted gs n (false_from_ne_true (has (numbers_of gs) n) (λ there. not_below_itself n (above n there)));
@@ -159,10 +177,9 @@ number_next gs n ys counts_rise numbers_rise above = record {
   other_numbers = λ y other. sym (ap (λ (b : Bool). b || has ys y) other);
   counts_rise = counts_rise;
   numbers_rise = sorted_tail nat_cmp n ys numbers_rise;
-  fewer = omega arith;
 }
 
-pub both_next : (g : Given) (gs : List Given) (n : ℕ) (ys : List ℕ) → n ≡ g.provider → IsStrictlySortedBy nat_cmp (numbers_of (g ∷ gs)) → IsStrictlySortedBy nat_cmp (n ∷ ys) → IsNextOf (g ∷ gs) (n ∷ ys) g true gs ys
+both_next : (g : Given) (gs : List Given) (n : ℕ) (ys : List ℕ) → n ≡ g.provider → IsStrictlySortedBy nat_cmp (numbers_of (g ∷ gs)) → IsStrictlySortedBy nat_cmp (n ∷ ys) → IsNextOf (g ∷ gs) (n ∷ ys) g true gs ys
 both_next g gs n ys same counts_rise numbers_rise = let p : ℕ = g.provider in record {
   there = ap (λ (b : Bool). (b || has (numbers_of gs) p) || has (n ∷ ys) p) (itself p);
   pair = ap (λ (b : Bool). cond b (g.sources, g.assertions) (counted gs p)) (itself p);
@@ -177,7 +194,6 @@ both_next g gs n ys same counts_rise numbers_rise = let p : ℕ = g.provider in 
   other_numbers = λ y other. sym (ap (λ (k : ℕ). nat_eq k y || has ys y) same ∙ ap (λ (b : Bool). b || has ys y) other);
   counts_rise = sorted_tail nat_cmp p (numbers_of gs) counts_rise;
   numbers_rise = sorted_tail nat_cmp n ys numbers_rise;
-  fewer = omega arith;
 }
 
 -- the first of rising numbers is below the others
@@ -189,11 +205,16 @@ above_head k n ys lt rising y there = elim (or_cases (nat_eq n y) (has ys y) the
 
 -- ---- the loop
 
+-- something holds each
+abbrev AreHeld : List Given → Type 0
+AreHeld gs = AllByRecursion (λ (g : Given). 0 < g.sources + g.assertions) gs
+
 -- the step is taken for the numbers that aren't left, and these are behind those
 pub record Stepping (step : Step) (given : List Given) (row : List ℕ) (done counts : List Given) (numbers : List ℕ) : Type 0 where
   pub done_rise : IsStrictlySortedBy nat_cmp (numbers_of done)
-  pub held : AllByRecursion (λ (g : Given). 0 < g.sources + g.assertions) done
+  pub held : AreHeld done
   pub counts_rise : IsStrictlySortedBy nat_cmp (numbers_of counts)
+  pub counts_held : AreHeld counts
   pub numbers_rise : IsStrictlySortedBy nat_cmp numbers
   pub below : (x y : ℕ) → has (numbers_of done) x ≡ true → is_left counts numbers y ≡ true → x < y
   pub pending_counts : (y : ℕ) → is_left counts numbers y ≡ true → counted counts y ≡ counted given y
@@ -204,11 +225,13 @@ nothing_sorted : (done : List Given) → done ≡ [] → IsStrictlySortedBy nat_
 unfolding IsStrictlySortedBy
 nothing_sorted done none = subst (λ (gs : List Given). IsStrictlySortedBy nat_cmp (numbers_of gs)) (sym none) tt
 
-pub stepping_start : (step : Step) (given : List Given) (row : List ℕ) (done : List Given) → done ≡ [] → IsStrictlySortedBy nat_cmp (numbers_of given) → IsStrictlySortedBy nat_cmp row → Stepping step given row done given row
-stepping_start step given row done none counts_rise numbers_rise = record {
+pub stepping_start : (step : Step) (given : List Given) (row : List ℕ) (done : List Given) → done ≡ [] → IsStrictlySortedBy nat_cmp (numbers_of given) → All (λ (g : Given). 0 < g.sources + g.assertions) given
+    → IsStrictlySortedBy nat_cmp row → Stepping step given row done given row
+stepping_start step given row done none counts_rise counts_held numbers_rise = record {
   done_rise = nothing_sorted done none;
-  held = subst (λ (gs : List Given). AllByRecursion (λ (g : Given). 0 < g.sources + g.assertions) gs) (sym none) tt;
+  held = subst AreHeld (sym none) tt;
   counts_rise = counts_rise;
+  counts_held = recursion_from_All (λ (g : Given). 0 < g.sources + g.assertions) given counts_held;
   numbers_rise = numbers_rise;
   below = λ x y there left. absurd (true≢false (sym there ∙ ap (λ (gs : List Given). has (numbers_of gs) x) none));
   pending_counts = λ y left. refl;
@@ -224,7 +247,7 @@ same_provider true AssertionMore one = refl
 same_provider true AssertionLess one = refl
 same_provider false step one = refl
 
-pub pair_after : (b : Bool) (step : Step) (one : Given) → pair_of (step_if b step one) ≡ pair_if b step (pair_of one)
+pair_after : (b : Bool) (step : Step) (one : Given) → pair_of (step_if b step one) ≡ pair_if b step (pair_of one)
 pair_after true SourceMore one = refl
 pair_after true SourceLess one = refl
 pair_after true AssertionMore one = refl
@@ -232,7 +255,7 @@ pair_after true AssertionLess one = refl
 pair_after false step one = refl
 
 module _ (step : Step) (given : List Given) (row : List ℕ) (done counts : List Given) (numbers : List ℕ) (one : Given) (b : Bool) (counts' : List Given) (numbers' : List ℕ)
-    (next : IsNextOf counts numbers one b counts' numbers') (so_far : Stepping step given row done counts numbers) where
+    (next : IsNextOf counts numbers one b counts' numbers') (held' : AreHeld counts') (so_far : Stepping step given row done counts numbers) where
   abbrev after : Given
   after = step_if b step one
 
@@ -261,11 +284,12 @@ module _ (step : Step) (given : List Given) (row : List ℕ) (done counts : List
   complete_by y true e out = subst (λ (k : ℕ). counted (done ++ listed after) k ≡ pair_if (has row k) step (counted given k)) (exact_unsigned_eq one.provider y e) complete_here
   complete_by y false e out = complete_other y e out
 
-  pub stepping_next : Stepping step given row (done ++ listed after) counts' numbers'
+  stepping_next : Stepping step given row (done ++ listed after) counts' numbers'
   stepping_next = record {
     done_rise = rises_more done after none so_far.done_rise (λ x there. subst (λ (k : ℕ). x < k) (sym same) (so_far.below x one.provider there next.there));
     held = held_more done after none refl so_far.held;
     counts_rise = next.counts_rise;
+    counts_held = held';
     numbers_rise = next.numbers_rise;
     below = λ x y there left. elim (member_more done after none x there) [
       | inl among ↦ so_far.below x y among (still_left y left)
@@ -276,53 +300,126 @@ module _ (step : Step) (given : List Given) (row : List ℕ) (done counts : List
     complete = λ y out. complete_by y (nat_eq one.provider y) refl out;
   }
 
-pub stepping_end : (step : Step) (given : List Given) (row : List ℕ) (done counts : List Given) (numbers : List ℕ) → counts ≡ [] → numbers ≡ [] → Stepping step given row done counts numbers → AreStepped step given row done
-stepping_end step given row done counts numbers no_counts no_numbers so_far = record {
-  rising = so_far.done_rise;
-  held = All-from_recursion (λ (g : Given). 0 < g.sources + g.assertions) done so_far.held;
-  each = λ y. so_far.complete y (λ i. is_left (no_counts i) (no_numbers i) y);
-}
+-- ---- counts between two numbers of the row
 
--- ---- the least number, where what is left is a first one and others
+listed_held : (g : Given) → 0 < g.sources + g.assertions → listed g ≡ g ∷ []
+listed_held g held = by (nat_eq g.sources 0 && nat_eq g.assertions 0) refl where
+  by : (b : Bool) → (nat_eq g.sources 0 && nat_eq g.assertions 0) ≡ b → cond b [] (g ∷ []) ≡ g ∷ []
+  by true e = let none = both_none g.sources g.assertions e in absurd (omega (arith, held, none.0, none.1))
+  by false e = refl
 
-abbrev pub uncounted : ℕ → Given
-uncounted n = record { provider = n; sources = 0; assertions = 0 }
+held_behind : (gs hs : List Given) → AreHeld (gs ++ hs) → AreHeld hs
+held_behind [] hs all = all
+held_behind (g ∷ gs) hs all = held_behind gs hs all.1
 
-nothing_rises : (ys : List ℕ) → ys ≡ [] → IsStrictlySortedBy nat_cmp ys
-unfolding IsStrictlySortedBy
-nothing_rises ys none = subst (λ (xs : List ℕ). IsStrictlySortedBy nat_cmp xs) (sym none) tt
+-- those below the row's numbers stay as they are
+stepping_past : (step : Step) (given : List Given) (row : List ℕ) (done below rest : List Given) (numbers : List ℕ) → ((x y : ℕ) → has (numbers_of below) x ≡ true → has numbers y ≡ true → x < y)
+    → Stepping step given row done (below ++ rest) numbers → Stepping step given row (done ++ below) rest numbers
+stepping_past step given row done [] rest numbers lower so_far = subst (λ (gs : List Given). Stepping step given row gs rest numbers) (sym (append-nil done)) so_far
+stepping_past step given row done (g ∷ gs) rest numbers lower so_far =
+    let first : has (numbers_of (g ∷ gs)) g.provider ≡ true = or_first (nat_eq g.provider g.provider) (has (numbers_of gs) g.provider) (itself g.provider) in
+    let next : IsNextOf (g ∷ (gs ++ rest)) numbers g false (gs ++ rest) numbers
+    = count_next g (gs ++ rest) numbers so_far.counts_rise so_far.numbers_rise (λ y there. lower g.provider y first there) in
+    let more : Stepping step given row (done ++ g ∷ []) (gs ++ rest) numbers
+    = subst (λ (l : List Given). Stepping step given row (done ++ l) (gs ++ rest) numbers) (listed_held g so_far.counts_held.0)
+    (stepping_next step given row done (g ∷ (gs ++ rest)) numbers g false (gs ++ rest) numbers next so_far.counts_held.1 so_far) in
+    subst (λ (l : List Given). Stepping step given row l rest numbers) (append_assoc done (g ∷ []) gs)
+    (stepping_past step given row (done ++ g ∷ []) gs rest numbers (λ x y there here. lower x y (or_second (nat_eq g.provider x) (has (numbers_of gs) x) there) here) more)
 
-counts_rise_at : (counts : List Given) (g : Given) (gs : List Given) → counts ≡ g ∷ gs → IsStrictlySortedBy nat_cmp (numbers_of counts) → IsStrictlySortedBy nat_cmp (numbers_of (g ∷ gs))
-counts_rise_at counts g gs e rising = subst (λ (cs : List Given). IsStrictlySortedBy nat_cmp (numbers_of cs)) e rising
+next_parted : (one : Option Given) (above : List Given) (n : ℕ) (ys : List ℕ) → IfSome one (λ g. g.provider ≡ n) → ((y : ℕ) → has (numbers_of above) y ≡ true → n < y)
+    → IsStrictlySortedBy nat_cmp (numbers_of (option_to_list one ++ above)) → IsStrictlySortedBy nat_cmp (n ∷ ys)
+    → IsNextOf (option_to_list one ++ above) (n ∷ ys) (unwrap_or one (uncounted n)) true above ys
+next_parted None above n ys of_it behind counts_rise numbers_rise = number_next above n ys counts_rise numbers_rise behind
+next_parted (Some g) above n ys of_it behind counts_rise numbers_rise = both_next g above n ys (sym of_it) counts_rise numbers_rise
 
-numbers_rise_at : (numbers : List ℕ) (n : ℕ) (ys : List ℕ) → numbers ≡ n ∷ ys → IsStrictlySortedBy nat_cmp numbers → IsStrictlySortedBy nat_cmp (n ∷ ys)
-numbers_rise_at numbers n ys e rising = subst (λ (xs : List ℕ). IsStrictlySortedBy nat_cmp xs) e rising
+-- the least number of the row, and the counts up to it
+pub stepping_at : (step : Step) (given : List Given) (row : List ℕ) (done counts : List Given) (numbers : List ℕ) (n : ℕ) (ys : List ℕ) (below : List Given) (one : Option Given) (above : List Given)
+    → numbers ≡ n ∷ ys → ArePartedAt counts n below one above → Stepping step given row done counts numbers
+    → Stepping step given row ((done ++ below) ++ listed (stepped step (unwrap_or one (uncounted n)))) above ys
+stepping_at step given row done counts numbers n ys below one above e parted so_far =
+    let here : Stepping step given row done (below ++ (option_to_list one ++ above)) (n ∷ ys)
+    = subst (λ (cs : List Given). Stepping step given row done cs (n ∷ ys)) parted.whole (subst (λ (xs : List ℕ). Stepping step given row done counts xs) e so_far) in
+    let lower = λ (x y : ℕ) (there : has (numbers_of below) x ≡ true) (later : has (n ∷ ys) y ≡ true). above_head x n ys (parted.before x there) here.numbers_rise y later in
+    let past : Stepping step given row (done ++ below) (option_to_list one ++ above) (n ∷ ys) = stepping_past step given row done below (option_to_list one ++ above) (n ∷ ys) lower here in
+    stepping_next step given row (done ++ below) (option_to_list one ++ above) (n ∷ ys) (unwrap_or one (uncounted n)) true above ys
+    (next_parted one above n ys parted.of_it parted.behind past.counts_rise past.numbers_rise)
+    (held_behind (option_to_list one) above past.counts_held) past
 
-pub next_by_count : (counts : List Given) (numbers : List ℕ) (g : Given) (gs : List Given) → counts ≡ g ∷ gs → numbers ≡ [] → IsStrictlySortedBy nat_cmp (numbers_of counts) → IsNextOf counts numbers g false gs numbers
-next_by_count counts numbers g gs e none rising = subst (λ (cs : List Given). IsNextOf cs numbers g false gs numbers) (sym e)
-    (count_next g gs numbers (counts_rise_at counts g gs e rising) (nothing_rises numbers none) (λ y there. absurd (true≢false (sym there ∙ ap (λ (xs : List ℕ). has xs y) none))))
+pub stepping_end : (step : Step) (given : List Given) (row : List ℕ) (done counts : List Given) (numbers : List ℕ) → numbers ≡ [] → Stepping step given row done counts numbers → AreStepped step given row (done ++ counts)
+stepping_end step given row done counts numbers none so_far =
+    let past : Stepping step given row (done ++ counts) [] numbers
+    = stepping_past step given row done counts [] numbers (λ x y there here. absurd (true≢false (sym here ∙ ap (λ (xs : List ℕ). has xs y) none)))
+    (subst (λ (cs : List Given). Stepping step given row done cs numbers) (sym (append-nil counts)) so_far) in
+    record {
+      rising = past.done_rise;
+      held = All-from_recursion (λ (g : Given). 0 < g.sources + g.assertions) (done ++ counts) past.held;
+      each = λ y. past.complete y (ap (λ (xs : List ℕ). has xs y) none);
+    }
 
-pub next_by_number : (counts : List Given) (numbers : List ℕ) (n : ℕ) (ys : List ℕ) (one : Given) → counts ≡ [] → numbers ≡ n ∷ ys → one ≡ uncounted n → IsStrictlySortedBy nat_cmp numbers → IsNextOf counts numbers one true counts ys
-next_by_number counts numbers n ys one none e is rising = subst (λ (g : Given). IsNextOf counts numbers g true counts ys) (sym is) (subst (λ (xs : List ℕ). IsNextOf counts xs (uncounted n) true counts ys) (sym e)
-    (number_next counts n ys (nothing_sorted counts none) (numbers_rise_at numbers n ys e rising) (λ y there. absurd (true≢false (sym there ∙ ap (λ (cs : List Given). has (numbers_of cs) y) none)))))
+-- ---- counts parted at a number
 
-module _ (counts : List Given) (numbers : List ℕ) (g : Given) (gs : List Given) (n : ℕ) (ys : List ℕ) (e : counts ≡ g ∷ gs) (f : numbers ≡ n ∷ ys)
-    (counts_rise : IsStrictlySortedBy nat_cmp (numbers_of counts)) (numbers_rise : IsStrictlySortedBy nat_cmp numbers) where
-  counts_at : IsStrictlySortedBy nat_cmp (numbers_of (g ∷ gs))
-  counts_at = counts_rise_at counts g gs e counts_rise
+pub providers_rise : (gs : List Given) → IsStrictlySortedBy nat_cmp (numbers_of gs) → IsNonDecreasingBy (λ (g : Given). g.provider) gs
+providers_rise gs rising i j d le lt =
+    subst (λ (k : ℕ). k ≤ (slice_index_or gs j d).provider) (get_or-map (λ (g : Given). g.provider) gs i d)
+    (subst (λ (k : ℕ). slice_index_or (numbers_of gs) i d.provider ≤ k) (get_or-map (λ (g : Given). g.provider) gs j d)
+    (non_decreasing_from_sorted (numbers_of gs) rising i j d.provider le (subst (λ (k : ℕ). j < k) (sym (length-map gs (λ (g : Given). g.provider))) lt)))
 
-  numbers_at : IsStrictlySortedBy nat_cmp (n ∷ ys)
-  numbers_at = numbers_rise_at numbers n ys f numbers_rise
+taken_below : (gs : List Given) (p n : ℕ) → ((k : ℕ) (d : Given) → k < p → (slice_index_or gs k d).provider < n) → (y : ℕ) → has (numbers_of (take p gs)) y ≡ true → y < n
+taken_below gs zero n all y there = absurd (true≢false (sym there))
+taken_below [] (suc p) n all y there = absurd (true≢false (sym there))
+taken_below (g ∷ gs) (suc p) n all y there = elim (or_cases (nat_eq g.provider y) (has (numbers_of (take p gs)) y) there) [
+  | inl same ↦ subst (λ (z : ℕ). z < n) (exact_unsigned_eq g.provider y same) (all 0 g (omega arith))
+  | inr later ↦ taken_below gs p n (λ k d lt. all (suc k) d (omega (arith, lt))) y later
+]
 
-  pub both_count : g.provider < n → IsNextOf counts numbers g false gs numbers
-  both_count lt = subst (λ (cs : List Given). IsNextOf cs numbers g false gs numbers) (sym e)
-      (subst (λ (xs : List ℕ). IsNextOf (g ∷ gs) xs g false gs xs) (sym f) (count_next g gs (n ∷ ys) counts_at numbers_at (above_head g.provider n ys lt numbers_at)))
+first_dropped : (gs : List Given) (p n : ℕ) (g : Given) (more : List Given) → ((k : ℕ) (d : Given) → p ≤ k → k < length gs → n ≤ (slice_index_or gs k d).provider) → drop p gs ≡ g ∷ more → n ≤ g.provider
+first_dropped [] zero n g more all e = absurd cc
+first_dropped [] (suc p) n g more all e = absurd cc
+first_dropped (h ∷ gs) zero n g more all e = let same : h ≡ g = cc in subst (λ (z : Given). n ≤ z.provider) same (all 0 h (omega arith) (omega arith))
+first_dropped (h ∷ gs) (suc p) n g more all e = first_dropped gs p n g more (λ k d le lt. all (suc k) d (omega (arith, le)) (omega (arith, lt))) e
 
-  pub both_number : (one : Given) → one ≡ uncounted n → n < g.provider → IsNextOf counts numbers one true counts ys
-  both_number one is lt = subst (λ (o : Given). IsNextOf counts numbers o true counts ys) (sym is)
-      (subst (λ (cs : List Given). IsNextOf cs numbers (uncounted n) true cs ys) (sym e)
-      (subst (λ (xs : List ℕ). IsNextOf (g ∷ gs) xs (uncounted n) true (g ∷ gs) ys) (sym f) (number_next (g ∷ gs) n ys counts_at numbers_at (above_head n g.provider (numbers_of gs) lt counts_at))))
+rising_behind : (gs hs : List Given) → IsStrictlySortedBy nat_cmp (numbers_of (gs ++ hs)) → IsStrictlySortedBy nat_cmp (numbers_of hs)
+rising_behind [] hs rising = rising
+rising_behind (g ∷ gs) hs rising = rising_behind gs hs (sorted_tail nat_cmp g.provider (numbers_of (gs ++ hs)) rising)
 
-  pub both_same : n ≤ g.provider → g.provider ≤ n → IsNextOf counts numbers g true gs ys
-  both_same le ge = subst (λ (cs : List Given). IsNextOf cs numbers g true gs ys) (sym e)
-      (subst (λ (xs : List ℕ). IsNextOf (g ∷ gs) xs g true gs ys) (sym f) (both_next g gs n ys (omega (arith, le, ge)) counts_at numbers_at))
+module _ (counts : List Given) (n p : ℕ) (below rest : List Given) (rising : IsStrictlySortedBy nat_cmp (numbers_of counts))
+    (point : IsPartitionPoint (λ (g : Given). g.provider < n) (λ (g : Given). n ≤ g.provider) counts p) (front : below ≡ take p counts) (back : rest ≡ drop p counts) where
+  parts : counts ≡ below ++ rest
+  parts = sym ((λ i. front i ++ back i) ∙ take-append-drop p counts)
+
+  all_before : (y : ℕ) → has (numbers_of below) y ≡ true → y < n
+  all_before y there = taken_below counts p n (λ k d lt. point.0 k d (omega arith) lt) y (ap (λ (gs : List Given). has (numbers_of gs) y) (sym front) ∙ there)
+
+  rest_rises : IsStrictlySortedBy nat_cmp (numbers_of rest)
+  rest_rises = rising_behind below rest (subst (λ (gs : List Given). IsStrictlySortedBy nat_cmp (numbers_of gs)) parts rising)
+
+  -- none is of it or above it,
+  pub parted_at_end : rest ≡ [] → ArePartedAt counts n below None rest
+  parted_at_end nothing = record {
+    whole = parts;
+    of_it = tt;
+    before = all_before;
+    behind = λ y there. absurd (true≢false (sym there ∙ ap (λ (gs : List Given). has (numbers_of gs) y) nothing));
+  }
+
+  module _ (g : Given) (above : List Given) (first : rest ≡ g ∷ above) where
+    rises_from : IsStrictlySortedBy nat_cmp (numbers_of (g ∷ above))
+    rises_from = subst (λ (gs : List Given). IsStrictlySortedBy nat_cmp (numbers_of gs)) first rest_rises
+
+    -- or the first is of it,
+    pub parted_at_one : g.provider ≡ n → ArePartedAt counts n below (Some g) above
+    parted_at_one of_it = record {
+      whole = parts ∙ ap (λ (gs : List Given). below ++ gs) first;
+      of_it = of_it;
+      before = all_before;
+      behind = λ y there. subst (λ (k : ℕ). k < y) of_it (above_all g.provider (numbers_of above) y (sorted_head nat_cmp g.provider (numbers_of above) rises_from) there);
+    }
+
+    -- or it is above it
+    pub parted_between : g.provider ≢ n → ArePartedAt counts n below None rest
+    parted_between other = let le : n ≤ g.provider = first_dropped counts p n g above point.1 (sym back ∙ first) in record {
+      whole = parts;
+      of_it = tt;
+      before = all_before;
+      behind = λ y there. above_head n g.provider (numbers_of above) (omega (arith, le, other)) rises_from y (ap (λ (gs : List Given). has (numbers_of gs) y) (sym first) ∙ there);
+    }

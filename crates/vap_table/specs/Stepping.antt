@@ -1,5 +1,5 @@
 -- Counted numbers, once a step is taken for each number of a row; private contracts alone cite it.
-use Rattle.std.specs.Prelude.{◌≡◌, ℕ, nat_eq, ◌+◌, ◌-◌, ◌<◌, Bool, true, false, ◌||◌, ◌&&◌, List, [], ◌∷◌, length, map, All, if◌then◌else◌}
+use Rattle.std.specs.Prelude.{◌≡◌, ℕ, nat_eq, ◌+◌, ◌-◌, ◌<◌, Bool, true, ◌&&◌, List, [], ◌∷◌, ◌++◌, map, All, IfSome, option_to_list, if◌then◌else◌}
 use Rattle.std.specs.declared.option.Option.{Option}
 use Rattle.std.specs.declared.option.Option.TheVariants.{Some, None}
 use Rattle.std.specs.Ordering.{nat_cmp}
@@ -49,22 +49,16 @@ pub record AreStepped (step : Step) (given : List Given) (row : List ℕ) (new :
   pub held : All (λ g. 0 < g.sources + g.assertions) new
   pub each : (y : ℕ) → counted new y ≡ pair_if (has row y) step (counted given y)
 
--- the number is counted or in the row
-abbrev pub is_left : List Given → List ℕ → ℕ → Bool
-is_left counts numbers y = has (numbers_of counts) y || has numbers y
+-- a number that nothing holds
+abbrev pub uncounted : ℕ → Given
+uncounted number = record { provider = number; sources = 0; assertions = 0 }
 
--- The least number of these counts and of this row, with what is counted of it, whether the row holds it, and what is left behind it.
-pub record IsNextOf (counts : List Given) (numbers : List ℕ) (one : Given) (is_in_row : Bool) (counts' : List Given) (numbers' : List ℕ) : Type 0 where
-  pub there : is_left counts numbers one.provider ≡ true
-  pub pair : counted counts one.provider ≡ pair_of one
-  pub in_row : has numbers one.provider ≡ is_in_row
-  pub below : (y : ℕ) → is_left counts' numbers' y ≡ true → one.provider < y
-  pub other_counts : (y : ℕ) → nat_eq one.provider y ≡ false → counted counts' y ≡ counted counts y
-  pub others_left : (y : ℕ) → nat_eq one.provider y ≡ false → is_left counts' numbers' y ≡ is_left counts numbers y
-  pub other_numbers : (y : ℕ) → nat_eq one.provider y ≡ false → has numbers' y ≡ has numbers y
-  pub counts_rise : IsStrictlySortedBy nat_cmp (numbers_of counts')
-  pub numbers_rise : IsStrictlySortedBy nat_cmp numbers'
-  pub fewer : length counts' + length numbers' < length counts + length numbers
+-- the counts below a number, that of the number, if something holds it, and those above it
+pub record ArePartedAt (counts : List Given) (number : ℕ) (below : List Given) (one : Option Given) (above : List Given) : Type 0 where
+  pub whole : counts ≡ below ++ (option_to_list one ++ above)
+  pub of_it : IfSome one (λ g. g.provider ≡ number)
+  pub before : (y : ℕ) → has (numbers_of below) y ≡ true → y < number
+  pub behind : (y : ℕ) → has (numbers_of above) y ≡ true → number < y
 
 -- ---- tallies
 

@@ -40,9 +40,9 @@ fn row_of(
     if !has_row(is_filtered, tally) {
         return Ok(None);
     }
-    let mut row = AsList::new(alloc);
+    let mut row = Vec::with_capacity(alloc, tally.given.len())?;
     push_shown(&mut row, is_filtered, tally.given.as_slice())?;
-    Ok(Some(row))
+    Ok(Some(AsList::from_vec(row)))
 }
 
 // Whether a row goes in: no filter touches assertions.
@@ -53,8 +53,8 @@ fn has_row(is_filtered: bool, tally: &Tally) -> bool
 }
 
 // Appends the providers that go in.
-fn push_shown(row: &mut AsList, is_filtered: bool, given: &[Given]) -> Result<(), NoMemory>
-    ensures { OnOk result (row.new ≡ row.old ++ shown is_filtered given.now) }
+fn push_shown(row: &mut Vec<u32>, is_filtered: bool, given: &[Given]) -> Result<(), NoMemory>
+    ensures { OnOk result (row.new.items ≡ row.old.items ++ shown is_filtered given.now) }
 {
     for one in given {
         if goes_in(is_filtered, one) {

@@ -1,8 +1,8 @@
 //! The counted numbers of a customer, once one row more or less is counted.
-ghost use Rattle.std.specs.Prelude.{◌≡◌, ◌++◌, [], IfOk, OnOk, IfSome, IfNone, if◌then◌else◌};
+ghost use Rattle.std.specs.Prelude.{◌≡◌, ◌++◌, ◌+◌, ◌<◌, ◌≤◌, All, length, IfOk, OnOk, if◌then◌else◌};
 ghost use Rattle.std.specs.Ordering.{nat_cmp};
-ghost use Rattle.std.specs.List.Sorted.{IsStrictlySortedBy};
-ghost use Rattle.vap_table.specs.Stepping.{AreStepped, IsNextOf, listed, numbers_of, step_if, stepped};
+ghost use Rattle.std.specs.List.Sorted.{IsStrictlySortedBy, IsPartitionPoint};
+ghost use Rattle.vap_table.specs.Stepping.{ArePartedAt, AreStepped, listed, numbers_of, step_if, stepped, uncounted};
 
 use crate::Given;
 use av_base::NoMemory;
@@ -67,18 +67,16 @@ fn more_assertions(one: Given) -> Result<Given, NoMemory>
     Ok(Given { assertions, ..one })
 }
 
-// The least number of some counts and of a row, and what is left of both behind it.
+// The counts below a number, that of the number, if something holds it, and those above it.
 #[derive(Drop)]
-struct Next<'a> {
-    // what is counted of it so far
-    one: Given,
-    // whether the row holds it
-    is_in_row: bool,
-    counts: &'a [Given],
-    numbers: &'a [u32],
+struct Parted<'a> {
+    below: &'a [Given],
+    one: Option<Given>,
+    above: &'a [Given],
 }
 
-/// The counted numbers once the step is taken for each number of a row. It takes the time of both.
+/// The counted numbers once the step is taken for each number of a row. Each number of the row costs a binary search, and the counts between
+/// them are copied as they are.
 pub(crate) fn stepped_by(
     alloc: Global,
     given: &[Given],
@@ -86,18 +84,36 @@ pub(crate) fn stepped_by(
     step: Step,
 ) -> Result<Vec<Given>, NoMemory>
     requires counted { IsStrictlySortedBy nat_cmp (numbers_of given.now) }
+    requires held { All (λ g. 0 < g.sources + g.assertions) given.now }
     requires rising { IsStrictlySortedBy nat_cmp row.now }
     ensures { IfOk result (λ items. AreStepped step given.now row.now items.items) }
 {
-    let mut done = Vec::with_capacity(alloc, given.len())?;
+    let most = given.len().saturating_add(uncounted_in(given, row));
+    let mut done = Vec::with_capacity(alloc, most)?;
     let mut counts = given;
     let mut numbers = row;
-    while let Some(next) = next_of(counts, numbers) {
-        push_counted(&mut done, step.taken_if(next.is_in_row, next.one)?)?;
-        counts = next.counts;
-        numbers = next.numbers;
+    while let Some((number, more)) = numbers.split_first() {
+        let Parted { below, one, above } = parted_at(counts, *number);
+        done.extend_from_slice(below)?;
+        push_counted(&mut done, step.taken(one.unwrap_or(uncounted(*number)))?)?;
+        counts = above;
+        numbers = more;
     }
+    done.extend_from_slice(counts)?;
     Ok(done)
+}
+
+// How many numbers of a row nothing holds so far: there is room for these from the start.
+fn uncounted_in(counts: &[Given], row: &[u32]) -> usize
+    requires { IsStrictlySortedBy nat_cmp (numbers_of counts.now) }
+{
+    let mut number_of_new: usize = 0;
+    for number in row {
+        if parted_at(counts, *number).one.is_none() {
+            number_of_new = number_of_new.saturating_add(1);
+        }
+    }
+    number_of_new
 }
 
 // A counted number comes behind the others, unless nothing holds it.
@@ -111,96 +127,47 @@ fn push_counted(done: &mut Vec<Given>, one: Given) -> Result<(), NoMemory>
     Ok(())
 }
 
-// The least number, if one is left.
-fn next_of<'a>(counts: &'a [Given], numbers: &'a [u32]) -> Option<Next<'a>>
-    requires counted { IsStrictlySortedBy nat_cmp (numbers_of counts.now) }
-    requires rising { IsStrictlySortedBy nat_cmp numbers.now }
-    ensures none { IfNone result ((counts.now ≡ []) × (numbers.now ≡ [])) }
-    ensures some { IfSome result (λ n.
-        IsNextOf counts.now numbers.now n.one n.is_in_row n.counts.now n.numbers.now) }
+// The counts parted at a number. It costs a binary search.
+fn parted_at(counts: &[Given], number: u32) -> Parted<'_>
+    requires { IsStrictlySortedBy nat_cmp (numbers_of counts.now) }
+    ensures { ArePartedAt counts.now number result.below.now result.one result.above.now }
 {
-    if counts.is_empty() {
-        return next_number(counts, numbers);
+    let place = place_of(counts, number);
+    let (below, rest) = counts.split_at(place);
+    let Some((one, above)) = rest.split_first() else {
+        return Parted {
+            below,
+            one: None,
+            above: rest,
+        };
+    };
+    if one.provider == number {
+        return Parted {
+            below,
+            one: Some(*one),
+            above,
+        };
     }
-    if numbers.is_empty() {
-        return next_count(counts, numbers);
+    Parted {
+        below,
+        one: None,
+        above: rest,
     }
-    next_of_both(counts, numbers)
 }
 
-// The least number, where none is counted.
-fn next_number<'a>(counts: &'a [Given], numbers: &'a [u32]) -> Option<Next<'a>>
-    requires none { counts.now ≡ [] }
-    requires rising { IsStrictlySortedBy nat_cmp numbers.now }
-    ensures none { IfNone result ((counts.now ≡ []) × (numbers.now ≡ [])) }
-    ensures some { IfSome result (λ n.
-        IsNextOf counts.now numbers.now n.one n.is_in_row n.counts.now n.numbers.now) }
+// How many counts are of numbers below this one.
+fn place_of(counts: &[Given], number: u32) -> usize
+    requires { IsStrictlySortedBy nat_cmp (numbers_of counts.now) }
+    ensures bound { result ≤ length counts.now }
+    ensures point { IsPartitionPoint (λ g. g.provider < number) (λ g. number ≤ g.provider)
+        counts.now result }
 {
-    let (number, more) = numbers.split_first()?;
-    Some(Next {
-        one: uncounted(*number),
-        is_in_row: true,
-        counts,
-        numbers: more,
-    })
-}
-
-// The least number, where the row has none.
-fn next_count<'a>(counts: &'a [Given], numbers: &'a [u32]) -> Option<Next<'a>>
-    requires counted { IsStrictlySortedBy nat_cmp (numbers_of counts.now) }
-    requires none { numbers.now ≡ [] }
-    ensures none { IfNone result ((counts.now ≡ []) × (numbers.now ≡ [])) }
-    ensures some { IfSome result (λ n.
-        IsNextOf counts.now numbers.now n.one n.is_in_row n.counts.now n.numbers.now) }
-{
-    let (one, more) = counts.split_first()?;
-    Some(Next {
-        one: *one,
-        is_in_row: false,
-        counts: more,
-        numbers,
-    })
-}
-
-// The least number, where there are some of both.
-fn next_of_both<'a>(counts: &'a [Given], numbers: &'a [u32]) -> Option<Next<'a>>
-    requires counted { IsStrictlySortedBy nat_cmp (numbers_of counts.now) }
-    requires rising { IsStrictlySortedBy nat_cmp numbers.now }
-    requires some_counted { counts.now ≡ [] → ⊥ }
-    requires some_numbers { numbers.now ≡ [] → ⊥ }
-    ensures none { IfNone result ((counts.now ≡ []) × (numbers.now ≡ [])) }
-    ensures some { IfSome result (λ n.
-        IsNextOf counts.now numbers.now n.one n.is_in_row n.counts.now n.numbers.now) }
-{
-    let (one, more_counts) = counts.split_first()?;
-    let (number, more_numbers) = numbers.split_first()?;
-    if one.provider < *number {
-        return Some(Next {
-            one: *one,
-            is_in_row: false,
-            counts: more_counts,
-            numbers,
-        });
-    }
-    if *number < one.provider {
-        return Some(Next {
-            one: uncounted(*number),
-            is_in_row: true,
-            counts,
-            numbers: more_numbers,
-        });
-    }
-    Some(Next {
-        one: *one,
-        is_in_row: true,
-        counts: more_counts,
-        numbers: more_numbers,
-    })
+    counts.partition_point(|one| one.provider < number)
 }
 
 // A number that nothing holds.
 fn uncounted(provider: u32) -> Given
-    ensures { result ≡ record { provider = provider; sources = 0; assertions = 0 } }
+    ensures { result ≡ uncounted provider }
 {
     Given {
         provider,

@@ -93,7 +93,7 @@ impl Vaps {
         let before = current.rows_of(parts.alloc, &parts, &names)?;
         let tallies = tallies.follow(&parts, &change, &names)?;
         parts.change(change)?;
-        let (current, moves) = refreshed(&parts, current, &tallies, &before, &names)?;
+        let (current, moves) = refreshed(&parts, current, &tallies, before, &names)?;
         let vaps = Vaps {
             parts,
             current,

@@ -1,23 +1,34 @@
-use Rattle.std.proofs.Common.{List, sym, ap, subst, ◌++◌, ◌∙◌}
+use Rattle.std.proofs.Common.{◌≡◌, ℕ, List, sym, ap, subst, ◌++◌, ◌∙◌, unwrap_or, arith}
+use Rattle.std.proofs.lemmas.List.{nil_from_length}
 use Rattle.vap_table.specs.declared.tally.Given.{Given}
-use Rattle.vap_table.specs.Stepping.{listed}
-use Rattle.vap_table.proofs.SteppingLemmas.{Stepping, stepping_start, stepping_next, stepping_end}
+use Rattle.vap_table.specs.Stepping.{listed, stepped, uncounted, AreStepped}
+use Rattle.vap_table.proofs.SteppingLemmas.{Stepping, stepping_start, stepping_at, stepping_end}
 use Rattle.vap_table.proofs.stepping.stepped_by.Goals as goal
 
-pub loop-next-init : goal.loop-next-init
-loop-next-init c = stepping_start c.args.step c.args.given.now c.args.row.now c.in_ok-done.done.items c.in_ok-done.ensures.items c.requires.counted c.requires.rising
+pub loop-number-init : goal.loop-number-init
+loop-number-init c = stepping_start c.args.step c.args.given.now c.args.row.now c.in_ok-done.done.items c.in_ok-done.ensures.items c.requires.counted c.requires.held c.requires.rising
 
-pub loop-next-preserved : goal.loop-next-preserved
-loop-next-preserved c =
-    let n = c.in-Some.next in
-    let counts = c.loop-next.counts.now in
-    let numbers = c.loop-next.numbers.now in
-    subst (λ (done : List Given). Stepping c.args.step c.args.given.now c.args.row.now done n.counts.now n.numbers.now)
-    (sym (c.in_ok-push_counted.ensures ∙ ap (λ (one : Given). c.loop-next.done.items ++ listed one) c.in_ok-taken_if.ensures))
-    (stepping_next c.args.step c.args.given.now c.args.row.now c.loop-next.done.items counts numbers n.one n.is_in_row n.counts.now n.numbers.now c.in-Some.ensures.some c.loop-next.invariant)
+pub parted_at-one-requires : goal.parted_at-one-requires
+parted_at-one-requires c = c.loop-number.invariant.counts_rise
 
-pub loop-next-smaller : goal.loop-next-smaller
-loop-next-smaller c = c.in-Some.ensures.some.fewer
+pub loop-number-preserved : goal.loop-number-preserved
+loop-number-preserved c =
+    let n : ℕ = c.in-Some.number.now in
+    let parted = c.parted_at-one.result in
+    let done : List Given = c.loop-number.done.items in
+    let taken : c.in_ok-taken.field-0 ≡ stepped c.args.step (unwrap_or parted.one (uncounted n))
+    = c.in_ok-taken.ensures ∙ ap (stepped c.args.step) (c.unwrap_or.ensures ∙ ap (unwrap_or parted.one) c.uncounted.ensures) in
+    subst (λ (items : List Given). Stepping c.args.step c.args.given.now c.args.row.now items parted.above.now c.in-Some.more.now)
+    (sym (c.in_ok-push_counted.ensures ∙ ap (λ (items : List Given). items ++ listed c.in_ok-taken.field-0) c.in_ok-extend_from_slice.ensures.items
+    ∙ ap (λ (one : Given). (done ++ parted.below.now) ++ listed one) taken))
+    (stepping_at c.args.step c.args.given.now c.args.row.now done c.loop-number.counts.now c.loop-number.numbers.now n c.in-Some.more.now parted.below.now parted.one parted.above.now
+    c.in-Some.ensures.cases.0 c.parted_at-one.ensures c.loop-number.invariant)
+
+pub loop-number-smaller : goal.loop-number-smaller
+loop-number-smaller c = omega (arith, c.in-Some.ensures.cases.1)
 
 pub returns : goal.returns
-returns c = stepping_end c.args.step c.args.given.now c.args.row.now c.loop-next.done.items c.loop-next.counts.now c.loop-next.numbers.now c.in_default.ensures.none.0 c.in_default.ensures.none.1 c.loop-next.invariant
+returns c =
+    subst (λ (items : List Given). AreStepped c.args.step c.args.given.now c.args.row.now items) (sym c.in_ok-extend_from_slice-2.ensures.items)
+    (stepping_end c.args.step c.args.given.now c.args.row.now c.loop-number.done.items c.loop-number.counts.now c.loop-number.numbers.now
+    (nil_from_length c.loop-number.numbers.now c.in_default.ensures.cases) c.loop-number.invariant)

@@ -1,4 +1,4 @@
-use Rattle.std.proofs.Common.{◌≡◌, [], List, ℕ, Some, ap, refl, sym, ◌∙◌}
+use Rattle.std.proofs.Common.{◌≡◌, Some, ap, refl, sym, ◌∙◌}
 use Rattle.std.specs.FinMap as map
 use Rattle.std.specs.Option.{option_copied}
 use Rattle.path_model.specs.CurrentTable.{Parts}

@@ -1,8 +1,6 @@
 use Rattle.std.proofs.Common.{ap, sym, ◌∙◌}
 use Rattle.std.specs.Option.{option_copied}
 use Rattle.path_model.specs.CurrentTable.{Parts}
-use Rattle.vap_table.specs.declared.change.TableChange.TheVariants.{Unassert}
-use Rattle.vap_table.specs.Change.{Alters}
 use Rattle.vap_table.proofs.IdleLemmas.{idle_unassert}
 use Rattle.vap_table.proofs.parts.HeldParts.has_none_asserted.Goals as goal
 

@@ -1,7 +1,7 @@
 use Rattle.std.proofs.Common.{◌≡◌, ℕ, List, ◌∷◌, subst}
 use Rattle.std.specs.Map.Iter.{deref}
 use Rattle.std.proofs.lemmas.Map.Iter.{rest_more}
-use Rattle.vap_table.proofs.TalliesLemmas.{Following, following_next, taken_tally}
+use Rattle.vap_table.proofs.TalliesLemmas.{Following, following_next}
 use Rattle.vap_table.proofs.tallies.Tallies.follow.Goals as goal
 
 pub loop-customer-preserved : goal.loop-customer-preserved
