@@ -3,7 +3,6 @@ pub mod BatchLemmas
 pub mod CasedLemmas
 pub mod ChangeLawLemmas
 pub mod ChangeLemmas
-pub mod CountLemmas
 pub mod CountedLemmas
 pub mod DecidedLemmas
 pub mod EventLemmas
@@ -22,5 +21,6 @@ pub mod RowLemmas
 pub mod SharingLemmas
 pub mod ShownLemmas
 pub mod StoredLemmas
+pub mod TotalsLemmas
 pub mod TouchedLemmas
 pub mod VerdictLemmas

@@ -100,3 +100,7 @@ role_set asn role before relations is = record {
   others = λ other apart. sym (ap (λ (o : Option Role). unwrap_or o relations.default)
       (fin.get-insert nat_cmp_total relations.set asn role other ∙ ap (λ (b : Bool). cond b (Some role) (fin.get relations.set other)) (unsigned_tied other asn ∙ nat_eq-other other asn apart)));
 }
+
+-- where another default is set, setting the one before gives the roles before
+pub default_back : (role before : Role) (relations now : Relations) → before ≡ relations.default → now ≡ record relations { default = role } → record now { default = before } ≡ relations
+default_back role before relations now was is = λ i. record (is i) { default = was i }

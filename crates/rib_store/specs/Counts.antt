@@ -1,26 +1,12 @@
 -- How many rows there are, and how many with each verdict.
-use Rattle.std.specs.Prelude.{◌≡◌, Bool, true, false, ◌≤◌, ◌+◌, List, length}
+use Rattle.std.specs.Prelude.{◌≡◌, ℕ, List, length}
 use Rattle.std.specs.List.{count_by}
 use Rattle.path_model.specs.declared.key.Key.{Key}
 use Rattle.path_model.specs.declared.verdict.Verdict.{Verdict}
-use Rattle.path_model.specs.declared.verdict.Verdict.TheVariants.{Valid, Unknown, Invalid}
+use Rattle.shared_cases.specs.declared.totals.Totals.{Totals}
+use Rattle.shared_cases.specs.Totals.{is_valid, is_unknown, is_invalid}
 use Rattle.rib_store.specs.declared.counts.Counts.{Counts}
 use Rattle.rib_store.specs.State.{State, AreRows}
-
-abbrev pub is_valid : Verdict → Bool
-is_valid Valid = true
-is_valid Unknown = false
-is_valid Invalid = false
-
-abbrev pub is_unknown : Verdict → Bool
-is_unknown Valid = false
-is_unknown Unknown = true
-is_unknown Invalid = false
-
-abbrev pub is_invalid : Verdict → Bool
-is_invalid Valid = false
-is_invalid Unknown = false
-is_invalid Invalid = true
 
 -- the counts of these rows
 abbrev pub counted : List (Key × Verdict) → Counts
@@ -37,14 +23,6 @@ pub record AreCounts (state : State) (counts : Counts) : Type 0 where
   pub are : AreRows state rows
   pub counted : counts ≡ counted rows
 
--- one route more, with this verdict
-abbrev pub with_one : Verdict → Counts → Counts
-with_one Valid counts = record counts { routes = counts.routes + 1; valid = counts.valid + 1 }
-with_one Unknown counts = record counts { routes = counts.routes + 1; unknown = counts.unknown + 1 }
-with_one Invalid counts = record counts { routes = counts.routes + 1; invalid = counts.invalid + 1 }
-
--- no count is over that of all routes
-pub record IsWithin (counts : Counts) : Type 0 where
-  pub valid : counts.valid ≤ counts.routes
-  pub unknown : counts.unknown ≤ counts.routes
-  pub invalid : counts.invalid ≤ counts.routes
+-- so many routes, of whose cases these are the totals; private contracts alone cite it
+abbrev pub counts_by : ℕ → Totals → Counts
+counts_by number totals = record { routes = number; valid = totals.valid; unknown = totals.unknown; invalid = totals.invalid }

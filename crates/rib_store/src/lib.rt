@@ -7,7 +7,8 @@
 //! Each route has the number of a case that it shares with all routes of the same peer AS and path (the crate `shared_cases`);
 //! `specs/Cased.antt` says how the routes and the marked verdicts are read through the cases, and what holds of them. `routing` changes
 //! one route, `marks` notes what was marked of the keys whose route changed since or whose case got another verdict (`specs/Marks.antt`),
-//! `rib` lists the routes, `counts` counts the verdicts, and `journal` lists what changed since verdicts were marked, from the notes.
+//! `rib` lists the routes, and `journal` lists what changed since verdicts were marked, from the notes. How many routes have which verdict
+//! (`counts`) the cases keep.
 #![tactic(auto)]
 
 mod counts;

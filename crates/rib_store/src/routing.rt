@@ -133,7 +133,7 @@ impl Routing {
         ensures ticks { steps.new ≤ steps.old + announced (announcements peer trail prefixes) }
     {
         let mut by = CaseBy::Path(trail);
-        for prefix in prefixes.into_vec() {
+        for prefix in prefixes.iter() {
             let number = self.announce(Key { peer, prefix }, by, table, roles, steps)?;
             by = CaseBy::Number(number);
         }
@@ -186,7 +186,7 @@ impl Routing {
                   (routed_state table.now roles.now self.old).routes;
             }) }
     {
-        for prefix in prefixes.into_vec() {
+        for prefix in prefixes.iter() {
             self.withdraw(&Key { peer, prefix }, table, roles)?;
         }
         Ok(())

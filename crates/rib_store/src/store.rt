@@ -16,7 +16,7 @@ ghost use Rattle.rib_store.specs.Shown.{IsShown};
 ghost use Rattle.rib_store.specs.Counts.{AreCounts};
 ghost use Rattle.rib_store.specs.Touched.{announced, IsWithinTouched};
 
-use crate::counts::{Counts, count};
+use crate::counts::Counts;
 use crate::journal::{Journal, Left};
 use crate::marks::Marks;
 use crate::merged::Merged;
@@ -212,7 +212,7 @@ impl RibStore {
     }
 
     /// Sets the role of each AS that has none of its own. Where they had another one, the cases of these ASes are judged anew, once each.
-    /// It takes the memory of another copy of the roles, and the time of two look-ups for each peer AS.
+    /// It takes the time of a look-up for each peer AS and of these cases, and where the default is the same as before, none.
     pub fn set_default<L: Ledger>(
         self,
         role: Role,
@@ -233,9 +233,9 @@ impl RibStore {
             mut marks,
         } = self;
         let _length = routes.len();
-        let before = roles.copy()?;
+        let before = roles.default();
         roles.set_default(role);
-        let (cases, differing) = cases.follow_roles(&before, &table, &roles, steps)?;
+        let (cases, differing) = cases.follow_default(before, &table, &roles, steps)?;
         marks.defer(&differing)?;
         Ok(RibStore {
             alloc,
@@ -273,11 +273,11 @@ impl RibStore {
         })
     }
 
-    /// The number of routes, and of those with each current verdict. It takes no memory.
+    /// The number of routes, and of those with each current verdict. It takes no memory, and visits no route.
     pub fn counts(&self) -> Counts
         ensures { AreCounts self.now.state result }
     {
-        count(self.rows())
+        Counts::of(self.routes.len(), self.cases.totals())
     }
 
     /// Each key whose verdict or presence differs from the marked one, in key order. At the start nothing is marked. It takes no

@@ -1,5 +1,4 @@
 use Rattle.std.proofs.Common.{◌≡◌, ◌+◌, ◌≤◌}
-use Rattle.std.specs.Vec.Iter.{into_iter_items}
 use Rattle.path_model.specs.Batches.{announcements}
 use Rattle.path_model.specs.Routes.{performed}
 use Rattle.rib_store.specs.Routing.{routed_state, AreRouted, path_by, IsFound}
@@ -11,7 +10,7 @@ invariant-loop-prefix g l = record {
   routed : AreRouted l.fn.table l.fn.roles l.self;
   found : IsFound l.self.cases l.fn.peer.asn l.by;
   path : path_by l.self.cases l.by ≡ l.fn.trail;
-  state : record (routed_state l.fn.table l.fn.roles l.self) { routes = performed (announcements l.fn.peer l.fn.trail (into_iter_items l.prefix-iterator)) (routed_state l.fn.table l.fn.roles l.self).routes }
+  state : record (routed_state l.fn.table l.fn.roles l.self) { routes = performed (announcements l.fn.peer l.fn.trail l.prefix-iterator) (routed_state l.fn.table l.fn.roles l.self).routes }
       ≡ record (routed_state l.fn.table l.fn.roles l.fn.self) { routes = performed (announcements l.fn.peer l.fn.trail l.fn.prefixes) (routed_state l.fn.table l.fn.roles l.fn.self).routes };
-  ticks : l.steps + announced (announcements l.fn.peer l.fn.trail (into_iter_items l.prefix-iterator)) ≤ l.fn.steps + announced (announcements l.fn.peer l.fn.trail l.fn.prefixes);
+  ticks : l.steps + announced (announcements l.fn.peer l.fn.trail l.prefix-iterator) ≤ l.fn.steps + announced (announcements l.fn.peer l.fn.trail l.fn.prefixes);
 }

@@ -1,5 +1,4 @@
 use Rattle.std.proofs.Common.{◌≡◌}
-use Rattle.std.specs.Vec.Iter.{into_iter_items}
 use Rattle.path_model.specs.Batches.{removals}
 use Rattle.path_model.specs.Routes.{performed}
 use Rattle.rib_store.specs.Routing.{routed_state, AreRouted}
@@ -8,6 +7,6 @@ use Rattle.rib_store.proofs.routing.Routing.withdraw_all.Given as goal
 abbrev pub invariant-loop-prefix : goal.invariant-loop-prefix
 invariant-loop-prefix l = record {
   routed : AreRouted l.fn.table l.fn.roles l.self;
-  state : record (routed_state l.fn.table l.fn.roles l.self) { routes = performed (removals l.fn.peer (into_iter_items l.prefix-iterator)) (routed_state l.fn.table l.fn.roles l.self).routes }
+  state : record (routed_state l.fn.table l.fn.roles l.self) { routes = performed (removals l.fn.peer l.prefix-iterator) (routed_state l.fn.table l.fn.roles l.self).routes }
       ≡ record (routed_state l.fn.table l.fn.roles l.fn.self) { routes = performed (removals l.fn.peer l.fn.prefixes) (routed_state l.fn.table l.fn.roles l.fn.self).routes };
 }

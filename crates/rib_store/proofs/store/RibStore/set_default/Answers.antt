@@ -9,13 +9,15 @@ use Rattle.rib_store.specs.Touched.{IsWithinTouched}
 use Rattle.rib_store.proofs.EventLemmas.{event_sound, deferred_state, rejudged_state, few_judged}
 use Rattle.rib_store.proofs.RouteLemmas.{state_by}
 use Rattle.rib_store.proofs.StoredLemmas.{rejudged}
+use Rattle.rib_store.proofs.TouchedLemmas.{default_back}
 use Rattle.rib_store.proofs.store.RibStore.set_default.Goals as goal
 
 pub invariant_of-result : goal.invariant_of-result
 invariant_of-result g c = event_sound (grounds c.self.inside.table c.set_default.new.self) c.self.inside.routes c.self.inside.cases c.in_ok-cases.cases c.self.inside.marks c.defer.new.self c.in_ok-cases.differing c.self.invariant.marks
     (rejudged (grounds c.self.inside.table c.self.inside.roles) (grounds c.self.inside.table c.set_default.new.self) c.self.inside.routes c.self.inside.cases c.in_ok-cases.cases
     c.self.invariant.stored c.in_ok-cases.ensures.same
-    (subst (λ (r : Relations). (n : ℕ) → IsJudged (grounds c.self.inside.table r) (at c.self.inside.cases n) → IsJudged (grounds c.self.inside.table c.set_default.new.self) (at c.in_ok-cases.cases n)) c.in_ok-before.ensures c.in_ok-cases.ensures.judged))
+    (subst (λ (r : Relations). (n : ℕ) → IsJudged (grounds c.self.inside.table r) (at c.self.inside.cases n) → IsJudged (grounds c.self.inside.table c.set_default.new.self) (at c.in_ok-cases.cases n))
+    (default_back c.args.role c.default-before.result c.self.inside.roles c.set_default.new.self c.default-before.ensures c.set_default.ensures) c.in_ok-cases.ensures.judged))
     c.in_ok-cases.ensures.newly c.in_ok-defer.ensures.deferred c.defer.ensures.same c.defer.ensures.notes c.defer.ensures.keys
 
 pub returns-clause-state : goal.returns-clause-state
@@ -27,24 +29,27 @@ returns-clause-state g c =
 
 pub returns-clause-ticks : goal.returns-clause-ticks
 returns-clause-ticks g c =
-    subst (λ (s : Stored). IsWithinTouched s.state (record s.state { roles = record s.state.roles { default = c.args.role } }) (c.follow_roles.new.steps - c.args.steps.now)) c.self.view_is
+    subst (λ (s : Stored). IsWithinTouched s.state (record s.state { roles = record s.state.roles { default = c.args.role } }) (c.follow_default.new.steps - c.args.steps.now)) c.self.view_is
     (let state : State = state_by c.self.inside.table c.self.inside.roles c.self.inside.marks.is_marked c.self.inside.cases c.self.inside.routes c.self.inside.marks.notes in
-    subst (λ (r : Relations). IsWithinTouched state (record state { roles = r }) (c.follow_roles.new.steps - c.args.steps.now)) c.set_default.ensures
+    subst (λ (r : Relations). IsWithinTouched state (record state { roles = r }) (c.follow_default.new.steps - c.args.steps.now)) c.set_default.ensures
     (few_judged c.self.inside.table c.self.inside.table c.self.inside.roles c.set_default.new.self c.self.inside.marks.is_marked c.self.inside.routes c.self.inside.marks.notes c.self.inside.cases _ c.self.invariant.stored c.len-length.ensures.in_order
-    (subst (λ (r : Relations). AreWithinTouched (grounds c.self.inside.table r) (grounds c.self.inside.table c.set_default.new.self) c.self.inside.cases (c.follow_roles.new.steps - c.args.steps.now)) c.in_ok-before.ensures c.follow_roles.ensures.ticks)))
+    (subst (λ (r : Relations). AreWithinTouched (grounds c.self.inside.table r) (grounds c.self.inside.table c.set_default.new.self) c.self.inside.cases (c.follow_default.new.steps - c.args.steps.now))
+    (default_back c.args.role c.default-before.result c.self.inside.roles c.set_default.new.self c.default-before.ensures c.set_default.ensures) c.follow_default.ensures.ticks)))
 
 pub returns-in_err-cases-clause-ticks : goal.returns-in_err-cases-clause-ticks
 returns-in_err-cases-clause-ticks g c =
-    subst (λ (s : Stored). IsWithinTouched s.state (record s.state { roles = record s.state.roles { default = c.args.role } }) (c.follow_roles.new.steps - c.args.steps.now)) c.self.view_is
+    subst (λ (s : Stored). IsWithinTouched s.state (record s.state { roles = record s.state.roles { default = c.args.role } }) (c.follow_default.new.steps - c.args.steps.now)) c.self.view_is
     (let state : State = state_by c.self.inside.table c.self.inside.roles c.self.inside.marks.is_marked c.self.inside.cases c.self.inside.routes c.self.inside.marks.notes in
-    subst (λ (r : Relations). IsWithinTouched state (record state { roles = r }) (c.follow_roles.new.steps - c.args.steps.now)) c.set_default.ensures
+    subst (λ (r : Relations). IsWithinTouched state (record state { roles = r }) (c.follow_default.new.steps - c.args.steps.now)) c.set_default.ensures
     (few_judged c.self.inside.table c.self.inside.table c.self.inside.roles c.set_default.new.self c.self.inside.marks.is_marked c.self.inside.routes c.self.inside.marks.notes c.self.inside.cases _ c.self.invariant.stored c.len-length.ensures.in_order
-    (subst (λ (r : Relations). AreWithinTouched (grounds c.self.inside.table r) (grounds c.self.inside.table c.set_default.new.self) c.self.inside.cases (c.follow_roles.new.steps - c.args.steps.now)) c.in_ok-before.ensures c.follow_roles.ensures.ticks)))
+    (subst (λ (r : Relations). AreWithinTouched (grounds c.self.inside.table r) (grounds c.self.inside.table c.set_default.new.self) c.self.inside.cases (c.follow_default.new.steps - c.args.steps.now))
+    (default_back c.args.role c.default-before.result c.self.inside.roles c.set_default.new.self c.default-before.ensures c.set_default.ensures) c.follow_default.ensures.ticks)))
 
 pub returns-in_err-defer-clause-ticks : goal.returns-in_err-defer-clause-ticks
 returns-in_err-defer-clause-ticks g c =
-    subst (λ (s : Stored). IsWithinTouched s.state (record s.state { roles = record s.state.roles { default = c.args.role } }) (c.follow_roles.new.steps - c.args.steps.now)) c.self.view_is
+    subst (λ (s : Stored). IsWithinTouched s.state (record s.state { roles = record s.state.roles { default = c.args.role } }) (c.follow_default.new.steps - c.args.steps.now)) c.self.view_is
     (let state : State = state_by c.self.inside.table c.self.inside.roles c.self.inside.marks.is_marked c.self.inside.cases c.self.inside.routes c.self.inside.marks.notes in
-    subst (λ (r : Relations). IsWithinTouched state (record state { roles = r }) (c.follow_roles.new.steps - c.args.steps.now)) c.set_default.ensures
+    subst (λ (r : Relations). IsWithinTouched state (record state { roles = r }) (c.follow_default.new.steps - c.args.steps.now)) c.set_default.ensures
     (few_judged c.self.inside.table c.self.inside.table c.self.inside.roles c.set_default.new.self c.self.inside.marks.is_marked c.self.inside.routes c.self.inside.marks.notes c.self.inside.cases _ c.self.invariant.stored c.len-length.ensures.in_order
-    (subst (λ (r : Relations). AreWithinTouched (grounds c.self.inside.table r) (grounds c.self.inside.table c.set_default.new.self) c.self.inside.cases (c.follow_roles.new.steps - c.args.steps.now)) c.in_ok-before.ensures c.follow_roles.ensures.ticks)))
+    (subst (λ (r : Relations). AreWithinTouched (grounds c.self.inside.table r) (grounds c.self.inside.table c.set_default.new.self) c.self.inside.cases (c.follow_default.new.steps - c.args.steps.now))
+    (default_back c.args.role c.default-before.result c.self.inside.roles c.set_default.new.self c.default-before.ensures c.set_default.ensures) c.follow_default.ensures.ticks)))
