@@ -42,6 +42,7 @@ struct Compared {
 #[derive(Drop)]
 struct Both {
     routes: RouteMap<u32>,
+    // what the map of routes should hold
     plain: BTreeMap<Key, u32>,
     // in which steps the networks come
     step: u32,
@@ -49,6 +50,7 @@ struct Both {
 }
 
 impl Both {
+    // Both without routes.
     fn new(alloc: Global, step: u32) -> Both {
         Both {
             routes: RouteMap::new(alloc),
@@ -67,11 +69,17 @@ impl Both {
 
     // Gives the n-th network a value.
     fn put(&mut self, n: u32, value: u32) -> Result<(), NoMemory> {
-        if let Some(key) = key(network(n, self.step)) {
-            let answer = self.routes.insert(key, value)?;
-            let wanted = self.plain.insert(key, value)?;
-            self.count(answer, wanted);
+        match key(network(n, self.step)) {
+            None => Ok(()),
+            Some(key) => self.insert(&key, value),
         }
+    }
+
+    // Gives a key a value in both maps.
+    fn insert(&mut self, key: &Key, value: u32) -> Result<(), NoMemory> {
+        let answer = self.routes.insert(*key, value)?;
+        let wanted = self.plain.insert(*key, value)?;
+        self.count(answer, wanted);
         Ok(())
     }
 
@@ -117,7 +125,9 @@ fn entries_alike(routes: &RouteMap<u32>, plain: &BTreeMap<Key, u32>) -> Option<u
     let mut left = routes.iter();
     let mut entries = 0u32;
     for (key, value) in plain {
-        let (held, held_value) = left.next()?;
+        let Some((held, held_value)) = left.next() else {
+            return None;
+        };
         if held != *key || *held_value != *value || routes.get(key).copied() != Some(*value) {
             return None;
         }
