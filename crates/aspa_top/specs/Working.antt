@@ -1,10 +1,11 @@
 -- What is in the program's working state, and what parts of a line do to it; private contracts alone cite it.
-use Rattle.std.specs.Prelude.{◌≡◌, ℕ, ◌+◌, ◌≤◌, nat_eq, is_some, Bool, true, false, ◌||◌, cond, List, ◌++◌}
-use Rattle.std.specs.Cmp.Lexicographic.{pointwise}
+use Rattle.std.specs.Prelude.{◌≡◌, ℕ, ◌+◌, ◌≤◌, is_some, Bool, true, false, ◌||◌, cond, List, ◌++◌}
+use Rattle.std.specs.BTreeMap.{get}
+use Rattle.std.specs.BTreeSet.{contains}
+use Rattle.std.specs.Cmp.Lexicographic.{slice_cmp}
+use Rattle.std.specs.Ordering.{nat_cmp}
 use Rattle.std.specs.declared.option.Option.{Option}
 use Rattle.std.specs.declared.option.Option.TheVariants.{Some}
-use Rattle.indexmap.specs.IndexMap.{get}
-use Rattle.indexmap.specs.IndexSet.{contains}
 use Rattle.feed_lines.specs.Holding.{feed_in}
 use Rattle.path_model.specs.declared.role.Role.{Role}
 use Rattle.path_model.specs.CurrentTable.{Parts}
@@ -29,11 +30,11 @@ use Rattle.aspa_top.specs.Tasks.{IsJudged, same_name}
 
 -- the dump that is open under a name
 abbrev pub dump_in : Working → List ℕ → Option HeldDump
-dump_in working name = get (pointwise nat_eq) working.dumps name
+dump_in working name = get (slice_cmp nat_cmp) working.dumps name
 
 -- whether a source has the name
 abbrev pub has_source : Working → List ℕ → Bool
-has_source working name = contains (pointwise nat_eq) working.sources name
+has_source working name = contains (slice_cmp nat_cmp) working.sources name
 
 -- the verdict of a path is added, by the table of these parts
 abbrev pub Judges : Parts → Role → ℕ → List ℕ → List ℕ → List ℕ → Type 0

@@ -4,9 +4,9 @@ ghost use Rattle.std.specs.Prelude.{◌≡◌};
 use crate::loading::FileKind;
 use analyser::Analyser;
 use feed_lines::Feeds;
-use indexmap::{IndexMap, IndexSet};
 use path_model::Name;
 use std::alloc::Global;
+use std::collections::{BTreeMap, BTreeSet};
 use stream_lines::OpenDump;
 
 /// What the lines that were performed have left.
@@ -15,9 +15,9 @@ pub(crate) struct Working {
     /// What attests, the roles and the routes.
     pub(crate) analyser: Analyser,
     /// The names of the attestation sources.
-    pub(crate) sources: IndexSet<Name>,
+    pub(crate) sources: BTreeSet<Name>,
     /// The dumps that were opened, by name.
-    pub(crate) dumps: IndexMap<Name, OpenDump>,
+    pub(crate) dumps: BTreeMap<Name, OpenDump>,
     /// The feeds that were connected, by name.
     pub(crate) feeds: Feeds,
     /// How many lines there were.
@@ -48,8 +48,8 @@ impl Working {
     {
         Working {
             analyser: Analyser::new(alloc),
-            sources: IndexSet::new(alloc),
-            dumps: IndexMap::new(alloc),
+            sources: BTreeSet::new(alloc),
+            dumps: BTreeMap::new(alloc),
             feeds: Feeds::new(alloc),
             lines: 0,
             passed: 0,

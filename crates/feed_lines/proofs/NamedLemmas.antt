@@ -1,7 +1,9 @@
 -- Feeds by their names.
 use Rattle.std.proofs.Common.{true≢false, ◌≡◌, ◌≢◌, ℕ, ◌≤◌, ◌⊎◌, inl, inr, Bool, true, false, cond, is_some, nat_eq, ◌&&◌, List, [], ◌∷◌, None, Some, refl, sym, ◌∙◌, ap, subst, arith}
+use Rattle.std.specs.BTreeMap.{is_at}
 use Rattle.std.specs.Prelude.{slice_get}
-use Rattle.std.specs.Cmp.Lexicographic.{pointwise, nat_list_eq_equiv}
+use Rattle.std.specs.Cmp.Lexicographic.{pointwise, slice_cmp, nat_list_eq_equiv, texts_ties}
+use Rattle.std.specs.Ordering.{nat_cmp}
 use Rattle.std.specs.Option.{option_to_list}
 use Rattle.std.specs.declared.option.Option.{Option}
 use Rattle.std.proofs.lemmas.Map.Views.{exact_unsigned_eq}
@@ -55,6 +57,16 @@ differ name q test same =
 split : (b : Bool) → (b ≡ true) ⊎ (b ≡ false)
 split true = inl refl
 split false = inr refl
+
+-- by their order a name is at those that are the same
+pub at_name : {X : Type 0} (name q : List ℕ) (here there : X) → cond (is_at (slice_cmp nat_cmp name) q) here there ≡ cond (same_name name q) here there
+at_name name q here there = ap (λ (same : Bool). cond same here there) (sym (texts_ties name q))
+
+-- what was written at a key of the map is held under the name
+pub puts_at : (old new : Feeds) (key name : List ℕ) (wrote slot : Option OpenFeed) → key ≡ name → wrote ≡ slot
+    → ((q : List ℕ) → feed_in new q ≡ cond (is_at (slice_cmp nat_cmp key) q) (Some wrote) (feed_in old q)) → Puts old new name slot
+puts_at old new key name wrote slot same is wrote_at =
+    record { puts = λ q. wrote_at q ∙ at_name key q (Some wrote) (feed_in old q) ∙ (λ i. cond (same_name (same i) q) (Some (is i)) (feed_in old q)) }
 
 -- ---- what a call leaves of other feeds
 

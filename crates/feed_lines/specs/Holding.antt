@@ -1,10 +1,11 @@
 -- How the feeds that are held stand for those of the definitions.
-use Rattle.std.specs.Prelude.{◌≡◌, ◌≢◌, ℕ, ◌+◌, ◌<◌, ◌≤◌, nat_eq, List, ◌++◌, length, Some}
-use Rattle.std.specs.Cmp.Lexicographic.{pointwise}
+use Rattle.std.specs.Prelude.{◌≡◌, ◌≢◌, ℕ, ◌+◌, ◌<◌, ◌≤◌, List, ◌++◌, length, Some}
+use Rattle.std.specs.BTreeMap.{get}
+use Rattle.std.specs.Cmp.Lexicographic.{slice_cmp}
 use Rattle.std.specs.List.{All}
+use Rattle.std.specs.Ordering.{nat_cmp}
 use Rattle.std.specs.declared.option.Option.{Option}
 use Rattle.std.specs.declared.option.Option.TheVariants.{None}
-use Rattle.indexmap.specs.IndexMap.{get}
 use Rattle.av_base.specs.Connections.{Attempt, Failed, IsUsable, Link, Made, ToldLater}
 use Rattle.av_base.specs.declared.standing.Standing.{Standing}
 use Rattle.av_base.specs.Told.{Rose}
@@ -40,7 +41,7 @@ HoldsOr wire found held = ⊥
 
 -- what is held under a name
 abbrev pub feed_in : Feeds → List ℕ → Option (Option OpenFeed)
-feed_in feeds name = get (pointwise nat_eq) feeds.held name
+feed_in feeds name = get (slice_cmp nat_cmp) feeds.held name
 
 -- what is held, and the attempts and connections where they are told, stand for the feeds of this state
 pub record HoldsFeeds (attempts : Option (List Attempt)) (wire : Option (List Link)) (feeds : Feeds) (state : State) : Type 0 where

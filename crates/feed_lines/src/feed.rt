@@ -2,11 +2,11 @@
 ghost use Rattle.std.specs.Prelude.{◌≡◌, List, ℕ, None, is_some};
 ghost use Rattle.feed_lines.specs.Holding.{feed_in};
 
-use indexmap::IndexMap;
 use path_model::Name;
 use rtr_pdu::Framer;
 use rtr_session::Session;
 use std::alloc::Global;
+use std::collections::BTreeMap;
 
 /// A feed whose session goes on.
 #[derive(Drop)]
@@ -24,7 +24,7 @@ pub(crate) struct OpenFeed {
 #[derive(Drop)]
 pub struct Feeds {
     // none where the session is over
-    pub(crate) held: IndexMap<Name, Option<OpenFeed>>,
+    pub(crate) held: BTreeMap<Name, Option<OpenFeed>>,
 }
 
 impl Feeds {
@@ -33,7 +33,7 @@ impl Feeds {
         ensures { (name : List ℕ) → feed_in result name ≡ None }
     {
         Feeds {
-            held: IndexMap::new(alloc),
+            held: BTreeMap::new(alloc),
         }
     }
 

@@ -2,6 +2,7 @@ use Rattle.std.proofs.Common.{Some, Err, List, ℕ, ◌≡◌, refl, sym, ap, su
 use Rattle.std.specs.Option.{IsSome}
 use Rattle.av_text.specs.Spellings.{IsInLine}
 use Rattle.av_text.proofs.AnySpellingLemmas.{names_in_line}
+use Rattle.feed_lines.proofs.NamedLemmas.{at_name}
 use Rattle.stream_lines.specs.Held.{HeldDump}
 use Rattle.aspa_top.proofs.DidLemmas.{did_err}
 use Rattle.aspa_top.proofs.DumpLemmas.{take_done, take_stopped}
@@ -25,7 +26,7 @@ returns g c =
       did = take_done c.args.working c.args.name.now c.args.count c.in-Some.dump.now c.take_units.new.dump _ _ _ _ _ _ _ _ _ _ c.requires.begun c.requires.few (sym c.in-Some.ensures.value)
           c.take_units.ensures.others (ap (λ (d : HeldDump). d.over) same ∙ c.requires.is.yet) (λ i. record { line = c.args.working.lines; name = c.text.ensures.text i }) refl c.take_units.ensures.ticks
           (c.take_units.ensures.reports (subst (λ (name : List ℕ). IsInLine name) (sym c.text.ensures.text) (names_in_line _ c.text.ensures.is_name)))
-          _ c.in_ok-taken.taken c.in_ok-taken.ensures.took ((c.get_mut.follows.holds c.take_units.new.dump).3 (subst (λ o. IsSome o) c.in-Some.ensures.value refl)).0 refl
+          _ c.in_ok-taken.taken c.in_ok-taken.ensures.took (λ q. ((c.get_mut.follows.holds c.take_units.new.dump).3 (subst (λ o. IsSome o) c.in-Some.ensures.value refl)).0 q ∙ at_name c.args.name.now q _ _) refl
           c.take_units.ensures.opened c.take_units.ensures.file c.in_ok-taken.ensures.few;
     }
 

@@ -1,0 +1,6 @@
+use Rattle.std.proofs.Common.{refl, ◌∙◌}
+use Rattle.feed_lines.proofs.NamedLemmas.{at_name}
+use Rattle.aspa_top.proofs.tables.name_source.Goals as goal
+
+pub returns : goal.returns
+returns c = record { sources = λ other. c.in_ok-insert.ensures.updates.0 other ∙ at_name c.args.name other _ _; left = refl }
