@@ -4,8 +4,6 @@ use Rattle.std.specs.declared.option.Option.{Option}
 use Rattle.std.proofs.lemmas.Bool.{false_from_ne_true, or_left, or_right, or_parts}
 use Rattle.path_model.specs.declared.verdict.Verdict.{Verdict}
 use Rattle.path_model.specs.declared.verdict.Verdict.TheVariants.{Valid, Unknown, Invalid}
-use Rattle.path_model.specs.Trail.{Path}
-use Rattle.ramps.specs.Judgement.{Judgement}
 use Rattle.hop_index.specs.Index.{Entries}
 use Rattle.shared_cases.specs.declared.case.StoredCase.{StoredCase}
 use Rattle.shared_cases.specs.declared.names.Names.{Names}
@@ -14,7 +12,7 @@ use Rattle.shared_cases.specs.Differed.{AreNewlyDiffering, AreSettledOrDiffered,
 use Rattle.shared_cases.specs.Kept.{AreIndexed, AreKept}
 use Rattle.shared_cases.specs.Numbers.{has}
 use Rattle.shared_cases.specs.Peers.{Members}
-use Rattle.shared_cases.specs.Taking.{lowered, new_case, raised}
+use Rattle.shared_cases.specs.Taking.{lowered, raised}
 use Rattle.shared_cases.proofs.CaseLemmas.{rewritten, same_names}
 use Rattle.shared_cases.proofs.NamingLemmas.{IsSameName}
 use Rattle.shared_cases.proofs.NumberLemmas.{decide_eq, has_cases, has_first, has_later}
@@ -32,12 +30,6 @@ IsListed differed n c = (has_differed c ≡ false → IsSettled c) × (has_diffe
 each_listed : (old new : Slots) (n : ℕ) (v : Option StoredCase) (differed : List ℕ) → Rewrites old new n v → AreSettledOrDiffered old → ((m : ℕ) → has_differed (at old m) ≡ true → has differed m ≡ true)
     → IsListed differed n v → (m : ℕ) → IsListed differed m (at new m)
 each_listed old new n v differed writes settled listed here m = each_at (IsListed differed) old new n m v writes here (settled m, listed m) (decide_eq m n)
-
--- what is stored of a new case
-pub same_new : (slot : Option StoredCase) (asn : ℕ) (copy path : Path) (verdict : Verdict) (judgement : Judgement)
-    → slot ≡ Some (record { trail = copy; users = 1; judged = judgement; asn = asn; marked = verdict; differed = false }) → copy ≡ path → verdict ≡ judgement.verdict → slot ≡ Some (new_case asn path judgement)
-same_new slot asn copy path verdict judgement here same_path same_marked =
-    here ∙ (λ i. Some (record { trail = same_path i; users = 1; judged = judgement; asn = asn; marked = same_marked i; differed = false }))
 
 -- a case that is settled and hasn't differed comes or goes
 pub rewritten_kept : (old new : Slots) (n : ℕ) (v : Option StoredCase) (names names' : Names) (index index' : Entries) (peers peers' : Members) (differed : List ℕ) → AreKept old names index peers differed

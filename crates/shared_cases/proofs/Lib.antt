@@ -8,4 +8,6 @@ pub mod NumberLemmas
 pub mod PeerLemmas
 pub mod RejudgingLemmas
 pub mod RoleLemmas
+pub mod RowLemmas
+pub mod TotalsLemmas
 pub mod TouchLemmas

@@ -61,6 +61,17 @@ touch_told index m n ends before now exact told = (
   ],
 )
 
+-- and none does where the customer has no hop at all
+pub touch_none : (index : Entries) (m : RowMove) (n : ℕ) (ends : List (ℕ × ℕ)) (before : Bool) → ((y : ℕ) → has_end ends y n ≡ hops.has index m.customer y n)
+    → ends ≡ [] → (before ≡ true) ↔ ((before ≡ true) ⊎ IsTouchedAt index m n)
+touch_none index m n ends before exact none = (
+  λ was. inl was,
+  λ h. elim h [
+    | inl was ↦ was
+    | inr touched ↦ absurd (true≢false (sym touched.1 ∙ sym (exact touched.0) ∙ ap (λ (es : List (ℕ × ℕ)). has_end es touched.0 n) none))
+  ],
+)
+
 module _ (old new : Table) (index : Entries) where
   -- a move that doesn't touch a case changes nothing at its hops
   kept_at : (m : RowMove) (x y n : ℕ) → IsMove old new m → (IsTouchedAt index m n → ⊥) → hops.has index x y n ≡ true → m.customer ≡ x → authority_of old x y ≡ authority_of new x y

@@ -29,6 +29,17 @@ module _ (members : Members) (old new : Relations) (before after rest : List ℕ
   others_by asn n there absent unlisted adds so_far (inr other) =
       so_far (or_parts (has before n) (is_member members x n) (sym (adds n) ∙ absent)).0 (ap (λ (b : Bool). b || has rest asn) (nat_eq-other asn x other) ∙ unlisted)
 
+  same_by : (asn n : ℕ) → has rest asn ≡ false → role_of old x ≡ role_of new x
+      → (has (x ∷ rest) asn ≡ false → role_of old asn ≡ role_of new asn) → (asn ≡ x) ⊎ (asn ≢ x) → role_of old asn ≡ role_of new asn
+  same_by asn n unlisted same so_far (inl e) = ap (role_of old) e ∙ same ∙ ap (role_of new) (sym e)
+  same_by asn n unlisted same so_far (inr other) = so_far (ap (λ (b : Bool). b || has rest asn) (nat_eq-other asn x other) ∙ unlisted)
+
+  -- the AS x has the same role
+  pub same_next : ((asn n : ℕ) → is_member members asn n ≡ true → has before n ≡ false → has (x ∷ rest) asn ≡ false → role_of old asn ≡ role_of new asn)
+      → role_of old x ≡ role_of new x
+      → (asn n : ℕ) → is_member members asn n ≡ true → has before n ≡ false → has rest asn ≡ false → role_of old asn ≡ role_of new asn
+  same_next so_far same asn n there absent unlisted = same_by asn n unlisted same (so_far asn n there absent) (decide_eq asn x)
+
   -- the AS x has another role, and its cases are among those touched
   pub others_next : ((asn n : ℕ) → is_member members asn n ≡ true → has before n ≡ false → has (x ∷ rest) asn ≡ false → role_of old asn ≡ role_of new asn)
       → ((n : ℕ) → has after n ≡ (has before n || is_member members x n))

@@ -8,5 +8,6 @@ pub mod Naming
 pub mod Numbers
 pub mod Peers
 pub mod Taking
+pub mod Totals
 pub mod Touched
 pub mod Touching

@@ -1,18 +1,14 @@
 -- How the touched cases are found. Private contracts alone cite it.
-use Rattle.std.specs.Prelude.{◌≡◌, ℕ, nat_eq, Bool, true, false, not, ◌&&◌, ◌||◌, List, [], ◌∷◌, ◌⊎◌}
+use Rattle.std.specs.Prelude.{◌≡◌, ⊤, ℕ, nat_eq, Bool, true, false, not, ◌&&◌, List, [], ◌∷◌, ◌⊎◌}
+use Rattle.std.specs.declared.option.Option.{Option}
+use Rattle.std.specs.declared.option.Option.TheVariants.{Some, None}
 use Rattle.std.specs.List.{list_any}
+use Rattle.std.specs.List.Sorted.{IsNonDecreasing}
 use Rattle.path_model.specs.declared.authority.Authority.{Authority}
 use Rattle.path_model.specs.declared.authority.Authority.TheVariants.{Silent, Refuses, Provides}
 use Rattle.path_model.specs.Authority.{said_by}
 use Rattle.hop_index.specs.Index.{Entries, has as hops_have}
 use Rattle.vap_table.specs.declared.moves.RowMove.{RowMove}
-use Rattle.shared_cases.specs.declared.set_out.SetOut.{SetOut}
-use Rattle.shared_cases.specs.Numbers.{has as numbers_have}
-
--- whether two answers differ
-abbrev pub are_other : Bool → Bool → Bool
-are_other true b = not b
-are_other false b = b
 
 abbrev pub same_authority : Authority → Authority → Bool
 same_authority Silent Silent = true
@@ -29,9 +25,10 @@ same_authority Provides Provides = true
 abbrev pub differs : RowMove → ℕ → Bool
 differs m y = not (same_authority (said_by m.before y) (said_by m.after y))
 
--- the same by the rows set out: there is one row and not the other, or one has y and not the other
-abbrev pub differs_by : SetOut → ℕ → Bool
-differs_by rows y = are_other rows.was rows.is || are_other (numbers_have rows.before.keys y) (numbers_have rows.after.keys y)
+-- the row doesn't fall, if there is one
+abbrev pub IsRisen : Option (List ℕ) → Type 0
+IsRisen None = ⊤
+IsRisen (Some row) = IsNonDecreasing row
 
 -- among these other ends of the customer's hops, one of the case n at which the customer attests another thing
 abbrev pub touches : RowMove → ℕ → List (ℕ × ℕ) → Bool

@@ -1,4 +1,9 @@
 //! One case.
+ghost use Rattle.std.specs.Prelude.{◌≡◌, IfOk};
+ghost use Rattle.shared_cases.specs.Taking.{new_case};
+
+use crate::case_name::CaseName;
+use av_base::NoMemory;
 use path_model::{Trail, Verdict};
 use ramps::Judged;
 
@@ -27,4 +32,18 @@ pub struct Case<'a> {
     pub judged: &'a Judged,
     /// Its verdict at the last mark, or when it came.
     pub marked: Verdict,
+}
+
+// What is stored of a new case.
+pub(crate) fn new_case(name: &CaseName, judged: Judged) -> Result<StoredCase, NoMemory>
+    ensures { IfOk result (λ case. case ≡ new_case name.now.asn name.now.trail judged) }
+{
+    Ok(StoredCase {
+        trail: name.trail.copy()?,
+        users: 1,
+        marked: judged.verdict(),
+        judged,
+        asn: name.asn,
+        differed: false,
+    })
 }

@@ -8,8 +8,9 @@ ghost use Rattle.shared_cases.specs.Grounds.{grounds, IsJudged};
 ghost use Rattle.shared_cases.specs.Names.{name_of};
 ghost use Rattle.shared_cases.specs.Numbers.{has};
 ghost use Rattle.shared_cases.specs.Taking.{is_shared, left, lowered, raised, new_case, Takes};
+ghost use Rattle.shared_cases.specs.Totals.{totals_of};
 
-use crate::case::{Case, StoredCase};
+use crate::case::{Case, StoredCase, new_case};
 use crate::case_name::CaseName;
 use crate::hints::Hints;
 use crate::names::Names;
@@ -17,6 +18,7 @@ use crate::numbers::CaseNumbers;
 use crate::peers::Peers;
 use crate::rejudging::rejudge_all;
 use crate::slots;
+use crate::totals::Totals;
 use av_base::{NoMemory, Steps};
 use hop_index::HopIndex;
 use path_model::{Roles, Trail, Verdict};
@@ -36,6 +38,8 @@ pub struct SharedCases {
     pub(crate) names: Names,
     pub(crate) index: HopIndex,
     pub(crate) peers: Peers,
+    // how many routes have them, by their verdicts
+    pub(crate) totals: Totals,
     // those that got another verdict since the last mark; some may be gone
     pub(crate) differed: CaseNumbers,
     // where a case is looked for first
@@ -51,6 +55,7 @@ impl Drop for SharedCases {
             names: _names,
             index: _index,
             peers: _peers,
+            totals: _totals,
             differed: _differed,
             hints: _hints,
         } = self;
@@ -58,14 +63,17 @@ impl Drop for SharedCases {
 }
 
 impl Model for SharedCases {
+    ghost use Rattle.std.specs.Prelude.{◌≡◌};
     ghost use Rattle.shared_cases.specs.Cases.{Slots};
     ghost use Rattle.shared_cases.specs.Kept.{AreKept};
+    ghost use Rattle.shared_cases.specs.Totals.{totals_of};
 
     ghost Value = { Slots };
 
     ghost view = { λ a. a.slab.slots };
 
-    ghost invariant = { λ a. AreKept a.slab.slots a.names a.index a.peers a.differed };
+    ghost invariant = { λ a. AreKept a.slab.slots a.names a.index a.peers a.differed
+        × (a.totals ≡ totals_of a.slab.slots) };
 }
 
 impl SharedCases {
@@ -79,6 +87,7 @@ impl SharedCases {
             names: Names::new(alloc),
             index: HopIndex::new(alloc),
             peers: Peers::new(alloc),
+            totals: Totals::none(),
             differed: CaseNumbers::new(alloc),
             hints: Hints::new(alloc),
         }
@@ -115,6 +124,13 @@ impl SharedCases {
             None => Verdict::Invalid,
             Some(case) => case.marked,
         }
+    }
+
+    /// How many routes have cases with each verdict. No case is visited.
+    pub fn totals(&self) -> Totals
+        ensures { result ≡ totals_of self.now }
+    {
+        self.totals
     }
 
     /// The hops of the cases.
@@ -176,7 +192,11 @@ impl SharedCases {
     pub fn take_again(&mut self, number: u32) -> Result<(), NoMemory>
         ensures { OnOk result (Rewrites self.old self.new number (raised (at self.old number))) }
     {
+        let totals = self
+            .totals
+            .plus(slots::one_user(&self.slab, number as usize))?;
         slots::raise(&mut self.slab, number as usize)?;
+        self.totals = totals;
         Ok(())
     }
 
@@ -203,16 +223,18 @@ impl SharedCases {
             names,
             index,
             peers,
+            totals,
             differed,
             hints,
         } = self;
-        mark_all(&mut slab, &differed);
+        slots::mark_all(&mut slab, &differed);
         SharedCases {
             alloc,
             slab,
             names,
             index,
             peers,
+            totals,
             differed: CaseNumbers::new(alloc),
             hints,
         }
@@ -242,10 +264,11 @@ impl SharedCases {
             names,
             index,
             peers,
+            mut totals,
             mut differed,
             hints,
         } = self;
-        let newly = rejudge_all(alloc, &mut slab, touched, table, roles, steps)?;
+        let newly = rejudge_all(alloc, &mut slab, &mut totals, touched, table, roles, steps)?;
         differed.insert_all(&newly)?;
         let cases = SharedCases {
             alloc,
@@ -253,6 +276,7 @@ impl SharedCases {
             names,
             index,
             peers,
+            totals,
             differed,
             hints,
         };
@@ -294,18 +318,13 @@ impl SharedCases {
             mut names,
             index,
             peers,
+            totals,
             differed,
             mut hints,
         } = self;
         let asn = name.asn;
-        let case = StoredCase {
-            trail: name.trail.copy()?,
-            users: 1,
-            marked: judged.verdict(),
-            judged,
-            asn,
-            differed: false,
-        };
+        let totals = totals.plus(Totals::of(judged.verdict(), 1))?;
+        let case = new_case(&name, judged)?;
         let number = slab.insert(case)?;
         let short = u32::try_from(number).ok().ok_or(NoMemory)?;
         let index = index.add(number, name.trail.chain())?;
@@ -319,6 +338,7 @@ impl SharedCases {
             names,
             index,
             peers,
+            totals,
             differed,
             hints,
         };
@@ -327,8 +347,11 @@ impl SharedCases {
 
     // One user less of a case that has more than one.
     fn lower(&mut self, number: u32)
+        requires { is_shared (at self.old number) ≡ true }
         ensures { Rewrites self.old self.new number (lowered (at self.old number)) }
     {
+        let one = slots::one_user(&self.slab, number as usize);
+        self.totals = self.totals.minus(one);
         slots::lower(&mut self.slab, number as usize);
     }
 
@@ -342,6 +365,7 @@ impl SharedCases {
             mut names,
             index,
             peers,
+            totals,
             differed,
             hints,
         } = self;
@@ -352,10 +376,12 @@ impl SharedCases {
                 names,
                 index,
                 peers,
+                totals,
                 differed,
                 hints,
             };
         };
+        let totals = totals.minus(Totals::of(case.judged.verdict(), case.users));
         let index = index.remove(number as usize, case.trail.chain());
         let peers = peers.remove(case.asn, number as usize);
         names.remove(&CaseName::new(case.asn, case.trail), number);
@@ -365,20 +391,9 @@ impl SharedCases {
             names,
             index,
             peers,
+            totals,
             differed,
             hints,
         }
-    }
-}
-
-// The verdicts of these cases become the marked ones.
-fn mark_all(slab: &mut Slab<StoredCase>, differed: &CaseNumbers)
-    ensures marked { (n : ℕ) → has differed.now n ≡ true
-        → at slab.new.slots n ≡ marked_now (at slab.old.slots n) }
-    ensures others { (n : ℕ) → has differed.now n ≡ false
-        → at slab.new.slots n ≡ at slab.old.slots n }
-{
-    for number in differed.iter() {
-        slots::mark(slab, *number);
     }
 }

@@ -1,9 +1,9 @@
 //! Cases that routes share: a peer AS with a path, judged once for all routes that have it.
 //!
 //! The layer above uses one contract for each event: [`SharedCases::take`] and [`SharedCases::leave`] count the routes of a case, and
-//! [`SharedCases::follow_table`], [`SharedCases::follow_role`] and [`SharedCases::follow_roles`] judge anew exactly once what another table or
-//! other roles touch, so that **every case that had its right judgement has it again**. Begin reading in `specs/Cases.antt`, then in
-//! `specs/Taking.antt` and in `specs/Touched.antt`.
+//! [`SharedCases::follow_table`], [`SharedCases::follow_role`] and [`SharedCases::follow_default`] judge anew exactly once what another
+//! table or other roles touch, so that **every case that had its right judgement has it again**. [`SharedCases::totals`] says how many
+//! routes have which verdict. Begin reading in `specs/Cases.antt`, then in `specs/Taking.antt` and in `specs/Touched.antt`.
 //!
 //! A case has a number as long as some route has it. It is found by its name (`case_name`, `names`), by its hops (the crate `hop_index`)
 //! and by its AS (`peers`); each case that gets another verdict than the marked one is told once to the caller (`specs/Differed.antt`), and its
@@ -14,14 +14,16 @@ mod case;
 mod case_name;
 mod cases;
 mod hints;
+mod moved_rows;
 mod names;
 mod numbers;
 mod peers;
 mod rejudging;
-mod set_out;
 mod slots;
+mod totals;
 mod touched;
 
 pub use case::Case;
 pub use cases::SharedCases;
 pub use numbers::CaseNumbers;
+pub use totals::Totals;

@@ -10,13 +10,15 @@ ghost use Rattle.shared_cases.specs.Cases.{at, AreSameCases};
 ghost use Rattle.shared_cases.specs.Differed.{HasDiffered, HaveDiffered, AreNewlyDiffering};
 ghost use Rattle.shared_cases.specs.Grounds.{by_table, grounds, IsJudged};
 ghost use Rattle.shared_cases.specs.Numbers.{has};
+ghost use Rattle.shared_cases.specs.Totals.{totals_of};
 ghost use Rattle.shared_cases.specs.Touched.{AreWithinTouched, IsRoleMove};
 
 use crate::SharedCases;
 use crate::case::StoredCase;
 use crate::numbers::CaseNumbers;
-use crate::slots::judge_anew;
-use crate::touched::{touched_by_moves, touched_by_role, touched_by_roles};
+use crate::slots::{judge_anew, share};
+use crate::totals::Totals;
+use crate::touched::{touched_by_default, touched_by_moves, touched_by_role};
 use av_base::{NoMemory, Steps};
 use path_model::{Role, Roles};
 use slab::Slab;
@@ -26,9 +28,9 @@ use vap_table::{Moves, Vaps};
 
 impl SharedCases {
     /// The table is another one from now on, by these moves. It judges anew, once each, the cases with a hop of which something else is
-    /// attested, and takes the time of a look-up for each move and each neighbour of its customer, and of the hops of these customers.
-    /// Answered are the cases, and the numbers of those that get another verdict than the marked one for the first time since the last
-    /// mark, or since they came.
+    /// attested, and takes the time of a look-up for each move and each neighbour of its customer, of the hops of these customers, and of
+    /// a walk over the rows of each that has hops. Answered are the cases, and the numbers of those that get another verdict than the
+    /// marked one for the first time since the last mark, or since they came.
     pub fn follow_table<L: Ledger>(
         self,
         moves: &Moves,
@@ -78,34 +80,36 @@ impl SharedCases {
         Ok((cases, newly))
     }
 
-    /// The roles are other ones from now on. It judges anew, once each, the cases of the ASes whose role is another one, and takes the time
-    /// of two look-ups for each AS that has cases, and of the cases judged. It answers as [`SharedCases::follow_table`] does.
-    pub fn follow_roles<L: Ledger>(
+    /// The default role, which was `before`, is that of `roles` from now on. Where these differ it judges anew, once each, the cases of the
+    /// ASes without a role of their own. It takes the time of one look-up for each AS that has cases, and of the cases judged; where the
+    /// default is the same, none. It answers as [`SharedCases::follow_table`] does.
+    pub fn follow_default<L: Ledger>(
         self,
-        before: &Roles,
+        before: Role,
         table: &Vaps,
         roles: &Roles,
         steps: &mut Steps<L>,
     ) -> Result<(SharedCases, CaseNumbers), NoMemory>
         ensures same { IfOk result (λ r. AreSameCases self r.0) }
-        ensures judged { IfOk result (λ r.
-            (n : ℕ) → IsJudged (grounds table.now before.now) (at self n)
+        ensures judged { IfOk result (λ r. (n : ℕ)
+            → IsJudged (grounds table.now (record roles.now { default = before })) (at self n)
             → IsJudged (grounds table.now roles.now) (at r.0 n)) }
         ensures differed { IfOk result (λ r. HaveDiffered self r.0) }
         ensures newly { IfOk result (λ r. AreNewlyDiffering self r.0 r.1) }
-        ensures ticks { AreWithinTouched (grounds table.now before.now)
+        ensures ticks { AreWithinTouched (grounds table.now (record roles.now { default = before }))
             (grounds table.now roles.now) self (steps.new - steps.old) }
     {
-        let touched = touched_by_roles(self.alloc, &self.peers, before, roles)?;
+        let touched = touched_by_default(self.alloc, &self.peers, before, roles)?;
         let (cases, newly) = self.rejudge(&touched, table, roles, steps)?;
         Ok((cases, newly))
     }
 }
 
-// These cases are judged anew, and the answer is which of them differ from now on and hadn't before.
+// These cases are judged anew, and the answer is which of them differ from now on and hadn't before. The totals go along.
 pub(crate) fn rejudge_all<L: Ledger>(
     alloc: Global,
     slab: &mut Slab<StoredCase>,
+    totals: &mut Totals,
     touched: &CaseNumbers,
     table: &Vaps,
     roles: &Roles,
@@ -120,12 +124,19 @@ pub(crate) fn rejudge_all<L: Ledger>(
         → HasDiffered (at slab.old.slots n) (at slab.new.slots n)) }
     ensures newly { IfOk result (λ newly.
         AreNewlyDiffering slab.old.slots slab.new.slots newly) }
+    ensures counted { OnOk result (totals.old ≡ totals_of slab.old.slots
+        → totals.new ≡ totals_of slab.new.slots) }
     ensures rising { IsStrictlySortedBy nat_cmp touched.now }
     ensures ticks { steps.new ≤ steps.old + length touched.now }
 {
     let mut newly = CaseNumbers::new(alloc);
     for number in touched.iter() {
-        if judge_anew(slab, *number, table, roles, steps) {
+        let before = share(slab, *number);
+        let differs = judge_anew(slab, *number, table, roles, steps);
+        let after = share(slab, *number);
+        let both = totals.plus(after)?;
+        *totals = both.minus(before);
+        if differs {
             newly.insert(*number)?;
         }
     }

@@ -1,11 +1,15 @@
-//! What is done to one case under its number.
-ghost use Rattle.std.specs.Prelude.{◌≡◌, ◌≢◌, ◌≤◌, ◌+◌, ◌↔◌, ◌&&◌, not, ℕ, IsTrue, OnOk, OnErr};
+//! What is done to cases under their numbers.
+ghost use Rattle.std.specs.Prelude.{◌≡◌, ◌≢◌, ◌≤◌, ◌+◌, ◌↔◌, ◌&&◌, not, true, false, ℕ, IsTrue, OnOk, OnErr};
 ghost use Rattle.shared_cases.specs.Cases.{at, has_differed, marked_now, same_verdict, Rewrites, IsSameCase, IsStoredAs};
 ghost use Rattle.shared_cases.specs.Differed.{HasDiffered};
 ghost use Rattle.shared_cases.specs.Grounds.{grounds, IsJudged};
+ghost use Rattle.shared_cases.specs.Numbers.{has};
 ghost use Rattle.shared_cases.specs.Taking.{is_shared, lowered, raised};
+ghost use Rattle.shared_cases.specs.Totals.{one_user, share_of};
 
 use crate::case::StoredCase;
+use crate::numbers::CaseNumbers;
+use crate::totals::Totals;
 use av_base::{NoMemory, Steps};
 use path_model::{Roles, Trail, Verdict};
 use ramps::judge;
@@ -28,6 +32,26 @@ fn is_same_trail(one: &Trail, other: &Trail) -> bool
     ensures { IsTrue result ↔ (one.now ≡ other.now) }
 {
     one.is_set() == other.is_set() && one.chain().as_slice() == other.chain().as_slice()
+}
+
+// The routes of the case, by its verdict; none where there is no case.
+pub(crate) fn share(slab: &Slab<StoredCase>, number: usize) -> Totals
+    ensures { result ≡ share_of (at slab.now.slots number) }
+{
+    match slab.get(number) {
+        None => Totals::none(),
+        Some(case) => Totals::of(case.judged.verdict(), case.users),
+    }
+}
+
+// One of its routes, by its verdict; none where there is no case.
+pub(crate) fn one_user(slab: &Slab<StoredCase>, number: usize) -> Totals
+    ensures { result ≡ one_user (at slab.now.slots number) }
+{
+    match slab.get(number) {
+        None => Totals::none(),
+        Some(case) => Totals::of(case.judged.verdict(), 1),
+    }
 }
 
 // One user more.
@@ -72,6 +96,18 @@ pub(crate) fn mark(slab: &mut Slab<StoredCase>, number: usize)
     };
     case.marked = case.judged.verdict();
     case.differed = false;
+}
+
+// The verdicts of these cases become the marked ones.
+pub(crate) fn mark_all(slab: &mut Slab<StoredCase>, differed: &CaseNumbers)
+    ensures marked { (n : ℕ) → has differed.now n ≡ true
+        → at slab.new.slots n ≡ marked_now (at slab.old.slots n) }
+    ensures others { (n : ℕ) → has differed.now n ≡ false
+        → at slab.new.slots n ≡ at slab.old.slots n }
+{
+    for number in differed.iter() {
+        mark(slab, *number);
+    }
 }
 
 // It is judged anew, and the answer is whether it differs from now on and hadn't before.

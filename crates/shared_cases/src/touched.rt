@@ -5,17 +5,17 @@ ghost use Rattle.shared_cases.specs.Numbers.{has};
 ghost use Rattle.shared_cases.specs.Peers.{is_member, HasMovedMember, IsMovedMember};
 ghost use Rattle.shared_cases.specs.Touching.{IsTouchedAt, IsTouchedBy};
 
+use crate::moved_rows::MovedRows;
 use crate::numbers::CaseNumbers;
 use crate::peers::Peers;
-use crate::set_out::SetOut;
 use av_base::NoMemory;
 use hop_index::HopIndex;
 use path_model::{Role, Roles};
 use std::alloc::Global;
 use vap_table::{Moves, RowMove};
 
-// The cases that some move touches. It takes the time of a look-up for each move and for each neighbour of its customer, and of what is
-// found.
+// The cases that some move touches. It takes the time of a look-up for each move; where its customer has hops, also of a walk over its
+// rows, of a look-up for each neighbour of the customer, and of what is found.
 pub(crate) fn touched_by_moves(
     alloc: Global,
     index: &HopIndex,
@@ -26,26 +26,31 @@ pub(crate) fn touched_by_moves(
 {
     let mut touched = CaseNumbers::new(alloc);
     for row_move in moves.as_slice() {
-        touch(alloc, index, row_move, &mut touched)?;
+        touch(index, row_move, &mut touched)?;
     }
     Ok(touched)
 }
 
-// The cases of the ASes whose role is another one. It takes the time of two look-ups for each AS that has cases, and of what is found.
-pub(crate) fn touched_by_roles(
+// The cases of the ASes without a role of their own, where the default was `before` and is another one. It takes the time of a look-up for
+// each AS that has cases, and of what is found; where the default is the same, none.
+pub(crate) fn touched_by_default(
     alloc: Global,
     peers: &Peers,
-    before: &Roles,
-    after: &Roles,
+    before: Role,
+    roles: &Roles,
 ) -> Result<CaseNumbers, NoMemory>
     ensures others { IfOk result (λ touched. (asn n : ℕ) → is_member peers.now asn n ≡ true
-        → has touched n ≡ false → role_of before.now asn ≡ role_of after.now asn) }
+        → has touched n ≡ false
+        → role_of (record roles.now { default = before }) asn ≡ role_of roles.now asn) }
     ensures only { IfOk result (λ touched. (n : ℕ) → has touched n ≡ true
-        → HasMovedMember peers.now before.now after.now n) }
+        → HasMovedMember peers.now (record roles.now { default = before }) roles.now n) }
 {
     let mut touched = CaseNumbers::new(alloc);
+    if is_same_role(before, roles.default()) {
+        return Ok(touched);
+    }
     for asn in peers.ases() {
-        if is_same_role(before.of(*asn), after.of(*asn)) {
+        if roles.has_own(*asn) {
             continue;
         }
         touch_members(peers, *asn, &mut touched)?;
@@ -85,17 +90,16 @@ fn touch_members(peers: &Peers, asn: u32, touched: &mut CaseNumbers) -> Result<(
     }
 }
 
-// The cases that a move touches come to the others. Each row is set out once, and looked up in for each hop.
-fn touch(
-    alloc: Global,
-    index: &HopIndex,
-    row_move: &RowMove,
-    touched: &mut CaseNumbers,
-) -> Result<(), NoMemory>
+// The cases that a move touches come to the others. Its rows are read only where its customer has a hop.
+fn touch(index: &HopIndex, row_move: &RowMove, touched: &mut CaseNumbers) -> Result<(), NoMemory>
     ensures { OnOk result ((n : ℕ) → (has touched.new n ≡ true)
         ↔ ((has touched.old n ≡ true) ⊎ IsTouchedAt index.now row_move.now n)) }
 {
-    let rows = SetOut::new(alloc, row_move)?;
+    let mut ends = index.through(row_move.customer);
+    if ends.next().is_none() {
+        return Ok(());
+    }
+    let rows = MovedRows::new(row_move);
     for (provider, case) in index.through(row_move.customer) {
         if rows.is_moved(provider) {
             touched.insert(case)?;

@@ -1,6 +1,7 @@
-use Rattle.std.proofs.Common.{◌+◌, ◌≤◌, length}
+use Rattle.std.proofs.Common.{◌≡◌, ◌+◌, ◌≤◌, length}
 use Rattle.shared_cases.specs.Grounds.{grounds}
 use Rattle.shared_cases.specs.Numbers.{has}
+use Rattle.shared_cases.specs.Totals.{totals_of}
 use Rattle.shared_cases.proofs.RejudgingLemmas.{IsRejudging}
 use Rattle.shared_cases.proofs.rejudging.rejudge_all.Given as goal
 
@@ -8,5 +9,6 @@ use Rattle.shared_cases.proofs.rejudging.rejudge_all.Given as goal
 abbrev pub invariant-loop-number : goal.invariant-loop-number
 invariant-loop-number g l = record {
   so_far : IsRejudging (grounds l.table l.roles) (has l.touched) l.fn.slab.slots l.slab.slots l.number-iterator l.newly;
+  counted : l.fn.totals ≡ totals_of l.fn.slab.slots → l.totals ≡ totals_of l.slab.slots;
   ticks : l.steps + length l.number-iterator ≤ l.fn.steps + length l.touched;
 }

@@ -8,7 +8,7 @@ use Rattle.shared_cases.proofs.cases.SharedCases.follow_role.Goals as goal
 pub returns-in_err-cases-clause-ticks : goal.returns-in_err-cases-clause-ticks
 returns-in_err-cases-clause-ticks g c = λ old move.
     roles_touch c.args.self c.args.self c.self.inside.names c.self.inside.index c.self.inside.peers
-    (subst (λ (cases : Slots). AreIndexed cases c.self.inside.names c.self.inside.index c.self.inside.peers) c.self.view_is c.self.invariant.indexed)
+    (subst (λ (cases : Slots). AreIndexed cases c.self.inside.names c.self.inside.index c.self.inside.peers) c.self.view_is c.self.invariant.0.indexed)
     c.in_ok-touched.touched (table_of c.args.table.now) old c.args.roles.now
     (role_others c.self.inside.peers c.args.asn c.in_ok-touched.touched c.args.before c.of.result old c.args.roles.now move c.of.ensures c.in_ok-touched.ensures.others)
     (role_only c.self.inside.peers c.args.asn c.in_ok-touched.touched c.args.before c.of.result old c.args.roles.now move c.of.ensures c.in_ok-touched.ensures.only)
@@ -17,7 +17,7 @@ returns-in_err-cases-clause-ticks g c = λ old move.
 pub returns-clause-judged : goal.returns-clause-judged
 returns-clause-judged g c = λ old move.
     roles_followed c.args.self c.in_ok-cases.cases c.self.inside.names c.self.inside.index c.self.inside.peers
-    (subst (λ (cases : Slots). AreIndexed cases c.self.inside.names c.self.inside.index c.self.inside.peers) c.self.view_is c.self.invariant.indexed)
+    (subst (λ (cases : Slots). AreIndexed cases c.self.inside.names c.self.inside.index c.self.inside.peers) c.self.view_is c.self.invariant.0.indexed)
     c.in_ok-touched.touched (table_of c.args.table.now) old c.args.roles.now
     (role_others c.self.inside.peers c.args.asn c.in_ok-touched.touched c.args.before c.of.result old c.args.roles.now move c.of.ensures c.in_ok-touched.ensures.others)
     (role_only c.self.inside.peers c.args.asn c.in_ok-touched.touched c.args.before c.of.result old c.args.roles.now move c.of.ensures c.in_ok-touched.ensures.only)
@@ -26,7 +26,7 @@ returns-clause-judged g c = λ old move.
 pub returns-clause-ticks : goal.returns-clause-ticks
 returns-clause-ticks g c = λ old move.
     roles_touch c.args.self c.args.self c.self.inside.names c.self.inside.index c.self.inside.peers
-    (subst (λ (cases : Slots). AreIndexed cases c.self.inside.names c.self.inside.index c.self.inside.peers) c.self.view_is c.self.invariant.indexed)
+    (subst (λ (cases : Slots). AreIndexed cases c.self.inside.names c.self.inside.index c.self.inside.peers) c.self.view_is c.self.invariant.0.indexed)
     c.in_ok-touched.touched (table_of c.args.table.now) old c.args.roles.now
     (role_others c.self.inside.peers c.args.asn c.in_ok-touched.touched c.args.before c.of.result old c.args.roles.now move c.of.ensures c.in_ok-touched.ensures.others)
     (role_only c.self.inside.peers c.args.asn c.in_ok-touched.touched c.args.before c.of.result old c.args.roles.now move c.of.ensures c.in_ok-touched.ensures.only)

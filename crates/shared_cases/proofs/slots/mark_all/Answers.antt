@@ -3,7 +3,7 @@ use Rattle.std.specs.Map.Iter.{deref}
 use Rattle.std.proofs.lemmas.Map.Iter.{rest_more}
 use Rattle.shared_cases.specs.Numbers.{has}
 use Rattle.shared_cases.proofs.KeptLemmas.{IsMarking, marking_next}
-use Rattle.shared_cases.proofs.cases.mark_all.Goals as goal
+use Rattle.shared_cases.proofs.slots.mark_all.Goals as goal
 
 pub loop-number-preserved : goal.loop-number-preserved
 loop-number-preserved c =
