@@ -7,8 +7,8 @@ use Rattle.shared_cases.proofs.RejudgingLemmas.{IsRejudging, rejudging_next, tol
 use Rattle.shared_cases.proofs.TotalsLemmas.{rejudged_totals}
 use Rattle.shared_cases.proofs.rejudging.rejudge_all.Goals as goal
 
-pub loop-number-preserved-in-Continue-1 : goal.loop-number-preserved-in-Continue-1
-loop-number-preserved-in-Continue-1 g c =
+pub loop-number-preserved-in-Continue-branch-2 : goal.loop-number-preserved-in-Continue-branch-2
+loop-number-preserved-in-Continue-branch-2 g c =
     let e : c.loop-number.number-iterator ≡ c.in-Some.number.now ∷ c.next.new.self = rest_more deref c.loop-number.number-iterator c.next.new.self c.next.result c.in-Some.number c.in-Some.is c.next.ensures.steps in
     record {
       so_far = rejudging_next (grounds c.args.table.now c.args.roles.now) (has c.args.touched.now) c.args.slab.now.slots c.loop-number.slab.slots c.judge_anew-differs.new.slab.slots c.in-Some.number.now c.next.new.self

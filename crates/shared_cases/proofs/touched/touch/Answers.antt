@@ -1,4 +1,4 @@
-use Rattle.std.proofs.Common.{◌≡◌, ◌||◌, List, ℕ, [], rules}
+use Rattle.std.proofs.Common.{◌≡◌, ◌||◌, [], rules}
 use Rattle.hop_index.specs.Through.{ends_left}
 use Rattle.shared_cases.specs.Numbers.{has}
 use Rattle.shared_cases.specs.Touching.{touches}
