@@ -47,7 +47,6 @@ impl Plain {
 
     fn remove_all(&mut self, peer: Peer, prefixes: &PrefixList) {
         for prefix in prefixes.iter() {
-            let prefix = *prefix;
             self.routes.remove(&Key { peer, prefix });
         }
     }
@@ -59,7 +58,6 @@ impl Plain {
         prefixes: &PrefixList,
     ) -> Result<(), NoMemory> {
         for prefix in prefixes.iter() {
-            let prefix = *prefix;
             self.routes.insert(Key { peer, prefix }, trail.copy()?)?;
         }
         Ok(())

@@ -18,13 +18,13 @@ fn compare_batch(rt: &impl Abort, batch: &Batch, wants: &mut Iter<'_, Wanted>) {
         Batch::One(change) => assert!(rt; is_wanted(change, wants.next())),
         Batch::RemoveAll(peer, prefixes) => {
             for prefix in prefixes.iter() {
-                let key = key_of(*peer, *prefix);
+                let key = key_of(*peer, prefix);
                 assert!(rt; is_removal(&key, wants.next()));
             }
         }
         Batch::AnnounceAll(peer, trail, prefixes) => {
             for prefix in prefixes.iter() {
-                let key = key_of(*peer, *prefix);
+                let key = key_of(*peer, prefix);
                 assert!(rt; is_announcement(&key, trail, wants.next()));
             }
         }
