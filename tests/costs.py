@@ -1,7 +1,7 @@
 #!/usr/bin/env python3
-"""Where the number of a script's lines, or of what they go over, doubles, their time grows at most by the factor 2.6, counted from 0.15 s on.
-Only lines that give one customer a provider more may each cost the customer's row: there it is the factor 5, and 10,000 assertions take at most
-2.5 s.
+"""Where the lines of a script and all that is held beside them double together, their time grows at most by the factor 2.6, counted from 0.15 s
+on: a line costs what it touches, and not what is held. Only lines that give one customer a provider more may each cost the customer's row: there it
+is the factor 5, and 10,000 assertions take at most 2.5 s.
 
 Usage: costs.py PROGRAM. Runs scripts with lines of each kind and prints a table of the processor seconds that these lines take, beside a run
 of the same script without them. The last line is 'N passed, M failed', and the status is 0 where none failed.
@@ -106,28 +106,28 @@ def other_sources(folder, size):
 
 
 def roles(folder, size):
-    """The role of all others, turned over, where so many ASes have a role."""
+    """The role of all others, turned over, as often as ASes have a role of their own."""
     before = "".join(f"role {1 + i} peer\n" for i in range(size))
-    return before, "role default customer\nrole default peer\n" * 100
+    return before, "role default customer\nrole default peer\n" * (size // 2)
 
 
 def summaries(folder, size):
-    """Summaries of 100,000 routes."""
-    routes = b"".join(route(i, 0, [PEER, 7, 100_000 + i // 10]) for i in range(100_000))
+    """Summaries, of a thousand times as many routes."""
+    routes = b"".join(route(i, 0, [PEER, 7, 100_000 + i // 10]) for i in range(1_000 * size))
     dump = write(folder, "dump", peer_table(1) + routes)
     return f"open d {dump}\ntake d {ALL}\n", "summary\n" * size
 
 
 def filters(folder, size):
-    """Filters that are there already, and ones that aren't and go, of an AS on each path of a table."""
-    routes = b"".join(route(i, 0, [PEER, 7, 100_000 + i]) for i in range(10_000))
+    """Filters that are there already, and ones that aren't and go, of an AS on each path of a table of as many routes."""
+    routes = b"".join(route(i, 0, [PEER, 7, 100_000 + i]) for i in range(size))
     dump = write(folder, "dump", peer_table(1) + routes)
     return f"open d {dump}\ntake d {ALL}\nfilter 7\n", "filter 7\nunfilter 8\n" * size
 
 
 def rows(folder, size):
-    """So many customers with 10,000 providers each, loaded by one line."""
-    file = write(folder, "payloads", b"".join(payload(1 + i, range(1_000, 11_000)) for i in range(size)))
+    """Customers with a hundred times as many providers each, all with the same ones, loaded by one line: its bytes are four times as many."""
+    file = write(folder, "payloads", b"".join(payload(1 + i, range(1_000, 1_000 + 100 * size)) for i in range(size)))
     return "", f"aspa a {file}\n"
 
 
@@ -137,10 +137,10 @@ KINDS = (
     ("assertions of one customer, one provider each", assertions, (2_500, 5_000, 10_000), ROW),
     ("sources that attest one customer, the same provider", sources, (2_000, 4_000, 8_000), LINEAR),
     ("sources that attest one customer, one provider each", other_sources, (500, 1_000, 2_000), ROW),
-    ("roles, where the default role is turned 200 times", roles, (10_000, 20_000, 40_000), LINEAR),
-    ("summaries of 100,000 routes", summaries, (50, 100, 200), LINEAR),
-    ("filters that change nothing, two lines each", filters, (20_000, 40_000, 80_000), LINEAR),
-    ("rows of 10,000 providers in one line", rows, (25, 50, 100), LINEAR),
+    ("roles, and the default role turned as often", roles, (5_000, 10_000, 20_000), LINEAR),
+    ("summaries, of a thousand times as many routes", summaries, (50, 100, 200), LINEAR),
+    ("filters that change nothing, of as many routes", filters, (20_000, 40_000, 80_000), LINEAR),
+    ("customers with a hundred times as many providers", rows, (25, 50, 100), ROW),
 )
 
 

@@ -1,6 +1,6 @@
 #!/usr/bin/env python3
 """UPDATE messages with a path of 16,000 ASes and many prefixes cost about what messages of as many bytes with a short path cost: at most twice the
-time, and 20 bytes of memory for each byte of a message, beside what is kept of it: at most 128 bytes for each hop of a path, and 64 for each route.
+time, and 20 bytes of memory for each byte of a message, beside what is kept of it: at most 128 bytes for each hop of a path, and 20 for each route.
 
 Usage: one_update.py PROGRAM. Writes two dumps of such messages, has the program take each, and compares the time and the peak memory. The last
 line is 'N passed, M failed', and the status is 0 where none failed.
@@ -21,7 +21,7 @@ LONG_PATH = 16_000
 
 # How many bytes of memory a hop and a route that are kept may take.
 HOP = 128
-ROUTE = 64
+ROUTE = 20
 
 # An AS_SEQUENCE has at most so many ASes.
 SEGMENT = 255

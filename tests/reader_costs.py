@@ -58,11 +58,22 @@ def route(at, path):
     hops = struct.pack(">BB", 2, len(path)) + b"".join(struct.pack(">I", asn) for asn in path)
     attributes = bytes([0x40, 2, len(hops)]) + hops
     entry = struct.pack(">HIH", 0, 0, len(attributes)) + attributes
-    return record(2, struct.pack(">I", at) + prefix(at) + struct.pack(">H", 1) + entry)
+    return record(2, struct.pack(">I", at & 0xFFFFFFFF) + prefix(at) + struct.pack(">H", 1) + entry)
 
 
 # How many inputs there are.
-COUNT = 14
+COUNT = 16
+
+def peers(count):
+    """A peer table of so many peers of one AS."""
+    return record(1, struct.pack(">IHH", 1, 0, count) + b"".join(struct.pack(">BIII", 2, 1, 1 + i, 64501) for i in range(count)))
+
+
+def from_all(count):
+    """A record of a route from each of so many peers, with an empty path."""
+    entries = b"".join(struct.pack(">HIH", at, 0, 3) + bytes([0x40, 2, 0]) for at in range(count))
+    return record(2, struct.pack(">I", 0) + prefix(7) + struct.pack(">H", count) + entries)
+
 
 PEERS = record(1, struct.pack(">IHH", 1, 0, 1) + struct.pack(">BIII", 2, 1, 1, 64501))
 SLURM = (
@@ -92,6 +103,8 @@ def inputs(size):
     ), "slurm input\n"
     yield "table: a route with a path of its own each", PEERS + fill(size, lambda at: route(at, [64501, 100_000 + at])), DUMP
     yield "table: routes with one path", PEERS + fill(size, lambda at: route(at, [64501, 7])), DUMP
+    yield "table: the same, in no order", PEERS + fill(size, lambda at: route(at * 2_654_435_761, [64501, 7])), DUMP
+    yield "table: 65,535 peers with a route each", peers(65_535) + from_all(65_535), DUMP
     yield "table: records that are refused", fill(size, lambda at: record(2, b"")), DUMP
     yield "updates: withdrawals of what isn't there", fill(
         size, withdrawals
