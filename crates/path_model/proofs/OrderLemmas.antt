@@ -1,12 +1,14 @@
--- The orders of addresses, prefixes, peers and keys tell different ones apart.
+-- The orders of addresses, prefixes, peers, announced prefixes and keys tell different ones apart.
 use Rattle.std.proofs.Common.{◌≡◌, refl, ap}
+use Rattle.std.specs.Option.{option_cmp}
+use Rattle.std.specs.declared.option.Option.TheVariants.{Some, None}
 use Rattle.std.specs.Ordering.{nat_cmp, ordering_then}
 use Rattle.std.specs.declared.cmp.Ordering.{Ordering}
 use Rattle.std.specs.declared.cmp.Ordering.TheVariants.{Less, Equal, Greater}
 use Rattle.std.proofs.lemmas.Map.Lookups.{CmpEqualImpliesEq, exact_unsigned}
 use Rattle.path_model.specs.declared.addr.Addr.TheVariants.{V4, V6}
 use Rattle.path_model.specs.Prefix.{addr_cmp, subnet_cmp}
-use Rattle.path_model.specs.Key.{peer_cmp, key_cmp}
+use Rattle.path_model.specs.Key.{peer_cmp, nlri_cmp, nlri_of, key_cmp}
 
 -- where one order after another finds no difference, neither does
 both_equal : (a b : Ordering) → ordering_then a b ≡ Equal → (a ≡ Equal) × (b ≡ Equal)
@@ -34,9 +36,22 @@ peer_exact a b e =
     let asn = exact_unsigned a.asn b.asn parts.1 in
     λ i. record { addr = addr i; asn = asn i }
 
+path_exact : CmpEqualImpliesEq (option_cmp nat_cmp)
+path_exact None None e = refl
+path_exact None (Some y) e = absurd cc
+path_exact (Some x) None e = absurd cc
+path_exact (Some x) (Some y) e = ap Some (exact_unsigned x y e)
+
+pub nlri_exact : CmpEqualImpliesEq nlri_cmp
+nlri_exact a b e =
+    let parts = both_equal (subnet_cmp a.prefix b.prefix) (option_cmp nat_cmp a.path b.path) e in
+    let prefix = subnet_exact a.prefix b.prefix parts.0 in
+    let path = path_exact a.path b.path parts.1 in
+    λ i. record { prefix = prefix i; path = path i }
+
 pub key_exact : CmpEqualImpliesEq key_cmp
 key_exact a b e =
-    let parts = both_equal (peer_cmp a.peer b.peer) (subnet_cmp a.prefix b.prefix) e in
+    let parts = both_equal (peer_cmp a.peer b.peer) (nlri_cmp (nlri_of a) (nlri_of b)) e in
     let peer = peer_exact a.peer b.peer parts.0 in
-    let prefix = subnet_exact a.prefix b.prefix parts.1 in
-    λ i. record { peer = peer i; prefix = prefix i }
+    let nlri = nlri_exact (nlri_of a) (nlri_of b) parts.1 in
+    λ i. record { peer = peer i; prefix = (nlri i).prefix; path = (nlri i).path }

@@ -1,7 +1,8 @@
 -- Codes of keys and paths: what a Model that has finite maps by key needs.
 use Rattle.std.specs.Prelude.{◌≡◌, ℕ, Bool, List, ◌⊎◌, refl}
 use Rattle.std.proofs.Common.{inl, inr}
-use Rattle.std.specs.Coded.{Coded, code_by, coded×, coded⊎, coded_ℕ, coded_bool, coded_list}
+use Rattle.std.specs.Coded.{Coded, code_by, coded×, coded⊎, coded_ℕ, coded_bool, coded_list, coded_option}
+use Rattle.std.specs.declared.option.Option.{Option}
 use Rattle.path_model.specs.declared.addr.Addr.{Addr}
 use Rattle.path_model.specs.declared.addr.Addr.TheVariants.{V4, V6}
 use Rattle.path_model.specs.declared.key.Key.{Key}
@@ -31,7 +32,8 @@ abbrev pub coded_peer : Coded Peer
 coded_peer = code_by (Addr × ℕ) (coded× coded_addr coded_ℕ) (λ s. (s.addr, s.asn)) (λ p. record { addr = p.0; asn = p.1 }) (λ _. refl)
 
 abbrev pub coded_key : Coded Key
-coded_key = code_by (Peer × Subnet) (coded× coded_peer coded_subnet) (λ k. (k.peer, k.prefix)) (λ p. record { peer = p.0; prefix = p.1 }) (λ _. refl)
+coded_key = code_by (Peer × (Subnet × Option ℕ)) (coded× coded_peer (coded× coded_subnet (coded_option coded_ℕ)))
+    (λ k. (k.peer, (k.prefix, k.path))) (λ p. record { peer = p.0; prefix = p.1.0; path = p.1.1 }) (λ _. refl)
 
 abbrev pub coded_path : Coded Path
 coded_path = code_by (Bool × List ℕ) (coded× coded_bool (coded_list coded_ℕ)) (λ p. (p.set, p.chain)) (λ p. record { set = p.0; chain = p.1 }) (λ _. refl)

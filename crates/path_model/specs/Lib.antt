@@ -9,8 +9,8 @@ pub mod Key
 pub mod Labelling
 pub mod Laws
 pub mod Name
-pub mod Packed
 pub mod Order
+pub mod Packed
 pub mod Prefix
 pub mod PrintedWitness
 pub mod Ramps

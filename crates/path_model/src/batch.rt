@@ -1,7 +1,7 @@
 //! Changes that one message makes together.
 ghost use Rattle.std.specs.Prelude.{◌≡◌};
 
-use crate::{Change, Peer, PrefixList, Trail};
+use crate::{Change, NlriList, Peer, Trail};
 use std::alloc::AllocError;
 
 /// Changes that are made together, and what they share only once: so an announcement of many prefixes has one path (RFC 4271, section 4.3).
@@ -11,9 +11,9 @@ pub enum Batch {
     /// This change alone.
     One(Change),
     /// The peer's routes to these prefixes are withdrawn, from the first to the last.
-    RemoveAll(Peer, PrefixList),
+    RemoveAll(Peer, NlriList),
     /// The peer's routes to these prefixes, from the first to the last, have this path from now on.
-    AnnounceAll(Peer, Trail, PrefixList),
+    AnnounceAll(Peer, Trail, NlriList),
 }
 
 impl Clone for Batch {
@@ -22,11 +22,11 @@ impl Clone for Batch {
     fn clone(&self) -> Result<Batch, AllocError> {
         match self {
             Batch::One(change) => Ok(Batch::One(change.clone()?)),
-            Batch::RemoveAll(peer, prefixes) => Ok(Batch::RemoveAll(*peer, prefixes.clone()?)),
-            Batch::AnnounceAll(peer, trail, prefixes) => Ok(Batch::AnnounceAll(
+            Batch::RemoveAll(peer, nlris) => Ok(Batch::RemoveAll(*peer, nlris.clone()?)),
+            Batch::AnnounceAll(peer, trail, nlris) => Ok(Batch::AnnounceAll(
                 *peer,
                 trail.clone()?,
-                prefixes.clone()?,
+                nlris.clone()?,
             )),
         }
     }

@@ -3,7 +3,7 @@ ghost use Rattle.std.specs.Prelude.{◌≡◌, length, ◌∷◌, ◌++◌, [], 
 ghost use Rattle.path_model.specs.declared.change.Change.TheVariants.{Remove, Announce, RemovePeer};
 ghost use Rattle.path_model.specs.Batches.{all_changes, announcements, changes_in, removals};
 
-use crate::{Batch, Change, Key, Peer, PrefixList, Trail};
+use crate::{Batch, Change, Key, NlriList, Peer, Trail};
 use av_base::NoMemory;
 use std::alloc::Global;
 use std::marker::Model;
@@ -64,12 +64,12 @@ impl Changes {
     }
 
     /// Appends withdrawals by one peer.
-    pub fn remove_all(&mut self, peer: Peer, prefixes: PrefixList) -> Result<(), NoMemory>
-        ensures ok { OnOk result (self.new ≡ self.old ++ removals peer prefixes) }
+    pub fn remove_all(&mut self, peer: Peer, nlris: NlriList) -> Result<(), NoMemory>
+        ensures ok { OnOk result (self.new ≡ self.old ++ removals peer nlris) }
         ensures err { OnErr result (self.new ≡ self.old) }
     {
-        let count = prefixes.len();
-        self.push(Batch::RemoveAll(peer, prefixes), count)
+        let count = nlris.len();
+        self.push(Batch::RemoveAll(peer, nlris), count)
     }
 
     /// Appends announcements by one peer, all with one path. It takes the memory of the path once.
@@ -77,13 +77,13 @@ impl Changes {
         &mut self,
         peer: Peer,
         trail: Trail,
-        prefixes: PrefixList,
+        nlris: NlriList,
     ) -> Result<(), NoMemory>
-        ensures ok { OnOk result (self.new ≡ self.old ++ announcements peer trail prefixes) }
+        ensures ok { OnOk result (self.new ≡ self.old ++ announcements peer trail nlris) }
         ensures err { OnErr result (self.new ≡ self.old) }
     {
-        let count = prefixes.len();
-        self.push(Batch::AnnounceAll(peer, trail, prefixes), count)
+        let count = nlris.len();
+        self.push(Batch::AnnounceAll(peer, trail, nlris), count)
     }
 
     /// The number of changes.
