@@ -132,7 +132,7 @@ no_feed line (Ok (Ask name)) reads other = tt
 no_feed line (Ok (Sync name count)) reads other = tt
 no_feed line (Ok (JudgePath role neighbour path)) reads other = tt
 no_feed line (Ok ListChanges) reads other = tt
-no_feed line (Ok (WhyRoute addr asn prefix)) reads other = tt
+no_feed line (Ok (WhyRoute addr asn prefix path)) reads other = tt
 no_feed line (Ok (ShowAll show)) reads other = tt
 no_feed line (Err fault) reads other = tt
 

@@ -45,6 +45,6 @@ reading_in_line line (Ok (Ask name)) reads = names_in_line name (reading_named l
 reading_in_line line (Ok (Sync name count)) reads = names_in_line name (reading_named line (Sync name count) reads).0
 reading_in_line line (Ok (Judge role neighbour path)) reads = tt
 reading_in_line line (Ok Changes) reads = tt
-reading_in_line line (Ok (Why addr asn prefix)) reads = tt
+reading_in_line line (Ok (Why addr asn prefix path)) reads = tt
 reading_in_line line (Ok (Show show)) reads = tt
 reading_in_line line (Err fault) reads = tt

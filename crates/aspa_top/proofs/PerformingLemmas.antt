@@ -37,7 +37,7 @@ IsWithinBounds-IsReading line (Ask name) is = omega arith
 IsWithinBounds-IsReading line (Sync name count) is = (reading_named line (Sync name count) is).1
 IsWithinBounds-IsReading line (Judge role neighbour path) is = let short = judged_short line role neighbour path is in omega arith
 IsWithinBounds-IsReading line Changes is = tt
-IsWithinBounds-IsReading line (Why addr asn prefix) is = tt
+IsWithinBounds-IsReading line (Why addr asn prefix path) is = tt
 IsWithinBounds-IsReading line (Show show) is = tt
 
 -- a line that isn't read so is refused

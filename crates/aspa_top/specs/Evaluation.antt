@@ -55,7 +55,7 @@ task_of (Ask name) = OnFeed name AskNow
 task_of (Sync name count) = OnFeed name (SyncTo count)
 task_of (Judge role neighbour path) = Short (JudgePath role neighbour path)
 task_of Changes = ListChanges
-task_of (Why addr asn prefix) = Answer (WhyRoute (record { peer = record { addr = addr; asn = asn }; prefix = prefix }))
+task_of (Why addr asn prefix path) = Answer (WhyRoute (record { peer = record { addr = addr; asn = asn }; prefix = prefix; path = path }))
 task_of (Show show) = Answer (ShowAll show)
 
 -- what is asked for, or the cause for which it is refused

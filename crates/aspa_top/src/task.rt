@@ -76,9 +76,9 @@ pub(crate) fn task_of(command: Command) -> Task
             Task::Short(Short::Judge(role, neighbour, path))
         }
         Command::Changes => Task::Changes,
-        Command::Why(addr, asn, prefix) => {
+        Command::Why(addr, asn, prefix, path) => {
             let peer = Peer { addr, asn };
-            Task::Answer(Question::Why(Key { peer, prefix }))
+            Task::Answer(Question::Why(Key { peer, prefix, path }))
         }
         Command::Show(show) => Task::Answer(Question::Show(show)),
     }

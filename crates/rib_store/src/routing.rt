@@ -14,7 +14,7 @@ ghost use Rattle.rib_store.specs.Touched.{announces, announced};
 
 use crate::marks::Marks;
 use av_base::{NoMemory, Steps};
-use path_model::{Batch, Change, Changes, Key, Peer, PrefixList, Roles, Trail};
+use path_model::{Batch, Change, Changes, Key, NlriList, Peer, Roles, Trail};
 use route_map::RouteMap;
 use shared_cases::SharedCases;
 use std::sync::ledger::Ledger;
@@ -80,9 +80,9 @@ impl Routing {
     {
         match batch {
             Batch::One(change) => self.perform(change, table, roles, steps),
-            Batch::RemoveAll(peer, prefixes) => self.withdraw_all(peer, prefixes, table, roles),
-            Batch::AnnounceAll(peer, trail, prefixes) => {
-                self.announce_all(peer, trail, prefixes, table, roles, steps)
+            Batch::RemoveAll(peer, nlris) => self.withdraw_all(peer, nlris, table, roles),
+            Batch::AnnounceAll(peer, trail, nlris) => {
+                self.announce_all(peer, trail, nlris, table, roles, steps)
             }
         }
     }
@@ -113,12 +113,12 @@ impl Routing {
         Ok(())
     }
 
-    // The peer's keys of these prefixes have this path from now on. Its case is found once.
+    // The peer's routes to these prefixes have this path from now on. Its case is found once.
     fn announce_all<L: Ledger>(
         &mut self,
         peer: Peer,
         trail: Trail,
-        prefixes: PrefixList,
+        nlris: NlriList,
         table: &Vaps,
         roles: &Roles,
         steps: &mut Steps<L>,
@@ -127,14 +127,14 @@ impl Routing {
         ensures routed { OnOk result (AreRouted table.now roles.now self.new) }
         ensures state { OnOk result (routed_state table.now roles.now self.new
             ≡ record (routed_state table.now roles.now self.old) {
-              routes = performed (announcements peer trail prefixes)
+              routes = performed (announcements peer trail nlris)
                   (routed_state table.now roles.now self.old).routes;
             }) }
-        ensures ticks { steps.new ≤ steps.old + announced (announcements peer trail prefixes) }
+        ensures ticks { steps.new ≤ steps.old + announced (announcements peer trail nlris) }
     {
         let mut by = CaseBy::Path(trail);
-        for prefix in prefixes.iter() {
-            let number = self.announce(Key { peer, prefix }, by, table, roles, steps)?;
+        for nlri in nlris.iter() {
+            let number = self.announce(Key::new(peer, nlri), by, table, roles, steps)?;
             by = CaseBy::Number(number);
         }
         Ok(())
@@ -170,11 +170,11 @@ impl Routing {
         Ok(number)
     }
 
-    // The peer's keys of these prefixes have no route from now on.
+    // The peer has no routes to these prefixes from now on.
     fn withdraw_all(
         &mut self,
         peer: Peer,
-        prefixes: PrefixList,
+        nlris: NlriList,
         table: &Vaps,
         roles: &Roles,
     ) -> Result<(), NoMemory>
@@ -182,12 +182,12 @@ impl Routing {
         ensures routed { OnOk result (AreRouted table.now roles.now self.new) }
         ensures state { OnOk result (routed_state table.now roles.now self.new
             ≡ record (routed_state table.now roles.now self.old) {
-              routes = performed (removals peer prefixes)
+              routes = performed (removals peer nlris)
                   (routed_state table.now roles.now self.old).routes;
             }) }
     {
-        for prefix in prefixes.iter() {
-            self.withdraw(&Key { peer, prefix }, table, roles)?;
+        for nlri in nlris.iter() {
+            self.withdraw(&Key::new(peer, nlri), table, roles)?;
         }
         Ok(())
     }
@@ -219,20 +219,20 @@ impl Routing {
                   (λ key. not (is_of_peer peer.now key));
             }) }
     {
-        while let Some(key) = self.first_of(peer) {
+        while let Some(key) = self.last_of(peer) {
             self.withdraw(&key, table, roles)?;
         }
         Ok(())
     }
 
-    // The first key of the peer that has a route.
-    fn first_of(&self, peer: &Peer) -> Option<Key>
+    // A key of the peer that has a route: the last one, since the last of all takes the least time to go.
+    fn last_of(&self, peer: &Peer) -> Option<Key>
         ensures none { IfNone result
             (HasNoRouteOf (routes_by self.now.cases self.now.routes) peer.now) }
         ensures some { IfSome result
             (IsRouteOf (routes_by self.now.cases self.now.routes) peer.now) }
     {
-        match self.routes.first_of(peer) {
+        match self.routes.last_of(peer) {
             None => None,
             Some(key) => Some(key),
         }

@@ -5,12 +5,12 @@ use Rattle.rib_store.specs.Routing.{routed_state, AreRouted, path_by, IsFound}
 use Rattle.rib_store.specs.Touched.{announced}
 use Rattle.rib_store.proofs.routing.Routing.announce_all.Given as goal
 
-abbrev pub invariant-loop-prefix : goal.invariant-loop-prefix
-invariant-loop-prefix g l = record {
+abbrev pub invariant-loop-nlri : goal.invariant-loop-nlri
+invariant-loop-nlri g l = record {
   routed : AreRouted l.fn.table l.fn.roles l.self;
   found : IsFound l.self.cases l.fn.peer.asn l.by;
   path : path_by l.self.cases l.by ≡ l.fn.trail;
-  state : record (routed_state l.fn.table l.fn.roles l.self) { routes = performed (announcements l.fn.peer l.fn.trail l.prefix-iterator) (routed_state l.fn.table l.fn.roles l.self).routes }
-      ≡ record (routed_state l.fn.table l.fn.roles l.fn.self) { routes = performed (announcements l.fn.peer l.fn.trail l.fn.prefixes) (routed_state l.fn.table l.fn.roles l.fn.self).routes };
-  ticks : l.steps + announced (announcements l.fn.peer l.fn.trail l.prefix-iterator) ≤ l.fn.steps + announced (announcements l.fn.peer l.fn.trail l.fn.prefixes);
+  state : record (routed_state l.fn.table l.fn.roles l.self) { routes = performed (announcements l.fn.peer l.fn.trail l.nlri-iterator) (routed_state l.fn.table l.fn.roles l.self).routes }
+      ≡ record (routed_state l.fn.table l.fn.roles l.fn.self) { routes = performed (announcements l.fn.peer l.fn.trail l.fn.nlris) (routed_state l.fn.table l.fn.roles l.fn.self).routes };
+  ticks : l.steps + announced (announcements l.fn.peer l.fn.trail l.nlri-iterator) ≤ l.fn.steps + announced (announcements l.fn.peer l.fn.trail l.fn.nlris);
 }
