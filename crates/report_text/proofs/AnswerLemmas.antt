@@ -6,7 +6,7 @@ use Rattle.std.specs.Char.{digit_char}
 use Rattle.std.specs.declared.option.Option.{Option}
 use Rattle.std.specs.declared.option.Option.TheVariants.{Some, None}
 use Rattle.std.proofs.lemmas.List.{append_assoc}
-use Rattle.std.proofs.lemmas.List.Elements.{All-append, All-cons, All-nil}
+use Rattle.std.proofs.lemmas.List.Elements.{All-cons, All-nil}
 use Rattle.std.proofs.lemmas.Bool.Decides.{nat_tests}
 use Rattle.path_model.specs.declared.addr.Addr.{Addr}
 use Rattle.path_model.specs.declared.addr.Addr.TheVariants.{V4, V6}
@@ -25,6 +25,7 @@ use Rattle.av_text.proofs.AnySpellingLemmas.{peers_in_line, prefixes_in_line, ve
 use Rattle.av_text.proofs.LackLemmas.{decimal-lacks}
 use Rattle.report_text.specs.declared.summary.Summary.{Summary}
 use Rattle.report_text.specs.Change.{mark_text, marks_text, change_line, changed_line}
+use Rattle.report_text.specs.Keys.{identifier_text, key_text}
 use Rattle.report_text.specs.Laws.{IsAnswerLine}
 use Rattle.report_text.specs.Rows.{row_line}
 use Rattle.report_text.specs.Summary.{verdicts_part, sources_part, summary_line}
@@ -101,21 +102,33 @@ groups_start n back = several_start hex4 58 65536 7 6 n back refl hex4_lacks (λ
 addr_start : (a : Addr) (back : List ℕ) → StartsOther (addr_text a ++ back)
 addr_start a back = elim a as (λ x. StartsOther (addr_text x ++ back)) [ V4 n ↦ octets_start n back | V6 n ↦ groups_start n back ]
 
--- a key, and then some words
-of_key : (key : Key) (words : List ℕ) → IsInLine words → IsAnswerLine (peer_text key.peer ++ 32 ∷ prefix_text key.prefix ++ 32 ∷ words)
-of_key key words in_line =
-    let P : ℕ → Type 0 = λ byte. byte ≢ 10 in
-    let more = (32 ∷ prefix_text key.prefix) ++ (32 ∷ words) in
-    let is = append_assoc (peer_text key.peer) (32 ∷ prefix_text key.prefix) (32 ∷ words)
+identifier_in_line : (path : Option ℕ) → IsInLine (identifier_text path)
+identifier_in_line None = clean [] refl
+identifier_in_line (Some id) = both (codes " path ") (decimal id) (clean (codes " path ") refl) (number id)
+
+key_in_line : (key : Key) → IsInLine (key_text key)
+key_in_line key =
+    both (peer_text key.peer ++ 32 ∷ prefix_text key.prefix) (identifier_text key.path)
+    (both (peer_text key.peer) (32 ∷ prefix_text key.prefix) (peers_in_line key.peer)
+    (both (codes " ") (prefix_text key.prefix) (clean (codes " ") refl) (prefixes_in_line key.prefix)))
+    (identifier_in_line key.path)
+
+-- a key's text begins with an address, whatever stands behind it
+key_start : (key : Key) (back : List ℕ) → StartsOther (key_text key ++ back)
+key_start key back =
+    let behind = identifier_text key.path ++ back in
+    let more = (32 ∷ prefix_text key.prefix) ++ behind in
+    let is = append_assoc (peer_text key.peer ++ 32 ∷ prefix_text key.prefix) (identifier_text key.path) back
+    ∙ append_assoc (peer_text key.peer) (32 ∷ prefix_text key.prefix) behind
     ∙ append_assoc (addr_text key.peer.addr) (32 ∷ decimal key.peer.asn) more in
-    record {
-      in_line = All-append P (peer_text key.peer ++ (32 ∷ prefix_text key.prefix)) (32 ∷ words)
-          (All-append P (peer_text key.peer) (32 ∷ prefix_text key.prefix) (peers_in_line key.peer)
-          (All-cons P 32 (prefix_text key.prefix) (λ e. cc) (prefixes_in_line key.prefix)))
-          (All-cons P 32 words (λ e. cc) in_line);
-      unmarked = begins_other (peer_text key.peer ++ 32 ∷ prefix_text key.prefix ++ 32 ∷ words)
-          (subst StartsOther (sym is) (addr_start key.peer.addr ((32 ∷ decimal key.peer.asn) ++ more)));
-    }
+    subst StartsOther (sym is) (addr_start key.peer.addr ((32 ∷ decimal key.peer.asn) ++ more))
+
+-- a key, and then some words
+of_key : (key : Key) (words : List ℕ) → IsInLine words → IsAnswerLine (key_text key ++ 32 ∷ words)
+of_key key words in_line = record {
+  in_line = both (key_text key) (32 ∷ words) (key_in_line key) (both (codes " ") words (clean (codes " ") refl) in_line);
+  unmarked = begins_other (key_text key ++ 32 ∷ words) (key_start key (32 ∷ words));
+}
 
 -- ---- rows and changes
 

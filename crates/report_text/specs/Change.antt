@@ -4,9 +4,8 @@ use Rattle.std.specs.declared.option.Option.{Option}
 use Rattle.std.specs.declared.option.Option.TheVariants.{Some, None}
 use Rattle.path_model.specs.declared.key.Key.{Key}
 use Rattle.path_model.specs.declared.verdict.Verdict.{Verdict}
-use Rattle.av_text.specs.PeerText.{peer_text}
-use Rattle.av_text.specs.PrefixText.{prefix_text}
 use Rattle.av_text.specs.VerdictText.{verdict_text}
+use Rattle.report_text.specs.Keys.{key_text}
 
 -- the word for a route's verdict, or for that there is no route
 abbrev pub mark_text : Option Verdict → List ℕ
@@ -17,10 +16,9 @@ mark_text (Some verdict) = verdict_text verdict
 abbrev pub marks_text : Option Verdict → Option Verdict → List ℕ
 marks_text before after = mark_text before ++ 32 ∷ mark_text after
 
--- who announced the route, what it leads to, and its verdict before and after, with one space between two, without the line feed
+-- the route's key, and its verdict before and after, with one space between two, without the line feed
 abbrev pub change_line : Key → Option Verdict → Option Verdict → List ℕ
-change_line key before after =
-    peer_text key.peer ++ 32 ∷ prefix_text key.prefix ++ 32 ∷ marks_text before after
+change_line key before after = key_text key ++ 32 ∷ marks_text before after
 
 -- and with it
 abbrev pub change_text : Key → Option Verdict → Option Verdict → List ℕ

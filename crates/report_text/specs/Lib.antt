@@ -1,6 +1,7 @@
 pub mod Causes
 pub mod Change
 pub mod Feeds
+pub mod Keys
 pub mod Laws
 pub mod Places
 pub mod Refusals

@@ -4,12 +4,14 @@ ghost use Rattle.av_text.specs.Parts.{IsGrown};
 ghost use Rattle.report_text.specs.Change.{mark_text, marks_text, change_text, changed_text};
 
 use crate::count::push_count;
+use crate::key::push_key;
 use av_base::NoMemory;
-use av_text::{put_peer, put_prefix, put_verdict};
+use av_text::put_verdict;
 use path_model::{Key, Verdict};
 
-/// Appends `ADDRESS AS PREFIX BEFORE AFTER`, the peer's address first, whole or not at all. Where there was or is no route, the word is
-/// `none`. A line has 30 to 111 bytes with its line feed, and what it takes is that room in `out` alone.
+/// Appends `ADDRESS AS PREFIX BEFORE AFTER`, the peer's address first, whole or not at all. Where the route has a path identifier,
+/// ` path ID` stands behind PREFIX, and where there was or is no route, the word is `none`. A line has 30 to 127 bytes with its line feed,
+/// and what it takes is that room in `out` alone.
 pub fn put_change(
     out: &mut Vec<u8>,
     key: &Key,
@@ -37,9 +39,7 @@ fn push_change(
     ensures ok { OnOk result (out.new.items ≡ out.old.items ++ change_text key.now before after) }
     ensures grown { IsGrown out.old.items out.new.items }
 {
-    put_peer(out, &key.peer)?;
-    out.push(b' ')?;
-    put_prefix(out, &key.prefix)?;
+    push_key(out, key)?;
     out.push(b' ')?;
     push_marks(out, before, after)?;
     out.push(b'\n')?;

@@ -4,7 +4,8 @@
 //! [`put_refusal`] reports a refusal, [`put_feed`] a feed's end, [`put_row`] a route's verdict, [`put_change`] a route whose verdict
 //! changed, [`put_changed`] how many changed, [`put_why`] why a path has its verdict, and [`put_summary`] how many there are of each.
 //! `refusal_text` of `specs/Refusals.antt` and the `.._text` of `Feeds`, `Rows`, `Change`, `Why` and `Summary` are those lines: begin
-//! there, and at `specs/Causes.antt`, the table of causes with their numbers and words. Whatever is refused and however a feed ends, the line is one line that begins with
+//! there, and at `specs/Causes.antt`, the table of causes with their numbers and words. Rows and changes begin with the route's key
+//! (`specs/Keys.antt`), its path identifier included. Whatever is refused and however a feed ends, the line is one line that begins with
 //! `! `, and no row, change, summary or reason begins so (`laws`): who reads the program's output finds each of them by its first two
 //! bytes.
 #![tactic(auto)]
@@ -13,6 +14,7 @@ mod cause;
 mod change;
 mod count;
 mod feed;
+mod key;
 mod laws;
 mod place;
 mod refusal;

@@ -1,5 +1,5 @@
 -- What reading words of some form needs.
-use Rattle.std.proofs.Common.{◌≡◌, inl, inr, ℕ, ◌≤◌, List, [], ◌∷◌, length, decimal, IfOk, IfErr, refl, ap, ◌∙◌, arith}
+use Rattle.std.proofs.Common.{◌≡◌, inl, inr, ℕ, ◌≤◌, List, [], ◌∷◌, length, decimal, Some, IfOk, IfErr, refl, sym, ap, ◌∙◌, arith, subst}
 use Rattle.std.specs.declared.result.Result.{Result}
 use Rattle.std.specs.declared.result.Result.TheVariants.{Ok, Err}
 use Rattle.std.proofs.lemmas.List.{length-map}
@@ -8,7 +8,7 @@ use Rattle.script_lines.specs.declared.command.Command.TheVariants.{Idle}
 use Rattle.script_lines.specs.declared.command.LineFault.{LineFault}
 use Rattle.script_lines.specs.declared.command.LineFault.TheVariants.{Long, Command as NoCommand, Words, Number, NoMemory}
 use Rattle.script_lines.specs.Kinds.{WordKind, NAME, TEXT, ROLE, ADDRESS, PREFIX, NUMBER, WHOM, ValueOf, Spells, HasForm}
-use Rattle.script_lines.specs.Forms.{AreAses, Form, end, ases, ◌then◌, Builds, IsSpelled, Fits}
+use Rattle.script_lines.specs.Forms.{AreAses, Form, end, ases, optional, ◌then◌, Builds, IsSpelled, Fits}
 use Rattle.script_lines.specs.Fields.{AreSpelled, RefusesWord, RefusesWords, joined}
 
 -- a spelling has the form
@@ -25,12 +25,15 @@ spelled-form WHOM word value is = tt
 some_build : (form : Form) → Builds form
 some_build end = Idle
 some_build (ases least) = λ ns. Idle
+some_build (optional kind) = λ value. Idle
 some_build (kind then form) = λ value. some_build form
 
 -- words that spell values fit
 pub spelled-fits : (form : Form) (build : Builds form) (words : List (List ℕ)) (command : Command) → IsSpelled form build words command → Fits form words
 spelled-fits end made words command is = is.0
 spelled-fits (ases least) build words command is = let same : length words ≡ length is.0 = ap length is.2.1 ∙ length-map is.0 decimal in let long = is.1 in omega arith
+spelled-fits (optional kind) build [] command is = tt
+spelled-fits (optional kind) build (word ∷ words) command is = (spelled-form kind word is.0 is.1, is.2)
 spelled-fits (kind then form) build [] command is = is
 spelled-fits (kind then form) build (word ∷ words) command is = (spelled-form kind word is.0 is.1, spelled-fits form (build is.0) words command is.2)
 
@@ -73,6 +76,42 @@ joined_refused kind form word words value build (Ok a) (Err fault) spells first 
 joined_refused kind form word words value build (Err fault) (Ok b) spells first spelled rest =
     first_refused kind form word words fault first (spelled-fits form (some_build form) words (build b (some_build form)) (spelled (some_build form)))
 joined_refused {A = A} {B = B} kind form word words value build (Err fault) (Err other) spells first spelled rest = then_refused kind form word words fault other first rest A B
+
+-- where the last word may be missing, it is refused as where it may not
+last_refused : (kind : WordKind) (word : List ℕ) (words : List (List ℕ)) (fault : LineFault) → RefusesWords (kind then end) (word ∷ words) fault → RefusesWords (optional kind) (word ∷ words) fault
+last_refused kind word words Words is = is
+last_refused kind word words Number (fits, inl lacks) = (fits, lacks)
+last_refused kind word words Number (fits, inr never) = absurd never
+last_refused kind word words NoMemory is = tt
+last_refused kind word words Long is = is
+last_refused kind word words NoCommand is = is
+
+if_err : {A : Type 0} (result : Result A LineFault) (fault : LineFault) (P : LineFault → Type 0) → result ≡ Err fault → IfErr result P → P fault
+if_err {A = A} result fault P is holds = subst (λ (r : Result A LineFault). IfErr r P) is holds
+
+-- a last word and no more behind it, refused
+pub optional_refused : {A B : Type 0} (kind : WordKind) (word : List ℕ) (words : List (List ℕ)) (value : A → ValueOf kind) (build : B → Builds end → Command) (one : Result A LineFault) (other : Result B LineFault) (read : Result (A × B) LineFault) (fault : LineFault) →
+    IfOk one (λ v. Spells kind word (value v)) → IfErr one (RefusesWord kind word) →
+    IfOk other (λ vs. AreSpelled end (build vs) words) → IfErr other (RefusesWords end words) →
+    read ≡ joined one other → read ≡ Err fault → RefusesWords (optional kind) (word ∷ words) fault
+optional_refused kind word words value build one other read fault spells first spelled rest both is =
+    last_refused kind word words fault
+    (if_err (joined one other) fault (RefusesWords (kind then end) (word ∷ words)) (sym both ∙ is) (joined_refused kind end word words value build one other spells first spelled rest))
+
+-- and spelled
+pub optional_spelled : {A B : Type 0} (kind : WordKind) (word : List ℕ) (words : List (List ℕ)) (value : A → ValueOf kind) (build : B → Builds end → Command) (one : Result A LineFault) (other : Result B LineFault) (read : Result (A × B) LineFault) (a : A) (b : B) →
+    IfOk one (λ v. Spells kind word (value v)) → IfOk other (λ vs. AreSpelled end (build vs) words) → read ≡ joined one other → read ≡ Ok (a, b) →
+    (make : Builds (optional kind)) → IsSpelled (optional kind) make (word ∷ words) (make (Some (value a)))
+optional_spelled {A = A} {B = B} kind word words value build (Ok v) (Ok u) read a b spells spelled both is make =
+    let same : (v, u) ≡ (a, b) = cc in
+    (value a, subst (λ (x : A). Spells kind word (value x)) (ap (λ (pair : A × B). pair.0) same) spells, (spelled Idle).0, refl)
+optional_spelled kind word words value build (Ok v) (Err fault) read a b spells spelled both is make = cc
+optional_spelled kind word words value build (Err fault) (Ok u) read a b spells spelled both is make = cc
+optional_spelled kind word words value build (Err Words) (Err other) read a b spells spelled both is make = cc
+optional_spelled kind word words value build (Err Number) (Err other) read a b spells spelled both is make = cc
+optional_spelled kind word words value build (Err NoMemory) (Err other) read a b spells spelled both is make = cc
+optional_spelled kind word words value build (Err Long) (Err other) read a b spells spelled both is make = cc
+optional_spelled kind word words value build (Err NoCommand) (Err other) read a b spells spelled both is make = cc
 
 -- ASes that are read are spelled
 pub ases-spelled : (least : ℕ) (build : List ℕ → Command) (words : List (List ℕ)) (ns : List ℕ) → least ≤ length words → AreAses words ns → IsSpelled (ases least) build words (build ns)

@@ -8,7 +8,7 @@ use Rattle.script_lines.specs.declared.command.Command.TheVariants.{Judge}
 use Rattle.script_lines.specs.declared.command.CommandName.{CommandName}
 use Rattle.script_lines.specs.declared.command.CommandName.TheVariants.{Aspa as AspaName, Aspa64 as Aspa64Name, Slurm as SlurmName, Filter as FilterName, Unfilter as UnfilterName, Assert as AssertName, Unassert as UnassertName, Role as RoleName, Open as OpenName, Take as TakeName, Feed as FeedName, Ask as AskName, Sync as SyncName, Judge as JudgeName, Changes as ChangesName, Why as WhyName, Show as ShowName}
 use Rattle.script_lines.specs.Kinds.{ValueOf}
-use Rattle.script_lines.specs.Forms.{Form, end, ases, ◌then◌, Builds, IsSpelled}
+use Rattle.script_lines.specs.Forms.{Form, end, ases, optional, ◌then◌, Builds, IsSpelled}
 use Rattle.script_lines.specs.Commands.{form_of, sets_role, made_by}
 use Rattle.script_lines.specs.Grammar.{IsReading}
 
@@ -20,6 +20,7 @@ JudgesWithin most command = (role : Role) (neighbour : ℕ) (path : List ℕ) �
 abbrev MakesShort : (form : Form) → Builds form → Type 0
 MakesShort end made = JudgesWithin 0 made
 MakesShort (ases least) build = (ns : List ℕ) → JudgesWithin (length ns) (build ns)
+MakesShort (optional kind) build = (value : Option (ValueOf kind)) → JudgesWithin 0 (build value)
 MakesShort (kind then form) build = (value : ValueOf kind) → MakesShort form (build value)
 
 -- a `role` line judges none
@@ -44,7 +45,7 @@ makes_short AskName = λ name role neighbour path is. cc
 makes_short SyncName = λ name count role neighbour path is. cc
 makes_short JudgeName = λ role neighbour path r n p is. let same : path ≡ p = cc in let as_long : length path ≡ length p = ap length same in omega (arith, as_long)
 makes_short ChangesName = λ role neighbour path is. cc
-makes_short WhyName = λ addr asn prefix role neighbour path is. cc
+makes_short WhyName = λ addr asn prefix identifier role neighbour path is. cc
 makes_short (ShowName show) = λ role neighbour path is. cc
 
 -- a path has no more ASes than its line has words
@@ -55,6 +56,9 @@ spelled_within (ases least) build words command short is = λ role neighbour pat
     let most = short is.0 role neighbour path (sym is.3 ∙ judged) in
     let spelled = ap length is.2.1 in
     omega (arith, spelled, most, length-map is.0 decimal)
+spelled_within (optional kind) build [] command short is = λ role neighbour path judged. let most = short None role neighbour path (sym is ∙ judged) in omega arith
+spelled_within (optional kind) build (word ∷ words) command short is = λ role neighbour path judged.
+    let most = short (Some is.0) role neighbour path (sym is.3 ∙ judged) in omega arith
 spelled_within (kind then form) build [] command short is = absurd is
 spelled_within (kind then form) build (word ∷ words) command short is = λ role neighbour path judged.
     let most = spelled_within form (build is.0) words command (short is.0) is.2 role neighbour path judged in omega arith

@@ -7,7 +7,7 @@ use Rattle.script_lines.specs.declared.command.Command.TheVariants.{Idle, Aspa, 
 use Rattle.script_lines.specs.declared.command.CommandName.{CommandName}
 use Rattle.script_lines.specs.declared.command.CommandName.TheVariants.{Aspa as AspaName, Aspa64 as Aspa64Name, Slurm as SlurmName, Filter as FilterName, Unfilter as UnfilterName, Assert as AssertName, Unassert as UnassertName, Role as RoleName, Open as OpenName, Take as TakeName, Feed as FeedName, Ask as AskName, Sync as SyncName, Judge as JudgeName, Changes as ChangesName, Why as WhyName, Show as ShowName}
 use Rattle.script_lines.specs.Kinds.{WordKind, NAME, TEXT, ROLE, ADDRESS, PREFIX, NUMBER, WHOM, ValueOf, Spells}
-use Rattle.script_lines.specs.Forms.{Form, end, ases, ◌then◌, Builds, IsSpelled}
+use Rattle.script_lines.specs.Forms.{Form, end, ases, optional, ◌then◌, Builds, IsSpelled}
 use Rattle.script_lines.specs.Commands.{form_of, sets_role, made_by}
 use Rattle.script_lines.specs.Grammar.{IsReading}
 
@@ -30,7 +30,7 @@ IsNamed (Ask name) = IsName name
 IsNamed (Sync name count) = IsName name × (count ≤ 100000000)
 IsNamed (Judge role neighbour path) = Unit {0}
 IsNamed Changes = Unit {0}
-IsNamed (Why addr asn prefix) = Unit {0}
+IsNamed (Why addr asn prefix path) = Unit {0}
 IsNamed (Show show) = Unit {0}
 
 -- a value that its word may have
@@ -61,6 +61,7 @@ sets_unnamed (Some asn) role = tt
 abbrev MakesNamed : (form : Form) → Builds form → Type 0
 MakesNamed end made = IsNamed made
 MakesNamed (ases least) build = (ns : List ℕ) → IsNamed (build ns)
+MakesNamed (optional kind) build = (value : Option (ValueOf kind)) → IsNamed (build value)
 MakesNamed (kind then form) build = (value : ValueOf kind) → IsValue kind value → MakesNamed form (build value)
 
 makes_named : (name : CommandName) → MakesNamed (form_of name) (made_by name)
@@ -79,13 +80,15 @@ makes_named AskName = λ name is. is
 makes_named SyncName = λ name is count within. (is, within)
 makes_named JudgeName = λ role any neighbour other path. tt
 makes_named ChangesName = tt
-makes_named WhyName = λ addr any asn within prefix other. tt
+makes_named WhyName = λ addr any asn within prefix other path. tt
 makes_named (ShowName show) = tt
 
 spelled_named : (form : Form) (build : Builds form) (words : List (List ℕ)) (command : Command)
     → MakesNamed form build → IsSpelled form build words command → IsNamed command
 spelled_named end made words command makes is = subst IsNamed (sym is.1) makes
 spelled_named (ases least) build words command makes is = subst IsNamed (sym is.3) (makes is.0)
+spelled_named (optional kind) build [] command makes is = subst IsNamed (sym is) (makes None)
+spelled_named (optional kind) build (word ∷ words) command makes is = subst IsNamed (sym is.3) (makes (Some is.0))
 spelled_named (kind then form) build [] command makes is = absurd is
 spelled_named (kind then form) build (word ∷ words) command makes is =
     spelled_named form (build is.0) words command (makes is.0 (spelled_value kind word is.0 is.1)) is.2

@@ -7,7 +7,7 @@ use Rattle.std.proofs.lemmas.List.Elements.{All-head, All-tail, All-cons, All-ni
 use Rattle.path_model.specs.declared.addr.Addr.{Addr}
 use Rattle.path_model.specs.declared.peer.Peer.{Peer}
 use Rattle.path_model.specs.Name.{IsName, is_name_byte}
-use Rattle.path_model.specs.Prefix.{IsAddr, Subnet, IsSubnet}
+use Rattle.path_model.specs.Prefix.{IsAddr, IsSubnet}
 use Rattle.path_model.proofs.Decide.{Decided, decided_both, decided_true}
 use Rattle.av_text.specs.AddressText.{addr_text, IsAddrText}
 use Rattle.av_text.specs.Number.{Is32Bit, IsNoNumber}
@@ -19,7 +19,7 @@ use Rattle.av_text.proofs.SpellingLemmas.{decided_text, role_text_injective, dec
 use Rattle.script_lines.specs.declared.command.Command.{Command}
 use Rattle.script_lines.specs.Word.{IsVisible}
 use Rattle.script_lines.specs.Kinds.{WordKind, NAME, TEXT, ROLE, ADDRESS, PREFIX, NUMBER, WHOM, ValueOf, Spells, HasForm, LacksNumber}
-use Rattle.script_lines.specs.Forms.{Form, end, ases, ◌then◌, Builds, IsSpelled, Fits, SomeNoAs, SomeNoNumber}
+use Rattle.script_lines.specs.Forms.{Form, end, ases, optional, ◌then◌, Builds, IsSpelled, Fits, SomeNoAs, SomeNoNumber}
 use Rattle.script_lines.proofs.AsLemmas.{no_as_first, no_as_later}
 use Rattle.script_lines.proofs.FormLemmas.{ases-spelled}
 use Rattle.script_lines.proofs.KindLemmas.{one_number, lacks-none, lacks-outside, lacks-whom}
@@ -155,11 +155,17 @@ number_at [] (suc k) word small among no_number = cc
 number_at (n ∷ ns) zero word small among no_number = no_number n (All-head Is32Bit n ns small) (cc)
 number_at (n ∷ ns) (suc k) word small among no_number = number_at ns k word (All-tail Is32Bit n ns small) among no_number
 
+-- whether there are no words
+decided_none : (words : List (List ℕ)) → Decided (words ≡ [])
+decided_none [] = inl refl
+decided_none (word ∷ words) = inr (λ same. cc)
+
 -- whether words fit a form
 pub decided_fits : (form : Form) (words : List (List ℕ)) → Decided (Fits form words)
-decided_fits end [] = inl refl
-decided_fits end (word ∷ words) = inr (λ same. cc)
+decided_fits end words = decided_none words
 decided_fits (ases least) words = decided_le least (length words)
+decided_fits (optional kind) [] = inl tt
+decided_fits (optional kind) (word ∷ words) = decided_both (decided_kind kind word) (decided_none words)
 decided_fits (kind then form) [] = inr (λ no. no)
 decided_fits (kind then form) (word ∷ words) = decided_both (decided_kind kind word) (decided_fits form words)
 
@@ -170,6 +176,12 @@ spelled_or_lacks (ases least) build words fits =
     elim (numbers_or_none words) [
       | inl some ↦ inl some
       | inr ns ↦ inr (build ns.0, ases-spelled least build words ns.0 fits (ns.1, ns.2))
+    ]
+spelled_or_lacks (optional kind) build [] fits = inr (build None, refl)
+spelled_or_lacks (optional kind) build (word ∷ words) fits =
+    elim (value_or_lacks kind word fits.0) [
+      | inl lacks ↦ inl lacks
+      | inr v ↦ inr (build (Some v.0), (v.0, v.1, fits.1, refl))
     ]
 spelled_or_lacks (kind then form) build [] fits = absurd fits
 spelled_or_lacks (kind then form) build (word ∷ words) fits =
@@ -185,6 +197,9 @@ spelled_or_lacks (kind then form) build (word ∷ words) fits =
 pub one_command : (form : Form) (build : Builds form) (words : List (List ℕ)) (one other : Command) → IsSpelled form build words one → IsSpelled form build words other → one ≡ other
 one_command end made words one other a b = a.1 ∙ sym b.1
 one_command (ases least) build words one other a b = a.3 ∙ ap build (map-decimal_injective a.0 b.0 a.2.0 b.2.0 (sym a.2.1 ∙ b.2.1)) ∙ sym b.3
+one_command (optional kind) build [] one other a b = a ∙ sym b
+one_command (optional kind) build (word ∷ words) one other a b =
+    a.3 ∙ ap (λ (v : ValueOf kind). build (Some v)) (one_value kind word a.0 b.0 a.1 b.1) ∙ sym b.3
 one_command (kind then form) build [] one other a b = absurd a
 one_command (kind then form) build (word ∷ words) one other a b =
     let same : a.0 ≡ b.0 = one_value kind word a.0 b.0 a.1 b.1 in
@@ -195,6 +210,8 @@ one_command (kind then form) build (word ∷ words) one other a b =
 pub lacks_none : (form : Form) (build : Builds form) (words : List (List ℕ)) (command : Command) → IsSpelled form build words command → SomeNoNumber form words → ⊥
 lacks_none end made words command is lacks = lacks
 lacks_none (ases least) build words command is some = number_at is.0 some.place some.word is.2.0 (ap (λ (ws : List (List ℕ)). slice_get ws some.place) (sym is.2.1) ∙ some.among) some.no_number
+lacks_none (optional kind) build [] command is lacks = lacks
+lacks_none (optional kind) build (word ∷ words) command is lacks = no_lack kind word is.0 is.1 lacks
 lacks_none (kind then form) build [] command is lacks = lacks
 lacks_none (kind then form) build (word ∷ words) command is (inl here) = no_lack kind word is.0 is.1 here
 lacks_none (kind then form) build (word ∷ words) command is (inr later) = lacks_none form (build is.0) words command is.2 later

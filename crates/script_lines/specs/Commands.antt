@@ -10,11 +10,14 @@ use Rattle.script_lines.specs.declared.command.CommandName.TheVariants.{Aspa as 
 use Rattle.script_lines.specs.declared.command.Show.{Show as ShowOf}
 use Rattle.script_lines.specs.declared.command.Show.TheVariants.{Report, Summary}
 use Rattle.script_lines.specs.Kinds.{WordKind, NAME, TEXT, ROLE, ADDRESS, PREFIX, NUMBER, WHOM}
-use Rattle.script_lines.specs.Forms.{Form, end, ases, ◌then◌, Builds, IsSpelled}
+use Rattle.script_lines.specs.Forms.{Form, end, ases, optional, ◌then◌, Builds, IsSpelled}
 
--- an AS, and how many units of a stream
+-- an AS, a path identifier, and how many units of a stream
 abbrev pub AS : WordKind
 AS = NUMBER 0 4294967295
+
+abbrev pub IDENTIFIER : WordKind
+IDENTIFIER = NUMBER 0 4294967295
 
 abbrev pub COUNT : WordKind
 COUNT = NUMBER 1 100000000
@@ -61,7 +64,7 @@ form_of AskName = NAME then end
 form_of SyncName = NAME then COUNT then end
 form_of JudgeName = ROLE then AS then ases 0
 form_of ChangesName = end
-form_of WhyName = ADDRESS then AS then PREFIX then end
+form_of WhyName = ADDRESS then AS then PREFIX then optional IDENTIFIER
 form_of (ShowName show) = end
 
 -- a role is that of one AS, or of all ASes without one of their own
@@ -86,7 +89,7 @@ made_by AskName = λ name. Ask name
 made_by SyncName = λ name count. Sync name count
 made_by JudgeName = λ role neighbour path. Judge role neighbour path
 made_by ChangesName = Changes
-made_by WhyName = λ addr asn prefix. Why addr asn prefix
+made_by WhyName = λ addr asn prefix path. Why addr asn prefix path
 made_by (ShowName show) = Show show
 
 -- the words behind a command's name spell this command

@@ -1,21 +1,24 @@
 -- The forms that the words behind a command's name may have.
 use Rattle.std.specs.Prelude.{◌≡◌, ◌⊎◌, ℕ, ◌≤◌, List, [], ◌∷◌, length, slice_get, map, All, decimal}
-use Rattle.std.specs.declared.option.Option.TheVariants.{Some}
+use Rattle.std.specs.declared.option.Option.{Option}
+use Rattle.std.specs.declared.option.Option.TheVariants.{Some, None}
 use Rattle.av_text.specs.Number.{Is32Bit, IsNoNumber}
 use Rattle.script_lines.specs.declared.command.Command.{Command}
 use Rattle.script_lines.specs.Kinds.{WordKind, ValueOf, Spells, HasForm, LacksNumber}
 
 infixr 5 ◌then◌
--- no more words; any number of ASes, but at least so many; or a word of some kind, and then others
+-- no more words; any number of ASes, but at least so many; a word of some kind or none; or a word of some kind, and then others
 pub data Form : Type 0 where
   end : Form
   ases : ℕ → Form
+  optional : WordKind → Form
   ◌then◌ : WordKind → Form → Form
 
 -- what makes a command of the words' values
 abbrev pub Builds : Form → Type 0
 Builds end = Command
 Builds (ases least) = List ℕ → Command
+Builds (optional kind) = Option (ValueOf kind) → Command
 Builds (kind then form) = ValueOf kind → Builds form
 
 -- the words are those of these ASes
@@ -27,6 +30,9 @@ abbrev pub IsSpelled : (form : Form) → Builds form → List (List ℕ) → Com
 IsSpelled end made words command = (words ≡ []) × (command ≡ made)
 IsSpelled (ases least) build words command =
     (ns : List ℕ) × (least ≤ length ns) × AreAses words ns × (command ≡ build ns)
+IsSpelled (optional kind) build [] command = command ≡ build None
+IsSpelled (optional kind) build (word ∷ words) command =
+    (value : ValueOf kind) × Spells kind word value × (words ≡ []) × (command ≡ build (Some value))
 IsSpelled (kind then form) build [] command = ⊥
 IsSpelled (kind then form) build (word ∷ words) command =
     (value : ValueOf kind) × Spells kind word value × IsSpelled form (build value) words command
@@ -35,6 +41,8 @@ IsSpelled (kind then form) build (word ∷ words) command =
 abbrev pub Fits : Form → List (List ℕ) → Type 0
 Fits end words = words ≡ []
 Fits (ases least) words = least ≤ length words
+Fits (optional kind) [] = Unit {0}
+Fits (optional kind) (word ∷ words) = HasForm kind word × (words ≡ [])
 Fits (kind then form) [] = ⊥
 Fits (kind then form) (word ∷ words) = HasForm kind word × Fits form words
 
@@ -49,5 +57,7 @@ pub record SomeNoAs (words : List (List ℕ)) : Type 0 where
 abbrev pub SomeNoNumber : Form → List (List ℕ) → Type 0
 SomeNoNumber end words = ⊥
 SomeNoNumber (ases least) words = SomeNoAs words
+SomeNoNumber (optional kind) [] = ⊥
+SomeNoNumber (optional kind) (word ∷ words) = LacksNumber kind word
 SomeNoNumber (kind then form) [] = ⊥
 SomeNoNumber (kind then form) (word ∷ words) = LacksNumber kind word ⊎ SomeNoNumber form words

@@ -46,8 +46,9 @@ pub enum Command {
     Changes,
     /// A line of one word that shows what is held, and changes nothing.
     Show(Show),
-    /// `why ADDRESS AS PREFIX`: the verdict of the route of that peer and prefix, and what shows it.
-    Why(Addr, u32, Prefix),
+    /// `why ADDRESS AS PREFIX` or `why ADDRESS AS PREFIX ID`: the verdict of the route of that peer and prefix, without a path identifier
+    /// or with that one, and what shows it.
+    Why(Addr, u32, Prefix, Option<u32>),
 }
 
 /// What is shown of all that is held, by a line of one word.

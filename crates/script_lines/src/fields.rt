@@ -87,6 +87,32 @@ fn both<A: Drop, B: Drop>(
     }
 }
 
+/// A word of this kind, or no more words.
+pub(crate) struct Optional<K> {
+    kind: PhantomData<K>,
+}
+
+impl<K: Kind> Fields for Optional<K> {
+    ghost use Rattle.std.specs.Option.{option_map};
+    ghost use Rattle.script_lines.specs.Forms.{optional};
+
+    type Values = Option<K::Value>;
+
+    ghost form = { optional K.kind };
+
+    ghost build = { λ v b. b (option_map K.value v) };
+
+    fn read(alloc: Global, mut words: Words<'_>) -> Result<Option<K::Value>, LineFault> {
+        let Some(word) = words.next() else {
+            return Ok(None);
+        };
+        match both(K::read(alloc, word), End::read(alloc, words)) {
+            Ok((value, ())) => Ok(Some(value)),
+            Err(fault) => Err(fault),
+        }
+    }
+}
+
 /// ASes up to the line's end, at least so many.
 pub(crate) struct Ases<const LEAST: usize>;
 

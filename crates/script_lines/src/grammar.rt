@@ -6,9 +6,10 @@ ghost use Rattle.script_lines.specs.Commands.{name_text, form_of, sets_role, Spe
 ghost use Rattle.script_lines.specs.Grammar.{IsCommandName, IsComment, IsPrintable, IsReading};
 
 use crate::command::{Command, CommandName, LineFault, Show};
-use crate::fields::{Ases, End, Fields, Then};
+use crate::fields::{Ases, End, Fields, Optional, Then};
 use crate::kinds::{
-    AddressWord, AsWord, CountWord, NameWord, PrefixWord, RoleWord, TextWord, WhomWord,
+    AddressWord, AsWord, CountWord, IdentifierWord, NameWord, PrefixWord, RoleWord, TextWord,
+    WhomWord,
 };
 use av_text::{Words, words};
 use path_model::Role;
@@ -154,11 +155,11 @@ fn read_fields(alloc: Global, name: CommandName, words: Words<'_>) -> Result<Com
             Ok(Command::Changes)
         }
         CommandName::Why => {
-            let (addr, (asn, (prefix, ()))) = <Then<
+            let (addr, (asn, (prefix, path))) = <Then<
                 AddressWord,
-                Then<AsWord, Then<PrefixWord, End>>,
+                Then<AsWord, Then<PrefixWord, Optional<IdentifierWord>>>,
             >>::read(alloc, words)?;
-            Ok(Command::Why(addr, asn, prefix))
+            Ok(Command::Why(addr, asn, prefix, path))
         }
         CommandName::Show(show) => {
             End::read(alloc, words)?;

@@ -130,6 +130,9 @@ pub(crate) struct NumberWord<const LEAST: u32, const MOST: u32>;
 /// An AS.
 pub(crate) type AsWord = NumberWord<0, 4_294_967_295>;
 
+/// A path identifier (RFC 7911, section 3).
+pub(crate) type IdentifierWord = NumberWord<0, 4_294_967_295>;
+
 /// How many units of a stream are taken.
 pub(crate) type CountWord = NumberWord<1, 100_000_000>;
 

@@ -1,6 +1,7 @@
 -- The stated workload of a seed: events that load an analysis, and events that amend it by hand. Draws are made in the order in which the
 -- fields of each record name them.
 use Rattle.std.specs.Prelude.{◌≡◌, ℕ, zero, suc, ◌+◌, ◌*◌, ◌%◌, ◌^◌, ◌==◌, false, List, [], ◌∷◌, ◌++◌, codes, if◌then◌else◌}
+use Rattle.std.specs.declared.option.Option.TheVariants.{None}
 use Rattle.rand_pcg.specs.Lcg.{Lcg}
 use Rattle.path_model.specs.declared.addr.Addr.TheVariants.{V4}
 use Rattle.path_model.specs.declared.change.Change.TheVariants.{Announce}
@@ -27,11 +28,12 @@ unfoldable pub role_events : ℕ → List Event
 role_events zero = []
 role_events (suc q) = role_events q ++ Role (1 + q) (role_numbered (q % 6)) ∷ []
 
--- the peer 10.0.0.0 plus 1 + q with AS 1 + q, and the prefix 11.0.0.0 plus 256 p of length 24
+-- the peer 10.0.0.0 plus 1 + q with AS 1 + q, the prefix 11.0.0.0 plus 256 p of length 24, and no path identifier
 abbrev pub key_of : ℕ → ℕ → Key
 key_of q p = record {
   peer = record { addr = V4 (10 * 2 ^ 24 + 1 + q); asn = 1 + q };
   prefix = record { addr = V4 (11 * 2 ^ 24 + 256 * p); len = 24 };
+  path = None;
 }
 
 -- an announcement of the prefix numbered p, from a peer and by up to five more ASes

@@ -44,7 +44,7 @@ fn draw_announcement(alloc: Global, rng: &mut Lcg64Xsh32, p: u32) -> Result<Even
     Ok(Event::Routes(changes))
 }
 
-// The key of a peer and a prefix, by their numbers.
+// The key of a peer and a prefix, by their numbers, without a path identifier.
 fn key_of(q: u32, p: u32) -> Key
     requires peer { q < 20 }
     requires prefix { p < 20000 }
@@ -56,5 +56,6 @@ fn key_of(q: u32, p: u32) -> Key
             asn: 1 + q,
         },
         prefix: Prefix::new(Addr::V4(0x0B00_0000 + 256 * p), 24).unwrap(),
+        path: None,
     }
 }

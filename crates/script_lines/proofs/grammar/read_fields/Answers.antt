@@ -1,5 +1,9 @@
+use Rattle.std.proofs.Common.{ℕ, Option, subst}
+use Rattle.std.proofs.lemmas.Iterator.Adapters.{option_map_id}
+use Rattle.av_text.specs.Words.{words_left}
+use Rattle.script_lines.specs.declared.command.Command.TheVariants.{Why}
 use Rattle.script_lines.specs.declared.command.CommandName.TheVariants.{Aspa as AspaName, Aspa64 as Aspa64Name, Slurm as SlurmName, Filter as FilterName, Unfilter as UnfilterName, Assert as AssertName, Unassert as UnassertName, Role as RoleName, Open as OpenName, Take as TakeName, Feed as FeedName, Ask as AskName, Sync as SyncName, Judge as JudgeName, Changes as ChangesName, Why as WhyName, Show as ShowName}
-use Rattle.script_lines.specs.Commands.{made_by}
+use Rattle.script_lines.specs.Commands.{made_by, SpellsCommand}
 use Rattle.script_lines.proofs.grammar.read_fields.Goals as goal
 
 pub returns-in_ok-name-in-Aspa-clause-spelled : goal.returns-in_ok-name-in-Aspa-clause-spelled
@@ -48,7 +52,10 @@ pub returns-in_ok-read-in-Changes-clause-spelled : goal.returns-in_ok-read-in-Ch
 returns-in_ok-read-in-Changes-clause-spelled c = rw c.in-Changes.is (c.in_ok-read-in-Changes.ensures.spelled (made_by ChangesName))
 
 pub returns-in_ok-addr-in-Why-clause-spelled : goal.returns-in_ok-addr-in-Why-clause-spelled
-returns-in_ok-addr-in-Why-clause-spelled c = rw c.in-Why.is (c.in_ok-addr-in-Why.ensures.spelled (made_by WhyName))
+returns-in_ok-addr-in-Why-clause-spelled c =
+    let found = c.in_ok-addr-in-Why in
+    let P : Option ℕ → Type 0 = λ path. SpellsCommand WhyName (words_left c.args.words) (Why found.addr found.asn found.prefix path) in
+    rw c.in-Why.is (subst P (option_map_id found.path) (found.ensures.spelled (made_by WhyName)))
 
 pub returns-in_ok-read-in-Show-clause-spelled : goal.returns-in_ok-read-in-Show-clause-spelled
 returns-in_ok-read-in-Show-clause-spelled c = rw c.in-Show.is (c.in_ok-read-in-Show.ensures.spelled (made_by (ShowName c.in-Show.show)))
