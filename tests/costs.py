@@ -93,6 +93,14 @@ def assertions(folder, size):
     return "", "".join(f"assert 1 {2 + i}\n" for i in range(size))
 
 
+def hops(folder, size):
+    """A provider more of one customer and no more, by turns, where the customer has a row and is on as many paths, each with another neighbour."""
+    routes = b"".join(route(i, 0, [PEER, 7, 100_000 + i]) for i in range(size))
+    dump = write(folder, "dump", peer_table(1) + routes)
+    file = write(folder, "payload", payload(7, [1]))
+    return f"open d {dump}\ntake d {ALL}\naspa s {file}\n", "assert 7 2\nunassert 7\n" * (size // 2)
+
+
 def sources(folder, size):
     """So many sources that attest one customer, each with the same provider."""
     file = write(folder, "payload", payload(1, [2]))
@@ -135,6 +143,7 @@ def rows(folder, size):
 KINDS = (
     ("changes where so many peers of an AS have a path each", changes, (4_000, 8_000, 16_000), LINEAR),
     ("assertions of one customer, one provider each", assertions, (2_500, 5_000, 10_000), ROW),
+    ("assertions of one customer that is on as many paths", hops, (2_000, 4_000, 8_000), LINEAR),
     ("sources that attest one customer, the same provider", sources, (2_000, 4_000, 8_000), LINEAR),
     ("sources that attest one customer, one provider each", other_sources, (500, 1_000, 2_000), ROW),
     ("roles, and the default role turned as often", roles, (5_000, 10_000, 20_000), LINEAR),

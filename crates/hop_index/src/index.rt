@@ -1,10 +1,13 @@
 //! Hops by their ASes.
 ghost use Rattle.std.specs.Prelude.{◌≡◌, ℕ, OnOk, IfOk};
 ghost use Rattle.std.specs.List.Sorted.{IsStrictlySortedBy};
+ghost use Rattle.std.specs.Ordering.{nat_cmp};
 ghost use Rattle.hop_index.specs.Index.{has, HasNothing, Adds, Removes};
 ghost use Rattle.hop_index.specs.Kept.{AddsHop, RemovesHop, AreKept};
+ghost use Rattle.hop_index.specs.Numbers.{has_number};
 ghost use Rattle.hop_index.specs.Through.{end_cmp, has_end, ends_left};
 
+use crate::between::Between;
 use crate::numbers::Numbers;
 use crate::pair::Pair;
 use crate::through::Through;
@@ -113,6 +116,17 @@ impl HopIndex {
             neighbours: neighbours::of(&self.ends, x),
             y: 0,
             cases: None,
+        }
+    }
+
+    /// Each case with a hop between `x` and `y`, in either direction, by rising case. It takes no memory, and the time of a look-up and of what
+    /// it gives.
+    pub fn between(&self, x: u32, y: u32) -> Between<'_>
+        ensures exact { (n : ℕ) → has_number result n ≡ has self.now x y n }
+        ensures rising { IsStrictlySortedBy nat_cmp result }
+    {
+        Between {
+            cases: cases_of_hops::of(&self.hops, Pair::of(x, y)),
         }
     }
 }

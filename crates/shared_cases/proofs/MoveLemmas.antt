@@ -1,8 +1,8 @@
 -- What the moves of a table touch, and what they don't.
-use Rattle.std.proofs.Common.{◌≡◌, ◌≢◌, ◌↔◌, ◌⊎◌, ℕ, nat_eq, ◌+◌, Bool, true, false, not, ◌||◌, List, [], ◌∷◌, None, Some, refl, ap, sym, subst, ◌∙◌, inl, inr, true≢false}
+use Rattle.std.proofs.Common.{◌≡◌, ◌≢◌, ◌↔◌, ◌⊎◌, ℕ, nat_eq, ◌+◌, Bool, true, false, not, ◌||◌, ◌&&◌, List, [], ◌∷◌, None, Some, refl, ap, sym, subst, ◌∙◌, inl, inr, true≢false}
 use Rattle.std.specs.Prelude.{slice_index, All}
 use Rattle.std.specs.declared.option.Option.{Option}
-use Rattle.std.proofs.lemmas.Bool.{false_from_ne_true, or_cases, or_left, or_right}
+use Rattle.std.proofs.lemmas.Bool.{and_from, and_parts, false_from_ne_true, or_cases, or_left, or_right}
 use Rattle.std.proofs.lemmas.List.Elements.{All-head, All-tail}
 use Rattle.std.proofs.lemmas.Map.Views.{exact_unsigned_eq}
 use Rattle.path_model.specs.declared.authority.Authority.{Authority}
@@ -22,7 +22,7 @@ use Rattle.vap_table.specs.Moves.{customers_of, IsMove, AreMoves}
 use Rattle.shared_cases.specs.declared.case.StoredCase.{StoredCase}
 use Rattle.shared_cases.specs.Cases.{hops_of}
 use Rattle.shared_cases.specs.Grounds.{by_table, IsJudged}
-use Rattle.shared_cases.specs.Touching.{same_authority, differs, touches, IsTouchedAt, IsTouchedBy}
+use Rattle.shared_cases.specs.Touching.{same_authority, differs, touches, AreAllOf, asks, IsTouchedAt, IsTouchedBy}
 use Rattle.shared_cases.proofs.TouchLemmas.{IsTouchedNumber}
 
 same_said : (a b : Authority) → not (same_authority a b) ≡ false → a ≡ b
@@ -69,6 +69,43 @@ touch_none index m n ends before exact none = (
   λ h. elim h [
     | inl was ↦ was
     | inr touched ↦ absurd (true≢false (sym touched.1 ∙ sym (exact touched.0) ∙ ap (λ (es : List (ℕ × ℕ)). has_end es touched.0 n) none))
+  ],
+)
+
+-- ---- the ASes that are asked
+reached : (index : Entries) (m : RowMove) (n : ℕ) (asked : List ℕ) → asks index m n asked ≡ true → IsTouchedAt index m n
+reached index m n [] h = absurd (true≢false (sym h))
+reached index m n (y ∷ ys) h = elim (or_cases (differs m y && hops.has index m.customer y n) (asks index m n ys) h) [
+  | inl here ↦ let parts = and_parts (differs m y) (hops.has index m.customer y n) here in (y, parts.1, parts.0)
+  | inr later ↦ reached index m n ys later
+]
+
+reaches : (index : Entries) (m : RowMove) (n y : ℕ) (asked : List ℕ) → has asked y ≡ true → hops.has index m.customer y n ≡ true → differs m y ≡ true → asks index m n asked ≡ true
+reaches index m n y [] there hop other = absurd (true≢false (sym there))
+reaches index m n y (z ∷ zs) there hop other = elim (or_cases (nat_eq z y) (has zs y) there) [
+  | inl here ↦
+      let e : z ≡ y = exact_unsigned_eq z y here in
+      or_left (differs m z && hops.has index m.customer z n) (asks index m n zs)
+      (and_from (differs m z) (hops.has index m.customer z n) (ap (differs m) e ∙ other) (ap (λ (x : ℕ). hops.has index m.customer x n) e ∙ hop))
+  | inr later ↦ or_right (differs m z && hops.has index m.customer z n) (asks index m n zs) (reaches index m n y zs later hop other)
+]
+
+asked_by : (asked : List ℕ) (m : RowMove) (y : ℕ) → AreAllOf asked m → differs m y ≡ true → (b : Bool) → has asked y ≡ b → has asked y ≡ true
+asked_by asked m y all other true is = is
+asked_by asked m y all other false is = absurd (true≢false (sym other ∙ all y is))
+
+-- a case comes to the others exactly where the customer of the move has such a hop of it to one that is asked
+pub asked_told : (index : Entries) (m : RowMove) (n : ℕ) (asked : List ℕ) (before now : Bool) → AreAllOf asked m
+    → now ≡ (before || asks index m n asked) → (now ≡ true) ↔ ((before ≡ true) ⊎ IsTouchedAt index m n)
+asked_told index m n asked before now all told = (
+  λ h. elim (or_cases before (asks index m n asked) (sym told ∙ h)) [
+    | inl was ↦ inl was
+    | inr found ↦ inr (reached index m n asked found)
+  ],
+  λ h. told ∙ elim h [
+    | inl was ↦ or_left before (asks index m n asked) was
+    | inr touched ↦ or_right before (asks index m n asked)
+        (reaches index m n touched.0 asked (asked_by asked m touched.0 all touched.2 (has asked touched.0) refl) touched.1 touched.2)
   ],
 )
 

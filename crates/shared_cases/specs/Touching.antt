@@ -6,7 +6,7 @@ use Rattle.std.specs.List.{list_any}
 use Rattle.std.specs.List.Sorted.{IsNonDecreasing}
 use Rattle.path_model.specs.declared.authority.Authority.{Authority}
 use Rattle.path_model.specs.declared.authority.Authority.TheVariants.{Silent, Refuses, Provides}
-use Rattle.path_model.specs.Authority.{said_by}
+use Rattle.path_model.specs.Authority.{said_by, has}
 use Rattle.hop_index.specs.Index.{Entries, has as hops_have}
 use Rattle.vap_table.specs.declared.moves.RowMove.{RowMove}
 
@@ -37,6 +37,14 @@ touches m n ends = list_any (λ end. differs m end.0 && nat_eq n end.1) ends
 -- the customer of the move has a hop of the case n to some y of which it attests another thing
 abbrev pub IsTouchedAt : Entries → RowMove → ℕ → Type 0
 IsTouchedAt index m n = (y : ℕ) × (hops_have index m.customer y n ≡ true) × (differs m y ≡ true)
+
+-- the customer attests another thing of none but these
+abbrev pub AreAllOf : List ℕ → RowMove → Type 0
+AreAllOf asked m = (y : ℕ) → has asked y ≡ false → differs m y ≡ false
+
+-- among these ASes is one of which the customer attests another thing, and the case n has a hop between the two
+abbrev pub asks : Entries → RowMove → ℕ → List ℕ → Bool
+asks index m n asked = list_any (λ y. differs m y && hops_have index m.customer y n) asked
 
 -- so it is with one of the moves
 abbrev pub IsTouchedBy : Entries → List RowMove → ℕ → Type 0

@@ -22,6 +22,7 @@ mod rejudging;
 mod slots;
 mod totals;
 mod touched;
+mod unmatched;
 
 pub use case::Case;
 pub use cases::SharedCases;

@@ -1,12 +1,16 @@
 //! A customer's rows before and after a move, as an AS is looked up in them.
-ghost use Rattle.std.specs.Prelude.{◌≡◌, not, IsTrue};
+ghost use Rattle.std.specs.Prelude.{◌≡◌, not, IsTrue, IfOk, IfSome};
 ghost use Rattle.std.specs.List.Sorted.{IsNonDecreasing};
 ghost use Rattle.std.specs.Option.{option_copied};
 ghost use Rattle.path_model.specs.Authority.{has, said_by};
-ghost use Rattle.shared_cases.specs.Touching.{differs, same_authority, IsRisen};
+ghost use Rattle.shared_cases.specs.Touching.{differs, same_authority, AreAllOf, IsRisen};
 
+use crate::unmatched::unmatched;
+use av_base::NoMemory;
 use path_model::{AsList, Authority};
+use std::alloc::Global;
 use std::marker::Model;
+use std::vec::Vec;
 use vap_table::RowMove;
 
 // The rows of a move, where they stand.
@@ -40,6 +44,27 @@ impl<'a> MovedRows<'a> {
             row_move,
             before_rises: is_risen(row_move.before.as_ref()),
             after_rises: is_risen(row_move.after.as_ref()),
+        }
+    }
+
+    // The customer.
+    pub(crate) fn customer(&self) -> u32
+        ensures { result ≡ self.now.customer }
+    {
+        self.row_move.customer
+    }
+
+    // All ASes of which the customer attests another thing than before, where it has a row and had one; where both rise, no others. It takes
+    // the time of a walk over both rows.
+    pub(crate) fn unmatched(&self, alloc: Global) -> Result<Option<Vec<u32>>, NoMemory>
+        ensures { IfOk result (λ r. IfSome r (λ asked. AreAllOf asked.items self.now)) }
+    {
+        match (&self.row_move.before, &self.row_move.after) {
+            (Some(before), Some(after)) => {
+                let asked = unmatched(alloc, before.as_slice(), after.as_slice())?;
+                Ok(Some(asked))
+            }
+            _ => Ok(None),
         }
     }
 

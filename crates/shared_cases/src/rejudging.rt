@@ -28,9 +28,10 @@ use vap_table::{Moves, Vaps};
 
 impl SharedCases {
     /// The table is another one from now on, by these moves. It judges anew, once each, the cases with a hop of which something else is
-    /// attested, and takes the time of a look-up for each move and each neighbour of its customer, of the hops of these customers, and of
-    /// a walk over the rows of each that has hops. Answered are the cases, and the numbers of those that get another verdict than the
-    /// marked one for the first time since the last mark, or since they came.
+    /// attested. It takes the time of a look-up for each move; where its customer has hops, also of a walk over its rows, and of a look-up for
+    /// each AS that is in one row alone or, where these are fewer or there is one row only, for each hop of the customer; and of the cases
+    /// judged. Answered are the cases, and the numbers of those that get another verdict than the marked one for the first time since the last
+    /// mark, or since they came.
     pub fn follow_table<L: Ledger>(
         self,
         moves: &Moves,

@@ -1,9 +1,10 @@
 //! Which cases a change touches.
 ghost use Rattle.std.specs.Prelude.{◌≡◌, ◌↔◌, true, false, ℕ, ◌||◌, ◌⊎◌, IfOk, IsTrue, OnOk};
+ghost use Rattle.hop_index.specs.Index.{has as hops_have};
 ghost use Rattle.path_model.specs.Roles.{role_of};
 ghost use Rattle.shared_cases.specs.Numbers.{has};
 ghost use Rattle.shared_cases.specs.Peers.{is_member, HasMovedMember, IsMovedMember};
-ghost use Rattle.shared_cases.specs.Touching.{IsTouchedAt, IsTouchedBy};
+ghost use Rattle.shared_cases.specs.Touching.{AreAllOf, IsTouchedAt, IsTouchedBy};
 
 use crate::moved_rows::MovedRows;
 use crate::numbers::CaseNumbers;
@@ -15,7 +16,8 @@ use std::alloc::Global;
 use vap_table::{Moves, RowMove};
 
 // The cases that some move touches. It takes the time of a look-up for each move; where its customer has hops, also of a walk over its
-// rows, of a look-up for each neighbour of the customer, and of what is found.
+// rows, of a look-up for each AS that is in one row alone or, where these are fewer or there is one row only, for each hop of the customer,
+// and of what is found.
 pub(crate) fn touched_by_moves(
     alloc: Global,
     index: &HopIndex,
@@ -26,7 +28,7 @@ pub(crate) fn touched_by_moves(
 {
     let mut touched = CaseNumbers::new(alloc);
     for row_move in moves.as_slice() {
-        touch(index, row_move, &mut touched)?;
+        touch(alloc, index, row_move, &mut touched)?;
     }
     Ok(touched)
 }
@@ -90,8 +92,15 @@ fn touch_members(peers: &Peers, asn: u32, touched: &mut CaseNumbers) -> Result<(
     }
 }
 
-// The cases that a move touches come to the others. Its rows are read only where its customer has a hop.
-fn touch(index: &HopIndex, row_move: &RowMove, touched: &mut CaseNumbers) -> Result<(), NoMemory>
+// The cases that a move touches come to the others. Its rows are read only where its customer has a hop. Then the ASes that are in one row
+// alone are looked up among the customer's hops; where the hops are fewer, or all that the customer attests is new or gone, these are looked
+// up in the rows.
+fn touch(
+    alloc: Global,
+    index: &HopIndex,
+    row_move: &RowMove,
+    touched: &mut CaseNumbers,
+) -> Result<(), NoMemory>
     ensures { OnOk result ((n : ℕ) → (has touched.new n ≡ true)
         ↔ ((has touched.old n ≡ true) ⊎ IsTouchedAt index.now row_move.now n)) }
 {
@@ -100,10 +109,64 @@ fn touch(index: &HopIndex, row_move: &RowMove, touched: &mut CaseNumbers) -> Res
         return Ok(());
     }
     let rows = MovedRows::new(row_move);
-    for (provider, case) in index.through(row_move.customer) {
+    let Some(asked) = rows.unmatched(alloc)? else {
+        return touch_ends(index, &rows, touched);
+    };
+    if ends.nth(asked.len()).is_none() {
+        touch_ends(index, &rows, touched)
+    } else {
+        touch_asked(index, &rows, asked.as_slice(), touched)
+    }
+}
+
+// The same, where each hop of the customer is looked up in the rows.
+fn touch_ends(
+    index: &HopIndex,
+    rows: &MovedRows<'_>,
+    touched: &mut CaseNumbers,
+) -> Result<(), NoMemory>
+    ensures { OnOk result ((n : ℕ) → (has touched.new n ≡ true)
+        ↔ ((has touched.old n ≡ true) ⊎ IsTouchedAt index.now rows.now n)) }
+{
+    for (provider, case) in index.through(rows.customer()) {
         if rows.is_moved(provider) {
             touched.insert(case)?;
         }
+    }
+    Ok(())
+}
+
+// The same, where the customer attests another thing of none but these: each is looked up among its hops.
+fn touch_asked(
+    index: &HopIndex,
+    rows: &MovedRows<'_>,
+    asked: &[u32],
+    touched: &mut CaseNumbers,
+) -> Result<(), NoMemory>
+    requires { AreAllOf asked.now rows.now }
+    ensures { OnOk result ((n : ℕ) → (has touched.new n ≡ true)
+        ↔ ((has touched.old n ≡ true) ⊎ IsTouchedAt index.now rows.now n)) }
+{
+    for provider in asked {
+        if rows.is_moved(*provider) {
+            touch_hop(index, rows.customer(), *provider, touched)?;
+        }
+    }
+    Ok(())
+}
+
+// The cases of a hop come to the others.
+fn touch_hop(
+    index: &HopIndex,
+    customer: u32,
+    provider: u32,
+    touched: &mut CaseNumbers,
+) -> Result<(), NoMemory>
+    ensures { OnOk result ((n : ℕ) → has touched.new n
+        ≡ (has touched.old n || hops_have index.now customer provider n)) }
+{
+    for case in index.between(customer, provider) {
+        touched.insert(case)?;
     }
     Ok(())
 }
