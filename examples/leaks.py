@@ -27,7 +27,7 @@ def text_of(script):
 
 
 def judged(script):
-    """The number of routes, and each invalid one, 'ADDRESS AS PREFIX', with the words of its witness."""
+    """The number of routes, and each invalid one, 'ADDRESS AS PREFIX', perhaps with 'path ID', with the words of its witness."""
     if sum(line.split()[:1] == ["open"] for line in script.splitlines()) != 1:
         sys.exit("leaks.py: the script must open one dump, the table: behind updates a route may have another path than there")
     text = text_of(script + "\nsummary\nreport\n")
@@ -38,7 +38,7 @@ def judged(script):
     if "0" in (words[2], words[10]):
         sys.exit(f"leaks.py: nothing is judged: {text[last]}")
     routes = [line.rsplit(" ", 1)[0] for line in text[last + 1:] if line.endswith(" invalid")]
-    answers = text_of(script + "\n" + "".join(f"why {route}\n" for route in routes))[-len(routes):] if routes else []
+    answers = text_of(script + "\n" + "".join(f"why {route.replace(' path ', ' ')}\n" for route in routes))[-len(routes):] if routes else []
     if len(answers) < len(routes) or any(answer.startswith("! ") for answer in answers):
         sys.exit("leaks.py: the second run had other routes than the first")
     return int(words[2]), {route: answer.split()[1:] for route, answer in zip(routes, answers)}
@@ -88,16 +88,17 @@ def paths(file, wanted):
     for kind, subkind, body in records(file):
         if (kind, subkind) == (13, 1):
             peers = peers_of(body)
-        elif (kind, subkind) in ((13, 2), (13, 4)):
+        elif kind == 13 and subkind in (2, 4, 8, 10):
             size = (body[4] + 7) // 8
-            packed = body[5:5 + size].ljust(4 if subkind == 2 else 16, b"\0")
+            packed = body[5:5 + size].ljust(4 if subkind in (2, 8) else 16, b"\0")
+            entry = struct.Struct(">HIIH" if subkind in (8, 10) else ">HIH")
             prefix = ipaddress.ip_network((packed, body[4]), strict=False).exploded
             at = 7 + size
             while at < len(body):
-                peer, _, length = struct.unpack_from(">HIH", body, at)
-                if (route := f"{peers[peer]} {prefix}") in wanted:
-                    found[route] = path_of(body[at + 8:at + 8 + length])
-                at += 8 + length
+                peer, _, *number, length = entry.unpack_from(body, at)
+                at += entry.size + length
+                if (route := " path ".join([f"{peers[peer]} {prefix}", *map(str, number)])) in wanted:
+                    found[route] = path_of(body[at - length:at])
     return found
 
 

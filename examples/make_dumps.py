@@ -1,8 +1,9 @@
 #!/usr/bin/env python3
-"""Writes the example dumps and their attestations: neighbours.base64, table.mrt, updates.mrt and own.mrt, beside this file.
+"""Writes the example dumps and their attestations: neighbours.base64, table.mrt, updates.mrt, own.mrt and paths.mrt, beside this file.
 
 We are AS 64500. Our customer is 64501, our peer 64502, our provider 64503; each has one router that speaks with our collector. own.mrt is a
-table of our own router 192.0.2.254, which speaks with 64501 and, inside our AS, with our router 192.0.2.9.
+table of our own router 192.0.2.254, which speaks with 64501 and, inside our AS, with our router 192.0.2.9. paths.mrt is a table with path
+identifiers (RFC 8050), and one update behind it: 64503 sends us all paths that it has to a prefix (RFC 7911).
 The numbers and addresses are those that are kept for documentation (RFC 5398, RFC 5737, RFC 3849)."""
 import base64
 import ipaddress
@@ -36,6 +37,13 @@ OWN_TABLE = [
     ("2001:db8:10::/48", [(0, [64501, {64510, 64511}])]),
 ]
 
+# the same, with a path identifier behind each path
+PATHS = [("203.0.113.0/24", [(0, [64501, 64503, 64530], 1), (2, [64503, 64530], 1), (2, [64503, 64502, 64530], 2)])]
+
+
+def identifier(path):
+    return b"" if path is None else struct.pack(">I", path)
+
 
 def prefix_bytes(text):
     net = ipaddress.ip_network(text)
@@ -68,25 +76,26 @@ def peer_table(peers):
 
 def rib(sequence, prefix, entries):
     body = struct.pack(">I", sequence) + prefix_bytes(prefix) + struct.pack(">H", len(entries))
-    for peer, path in entries:
+    six, with_paths = ":" in prefix, any(len(entry) == 3 for entry in entries)
+    for peer, path, *number in entries:
         attributes = struct.pack(">BBBB", 0x40, 1, 1, 0) + as_path(path)
-        body += struct.pack(">HIH", peer, TIME, len(attributes)) + attributes
-    return record(13, 4 if ":" in prefix else 2, body)
+        body += struct.pack(">HI", peer, TIME) + b"".join(map(identifier, number)) + struct.pack(">H", len(attributes)) + attributes
+    return record(13, (10 if six else 8) if with_paths else (4 if six else 2), body)
 
 
 def table(peers, routes):
     return peer_table(peers) + b"".join(rib(i, prefix, entries) for i, (prefix, entries) in enumerate(routes))
 
 
-def update(time, peer, withdrawn, attributes, announced):
-    gone = b"".join(map(prefix_bytes, withdrawn))
-    new = b"".join(map(prefix_bytes, announced))
+def update(time, peer, withdrawn, attributes, announced, path=None):
+    gone = b"".join(identifier(path) + prefix_bytes(prefix) for prefix in withdrawn)
+    new = b"".join(identifier(path) + prefix_bytes(prefix) for prefix in announced)
     inner = struct.pack(">H", len(gone)) + gone + struct.pack(">H", len(attributes)) + attributes + new
     message = b"\xff" * 16 + struct.pack(">HB", 19 + len(inner), 2) + inner
     address, asn = PEERS[peer]
     head = struct.pack(">IIHH", asn, 64500, 0, 1)
     head += ipaddress.ip_address(address).packed + ipaddress.ip_address("192.0.2.254").packed
-    return record(16, 4, head + message, time)
+    return record(16, 4 if path is None else 9, head + message, time)
 
 
 def main():
@@ -99,6 +108,7 @@ def main():
         update(TIME + 420, 1, [], as_path([64502, 64503, 64530]), ["203.0.113.0/24"]),
     ]
     (HERE / "updates.mrt").write_bytes(b"".join(news))
+    (HERE / "paths.mrt").write_bytes(table(PEERS, PATHS) + update(TIME + 60, 2, ["203.0.113.0/24"], b"", [], 2))
 
 
 if __name__ == "__main__":

@@ -1,6 +1,7 @@
 -- A row of events, and what it makes of an analysis in which nothing has happened yet.
 use Rattle.std.specs.Prelude.{false, [], ◌∷◌}
 use Rattle.std.specs.FinMap as fin
+use Rattle.std.specs.declared.option.Option.TheVariants.{None}
 use Rattle.path_model.specs.declared.addr.Addr.TheVariants.{V4}
 use Rattle.path_model.specs.declared.key.Key.{Key}
 use Rattle.path_model.specs.declared.role.Role.TheVariants.{Customer, Peer as PeerRole}
@@ -8,9 +9,13 @@ use Rattle.path_model.specs.Roles.{set_role}
 use Rattle.path_model.specs.Trail.{Path, path_of}
 use Rattle.rib_store.specs.State.{State, no_state}
 
--- the key of 198.51.100.0/24 at 192.0.2.1 in AS 64501
+-- the key of 198.51.100.0/24 at 192.0.2.1 in AS 64501, without a path identifier
 abbrev pub route_key : Key
-route_key = record { peer = record { addr = V4 3221225985; asn = 64501 }; prefix = record { addr = V4 3325256704; len = 24 } }
+route_key = record {
+  peer = record { addr = V4 3221225985; asn = 64501 };
+  prefix = record { addr = V4 3325256704; len = 24 };
+  path = None;
+}
 
 -- AS 64500 is the origin, and AS 64501 the neighbour
 abbrev pub route_path : Path

@@ -1,6 +1,6 @@
 //! What events are made of, drawn.
 use av_base::NoMemory;
-use path_model::{Addr, AsList, Changes, Key, Peer, Prefix, PrefixList, Role, Rows, Trail};
+use path_model::{Addr, AsList, Changes, Key, Nlri, NlriList, Peer, Prefix, Role, Rows, Trail};
 use std::alloc::Global;
 
 /// Numbers that look drawn: two upper bits of a linear congruence.
@@ -50,8 +50,8 @@ impl Draw {
         }
     }
 
-    // A key to one of four prefixes.
-    fn key(&mut self) -> Option<Key> {
+    // One of four prefixes, half of the time with a path identifier.
+    fn nlri(&mut self) -> Option<Nlri> {
         let bits = self.four();
         let addr = if bits == 0 {
             Addr::V6(0)
@@ -59,8 +59,24 @@ impl Draw {
             Addr::V4(bits << 24)
         };
         let prefix = Prefix::new(addr, 8)?;
+        let path = self.path();
+        Some(Nlri { prefix, path })
+    }
+
+    // No path identifier, 0, or one of 1, 2, 3 and 4.
+    fn path(&mut self) -> Option<u32> {
+        match self.four() {
+            0 | 1 => None,
+            2 => Some(0),
+            _ => Some(self.four().wrapping_add(1)),
+        }
+    }
+
+    // A key to one of these.
+    fn key(&mut self) -> Option<Key> {
+        let nlri = self.nlri()?;
         let peer = self.peer();
-        Some(Key { peer, prefix })
+        Some(Key::new(peer, nlri))
     }
 
     // A list of one to four ASes, of which the first is this one most of the time.
@@ -91,22 +107,22 @@ impl Draw {
         let part = self.four();
         match (kind, part) {
             (0, 0) => changes.remove_peer(key.peer),
-            (0, 1) => changes.remove_all(key.peer, self.prefixes(alloc, key.prefix)?),
+            (0, 1) => changes.remove_all(key.peer, self.nlris(alloc, key.nlri())?),
             (0 | 1, _) => changes.remove(key),
             (_, _) => self.add_announcement(alloc, changes, key, part),
         }
     }
 
     // A few prefixes, of which the first is this one; some may stand there twice.
-    fn prefixes(&mut self, alloc: Global, first: Prefix) -> Result<PrefixList, NoMemory> {
-        let mut prefixes = PrefixList::new(alloc);
-        prefixes.push(first)?;
+    fn nlris(&mut self, alloc: Global, first: Nlri) -> Result<NlriList, NoMemory> {
+        let mut nlris = NlriList::new(alloc);
+        nlris.push(first)?;
         for _ in 0..3 {
-            if let Some(key) = self.key() {
-                prefixes.push(key.prefix)?;
+            if let Some(nlri) = self.nlri() {
+                nlris.push(nlri)?;
             }
         }
-        Ok(prefixes)
+        Ok(nlris)
     }
 
     fn add_announcement(
@@ -122,8 +138,8 @@ impl Draw {
         }
         let trail = Trail::new(alloc, part == 0, path.as_slice())?;
         if part == 1 {
-            let prefixes = self.prefixes(alloc, key.prefix)?;
-            return changes.announce_all(key.peer, trail, prefixes);
+            let nlris = self.nlris(alloc, key.nlri())?;
+            return changes.announce_all(key.peer, trail, nlris);
         }
         changes.announce(key, trail)
     }

@@ -1,5 +1,6 @@
 //! A map of routes beside std's ordered map: thousands of routes of one peer are put, changed and taken out of both, in rising, falling and
-//! scrambled order, so that the chunks of the map fill, are halved and empty. Each call must answer the same, and both hold the same.
+//! scrambled order, so that the chunks of the map fill, are halved and empty; once without path identifiers, and once so that of three
+//! routes to each prefix two have one. Each call must answer the same, and both hold the same.
 use av_base::NoMemory;
 use path_model::{Addr, Key, Peer, Prefix};
 use route_map::RouteMap;
@@ -15,18 +16,36 @@ const PEER: Peer = Peer {
     asn: 1,
 };
 
+// The peer's key of this number: of the network of that number, or where there are identifiers one of three of a network, without one,
+// with 0, and with the key's number.
+fn key(number: u32, identified: bool) -> Option<Key> {
+    if !identified {
+        return key_of(number, None);
+    }
+    let path = match number % 3 {
+        0 => None,
+        1 => Some(0),
+        _ => Some(number),
+    };
+    key_of(number / 3, path)
+}
+
 // The peer's key of a network, of IPv4 where its number is even.
-fn key(network: u32) -> Option<Key> {
+fn key_of(network: u32, path: Option<u32>) -> Option<Key> {
     let prefix = if network & 1 == 0 {
         Prefix::new(Addr::V4(network << 8), 24)?
     } else {
         Prefix::new(Addr::V6(u128::from(network) << 80), 48)?
     };
-    Some(Key { peer: PEER, prefix })
+    Some(Key {
+        peer: PEER,
+        prefix,
+        path,
+    })
 }
 
-// The n-th network, in steps through all of them: a step of 1 is the rising order, and one less than all the falling order.
-fn network(n: u32, step: u32) -> u32 {
+// The number of the n-th key, in steps through all of them: a step of 1 is the rising order, and one less than all the falling order.
+fn numbered(n: u32, step: u32) -> u32 {
     n.wrapping_mul(step) % ROUTES
 }
 
@@ -44,18 +63,21 @@ struct Both {
     routes: RouteMap<u32>,
     // what the map of routes should hold
     plain: BTreeMap<Key, u32>,
-    // in which steps the networks come
+    // in which steps the keys come
     step: u32,
+    // whether two of three have a path identifier
+    identified: bool,
     compared: Compared,
 }
 
 impl Both {
     // Both without routes.
-    fn new(alloc: Global, step: u32) -> Both {
+    fn new(alloc: Global, step: u32, identified: bool) -> Both {
         Both {
             routes: RouteMap::new(alloc),
             plain: BTreeMap::new(alloc),
             step,
+            identified,
             compared: Compared::default(),
         }
     }
@@ -67,9 +89,14 @@ impl Both {
         }
     }
 
-    // Gives the n-th network a value.
+    // The n-th key.
+    fn key(&self, n: u32) -> Option<Key> {
+        key(numbered(n, self.step), self.identified)
+    }
+
+    // Gives the n-th key a value.
     fn put(&mut self, n: u32, value: u32) -> Result<(), NoMemory> {
-        match key(network(n, self.step)) {
+        match self.key(n) {
             None => Ok(()),
             Some(key) => self.insert(&key, value),
         }
@@ -83,16 +110,16 @@ impl Both {
         Ok(())
     }
 
-    // Takes the value of the n-th network out.
+    // Takes the value of the n-th key out.
     fn take(&mut self, n: u32) {
-        if let Some(key) = key(network(n, self.step)) {
+        if let Some(key) = self.key(n) {
             let answer = self.routes.remove(&key);
             let wanted = self.plain.remove(&key);
             self.count(answer, wanted);
         }
     }
 
-    // Gives the networks a value whose n has none of these bits.
+    // Gives the keys a value whose n has none of these bits.
     fn put_without(&mut self, bits: u32) -> Result<(), NoMemory> {
         for n in 0..ROUTES {
             if n & bits == 0 {
@@ -102,7 +129,7 @@ impl Both {
         Ok(())
     }
 
-    // Takes out the values of the networks whose n has none of these bits.
+    // Takes out the values of the keys whose n has none of these bits.
     fn take_without(&mut self, bits: u32) {
         for n in 0..ROUTES {
             if n & bits == 0 {
@@ -140,8 +167,8 @@ fn entries_alike(routes: &RouteMap<u32>, plain: &BTreeMap<Key, u32>) -> Option<u
 }
 
 // All are put, each second one is changed, all but each eighth one go, each fourth one comes again, and all go.
-fn replayed(alloc: Global, step: u32) -> Result<Compared, NoMemory> {
-    let mut both = Both::new(alloc, step);
+fn replayed(alloc: Global, step: u32, identified: bool) -> Result<Compared, NoMemory> {
+    let mut both = Both::new(alloc, step, identified);
     both.put_without(0)?;
     both.compare();
     both.put_without(1)?;
@@ -165,9 +192,16 @@ fn held_routes(rt: HostRuntime) -> Result<(), NoMemory> {
         lists: 6,
         entries: 18_000,
     };
-    for step in [1, 5_999, 4_001] {
-        let compared = replayed(rt.alloc(), step)?;
-        assert!(rt; compared == wanted, "{step}: {compared:?}");
+    for (step, identified) in [
+        (1, false),
+        (5_999, false),
+        (4_001, false),
+        (1, true),
+        (5_999, true),
+        (4_001, true),
+    ] {
+        let compared = replayed(rt.alloc(), step, identified)?;
+        assert!(rt; compared == wanted, "{step} {identified}: {compared:?}");
     }
     Ok(())
 }

@@ -1,6 +1,6 @@
 //! What stands, as plain lists, and all routes judged from scratch.
 use av_base::{NoMemory, Steps};
-use path_model::{Batch, Change, Key, Name, Peer, PrefixList, Roles, Rows, Trail, Verdict};
+use path_model::{Batch, Change, Key, Name, NlriList, Peer, Roles, Rows, Trail, Verdict};
 use ramps::judge;
 use std::alloc::Global;
 use std::collections::{BTreeMap, BTreeSet};
@@ -37,17 +37,17 @@ impl Plain {
     pub fn perform(&mut self, batch: &Batch) -> Result<(), NoMemory> {
         match batch {
             Batch::One(change) => self.change(change),
-            Batch::RemoveAll(peer, prefixes) => {
-                self.remove_all(*peer, prefixes);
+            Batch::RemoveAll(peer, nlris) => {
+                self.remove_all(*peer, nlris);
                 Ok(())
             }
-            Batch::AnnounceAll(peer, trail, prefixes) => self.announce_all(*peer, trail, prefixes),
+            Batch::AnnounceAll(peer, trail, nlris) => self.announce_all(*peer, trail, nlris),
         }
     }
 
-    fn remove_all(&mut self, peer: Peer, prefixes: &PrefixList) {
-        for prefix in prefixes.iter() {
-            self.routes.remove(&Key { peer, prefix });
+    fn remove_all(&mut self, peer: Peer, nlris: &NlriList) {
+        for nlri in nlris.iter() {
+            self.routes.remove(&Key::new(peer, nlri));
         }
     }
 
@@ -55,10 +55,10 @@ impl Plain {
         &mut self,
         peer: Peer,
         trail: &Trail,
-        prefixes: &PrefixList,
+        nlris: &NlriList,
     ) -> Result<(), NoMemory> {
-        for prefix in prefixes.iter() {
-            self.routes.insert(Key { peer, prefix }, trail.copy()?)?;
+        for nlri in nlris.iter() {
+            self.routes.insert(Key::new(peer, nlri), trail.copy()?)?;
         }
         Ok(())
     }

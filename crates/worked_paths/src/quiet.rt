@@ -38,7 +38,12 @@ pub(crate) fn routes(alloc: Global) -> Result<Event, NoMemory> {
     for i in 0..MANY {
         if let Some(prefix) = Prefix::new(Addr::V4(0x0B00_0000 + 256 * i), 24) {
             let trail = Trail::new(alloc, false, &[1, 1000 + i])?;
-            changes.announce(Key { peer: PEER, prefix }, trail)?;
+            let key = Key {
+                peer: PEER,
+                prefix,
+                path: None,
+            };
+            changes.announce(key, trail)?;
         }
     }
     Ok(Event::Routes(changes))

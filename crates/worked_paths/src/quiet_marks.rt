@@ -24,6 +24,7 @@ fn other_route(alloc: Global) -> Result<Event, NoMemory> {
         let key = Key {
             peer: OTHER_PEER,
             prefix,
+            path: None,
         };
         changes.announce(key, Trail::new(alloc, false, &[1, 300_000])?)?;
     }

@@ -20,10 +20,11 @@ const SECOND: Peer = Peer {
     asn: 64502,
 };
 
-// The peer's key of a network of IPv4 of 24 bits.
+// The peer's key of a network of IPv4 of 24 bits, without a path identifier.
 fn key(peer: Peer, network: u32) -> Option<Key> {
     let prefix = Prefix::new(Addr::V4(network), 24)?;
-    Some(Key { peer, prefix })
+    let path = None;
+    Some(Key { peer, prefix, path })
 }
 
 const NETWORK: u32 = 0xC633_6400;

@@ -29,7 +29,8 @@ fn announce<L: Ledger>(
     let prefix = Prefix::new(Addr::V4(0xC633_6400), 24).unwrap();
     let trail = Trail::new(alloc, false, &[64501, 64500])?;
     let mut changes = Changes::new(alloc);
-    changes.announce(Key { peer, prefix }, trail)?;
+    let path = None;
+    changes.announce(Key { peer, prefix, path }, trail)?;
     analyser.step(Event::Routes(changes), steps)
 }
 

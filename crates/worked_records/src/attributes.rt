@@ -1,8 +1,7 @@
-//! Path attributes, the paths that they give, and prefixes.
+//! Path attributes, and the paths that they give.
 use crate::hex::hex;
 use av_base::NoMemory;
-use bgp_attrs::{Attributes, Form, Item, Prefixes, merge4, prefixes, read};
-use path_model::Addr;
+use bgp_attrs::{Attributes, Form, Item, merge4, read};
 use std::alloc::Global;
 use std::process::Abort;
 
@@ -138,7 +137,7 @@ const FIELDS: [Case; 31] = [
 fn read_all(rt: &impl Abort, alloc: Global, cases: &[Case]) -> Result<(), NoMemory> {
     for (text, wide, said) in cases {
         let bytes = hex(alloc, text)?;
-        match (read(&bytes, *wide, Form::Message), said) {
+        match (read(&bytes, *wide, Form::Message, false), said) {
             (Err(Attributes), Refused) => {}
             (Ok(attrs), NoPath) => {
                 assert!(rt; attrs.path().is_none(), "{text}");
@@ -213,7 +212,7 @@ fn paths_of_300_ases(rt: HostRuntime) -> Result<(), NoMemory> {
         if merged {
             put_sequences(&mut bytes, true, 70_000, &[200])?;
         }
-        match read(&bytes, !merged, Form::Message) {
+        match read(&bytes, !merged, Form::Message, false) {
             Ok(attrs) => match attrs.trail(alloc)? {
                 Some(trail) => {
                     assert!(rt; !trail.is_set());
@@ -263,8 +262,8 @@ fn paths_are_merged(rt: HostRuntime) -> Result<(), NoMemory> {
         let path = hex(alloc, path)?;
         let path4 = hex(alloc, path4)?;
         match (
-            read(&path, true, Form::Table),
-            read(&path4, true, Form::Table),
+            read(&path, true, Form::Table, false),
+            read(&path4, true, Form::Table, false),
         ) {
             (Ok(one), Ok(other)) => match (one.path(), other.path()) {
                 (Some(one), Some(other)) => {
@@ -279,149 +278,5 @@ fn paths_are_merged(rt: HostRuntime) -> Result<(), NoMemory> {
             _ => assert!(rt; false),
         }
     }
-    Ok(())
-}
-
-// The bytes, whether the family is IPv6, and the prefixes; `None` where they aren't prefixes.
-type Listed = (&'static str, bool, Option<&'static [(Addr, u8)]>);
-
-const LISTS: [Listed; 10] = [
-    ("", false, Some(&[])),
-    (
-        "18 C63364 00 20 C0000201",
-        false,
-        Some(&[
-            (Addr::V4(0xC633_6400), 24),
-            (Addr::V4(0), 0),
-            (Addr::V4(0xC000_0201), 32),
-        ]),
-    ),
-    // The last bit of the third byte is behind the length and is cleared.
-    ("17 C63365", false, Some(&[(Addr::V4(0xC633_6400), 23)])),
-    (
-        "20 20010DB8",
-        true,
-        Some(&[(Addr::V6(0x2001_0DB8_0000_0000_0000_0000_0000_0000), 32)]),
-    ),
-    (
-        "80 20010DB8000000000000000000000001",
-        true,
-        Some(&[(Addr::V6(0x2001_0DB8_0000_0000_0000_0000_0000_0001), 128)]),
-    ),
-    ("21 C633640000", false, None),
-    ("81 20010DB800000000000000000000000100", true, None),
-    ("18 C633", false, None),
-    ("18", false, None),
-    ("18 C63364 18 C6", false, None),
-];
-
-#[test]
-fn lists_of_prefixes(rt: HostRuntime) -> Result<(), NoMemory> {
-    for (text, six, want) in &LISTS {
-        let bytes = hex(rt.alloc(), text)?;
-        match (prefixes(&bytes, *six), want) {
-            (Some(found), Some(want)) => {
-                let mut left = found;
-                for (addr, len) in *want {
-                    match left.next() {
-                        Some(prefix) => {
-                            assert_eq!(rt; (prefix.addr(), prefix.len()), (*addr, *len), "{text}")
-                        }
-                        None => assert!(rt; false, "{text}"),
-                    }
-                }
-                assert!(rt; left.next().is_none(), "{text}");
-            }
-            (None, None) => {}
-            _ => assert!(rt; false, "{text}"),
-        }
-    }
-    Ok(())
-}
-
-// The attributes of an IPv6 prefix, and how many prefixes are announced and withdrawn, in a message and in a table; `None` where
-// they are refused.
-type Reached = (&'static str, Option<(usize, usize)>, bool);
-
-const REACHED: [Reached; 12] = [
-    // A next hop of 16 bytes, the reserved byte, 2001:db8::/32.
-    (
-        "80 0E 1A 0002 01 10 20010DB8000000000000000000000001 00 20 20010DB8",
-        Some((1, 0)),
-        true,
-    ),
-    ("80 0F 08 0002 01 20 20010DB8", Some((0, 1)), true),
-    // The family of IPv4.
-    (
-        "80 0E 0D 0001 01 04 C0000201 00 18 C63364",
-        Some((1, 0)),
-        true,
-    ),
-    // No prefix at all, as at the end of a table's transfer.
-    ("80 0F 03 0002 01", Some((0, 0)), true),
-    // Other families are unread behind their three bytes, which must be there.
-    ("80 0E 04 0002 02 FF", Some((0, 0)), true),
-    ("80 0F 03 0019 46", Some((0, 0)), true),
-    ("80 0E 02 0002", None, true),
-    ("80 0F 02 0002", None, true),
-    // The next hop is longer than the attribute, or the reserved byte is missing.
-    (
-        "80 0E 13 0002 01 10 20010DB80000000000000000000001",
-        None,
-        true,
-    ),
-    (
-        "80 0E 14 0002 01 10 20010DB8000000000000000000000001",
-        None,
-        true,
-    ),
-    // A prefix is malformed; a table's short spelling, which in a message is that of another family.
-    ("80 0F 05 0002 01 81 00", None, true),
-    (
-        "80 0E 11 10 20010DB8000000000000000000000001",
-        Some((0, 0)),
-        true,
-    ),
-];
-
-// How many prefixes there are.
-fn count(list: Option<Prefixes<'_>>) -> usize {
-    let mut number = 0usize;
-    if let Some(list) = list {
-        for _ in list {
-            number = number.wrapping_add(1);
-        }
-    }
-    number
-}
-
-#[test]
-fn prefixes_of_other_families(rt: HostRuntime) -> Result<(), NoMemory> {
-    let alloc = rt.alloc();
-    for (text, counts, in_table) in &REACHED {
-        let bytes = hex(alloc, text)?;
-        match (read(&bytes, false, Form::Message), counts) {
-            (Ok(attrs), Some((announced, withdrawn))) => {
-                let found = count(attrs.announced());
-                assert_eq!(rt; found, *announced, "{text}");
-                let gone = count(attrs.withdrawn());
-                assert_eq!(rt; gone, *withdrawn, "{text}");
-            }
-            (Err(Attributes), None) => {}
-            _ => assert!(rt; false, "{text}"),
-        }
-        // In a table both are passed over.
-        match read(&bytes, false, Form::Table) {
-            Ok(attrs) => {
-                assert!(rt; *in_table && attrs.announced().is_none(), "{text}");
-                assert!(rt; attrs.withdrawn().is_none(), "{text}");
-            }
-            Err(Attributes) => assert!(rt; !*in_table, "{text}"),
-        }
-    }
-    // A repeated one is refused, even where the first is of another family.
-    let twice = hex(alloc, "80 0F 03 0019 46  80 0F 03 0002 01")?;
-    assert!(rt; read(&twice, false, Form::Message).is_err());
-    assert!(rt; read(&twice, false, Form::Table).is_ok());
     Ok(())
 }

@@ -1,6 +1,6 @@
 //! The changes of a record beside those that are wanted.
 use crate::records::Wanted;
-use path_model::{Addr, Batch, Change, Changes, Key, Peer, Prefix, Trail};
+use path_model::{Addr, Batch, Change, Changes, Key, Peer, Trail};
 use std::process::Abort;
 use std::slice::Iter;
 
@@ -16,23 +16,19 @@ pub(crate) fn compare_changes(rt: &impl Abort, changes: &Changes, wants: &[Wante
 fn compare_batch(rt: &impl Abort, batch: &Batch, wants: &mut Iter<'_, Wanted>) {
     match batch {
         Batch::One(change) => assert!(rt; is_wanted(change, wants.next())),
-        Batch::RemoveAll(peer, prefixes) => {
-            for prefix in prefixes.iter() {
-                let key = key_of(*peer, prefix);
+        Batch::RemoveAll(peer, nlris) => {
+            for nlri in nlris.iter() {
+                let key = Key::new(*peer, nlri);
                 assert!(rt; is_removal(&key, wants.next()));
             }
         }
-        Batch::AnnounceAll(peer, trail, prefixes) => {
-            for prefix in prefixes.iter() {
-                let key = key_of(*peer, prefix);
+        Batch::AnnounceAll(peer, trail, nlris) => {
+            for nlri in nlris.iter() {
+                let key = Key::new(*peer, nlri);
                 assert!(rt; is_announcement(&key, trail, wants.next()));
             }
         }
     }
-}
-
-fn key_of(peer: Peer, prefix: Prefix) -> Key {
-    Key { peer, prefix }
 }
 
 fn is_wanted(change: &Change, want: Option<&Wanted>) -> bool {
@@ -48,7 +44,10 @@ fn is_wanted(change: &Change, want: Option<&Wanted>) -> bool {
 
 fn is_removal(key: &Key, want: Option<&Wanted>) -> bool {
     match want {
-        Some(Wanted::Remove(peer, addr, len)) => is_key(key, *peer, *addr, *len),
+        Some(Wanted::Remove(peer, addr, len)) => is_key(key, *peer, *addr, *len, None),
+        Some(Wanted::RemovePath(peer, addr, len, path)) => {
+            is_key(key, *peer, *addr, *len, Some(*path))
+        }
         _ => false,
     }
 }
@@ -56,12 +55,19 @@ fn is_removal(key: &Key, want: Option<&Wanted>) -> bool {
 fn is_announcement(key: &Key, trail: &Trail, want: Option<&Wanted>) -> bool {
     match want {
         Some(Wanted::Announce(peer, addr, len, chain)) => {
-            is_key(key, *peer, *addr, *len) && !trail.is_set() && trail.chain().as_slice() == *chain
+            is_key(key, *peer, *addr, *len, None) && is_chain(trail, chain)
+        }
+        Some(Wanted::AnnouncePath(peer, addr, len, path, chain)) => {
+            is_key(key, *peer, *addr, *len, Some(*path)) && is_chain(trail, chain)
         }
         _ => false,
     }
 }
 
-fn is_key(key: &Key, peer: Peer, addr: Addr, len: u8) -> bool {
-    key.peer == peer && key.prefix.addr() == addr && key.prefix.len() == len
+fn is_key(key: &Key, peer: Peer, addr: Addr, len: u8, path: Option<u32>) -> bool {
+    key.peer == peer && key.prefix.addr() == addr && key.prefix.len() == len && key.path == path
+}
+
+fn is_chain(trail: &Trail, chain: &[u32]) -> bool {
+    !trail.is_set() && trail.chain().as_slice() == chain
 }

@@ -1,7 +1,8 @@
 //! Tests of the readers of dumps: path attributes, messages and records.
 //!
 //! Each table has its expected values worked out by hand, or, for the dumps that routing daemons wrote, by `bgpdump`. `attributes` reads
-//! attribute fields, `records` single records and streams in any pieces (`comparing`), `daemons` whole dumps of two daemons.
+//! attribute fields and `lists` prefixes in them, `records` single records and streams in any pieces (`comparing`), `identifiers` records
+//! with path identifiers, and `daemons` whole dumps of two daemons.
 #![tactic(auto)]
 
 #[cfg(test)]
@@ -12,5 +13,9 @@ mod comparing;
 mod daemons;
 #[cfg(test)]
 mod hex;
+#[cfg(test)]
+mod identifiers;
+#[cfg(test)]
+mod lists;
 #[cfg(test)]
 mod records;

@@ -7,11 +7,14 @@ use path_model::{Addr, Peer};
 use std::alloc::Global;
 use std::process::Abort;
 
-// A change that is wanted; a prefix is its address and its length, a path its ASes from the origin on.
+// A change that is wanted; a prefix is its address and its length, and a path its ASes from the origin on.
 #[derive(Clone, Copy)]
 pub(crate) enum Wanted {
     Remove(Peer, Addr, u8),
     Announce(Peer, Addr, u8, &'static [u32]),
+    // the same with a path identifier
+    RemovePath(Peer, Addr, u8, u32),
+    AnnouncePath(Peer, Addr, u8, u32, &'static [u32]),
     RemovePeer(Peer),
 }
 
@@ -29,21 +32,21 @@ pub(crate) enum Said {
 use Said::{Ends, Passed, Peers, Refused, Routes};
 use Wanted::{Announce, Remove, RemovePeer};
 
-const ONE: Peer = Peer {
+pub(crate) const ONE: Peer = Peer {
     addr: Addr::V4(0xC000_0201),
     asn: 64501,
 };
 
-const NET: Addr = Addr::V4(0xC633_6400);
+pub(crate) const NET: Addr = Addr::V4(0xC633_6400);
 
-const NET6: Addr = Addr::V6(0x2001_0DB8_0000_0000_0000_0000_0000_0000);
+pub(crate) const NET6: Addr = Addr::V6(0x2001_0DB8_0000_0000_0000_0000_0000_0000);
 
 // A peer table of 192.0.2.1 with AS 64501 and 192.0.2.2 with AS 64502.
-const TABLE: &str =
+pub(crate) const TABLE: &str =
     "00000000 000D 0001 00000022  C00002FE 0000 0002  02 0A000001 C0000201 0000FBF5  02 0A000002 C0000202 0000FBF6";
 
 // A route to 198.51.100.0/24 from the first peer: 64501 64500.
-const RIB: &str =
+pub(crate) const RIB: &str =
     "00000000 000D 0002 0000001F  00000000 18 C63364 0001  0000 00000000 000D 40020A 0202 0000FBF5 0000FBF4";
 
 // Three routes to 203.0.113.0/24, of which the last one's peer isn't in the table.
@@ -52,11 +55,12 @@ const BEYOND: &str =
     0001 00000000 000D 40020A 0202 0000FBF5 0000FBF4  0005 00000000 000D 40020A 0202 0000FBF5 0000FBF4";
 
 // The first peer withdraws 198.51.100.0/24.
-const WITHDRAWN: &str = "00000000 0010 0004 0000002F  0000FBF5 0000FBFF 0000 0001 C0000201 C00002FE
+pub(crate) const WITHDRAWN: &str =
+    "00000000 0010 0004 0000002F  0000FBF5 0000FBFF 0000 0001 C0000201 C00002FE
     FFFFFFFFFFFFFFFFFFFFFFFFFFFFFFFF 001B 02 0004 18C63364 0000";
 
 // Its session goes from 6 to 1.
-const DOWN: &str =
+pub(crate) const DOWN: &str =
     "00000000 0010 0005 00000018  0000FBF5 0000FBFF 0000 0001 C0000201 C00002FE 0006 0001";
 
 // It announces 2001:db8::/32.
@@ -80,7 +84,7 @@ const TIMED: &str =
 const BOTH: &str = "00000000 0010 0004 00000040  0000FBF5 0000FBFF 0000 0001 C0000201 C00002FE
     FFFFFFFFFFFFFFFFFFFFFFFFFFFFFFFF 002C 02 0004 18C63364 000D 40020A 0202 0000FBF5 0000FBF4 18C63364";
 
-const ROUTE: Wanted = Announce(ONE, NET, 24, &[64500, 64501]);
+pub(crate) const ROUTE: Wanted = Announce(ONE, NET, 24, &[64500, 64501]);
 
 const ROUTE6: Wanted = Announce(ONE, NET6, 32, &[64500, 64501]);
 
@@ -97,7 +101,7 @@ const SIXTH: Peer = Peer {
 };
 
 // The records of a dump, each with changes of some bytes at their places, and what they say.
-type Case = (
+pub(crate) type Case = (
     &'static [(&'static str, &'static [(usize, u8)])],
     &'static [Said],
 );
@@ -293,13 +297,18 @@ fn compare(
     Ok(None)
 }
 
-#[test]
-fn records_say_what_they_should(rt: HostRuntime) -> Result<(), NoMemory> {
-    for (records, wants) in &DUMPS {
-        let stream = joined(rt.alloc(), records)?;
-        read_stream(&rt, rt.alloc(), &stream, 65_536, wants)?;
+/// Reads each of these dumps.
+pub(crate) fn read_dumps(rt: &impl Abort, alloc: Global, dumps: &[Case]) -> Result<(), NoMemory> {
+    for (records, wants) in dumps {
+        let stream = joined(alloc, records)?;
+        read_stream(rt, alloc, &stream, 65_536, wants)?;
     }
     Ok(())
+}
+
+#[test]
+fn records_say_what_they_should(rt: HostRuntime) -> Result<(), NoMemory> {
+    read_dumps(&rt, rt.alloc(), &DUMPS)
 }
 
 // However the stream is cut, its records are the same.

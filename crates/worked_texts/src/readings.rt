@@ -1,6 +1,6 @@
 //! Lines by themselves: of each command some that are right, and some wrong in the number of words, in a spelling and in a number.
 use av_base::NoMemory;
-use path_model::Role;
+use path_model::{Addr, Prefix, Role};
 use script_lines::{Command, LineFault, Show, read};
 use std::alloc::Global;
 use std::process::Abort;
@@ -224,6 +224,74 @@ fn reads_lines(rt: HostRuntime) {
     test_lines(&rt, alloc, &DUMPS);
     test_lines(&rt, alloc, &FEEDS);
     test_lines(&rt, alloc, &JUDGEMENTS);
+}
+
+// A line that asks of the peer 192.0.2.1 in AS 64501 and the prefix 198.51.100.0/24, and with which path identifier, or why it is refused.
+const QUESTIONS: [(&[u8], Result<Option<u32>, LineFault>); 14] = [
+    (b"why 192.0.2.1 64501 198.51.100.0/24", Ok(None)),
+    (b"why 192.0.2.1 64501 198.51.100.0/24 0", Ok(Some(0))),
+    (
+        b"why 192.0.2.1 64501 198.51.100.0/24\t4294967295 ",
+        Ok(Some(4_294_967_295)),
+    ),
+    (b"why 192.0.2.1 64501", Err(LineFault::Words)),
+    (b"why 192.0.2.1 x", Err(LineFault::Words)),
+    (
+        b"why 192.0.2.1 64501 198.51.100.0/24 1 2",
+        Err(LineFault::Words),
+    ),
+    // What is spelled wrong comes before what is no number, wherever it stands.
+    (
+        b"why 192.0.2.1 64501 198.51.100.0/24 x 2",
+        Err(LineFault::Words),
+    ),
+    (b"why 192.0.2.1 x 198.51.100.1/24 x", Err(LineFault::Words)),
+    (b"why 192.0.2.1 x 198.51.100.0/24 1", Err(LineFault::Number)),
+    (
+        b"why 192.0.2.1 64501 198.51.100.0/24 x",
+        Err(LineFault::Number),
+    ),
+    (
+        b"why 192.0.2.1 64501 198.51.100.0/24 01",
+        Err(LineFault::Number),
+    ),
+    (
+        b"why 192.0.2.1 64501 198.51.100.0/24 -1",
+        Err(LineFault::Number),
+    ),
+    (
+        b"why 192.0.2.1 64501 198.51.100.0/24 4294967296",
+        Err(LineFault::Number),
+    ),
+    (
+        b"why 192.0.2.1 64501 198.51.100.0/24 path 1",
+        Err(LineFault::Words),
+    ),
+];
+
+// With which path identifier such a line asks, or why it is refused; nothing where it is another line.
+fn asked(read: Result<Command, LineFault>) -> Option<Result<Option<u32>, LineFault>> {
+    match read {
+        Ok(Command::Why(addr, asn, prefix, path)) => {
+            let is_theirs = addr == Addr::V4(0xc000_0201) && asn == 64_501;
+            let is_wanted = Some(prefix) == Prefix::new(Addr::V4(0xc633_6400), 24);
+            if is_theirs && is_wanted {
+                Some(Ok(path))
+            } else {
+                None
+            }
+        }
+        Ok(_) => None,
+        Err(fault) => Some(Err(fault)),
+    }
+}
+
+#[test]
+fn reads_questions(rt: HostRuntime) {
+    let alloc = rt.alloc();
+    for (i, (line, wanted)) in QUESTIONS.iter().enumerate() {
+        assert!(rt; asked(read(alloc, line)) == Some(*wanted), "row {i}");
+    }
 }
 
 // Reads a line of one byte so many times.

@@ -245,15 +245,23 @@ fn puts_rows(rt: HostRuntime) -> Result<(), NoMemory> {
         addr: Addr::V4(0xc000_0201),
         asn: 64_501,
     };
-    for (addr, len) in [(Addr::V4(0xc633_6400), 24), (Addr::V6(DOCUMENTED), 32)] {
+    let table = [
+        (Addr::V4(0xc633_6400), 24, None),
+        (Addr::V4(0xc633_6400), 24, Some(0)),
+        (Addr::V6(DOCUMENTED), 32, None),
+        (Addr::V6(DOCUMENTED), 32, Some(u32::MAX)),
+    ];
+    for (addr, len, path) in table {
         if let Some(prefix) = Prefix::new(addr, len) {
-            put_row(&mut out, &Key { peer, prefix }, Verdict::Valid)?;
+            put_row(&mut out, &Key { peer, prefix, path }, Verdict::Valid)?;
         }
     }
     assert_eq!(rt;
         out.as_slice(),
         b"192.0.2.1 64501 198.51.100.0/24 valid
+192.0.2.1 64501 198.51.100.0/24 path 0 valid
 192.0.2.1 64501 2001:0db8:0000:0000:0000:0000:0000:0000/32 valid
+192.0.2.1 64501 2001:0db8:0000:0000:0000:0000:0000:0000/32 path 4294967295 valid
 "
             .as_slice()
     );
@@ -268,18 +276,23 @@ fn puts_changes(rt: HostRuntime) -> Result<(), NoMemory> {
         asn: 64_501,
     };
     if let Some(prefix) = Prefix::new(Addr::V4(0xc633_6400), 24) {
-        let key = Key { peer, prefix };
+        let path = None;
+        let key = Key { peer, prefix, path };
         put_change(&mut out, &key, None, Some(Verdict::Valid))?;
         put_change(&mut out, &key, Some(Verdict::Valid), Some(Verdict::Unknown))?;
         put_change(&mut out, &key, Some(Verdict::Invalid), None)?;
+        let path = Some(7);
+        let other = Key { peer, prefix, path };
+        put_change(&mut out, &other, None, Some(Verdict::Unknown))?;
     }
-    put_changed(&mut out, 3)?;
+    put_changed(&mut out, 4)?;
     assert_eq!(rt;
         out.as_slice(),
         b"192.0.2.1 64501 198.51.100.0/24 none valid
 192.0.2.1 64501 198.51.100.0/24 valid unknown
 192.0.2.1 64501 198.51.100.0/24 invalid none
-changed 3
+192.0.2.1 64501 198.51.100.0/24 path 7 none unknown
+changed 4
 "
             .as_slice()
     );
