@@ -77,7 +77,7 @@ impl<V> RouteMap<V> {
         let _peers = self.peers.len();
         match self.peers.get(&key.peer) {
             None => None,
-            Some(routes) => routes.get(&key.prefix),
+            Some(routes) => routes.get(&key.nlri()),
         }
     }
 
@@ -164,11 +164,11 @@ fn put<V: Copy>(
     ensures same { OnErr result (peers.new.entries ≡ peers.old.entries) }
 {
     if let Some(routes) = peers.get_mut(&key.peer) {
-        let before = routes.insert(key.prefix, value)?;
+        let before = routes.insert(&key.nlri(), value)?;
         return Ok(before);
     }
     let mut routes = PeerRoutes::new(alloc);
-    routes.insert(key.prefix, value)?;
+    routes.insert(&key.nlri(), value)?;
     peers.insert(key.peer, routes)?;
     Ok(None)
 }
@@ -196,7 +196,7 @@ fn take_out<V: Drop>(peers: &mut BTreeMap<Peer, PeerRoutes<V>>, key: &Key) -> (O
     match peers.get_mut(&key.peer) {
         None => (None, false),
         Some(routes) => {
-            let before = routes.remove(&key.prefix);
+            let before = routes.remove(&key.nlri());
             (before, routes.is_empty())
         }
     }
