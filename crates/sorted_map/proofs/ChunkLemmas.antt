@@ -1,5 +1,5 @@
 -- What a chunk's entries come to at the place of a key.
-use Rattle.std.proofs.Common.{◌≡◌, ℕ, List, [], length, get_or, set, None, Some, ap, sym, subst, ◌∙◌}
+use Rattle.std.proofs.Common.{◌≡◌, ℕ, zero, suc, ◌-◌, cond, List, [], ◌∷◌, ◌++◌, length, get_or, set, slice_get, None, Some, Result, Ok, Err, IsOk, is_ok, arith, refl, ap, sym, subst, ◌∙◌}
 use Rattle.std.specs.declared.cmp.Ordering.{Ordering}
 use Rattle.std.specs.BTreeMap.{insert_entry, is_at}
 use Rattle.std.specs.List.{zip, insert, remove}
@@ -48,3 +48,27 @@ module _ {K V : Type 0} (R : K → K → Ordering) (k : K) (ks : List K) (vs : L
 module _ {K V : Type 0} (ks : List K) (vs : List V) (es : List (K × V)) (view : zip ks vs ≡ es) (same : length vs ≡ length ks) where
   pub insert_view : (i : ℕ) (k : K) (v : V) → zip (insert ks i k) (insert vs i v) ≡ insert es i (k, v)
   insert_view i k v = zip_insert i ks vs k v same ∙ ap (λ (fs : List (K × V)). insert fs i (k, v)) view
+
+-- the last entry is the last key and the last value
+pub last_of_both : {K V : Type 0} (ks : List K) (vs : List V) (n : ℕ) (k : K) (v : V) → length vs ≡ length ks → length ks ≡ suc n → k ≡ get_or ks n k → v ≡ get_or vs n v
+    → Some (k, v) ≡ slice_get (zip ks vs) (length (zip ks vs) - 1)
+last_of_both [] vs n k v same long key value = absurd (omega (arith, long))
+last_of_both (x ∷ xs) [] n k v same long key value = absurd (omega (arith, same))
+last_of_both (x ∷ []) (y ∷ ys) zero k v same long key value = ap (λ (z : _). Some (z, v)) key ∙ ap (λ (z : _). Some (x, z)) value
+last_of_both (x ∷ []) (y ∷ ys) (suc n) k v same long key value = absurd (omega (arith, long))
+last_of_both (x ∷ z ∷ xs) (y ∷ []) n k v same long key value = absurd (omega (arith, same))
+last_of_both (x ∷ z ∷ xs) (y ∷ w ∷ ys) zero k v same long key value = absurd (omega (arith, long))
+last_of_both (x ∷ z ∷ xs) (y ∷ w ∷ ys) (suc n) k v same long key value =
+    let more : length (zip (x ∷ z ∷ xs) (y ∷ w ∷ ys)) - 1 ≡ suc (length (zip (z ∷ xs) (w ∷ ys)) - 1) = omega arith in
+    last_of_both (z ∷ xs) (w ∷ ys) n k v (omega (arith, same)) (omega (arith, long)) key value ∙ sym (ap (λ (m : ℕ). slice_get (zip (x ∷ z ∷ xs) (y ∷ w ∷ ys)) m) more)
+
+-- what was appended, where it could be
+pub appended_is : {A T E : Type 0} (r : Result T E) (old more new : List A) → IsOk r → new ≡ cond (is_ok r) (old ++ more) old → new ≡ old ++ more
+appended_is (Ok x) old more new done is = is
+appended_is (Err e) old more new done is = absurd cc
+
+pub both_appended : {K V : Type 0} (ks ls : List K) (vs ws : List V) → length vs ≡ length ks → zip (ks ++ ls) (vs ++ ws) ≡ zip ks vs ++ zip ls ws
+both_appended [] ls [] ws same = refl
+both_appended [] ls (v ∷ vs) ws same = absurd (omega (arith, same))
+both_appended (k ∷ ks) ls [] ws same = absurd (omega (arith, same))
+both_appended {K = K} {V = V} (k ∷ ks) ls (v ∷ vs) ws same = ap (λ (es : List (K × V)). (k, v) ∷ es) (both_appended ks ls vs ws (omega (arith, same)))

@@ -47,17 +47,6 @@ module _ {K V : Type 0} where
   joined_pushed [] c = append-nil c
   joined_pushed (b ∷ cs) c = ap (λ (es : List (K × V)). b ++ es) (joined_pushed cs c) ∙ sym (append_assoc b (joined cs) c)
 
-  pub have_set : (cs : List (List (K × V))) (i : ℕ) (b : List (K × V)) → HaveEntries cs → b ≢ [] → HaveEntries (set cs i b)
-  have_set [] i b have some = tt
-  have_set (c ∷ cs) zero b have some = (some, have.1)
-  have_set (c ∷ cs) (suc i) b have some = (have.0, have_set cs i b have.1 some)
-
-  pub have_rest : (cs : List (List (K × V))) (i : ℕ) (b : List (K × V)) → HaveEntries cs → HaveEntries (remove (set cs i b) i)
-  have_rest [] zero b have = tt
-  have_rest [] (suc i) b have = tt
-  have_rest (c ∷ cs) zero b have = have.1
-  have_rest (c ∷ cs) (suc i) b have = (have.0, have_rest cs i b have.1)
-
   pub emptied_gone : (cs : List (List (K × V))) (i : ℕ) (b : List (K × V)) → b ≡ [] → joined (remove (set cs i b) i) ≡ joined (set cs i b)
   emptied_gone [] zero b none = refl
   emptied_gone [] (suc i) b none = refl
@@ -74,12 +63,6 @@ module _ {K V : Type 0} where
   joined_halves [] i h d within = absurd (omega (arith, within))
   joined_halves (c ∷ cs) zero h d within = parts h c (joined cs)
   joined_halves (c ∷ cs) (suc i) h d within = ap (λ (es : List (K × V)). c ++ es) (joined_halves cs i h d (omega (arith, within)))
-
-  pub have_halves : (cs : List (List (K × V))) (i : ℕ) (a b : List (K × V)) → HaveEntries cs → a ≢ [] → b ≢ [] → HaveEntries (set (insert cs (suc i) a) i b)
-  have_halves [] zero a b have some_a some_b = (some_b, tt)
-  have_halves [] (suc i) a b have some_a some_b = have_set (a ∷ []) (suc i) b (some_a, tt) some_b
-  have_halves (c ∷ cs) zero a b have some_a some_b = (some_b, (some_a, have.1))
-  have_halves (c ∷ cs) (suc i) a b have some_a some_b = (have.0, have_halves cs i a b have.1 some_a some_b)
 
   pub some_at : (cs : List (List (K × V))) (i : ℕ) (d : List (K × V)) → HaveEntries cs → i < length cs → get_or cs i d ≢ []
   some_at [] i d have within = absurd (omega (arith, within))

@@ -13,7 +13,7 @@ use Rattle.std.proofs.lemmas.List.Edits.{get_or-insert_below}
 use Rattle.std.proofs.lemmas.Option.{get_or_from_slice_get}
 use Rattle.sorted_map.specs.Chunk.{AreBelow}
 use Rattle.sorted_map.specs.Joined.{joined, AreInOrder, HaveEntries}
-use Rattle.sorted_map.proofs.JoinedLemmas.{joined_halves, have_halves, some_at, sorted_at, below_by_last}
+use Rattle.sorted_map.proofs.JoinedLemmas.{joined_halves, some_at, sorted_at, below_by_last}
 
 module _ {K V : Type 0} where
   -- ---- at the end
@@ -25,22 +25,7 @@ module _ {K V : Type 0} where
   joined_last (a ∷ z ∷ cs) (suc n) c b e some last here is =
       ap (λ (es : List (K × V)). a ++ es) (joined_last (z ∷ cs) n c b e (omega arith) (omega (arith, last)) here is) ∙ sym (append_assoc a (joined (z ∷ cs)) (e ∷ []))
 
-  one_more : (c : List (K × V)) (e : K × V) → c ++ e ∷ [] ≢ []
-  one_more [] e = λ is. cc
-  one_more (x ∷ xs) e = λ is. cc
-
   -- ---- halves
-  take_some : (h : ℕ) (es : List (K × V)) → 0 < h → h < length es → take h es ≢ []
-  take_some zero es more less = absurd (omega (arith, more))
-  take_some (suc h) [] more less = absurd (omega (arith, less))
-  take_some (suc h) (e ∷ es) more less = λ is. cc
-
-  drop_some : (h : ℕ) (es : List (K × V)) → h < length es → drop h es ≢ []
-  drop_some zero [] less = absurd (omega (arith, less))
-  drop_some zero (e ∷ es) less = λ is. cc
-  drop_some (suc h) [] less = absurd (omega (arith, less))
-  drop_some (suc h) (e ∷ es) less = drop_some h es (omega (arith, less))
-
   module _ (cs : List (List (K × V))) (i j h : ℕ) (c more b rest : List (K × V)) (bs : List (List (K × V))) (within : i < length cs) (next : j ≡ suc i)
       (here : c ≡ get_or cs i c) (upper : more ≡ drop h c) (put : bs ≡ insert cs j more) (again : b ≡ get_or bs i b) (lower : rest ≡ take h b) where
     same_chunk : b ≡ c
@@ -53,9 +38,6 @@ module _ {K V : Type 0} where
     pub halved_same : joined (set bs i rest) ≡ joined cs
     halved_same = ap joined halved_is
         ∙ ap (λ (a : List (K × V)). joined (set (insert cs (suc i) (drop h a)) i (take h a))) here ∙ joined_halves cs i h c within
-
-    pub halved_have : HaveEntries cs → 0 < h → h < length c → HaveEntries (set bs i rest)
-    halved_have have more less = subst HaveEntries (sym halved_is) (have_halves cs i (drop h c) (take h c) have (drop_some h c less) (take_some h c more less))
 
   -- ---- order and entries of one chunk
   module _ (R : K → K → Ordering) where
@@ -90,8 +72,9 @@ below_by_last_chunk {R = R} total k (b ∷ cs) c last sorted have above =
     below_by_last total k (b ∷ cs) (length (b ∷ cs) - 1) c (omega arith) sorted have
     (subst (AreBelow R k) (sym (get_or_from_slice_get (b ∷ cs) (length (b ∷ cs) - 1) c c (sym last))) above)
 
-pub same_here : {K V : Type 0} (cs : List (List (K × V))) (i : ℕ) (c d : List (K × V)) → i < length cs → c ≡ get_or cs i c → d ≡ get_or cs i d → c ≡ d
-same_here cs i c d within here there = here ∙ get_or_default cs i c d within ∙ sym there
+-- a chunk that was put there
+pub put_here : {K V : Type 0} (cs : List (List (K × V))) (i : ℕ) (b d : List (K × V)) → i < length cs → d ≡ get_or (set cs i b) i d → d ≡ b
+put_here cs i b d within here = here ∙ get_or-set_same cs i b d within
 
 -- a chunk that has nothing left
 pub left_empty : {K V : Type 0} (cs : List (List (K × V))) (i n : ℕ) (b d : List (K × V)) → i < length cs → d ≡ get_or (set cs i b) i d → n ≡ length d → n ≡ 0 → b ≡ []

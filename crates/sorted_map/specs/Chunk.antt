@@ -10,6 +10,11 @@ abbrev pub begins_by : {K V : Type 0} → (K → K → Ordering) → K → List 
 begins_by cmp key [] = false
 begins_by cmp key (e ∷ es) = is_ge (cmp key e.0)
 
+-- this is the first key
+abbrev pub BeginsWith : {K V : Type 0} → K → List (K × V) → Type 0
+BeginsWith key [] = ⊥
+BeginsWith key (e ∷ es) = e.0 ≡ key
+
 -- the keys of all these are below this one
 abbrev pub AreBelow : {K V : Type 0} → (K → K → Ordering) → K → List (K × V) → Type 0
 AreBelow cmp key es = AllByRecursion (λ e. cmp key e.0 ≡ Greater) es

@@ -1,12 +1,12 @@
 -- Entries in chunks as one list, and what one entry more or less is there. Private contracts alone cite it.
-use Rattle.std.specs.Prelude.{◌≡◌, ◌≢◌, ℕ, suc, ◌<◌, ◌^◌, List, [], ◌∷◌, ◌++◌, length, take, drop}
+use Rattle.std.specs.Prelude.{◌≡◌, ◌≢◌, ⊤, ℕ, suc, ◌<◌, ◌^◌, List, [], ◌∷◌, ◌++◌, length, take, drop}
 use Rattle.std.specs.declared.cmp.Ordering.{Ordering}
 use Rattle.std.specs.declared.option.Option.{Option}
 use Rattle.std.specs.BTreeMap.{insert_entry, is_at}
 use Rattle.std.specs.List.{AllByRecursion}
 use Rattle.std.specs.List.Sorted.{IsStrictlySortedBy}
 use Rattle.std.specs.Map.{keys_of, lookup, remove_entry}
-use Rattle.sorted_map.specs.Chunk.{AreBelow, AreAbove}
+use Rattle.sorted_map.specs.Chunk.{AreBelow, AreAbove, BeginsWith}
 
 -- one chunk after another
 abbrev pub joined : {K V : Type 0} → List (List (K × V)) → List (K × V)
@@ -21,10 +21,16 @@ AreInOrder cmp chunks = IsStrictlySortedBy cmp (keys_of (joined chunks))
 abbrev pub HaveEntries : {K V : Type 0} → List (List (K × V)) → Type 0
 HaveEntries chunks = AllByRecursion (λ c. c ≢ []) chunks
 
+-- each chunk begins with the key at its place, so no chunk is empty
+abbrev pub AreFirsts : {K V : Type 0} → List K → List (List (K × V)) → Type 0
+AreFirsts [] [] = ⊤
+AreFirsts [] (c ∷ cs) = ⊥
+AreFirsts (k ∷ ks) [] = ⊥
+AreFirsts (k ∷ ks) (c ∷ cs) = BeginsWith k c × AreFirsts ks cs
+
 -- the entries of a map in order, and how many they are
 pub record AreChunks {K V : Type 0} (cmp : K → K → Ordering) (chunks : List (List (K × V))) (len : ℕ) : Type 0 where
   pub in_order : AreInOrder cmp chunks
-  pub have : HaveEntries chunks
   pub counted : len ≡ length (joined chunks)
   pub few : len < 2 ^ 63
 

@@ -1,11 +1,11 @@
 //! One chunk: some entries, by rising key.
-ghost use Rattle.std.specs.Prelude.{◌≡◌, ◌≤◌, [], ◌∷◌, ◌++◌, length, take, drop, IsTrue, IfOk, IfErr, OnOk, OnErr};
-ghost use Rattle.std.specs.Prelude.{option_copied};
+ghost use Rattle.std.specs.Prelude.{◌≡◌, ◌-◌, ◌<◌, ◌≤◌, [], ◌∷◌, ◌++◌, length, take, drop, IsTrue, IsFalse, IfOk, IfErr, OnOk, OnErr};
+ghost use Rattle.std.specs.Prelude.{option_copied, option_map, slice_get};
 ghost use Rattle.std.specs.BTreeMap.{insert_entry, is_at};
 ghost use Rattle.std.specs.List.{insert};
 ghost use Rattle.std.specs.List.Sorted.{IsStrictlySortedBy, IsSearchInRange};
 ghost use Rattle.std.specs.Map.{keys_of, lookup, remove_entry};
-ghost use Rattle.sorted_map.specs.Chunk.{begins_by, AreBelow, HasAt, IsGap};
+ghost use Rattle.sorted_map.specs.Chunk.{AreBelow, BeginsWith, HasAt, IsGap};
 
 use av_base::NoMemory;
 use std::alloc::Global;
@@ -38,19 +38,56 @@ impl<K, V> Chunk<K, V> {
     {
         self.keys.len()
     }
-}
 
-impl<K: Ord, V> Chunk<K, V> {
-    // Whether the first key is this one or below it.
-    pub(crate) fn begins_by(&self, key: &K) -> bool
-        ensures { result ≡ begins_by K.cmp key.now self.now }
+    // None at all. It takes no memory.
+    pub(crate) fn none(alloc: Global) -> Chunk<K, V>
+        ensures { result ≡ [] }
     {
-        match self.keys.first() {
-            None => false,
-            Some(first) => key.cmp(first).is_ge(),
+        Chunk {
+            keys: Vec::new(alloc),
+            values: Vec::new(alloc),
         }
     }
 
+    // The last entry.
+    pub(crate) fn last(&self) -> Option<(&K, &V)>
+        ensures { option_map (λ e. (e.0.now, e.1.now)) result
+            ≡ slice_get self.now (length self.now - 1) }
+    {
+        let len = self.keys.len();
+        if len == 0 {
+            return None;
+        }
+        Some((&self.keys[len - 1], &self.values[len - 1]))
+    }
+
+    // Takes over all entries of another chunk, where there is room for them. It takes no memory.
+    pub(crate) fn take_over(&mut self, upper: &mut Chunk<K, V>) -> bool
+        ensures moved { IsTrue result → self.new ≡ self.old ++ upper.old }
+        ensures kept { IsFalse result → (self.new ≡ self.old) × (upper.new ≡ upper.old) }
+    {
+        let more = upper.keys.len();
+        let room = self.keys.capacity() - self.keys.len();
+        if room < more || self.values.capacity() - self.values.len() < more {
+            return false;
+        }
+        let _keys = self.keys.append(&mut upper.keys);
+        let _values = self.values.append(&mut upper.values);
+        true
+    }
+}
+
+impl<K: Copy, V> Chunk<K, V> {
+    // The first key.
+    pub(crate) fn first(&self) -> K
+        requires { 0 < length self.now }
+        ensures { BeginsWith result self.now }
+    {
+        self.keys[0]
+    }
+}
+
+impl<K: Ord, V> Chunk<K, V> {
     // Whether all keys are below this one.
     pub(crate) fn is_below(&self, key: &K) -> bool
         requires { IsStrictlySortedBy K.cmp (keys_of self.now) }

@@ -5,12 +5,12 @@
 //! `Ord` and `Copy`. Values are of any type that is `Copy`, or for all but `insert` of any type.
 //!
 //! Begin reading at [`Sorted`], and then at `specs/Joined.antt`, which says how chunks are one list. That the keys rise is said of that
-//! list alone, and of no chunk: so each step on chunks (`places`) only has to show what it makes of the list.
+//! list alone, and of no chunk: so each step on chunks only has to show what it makes of the list.
 #![tactic(auto)]
 
 mod chunk;
+mod chunks;
 mod iter;
-mod places;
 mod sorted;
 
 pub use iter::Iter;

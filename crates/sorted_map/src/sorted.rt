@@ -1,12 +1,11 @@
 //! The map.
-ghost use Rattle.std.specs.Prelude.{◌≡◌, ◌<◌, ◌^◌, [], length, IfOk, OnOk, OnErr, option_copied};
+ghost use Rattle.std.specs.Prelude.{◌≡◌, ◌-◌, ◌<◌, ◌^◌, [], length, slice_get, IfOk, OnOk, OnErr, option_copied, option_map};
 ghost use Rattle.std.specs.BTreeMap.{insert_entry, is_at};
 ghost use Rattle.std.specs.List.Sorted.{IsStrictlySortedBy};
 ghost use Rattle.std.specs.Map.{keys_of, lookup, remove_entry};
 
-use crate::chunk::Chunk;
+use crate::chunks::Chunks;
 use crate::iter::Iter;
-use crate::places::{get, put, take};
 use av_base::NoMemory;
 use std::alloc::Global;
 use std::marker::Model;
@@ -14,14 +13,15 @@ use std::marker::Model;
 // How many entries there may be: their number is that of a `Vec`'s elements at most.
 const MOST_ENTRIES: usize = 0x7fff_ffff_ffff_ffff;
 
-/// A value for each key, by rising key, in chunks of at most 512 entries. Where keys come in order, an entry takes the bytes of its key and
-/// of its value and hardly more; where they come in any other order or go again, chunks are less full: half full or more, until entries go.
-/// To find a key takes two binary searches, among the chunks and within one.
+/// A value for each key, by rising key, in chunks of at most 512 entries, with the first keys of all chunks beside them. Where keys come in
+/// order, an entry takes the bytes of its key and of its value and hardly more. Else chunks are less full, but two side by side that have
+/// at most 256 entries become one when an entry goes: so there is room for at most four times the entries, and for one chunk more.
+/// To find a key takes two binary searches, among the first keys and within one chunk.
 #[derive(Drop)]
 pub struct Sorted<K: Ord, V> {
     alloc: Global,
     // by rising key, none of them empty, as the invariant says
-    chunks: Vec<Chunk<K, V>>,
+    chunks: Chunks<K, V>,
     // how many entries there are
     len: usize,
 }
@@ -32,9 +32,9 @@ impl<K: Ord, V> Model for Sorted<K, V> {
 
     ghost Value = { List (K × V) };
 
-    ghost view = { λ m. joined m.chunks.items };
+    ghost view = { λ m. joined m.chunks };
 
-    ghost invariant = { λ m. AreChunks K.cmp m.chunks.items m.len };
+    ghost invariant = { λ m. AreChunks K.cmp m.chunks m.len };
 }
 
 impl<K: Ord, V> Sorted<K, V> {
@@ -44,7 +44,7 @@ impl<K: Ord, V> Sorted<K, V> {
     {
         Sorted {
             alloc,
-            chunks: Vec::new(alloc),
+            chunks: Chunks::new(alloc),
             len: 0,
         }
     }
@@ -62,14 +62,22 @@ impl<K: Ord, V> Sorted<K, V> {
     pub fn get(&self, key: &K) -> Option<&V>
         ensures { option_copied result ≡ lookup (is_at (K.cmp key.now)) self.now }
     {
-        get(&self.chunks, key)
+        self.chunks.get(key)
+    }
+
+    /// The last entry, which has the greatest key; `None` exactly where there is no entry. It takes no search.
+    pub fn last(&self) -> Option<(&K, &V)>
+        ensures { option_map (λ e. (e.0.now, e.1.now)) result
+            ≡ slice_get self.now (length self.now - 1) }
+    {
+        self.chunks.last()
     }
 
     /// All entries, by rising key.
     pub fn iter(&self) -> Iter<'_, K, V>
         ensures { result ≡ self.now }
     {
-        Iter::of(&self.chunks)
+        Iter::of(self.chunks.as_slice())
     }
 }
 
@@ -85,20 +93,21 @@ impl<K: Ord + Copy, V: Copy> Sorted<K, V> {
         if self.len == MOST_ENTRIES {
             return Err(NoMemory);
         }
-        let before = put(&mut self.chunks, self.alloc, key, value)?;
+        let before = self.chunks.put(self.alloc, key, value)?;
         self.len += usize::from(before.is_none());
         Ok(before)
     }
 }
 
 impl<K: Ord + Copy, V: Drop> Sorted<K, V> {
-    /// Takes the value of a key out, where it has one, and answers it. It takes no memory; what a chunk took is given back with its last
-    /// entry. It takes the time of a look-up and of a move of at most 512 entries, and with a chunk's last entry the list of chunks moves.
+    /// Takes the value of a key out, where it has one, and answers it. It takes no memory. It takes the time of a look-up and of a move of at
+    /// most 512 entries; where a chunk's last entry goes, or two chunks become one, the list of chunks moves. What a chunk took is given back
+    /// then. The last entry of all goes with no move.
     pub fn remove(&mut self, key: &K) -> Option<V>
         ensures before { result ≡ lookup (is_at (K.cmp key.now)) self.old }
         ensures removed { self.new ≡ remove_entry (is_at (K.cmp key.now)) self.old }
     {
-        let before = take(&mut self.chunks, key);
+        let before = self.chunks.take(self.alloc, key);
         self.len -= usize::from(before.is_some());
         before
     }
