@@ -27,7 +27,7 @@ both_of true b p q = q
 both_of false b p q = p
 
 -- the one, or else the other
-abbrev either : {V : Type 0} → Option V → Option V → Option V
+abbrev pub either : {V : Type 0} → Option V → Option V → Option V
 either None o = o
 either (Some v) o = Some v
 
@@ -58,7 +58,7 @@ module _ {V : Type 0} where
       (λ q. found_at_key es q ∙ same q ∙ sym (found_at_key fs q))
 
   -- ---- what is found at a key of both lists
-  lookup_merged : (q : Nlri) (es fs : List (Nlri × V)) → lookup (is_at (nlri_cmp q)) (merged es fs) ≡ either (lookup (is_at (nlri_cmp q)) es) (lookup (is_at (nlri_cmp q)) fs)
+  pub lookup_merged : (q : Nlri) (es fs : List (Nlri × V)) → lookup (is_at (nlri_cmp q)) (merged es fs) ≡ either (lookup (is_at (nlri_cmp q)) es) (lookup (is_at (nlri_cmp q)) fs)
   lookup_merged q [] fs = refl
   lookup_merged q (e ∷ es) fs = lookup_inserted nlri_total e.0 e.1 q (merged es fs)
       ∙ ap (λ (b : Bool). cond b (Some e.1) (lookup (is_at (nlri_cmp q)) (merged es fs))) ((eq_by_cmp_equiv nlri_total).symm e.0 q)

@@ -4,10 +4,11 @@ use Rattle.std.specs.Borrow.{Bor}
 use Rattle.std.specs.declared.cmp.Ordering.TheVariants.{Less}
 use Rattle.std.specs.declared.option.Option.{Option}
 use Rattle.std.specs.declared.option.Option.TheVariants.{Some, None}
-use Rattle.std.specs.BTreeMap.{insert_entry}
+use Rattle.std.specs.BTreeMap.{insert_entry, is_at}
 use Rattle.std.specs.List.{AllByRecursion}
 use Rattle.std.specs.List.Sorted.{IsStrictlySortedBy}
-use Rattle.std.specs.Map.{keys_of}
+use Rattle.std.specs.Map.{keys_of, lookup}
+use Rattle.std.specs.Option.{IsSome}
 use Rattle.path_model.specs.declared.nlri.Nlri.{Nlri}
 use Rattle.path_model.specs.Key.{nlri_cmp}
 use Rattle.path_model.specs.Prefix.{Subnet}
@@ -43,6 +44,10 @@ before (Some e) es = e ∷ es
 -- an entry with its value behind a reference
 abbrev pub seen : {V : Type 0} → Option (Nlri × Bor V) → Option (Nlri × V)
 seen o = option_map (λ e. (e.0, e.1.now)) o
+
+-- there is one that leads there
+abbrev pub HasNlri : {V : Type 0} → List (Nlri × V) → Nlri → Type 0
+HasNlri es nlri = IsSome (lookup (is_at (nlri_cmp nlri)) es)
 
 -- what the first leads to, if there is one
 abbrev pub first_nlri : {V : Type 0} → List (Nlri × V) → Option Nlri

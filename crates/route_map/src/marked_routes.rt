@@ -1,10 +1,9 @@
 //! The values of one peer's routes with a path identifier.
 ghost use Rattle.std.specs.Prelude.{◌≡◌, ◌↔◌, [], IfNone, IfOk, IfSome, OnOk, OnErr, IsTrue, option_copied};
 ghost use Rattle.std.specs.BTreeMap.{insert_entry, is_at};
-ghost use Rattle.std.specs.List.Sorted.{IsStrictlySortedBy};
-ghost use Rattle.std.specs.Map.{keys_of, lookup, remove_entry};
+ghost use Rattle.std.specs.Map.{lookup, remove_entry};
 ghost use Rattle.path_model.specs.Key.{nlri_cmp};
-ghost use Rattle.route_map.specs.Merged.{marked};
+ghost use Rattle.route_map.specs.Merged.{marked, HasNlri};
 
 use crate::ipv4_nlri::Ipv4Nlri;
 use crate::marked_iter::MarkedIter;
@@ -59,6 +58,20 @@ impl<V> MarkedRoutes<V> {
         match Ipv4Nlri::of(prefix, path) {
             Some(subnet) => self.v4.get(&subnet),
             None => self.v6.get(&nlri_of(prefix, path)),
+        }
+    }
+
+    // One of them: `None` exactly where there are none. It takes no search.
+    pub(crate) fn last(&self) -> Option<Nlri>
+        ensures none { IfNone result (self.now ≡ []) }
+        ensures some { IfSome result (HasNlri self.now) }
+    {
+        if let Some((nlri, _)) = self.v6.last() {
+            return Some(*nlri);
+        }
+        match self.v4.last() {
+            None => None,
+            Some((subnet, _)) => Some(subnet.nlri()),
         }
     }
 

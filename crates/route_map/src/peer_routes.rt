@@ -1,9 +1,10 @@
 //! The values of one peer's routes.
-ghost use Rattle.std.specs.Prelude.{◌≡◌, ◌↔◌, [], IfOk, OnOk, OnErr, IsTrue, option_copied};
+ghost use Rattle.std.specs.Prelude.{◌≡◌, ◌↔◌, [], IfNone, IfOk, IfSome, OnOk, OnErr, IsTrue, option_copied};
 ghost use Rattle.std.specs.BTreeMap.{insert_entry, is_at};
 ghost use Rattle.std.specs.Map.{lookup, remove_entry};
 ghost use Rattle.path_model.specs.Key.{nlri_cmp};
 ghost use Rattle.route_map.specs.Flat.{of_peer};
+ghost use Rattle.route_map.specs.Merged.{HasNlri};
 
 use crate::marked_routes::MarkedRoutes;
 use crate::nlri_iter::NlriIter;
@@ -59,6 +60,20 @@ impl<V> PeerRoutes<V> {
         match nlri.path {
             None => self.plain.get(&nlri.prefix),
             Some(path) => self.marked.get(&nlri.prefix, path),
+        }
+    }
+
+    // One of them: `None` exactly where there are none. It takes no search.
+    pub(crate) fn last(&self) -> Option<Nlri>
+        ensures none { IfNone result (self.now ≡ []) }
+        ensures some { IfSome result (HasNlri self.now) }
+    {
+        if let Some(nlri) = self.plain.last() {
+            return Some(nlri);
+        }
+        match self.marked.last() {
+            None => None,
+            Some(nlri) => Some(nlri),
         }
     }
 

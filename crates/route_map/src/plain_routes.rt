@@ -1,16 +1,15 @@
 //! The values of one peer's routes without a path identifier.
 ghost use Rattle.std.specs.Prelude.{◌≡◌, ◌↔◌, [], IfNone, IfOk, IfSome, OnOk, OnErr, IsTrue, option_copied};
 ghost use Rattle.std.specs.BTreeMap.{insert_entry, is_at};
-ghost use Rattle.std.specs.List.Sorted.{IsStrictlySortedBy};
-ghost use Rattle.std.specs.Map.{keys_of, lookup, remove_entry};
+ghost use Rattle.std.specs.Map.{lookup, remove_entry};
 ghost use Rattle.path_model.specs.Key.{nlri_cmp};
-ghost use Rattle.route_map.specs.Merged.{plain};
+ghost use Rattle.route_map.specs.Merged.{plain, HasNlri};
 
 use crate::ipv4_plain::Ipv4Plain;
 use crate::ipv6_plain::Ipv6Plain;
 use crate::plain_iter::PlainIter;
 use av_base::NoMemory;
-use path_model::Prefix;
+use path_model::{Nlri, Prefix};
 use sorted_map::Sorted;
 use std::alloc::Global;
 use std::marker::Model;
@@ -60,6 +59,20 @@ impl<V> PlainRoutes<V> {
         match Ipv4Plain::of(prefix) {
             Some(subnet) => self.v4.get(&subnet),
             None => self.v6.get(&Ipv6Plain::of(prefix)),
+        }
+    }
+
+    // One of them: `None` exactly where there are none. It takes no search.
+    pub(crate) fn last(&self) -> Option<Nlri>
+        ensures none { IfNone result (self.now ≡ []) }
+        ensures some { IfSome result (HasNlri self.now) }
+    {
+        if let Some((prefix, _)) = self.v6.last() {
+            return Some(prefix.nlri());
+        }
+        match self.v4.last() {
+            None => None,
+            Some((subnet, _)) => Some(subnet.nlri()),
         }
     }
 

@@ -8,7 +8,7 @@ ghost use Rattle.path_model.specs.Key.{key_cmp};
 ghost use Rattle.path_model.specs.Routes.{is_of_peer};
 ghost use Rattle.route_map.specs.Flat.{flat};
 ghost use Rattle.route_map.specs.Held.{found, value_at, without, HaveRoutes, Puts, TakesOut};
-ghost use Rattle.route_map.specs.OfPeer.{HasNoRouteOf, IsRouteOf, first_key};
+ghost use Rattle.route_map.specs.OfPeer.{HasNoRouteOf, IsRouteOf};
 ghost use Rattle.route_map.specs.Updates.{Gets, Loses};
 
 use crate::iter::Iter;
@@ -107,15 +107,19 @@ impl<V> RouteMap<V> {
         }
     }
 
-    /// The first route of one peer; `None` exactly where it has none.
-    pub fn first_of(&self, peer: &Peer) -> Option<Key>
-        ensures first { result ≡ first_key (filter (λ e. is_of_peer peer.now e.0) self.now) }
+    /// One of the routes of one peer; `None` exactly where it has none. To withdraw this one over and over takes all routes of the peer out
+    /// at the cost of a look-up among the peers for each.
+    pub fn last_of(&self, peer: &Peer) -> Option<Key>
         ensures none { IfNone result (HasNoRouteOf self.now peer.now) }
         ensures some { IfSome result (IsRouteOf self.now peer.now) }
     {
-        match self.of_peer(peer).next() {
+        let _peers = self.peers.len();
+        match self.peers.get(peer) {
             None => None,
-            Some((key, _)) => Some(key),
+            Some(routes) => match routes.last() {
+                None => None,
+                Some(nlri) => Some(Key::new(*peer, nlri)),
+            },
         }
     }
 }
