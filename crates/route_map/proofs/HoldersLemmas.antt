@@ -13,10 +13,11 @@ use Rattle.std.proofs.lemmas.Bool.{and_parts}
 use Rattle.std.proofs.lemmas.Map.Views.{exact_unsigned_eq}
 use Rattle.path_model.specs.declared.addr.Addr.TheVariants.{V4}
 use Rattle.path_model.specs.declared.key.Key.{Key}
+use Rattle.path_model.specs.declared.nlri.Nlri.{Nlri}
 use Rattle.path_model.specs.declared.peer.Peer.{Peer}
-use Rattle.path_model.specs.Key.{peer_cmp, key_cmp}
-use Rattle.path_model.specs.Order.{addr_total, subnet_total}
-use Rattle.path_model.specs.Prefix.{Subnet, addr_cmp, subnet_cmp}
+use Rattle.path_model.specs.Key.{peer_cmp, nlri_cmp, nlri_of, key_of, key_cmp}
+use Rattle.path_model.specs.Order.{addr_total, nlri_total}
+use Rattle.path_model.specs.Prefix.{addr_cmp}
 use Rattle.path_model.proofs.OrderLemmas.{peer_exact}
 use Rattle.route_map.specs.Holders.{Holder, holder_of, holder_cmp, is_holder, HasNumber, AreHolders, is_this, AreHoldersBut}
 use Rattle.route_map.specs.Keys.{Entries, at, place_of, found_has, has, has_key}
@@ -25,15 +26,15 @@ use Rattle.route_map.proofs.KeysLemmas.{peer_at, and_swap}
 use Rattle.route_map.proofs.NumberedLemmas.{is_eq_then, key_at, in_range, addr_least, and_none, and_true, or_none, number_of_pair, pair_of_number}
 
 -- ---- what is found of a peer tells whether it has a number
-pub found_number : (index : Entries) (peer : Peer) (n : ℕ) (pairs : List (ℕ × Subnet)) → at index (place_of peer) ≡ Some pairs → (has_number pairs n ≡ true) ↔ HasNumber index peer n
+pub found_number : (index : Entries) (peer : Peer) (n : ℕ) (pairs : List (ℕ × Nlri)) → at index (place_of peer) ≡ Some pairs → (has_number pairs n ≡ true) ↔ HasNumber index peer n
 found_number index peer n pairs there = (
-  λ yes. let one : (s : Subnet) × (found_has (Some pairs) (n, s) ≡ true) = pair_of_number pairs n yes in
-      (one.0, ap (λ (o : Option (List (ℕ × Subnet))). found_has o (n, one.0)) there ∙ one.1),
-  λ one. number_of_pair pairs n one.0 (ap (λ (o : Option (List (ℕ × Subnet))). found_has o (n, one.0)) (sym there) ∙ one.1),
+  λ yes. let one : (s : Nlri) × (found_has (Some pairs) (n, s) ≡ true) = pair_of_number pairs n yes in
+      (one.0, ap (λ (o : Option (List (ℕ × Nlri))). found_has o (n, one.0)) there ∙ one.1),
+  λ one. number_of_pair pairs n one.0 (ap (λ (o : Option (List (ℕ × Nlri))). found_has o (n, one.0)) (sym there) ∙ one.1),
 )
 
 pub none_found : (index : Entries) (peer : Peer) (n : ℕ) → at index (place_of peer) ≡ None → HasNumber index peer n → ⊥
-none_found index peer n none one = true≢false (sym one.1 ∙ ap (λ (o : Option (List (ℕ × Subnet))). found_has o (n, one.0)) none)
+none_found index peer n none one = true≢false (sym one.1 ∙ ap (λ (o : Option (List (ℕ × Nlri))). found_has o (n, one.0)) none)
 
 -- ---- the tests for a holder
 and_both : (a b c : Bool) → ((a && b) && c) ≡ (a && (b && c))
@@ -83,18 +84,18 @@ shuffle false b true = refl
 shuffle false b false = refl
 
 -- whether the route of the peer with this prefix is set
-pub is_set : (key : Key) (number : ℕ) (p : Peer) (n : ℕ) (s : Subnet) → (is_at (key_cmp key) (record { peer = p; prefix = s }) && nat_eq number n) ≡ (is_this key.peer number p n && is_at (subnet_cmp key.prefix) s)
+pub is_set : (key : Key) (number : ℕ) (p : Peer) (n : ℕ) (s : Nlri) → (is_at (key_cmp key) (key_of p s) && nat_eq number n) ≡ (is_this key.peer number p n && is_at (nlri_cmp (nlri_of key)) s)
 is_set key number p n s =
-    ap (λ (t : Bool). t && nat_eq number n) (key_at key (record { peer = p; prefix = s }))
-    ∙ shuffle (is_at (peer_cmp key.peer) p) (is_at (subnet_cmp key.prefix) s) (nat_eq number n)
+    ap (λ (t : Bool). t && nat_eq number n) (key_at key (key_of p s))
+    ∙ shuffle (is_at (peer_cmp key.peer) p) (is_at (nlri_cmp (nlri_of key)) s) (nat_eq number n)
 
 module _ (before after : Entries) (key : Key) (number : ℕ) (held : Bool) (sets : SetsNumber before key number held after) where
-  set_at : (p : Peer) (n : ℕ) (s : Subnet) (b : Bool) → is_this key.peer number p n ≡ b
-      → has after n (record { peer = p; prefix = s }) ≡ cond (b && is_at (subnet_cmp key.prefix) s) held (has before n (record { peer = p; prefix = s }))
+  set_at : (p : Peer) (n : ℕ) (s : Nlri) (b : Bool) → is_this key.peer number p n ≡ b
+      → has after n (key_of p s) ≡ cond (b && is_at (nlri_cmp (nlri_of key)) s) held (has before n (key_of p s))
   set_at p n s b is =
-      sets n (record { peer = p; prefix = s })
-      ∙ ap (λ (t : Bool). cond t held (has before n (record { peer = p; prefix = s }))) (is_set key number p n s)
-      ∙ ap (λ (t : Bool). cond (t && is_at (subnet_cmp key.prefix) s) held (has before n (record { peer = p; prefix = s }))) is
+      sets n (key_of p s)
+      ∙ ap (λ (t : Bool). cond t held (has before n (key_of p s))) (is_set key number p n s)
+      ∙ ap (λ (t : Bool). cond (t && is_at (nlri_cmp (nlri_of key)) s) held (has before n (key_of p s))) is
 
   -- another peer, or another number, is as before
   other_is : (p : Peer) (n : ℕ) → is_this key.peer number p n ≡ false → HasNumber before p n ↔ HasNumber after p n
@@ -114,9 +115,9 @@ module _ (before after : Entries) (holders : List Holder) (are : AreHolders befo
     by_case : (b : Bool) → is_this key.peer number p n ≡ b → (is_holder more p n ≡ true) ↔ HasNumber after p n
     by_case true this = (
       λ yes. (
-        key.prefix,
-        set_at before after key number true sets p n key.prefix true this
-            ∙ ap (λ (t : Bool). cond t true (has before n (record { peer = p; prefix = key.prefix }))) ((eq_by_cmp_equiv subnet_total).refl key.prefix),
+        (nlri_of key),
+        set_at before after key number true sets p n (nlri_of key) true this
+            ∙ ap (λ (t : Bool). cond t true (has before n (key_of p (nlri_of key)))) ((eq_by_cmp_equiv nlri_total).refl (nlri_of key)),
       ),
       λ one. step ∙ ap (λ (t : Bool). cond t true (is_holder holders p n)) this,
     )
@@ -130,11 +131,11 @@ module _ (before after : Entries) (holders : List Holder) (are : AreHolders befo
   -- there was no memory for it
   pub held_in_vain : (more : List Holder) (h : Holder) → h ≡ holder_of key.peer number → Sets holders h true more → IsSame before after → AreHoldersBut after more key.peer number
   held_in_vain more h is goes_in same = record {
-    here = λ one. step key.peer number ∙ at_most (is_this key.peer number key.peer number) (is_holder holders key.peer number) ((are key.peer number).1 (one.0, sym (same number (record { peer = key.peer; prefix = one.0 })) ∙ one.1));
+    here = λ one. step key.peer number ∙ at_most (is_this key.peer number key.peer number) (is_holder holders key.peer number) ((are key.peer number).1 (one.0, sym (same number (key_of key.peer one.0)) ∙ one.1));
     others = λ p n other.
         let stays : is_holder more p n ≡ is_holder holders p n = step p n ∙ ap (λ (t : Bool). cond t true (is_holder holders p n)) other in (
-          λ yes. let one : HasNumber before p n = (are p n).0 (sym stays ∙ yes) in (one.0, same n (record { peer = p; prefix = one.0 }) ∙ one.1),
-          λ one. stays ∙ (are p n).1 (one.0, sym (same n (record { peer = p; prefix = one.0 })) ∙ one.1),
+          λ yes. let one : HasNumber before p n = (are p n).0 (sym stays ∙ yes) in (one.0, same n (key_of p one.0) ∙ one.1),
+          λ one. stays ∙ (are p n).1 (one.0, sym (same n (key_of p one.0)) ∙ one.1),
         );
   } where
     step : Moves holders key.peer number true more
@@ -149,8 +150,8 @@ module _ (before after : Entries) (holders : List Holder) (are : AreHolders befo
   held_still sets = record {
     here = λ one. (are key.peer number).1 (
       one.0,
-      had (is_at (key_cmp key) (record { peer = key.peer; prefix = one.0 }) && nat_eq number number) (has before number (record { peer = key.peer; prefix = one.0 }))
-          (sym (sets number (record { peer = key.peer; prefix = one.0 })) ∙ one.1),
+      had (is_at (key_cmp key) (key_of key.peer one.0) && nat_eq number number) (has before number (key_of key.peer one.0))
+          (sym (sets number (key_of key.peer one.0)) ∙ one.1),
     );
     others = λ p n other.
         let routes : HasNumber before p n ↔ HasNumber after p n = other_is before after key number false sets p n other in
@@ -243,7 +244,7 @@ module _ (asn next number : ℕ) (is_next : next ≡ asn + 1) where
       → (is_among asn q (filter (range_contains holder_cmp (Included (number, asn, V4 0)) (Excluded (number, next, V4 0))) holders) && has index number q) ≡ (nat_eq asn q.peer.asn && has index number q)
   all_among index holders are q = ap (λ (t : Bool). t && has index number q) (among_holders q holders) ∙ by_case (has index number q) refl where
     by_case : (b : Bool) → has index number q ≡ b → ((nat_eq asn q.peer.asn && is_holder holders q.peer number) && b) ≡ (nat_eq asn q.peer.asn && b)
-    by_case true is = ap (λ (t : Bool). (nat_eq asn q.peer.asn && t) && true) ((are q.peer number).1 (q.prefix, is)) ∙ and_true (nat_eq asn q.peer.asn && true)
+    by_case true is = ap (λ (t : Bool). (nat_eq asn q.peer.asn && t) && true) ((are q.peer number).1 ((nlri_of q), is)) ∙ and_true (nat_eq asn q.peer.asn && true)
     by_case false is = and_none (nat_eq asn q.peer.asn && is_holder holders q.peer number) ∙ sym (and_none (nat_eq asn q.peer.asn))
 
 regroup : (k a r h : Bool) → ((k || (a && h)) || (r && h)) ≡ (k || ((a || r) && h))
@@ -264,12 +265,12 @@ holder_goes_in asn number index peer keys keys' h rest all is gives step q =
 
 -- ---- the keys of one peer
 -- what was found of the peer tells what its routes have
-pub of_this_peer : (index : Entries) (peer : Peer) (n : ℕ) (found : Option (List (ℕ × Subnet))) → at index (place_of peer) ≡ found
-    → (q : Key) → (is_at (peer_cmp peer) q.peer && found_has found (n, q.prefix)) ≡ (is_at (peer_cmp peer) q.peer && has index n q)
+pub of_this_peer : (index : Entries) (peer : Peer) (n : ℕ) (found : Option (List (ℕ × Nlri))) → at index (place_of peer) ≡ found
+    → (q : Key) → (is_at (peer_cmp peer) q.peer && found_has found (n, nlri_of q)) ≡ (is_at (peer_cmp peer) q.peer && has index n q)
 of_this_peer index peer n found there q = by_case (is_at (peer_cmp peer) q.peer) refl where
-  by_case : (b : Bool) → is_at (peer_cmp peer) q.peer ≡ b → (b && found_has found (n, q.prefix)) ≡ (b && has index n q)
+  by_case : (b : Bool) → is_at (peer_cmp peer) q.peer ≡ b → (b && found_has found (n, nlri_of q)) ≡ (b && has index n q)
   by_case true is =
-      ap (λ (o : Option (List (ℕ × Subnet))). found_has o (n, q.prefix)) (sym there ∙ ap (λ (p : Peer). at index (place_of p)) (peer_exact peer q.peer ((Equal-is (peer_cmp peer q.peer)).0 is)))
+      ap (λ (o : Option (List (ℕ × Nlri))). found_has o (n, nlri_of q)) (sym there ∙ ap (λ (p : Peer). at index (place_of p)) (peer_exact peer q.peer ((Equal-is (peer_cmp peer q.peer)).0 is)))
   by_case false is = refl
 
 pub gives_none : (index : Entries) (peer : Peer) (n : ℕ) (keys : List Key) → at index (place_of peer) ≡ None → GivesOf peer index n keys keys

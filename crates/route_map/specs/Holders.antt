@@ -5,9 +5,10 @@ use Rattle.std.specs.BTreeMap.{is_at}
 use Rattle.std.specs.List.{list_any}
 use Rattle.std.specs.Ordering.{nat_cmp, ordering_then}
 use Rattle.path_model.specs.declared.addr.Addr.{Addr}
+use Rattle.path_model.specs.declared.nlri.Nlri.{Nlri}
 use Rattle.path_model.specs.declared.peer.Peer.{Peer}
-use Rattle.path_model.specs.Key.{peer_cmp}
-use Rattle.path_model.specs.Prefix.{Subnet, addr_cmp}
+use Rattle.path_model.specs.Key.{peer_cmp, key_of}
+use Rattle.path_model.specs.Prefix.{addr_cmp}
 use Rattle.route_map.specs.Keys.{Entries, has}
 
 -- a number, and behind it a peer by its AS and its address
@@ -26,7 +27,7 @@ is_holder holders peer n = list_any (is_at (holder_cmp (holder_of peer n))) hold
 
 -- a route of the peer has the number
 abbrev pub HasNumber : Entries → Peer → ℕ → Type 0
-HasNumber index peer n = (s : Subnet) × (has index n (record { peer = peer; prefix = s }) ≡ true)
+HasNumber index peer n = (s : Nlri) × (has index n (key_of peer s) ≡ true)
 
 -- the holders of each number are the peers with a route that has it
 abbrev pub AreHolders : Entries → List Holder → Type 0

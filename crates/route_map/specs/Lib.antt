@@ -3,6 +3,7 @@ pub mod Flat
 pub mod Held
 pub mod Holders
 pub mod Keys
+pub mod Merged
 pub mod Numbered
 pub mod OfPeer
 pub mod Packed

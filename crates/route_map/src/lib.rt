@@ -10,12 +10,20 @@
 #![tactic(auto)]
 
 mod by_number;
+mod ipv4_nlri;
+mod ipv4_plain;
 mod ipv4_subnet;
+mod ipv6_plain;
 mod iter;
 mod keys_by_number;
+mod left;
+mod marked_iter;
+mod marked_routes;
+mod nlri_iter;
 mod peer_iter;
 mod peer_routes;
-mod prefix_iter;
+mod plain_iter;
+mod plain_routes;
 mod route_map;
 
 pub use iter::Iter;

@@ -1,37 +1,38 @@
 //! The values of one peer's routes.
-ghost use Rattle.std.specs.Prelude.{◌≡◌, ◌≢◌, ◌↔◌, [], IfOk, OnOk, OnErr, IsTrue, option_copied};
+ghost use Rattle.std.specs.Prelude.{◌≡◌, ◌↔◌, [], IfNone, IfOk, IfSome, OnOk, OnErr, IsTrue, option_copied};
 ghost use Rattle.std.specs.BTreeMap.{insert_entry, is_at};
 ghost use Rattle.std.specs.Map.{lookup, remove_entry};
-ghost use Rattle.path_model.specs.Prefix.{subnet_cmp};
+ghost use Rattle.path_model.specs.Key.{nlri_cmp};
 ghost use Rattle.route_map.specs.Flat.{of_peer};
+ghost use Rattle.route_map.specs.Merged.{HasNlri};
 
-use crate::ipv4_subnet::Ipv4Subnet;
+use crate::marked_routes::MarkedRoutes;
+use crate::nlri_iter::NlriIter;
 use crate::peer_iter::PeerIter;
-use crate::prefix_iter::PrefixIter;
+use crate::plain_routes::PlainRoutes;
 use av_base::NoMemory;
-use path_model::{Peer, Prefix};
-use sorted_map::Sorted;
+use path_model::{Nlri, Peer};
 use std::alloc::Global;
 use std::marker::Model;
 
-// The value of each prefix that one peer has a route to.
+// The value of each prefix, or prefix and path identifier, that one peer has a route to.
 #[derive(Drop)]
 pub(crate) struct PeerRoutes<V> {
-    // an IPv4 prefix takes 5 bytes, and an IPv6 prefix 24
-    v4: Sorted<Ipv4Subnet, V>,
-    v6: Sorted<Prefix, V>,
+    // those without a path identifier, and those with one
+    plain: PlainRoutes<V>,
+    marked: MarkedRoutes<V>,
 }
 
 impl<V> Model for PeerRoutes<V> {
-    ghost use Rattle.std.specs.Prelude.{List, ◌++◌};
-    ghost use Rattle.path_model.specs.Prefix.{Subnet};
-    ghost use Rattle.route_map.specs.Families.{AreByFamily};
+    ghost use Rattle.std.specs.Prelude.{List};
+    ghost use Rattle.path_model.specs.declared.nlri.Nlri.{Nlri};
+    ghost use Rattle.route_map.specs.Merged.{merged, AreTwo};
 
-    ghost Value = { List (Subnet × V) };
+    ghost Value = { List (Nlri × V) };
 
-    ghost view = { λ r. r.v4 ++ r.v6 };
+    ghost view = { λ r. merged r.plain r.marked };
 
-    ghost invariant = { λ r. AreByFamily r.v4 r.v6 };
+    ghost invariant = { λ r. AreTwo r.plain r.marked };
 }
 
 impl<V> PeerRoutes<V> {
@@ -40,8 +41,8 @@ impl<V> PeerRoutes<V> {
         ensures { result ≡ [] }
     {
         PeerRoutes {
-            v4: Sorted::new(alloc),
-            v6: Sorted::new(alloc),
+            plain: PlainRoutes::new(alloc),
+            marked: MarkedRoutes::new(alloc),
         }
     }
 
@@ -49,16 +50,30 @@ impl<V> PeerRoutes<V> {
     pub(crate) fn is_empty(&self) -> bool
         ensures { IsTrue result ↔ (self.now ≡ []) }
     {
-        self.v4.len() == 0 && self.v6.len() == 0
+        self.plain.is_empty() && self.marked.is_empty()
     }
 
-    // The value of a prefix.
-    pub(crate) fn get(&self, prefix: &Prefix) -> Option<&V>
-        ensures { option_copied result ≡ lookup (is_at (subnet_cmp prefix.now)) self.now }
+    // The value of a prefix with its path identifier, if it has one.
+    pub(crate) fn get(&self, nlri: &Nlri) -> Option<&V>
+        ensures { option_copied result ≡ lookup (is_at (nlri_cmp nlri.now)) self.now }
     {
-        match Ipv4Subnet::of(prefix) {
-            Some(subnet) => self.v4.get(&subnet),
-            None => self.v6.get(prefix),
+        match nlri.path {
+            None => self.plain.get(&nlri.prefix),
+            Some(path) => self.marked.get(&nlri.prefix, path),
+        }
+    }
+
+    // One of them: `None` exactly where there are none. It takes no search.
+    pub(crate) fn last(&self) -> Option<Nlri>
+        ensures none { IfNone result (self.now ≡ []) }
+        ensures some { IfSome result (HasNlri self.now) }
+    {
+        if let Some(nlri) = self.plain.last() {
+            return Some(nlri);
+        }
+        match self.marked.last() {
+            None => None,
+            Some(nlri) => Some(nlri),
         }
     }
 
@@ -68,37 +83,35 @@ impl<V> PeerRoutes<V> {
     {
         PeerIter {
             peer,
-            routes: Some(PrefixIter {
-                v4: self.v4.iter(),
-                v6: self.v6.iter(),
-            }),
+            routes: Some(NlriIter::of(self.plain.iter(), self.marked.iter())),
         }
     }
 }
 
 impl<V: Copy> PeerRoutes<V> {
-    // Gives a prefix a value, and answers the one that it had. Where there was no memory nothing changed.
-    pub(crate) fn insert(&mut self, prefix: Prefix, value: V) -> Result<Option<V>, NoMemory>
-        ensures before { IfOk result (λ v. v ≡ lookup (is_at (subnet_cmp prefix)) self.old) }
-        ensures put { OnOk result (self.new ≡ insert_entry subnet_cmp self.old prefix value) }
+    // Gives a prefix with its path identifier, if it has one, a value, and answers the one that it had. Where there was no memory nothing
+    // changed.
+    pub(crate) fn insert(&mut self, nlri: &Nlri, value: V) -> Result<Option<V>, NoMemory>
+        ensures before { IfOk result (λ v. v ≡ lookup (is_at (nlri_cmp nlri.now)) self.old) }
+        ensures put { OnOk result (self.new ≡ insert_entry nlri_cmp self.old nlri.now value) }
         ensures same { OnErr result (self.new ≡ self.old) }
     {
-        match Ipv4Subnet::of(&prefix) {
-            Some(subnet) => Ok(self.v4.insert(subnet, value)?),
-            None => Ok(self.v6.insert(prefix, value)?),
+        match nlri.path {
+            None => Ok(self.plain.insert(&nlri.prefix, value)?),
+            Some(path) => Ok(self.marked.insert(&nlri.prefix, path, value)?),
         }
     }
 }
 
 impl<V: Drop> PeerRoutes<V> {
-    // Takes the value of a prefix out, where it has one. It takes no memory.
-    pub(crate) fn remove(&mut self, prefix: &Prefix) -> Option<V>
-        ensures before { result ≡ lookup (is_at (subnet_cmp prefix.now)) self.old }
-        ensures removed { self.new ≡ remove_entry (is_at (subnet_cmp prefix.now)) self.old }
+    // Takes the value of a prefix with its path identifier, if it has one, out, where it has a value. It takes no memory.
+    pub(crate) fn remove(&mut self, nlri: &Nlri) -> Option<V>
+        ensures before { result ≡ lookup (is_at (nlri_cmp nlri.now)) self.old }
+        ensures removed { self.new ≡ remove_entry (is_at (nlri_cmp nlri.now)) self.old }
     {
-        match Ipv4Subnet::of(prefix) {
-            Some(subnet) => self.v4.remove(&subnet),
-            None => self.v6.remove(prefix),
+        match nlri.path {
+            None => self.plain.remove(&nlri.prefix),
+            Some(path) => self.marked.remove(&nlri.prefix, path),
         }
     }
 }

@@ -8,7 +8,7 @@ ghost use Rattle.path_model.specs.Key.{key_cmp};
 ghost use Rattle.path_model.specs.Routes.{is_of_peer};
 ghost use Rattle.route_map.specs.Flat.{flat};
 ghost use Rattle.route_map.specs.Held.{found, value_at, without, HaveRoutes, Puts, TakesOut};
-ghost use Rattle.route_map.specs.OfPeer.{HasNoRouteOf, IsRouteOf, first_key};
+ghost use Rattle.route_map.specs.OfPeer.{HasNoRouteOf, IsRouteOf};
 ghost use Rattle.route_map.specs.Updates.{Gets, Loses};
 
 use crate::iter::Iter;
@@ -77,7 +77,7 @@ impl<V> RouteMap<V> {
         let _peers = self.peers.len();
         match self.peers.get(&key.peer) {
             None => None,
-            Some(routes) => routes.get(&key.prefix),
+            Some(routes) => routes.get(&key.nlri()),
         }
     }
 
@@ -107,15 +107,19 @@ impl<V> RouteMap<V> {
         }
     }
 
-    /// The first route of one peer; `None` exactly where it has none.
-    pub fn first_of(&self, peer: &Peer) -> Option<Key>
-        ensures first { result ≡ first_key (filter (λ e. is_of_peer peer.now e.0) self.now) }
+    /// One of the routes of one peer; `None` exactly where it has none. To withdraw this one over and over takes all routes of the peer out
+    /// at the cost of a look-up among the peers for each.
+    pub fn last_of(&self, peer: &Peer) -> Option<Key>
         ensures none { IfNone result (HasNoRouteOf self.now peer.now) }
         ensures some { IfSome result (IsRouteOf self.now peer.now) }
     {
-        match self.of_peer(peer).next() {
+        let _peers = self.peers.len();
+        match self.peers.get(peer) {
             None => None,
-            Some((key, _)) => Some(key),
+            Some(routes) => match routes.last() {
+                None => None,
+                Some(nlri) => Some(Key::new(*peer, nlri)),
+            },
         }
     }
 }
@@ -164,11 +168,11 @@ fn put<V: Copy>(
     ensures same { OnErr result (peers.new.entries ≡ peers.old.entries) }
 {
     if let Some(routes) = peers.get_mut(&key.peer) {
-        let before = routes.insert(key.prefix, value)?;
+        let before = routes.insert(&key.nlri(), value)?;
         return Ok(before);
     }
     let mut routes = PeerRoutes::new(alloc);
-    routes.insert(key.prefix, value)?;
+    routes.insert(&key.nlri(), value)?;
     peers.insert(key.peer, routes)?;
     Ok(None)
 }
@@ -196,7 +200,7 @@ fn take_out<V: Drop>(peers: &mut BTreeMap<Peer, PeerRoutes<V>>, key: &Key) -> (O
     match peers.get_mut(&key.peer) {
         None => (None, false),
         Some(routes) => {
-            let before = routes.remove(&key.prefix);
+            let before = routes.remove(&key.nlri());
             (before, routes.is_empty())
         }
     }

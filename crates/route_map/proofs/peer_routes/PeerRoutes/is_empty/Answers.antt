@@ -1,10 +1,16 @@
-use Rattle.std.proofs.Common.{arith, ◌∙◌}
-use Rattle.std.proofs.lemmas.Bool.Decides.{nat_tests}
-use Rattle.sorted_map.proofs.BlockLemmas.{first_is_empty}
+use Rattle.std.proofs.Common.{◌≡◌, [], sym, ◌∙◌}
+use Rattle.route_map.proofs.MergeLemmas.{plain_is_empty, both_are_empty, marked_is_empty}
 use Rattle.route_map.proofs.peer_routes.PeerRoutes.is_empty.Goals as goal
 
-pub returns-else-len-eq0 : goal.returns-else-len-eq0
-returns-else-len-eq0 g c = (
-  λ told. absurd (grind (arith, nat_tests, told, c.if-len-eq0.false)),
-  λ none. absurd (omega (arith, c.if-len-eq0.false, c.len.ensures.len, first_is_empty c.self.inside.v4 c.self.inside.v6 (c.self.view_is ∙ none))),
+pub returns-else-is_empty : goal.returns-else-is_empty
+returns-else-is_empty g c = (
+  λ yes. absurd cc,
+  λ none. c.is_empty.ensures.1 (plain_is_empty c.self.inside.plain c.self.inside.marked (c.self.view_is ∙ none)),
 )
+
+pub returns-then-is_empty : goal.returns-then-is_empty
+returns-then-is_empty g c =
+    let none : c.self.inside.plain ≡ [] = c.is_empty.ensures.0 c.if-is_empty.true in (
+      λ yes. sym c.self.view_is ∙ both_are_empty c.self.inside.plain c.self.inside.marked none (c.is_empty-then-is_empty.ensures.0 yes),
+      λ empty. c.is_empty-then-is_empty.ensures.1 (marked_is_empty c.self.inside.plain c.self.inside.marked none (c.self.view_is ∙ empty)),
+    )
