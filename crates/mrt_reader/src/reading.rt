@@ -27,9 +27,9 @@ pub fn read_body(
 {
     match layout_of(unit.kind, unit.subkind) {
         Layout::PeerIndex => read_table(alloc, unit.body),
-        Layout::Rib { six } => read_rib(alloc, unit.body, six, peers),
+        Layout::Rib { six, paths } => read_rib(alloc, unit.body, six, paths, peers),
         Layout::Dump { six } => read_dump(alloc, unit.body, six),
-        Layout::Message { timed, as4 } => read_message(alloc, unit.body, timed, as4),
+        Layout::Message { timed, as4, paths } => read_message(alloc, unit.body, timed, as4, paths),
         Layout::State { timed, as4 } => read_state(alloc, unit.body, timed, as4),
         Layout::Other => Ok(Body::Passed),
     }
