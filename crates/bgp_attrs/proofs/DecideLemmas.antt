@@ -4,17 +4,17 @@ use Rattle.std.specs.Prelude.{nat_le}
 use Rattle.std.specs.declared.option.Option.{Option}
 use Rattle.std.specs.Int.{w16, from_be_bytes}
 use Rattle.std.proofs.lemmas.Bool.Decides.{nat_tests}
-use Rattle.path_model.specs.Prefix.{Subnet}
+use Rattle.path_model.specs.declared.nlri.Nlri.{Nlri}
 use Rattle.bgp_attrs.specs.declared.form.Form.{Form}
 use Rattle.bgp_attrs.specs.declared.form.Form.TheVariants.{Table, Message}
 use Rattle.bgp_attrs.specs.Attributes.{Field, IsField, contents_of, first_content}
 use Rattle.bgp_attrs.specs.Joined.{IsJoined, IsReader, items_of}
-use Rattle.bgp_attrs.specs.Prefixes.{IsPrefix}
+use Rattle.bgp_attrs.specs.Prefixes.{IsNlri}
 use Rattle.bgp_attrs.specs.Reading.{Reading, Reads, Allows, IsPath, IsPath4, aggregator_of, has_length, family_of, IsReachOf, IsReach, IsUnreachOf, IsUnreach, IsOnly, IsRead}
 use Rattle.bgp_attrs.specs.Segments.{Segment}
 use Rattle.bgp_attrs.proofs.FieldLemmas.{field_reader}
 use Rattle.bgp_attrs.proofs.JoinedLemmas.{joined_from, joined_none, joined_same}
-use Rattle.bgp_attrs.proofs.PrefixLemmas.{prefix_reader}
+use Rattle.bgp_attrs.proofs.NlriLemmas.{nlri_reader}
 use Rattle.bgp_attrs.proofs.SegmentLemmas.{segment_reader}
 
 -- something has the property, or nothing has
@@ -57,52 +57,52 @@ path4_some false content = allows_some (IsPath true) (path_decided true) content
 
 -- ---- prefixes of the families
 
-no_prefixes : (six : Bool) (count : ℕ) (rest : List ℕ) → ((list : List Subnet) → IsJoined (IsPrefix six) (drop (count + 1) rest) list → ⊥) → (value : Option (List Subnet)) → IsReachOf (Some six) (count ∷ rest) value → ⊥
-no_prefixes six count rest none None is = is
-no_prefixes six count rest none (Some list) is = none list is.1
+no_prefixes : (paths six : Bool) (count : ℕ) (rest : List ℕ) → ((list : List Nlri) → IsJoined (IsNlri paths six) (drop (count + 1) rest) list → ⊥) → (value : Option (List Nlri)) → IsReachOf paths (Some six) (count ∷ rest) value → ⊥
+no_prefixes paths six count rest none None is = is
+no_prefixes paths six count rest none (Some list) is = none list is.1
 
-reach_here : (six : Bool) (count : ℕ) (rest : List ℕ) → count + 1 ≤ length rest → SomeOrNone (IsJoined (IsPrefix six) (drop (count + 1) rest)) → SomeOrNone (IsReachOf (Some six) (count ∷ rest))
-reach_here six count rest long (inl list) = inl (Some list.0, (long, list.1))
-reach_here six count rest long (inr none) = inr (no_prefixes six count rest none)
+reach_here : (paths six : Bool) (count : ℕ) (rest : List ℕ) → count + 1 ≤ length rest → SomeOrNone (IsJoined (IsNlri paths six) (drop (count + 1) rest)) → SomeOrNone (IsReachOf paths (Some six) (count ∷ rest))
+reach_here paths six count rest long (inl list) = inl (Some list.0, (long, list.1))
+reach_here paths six count rest long (inr none) = inr (no_prefixes paths six count rest none)
 
-too_short : (six : Bool) (count : ℕ) (rest : List ℕ) → (count + 1 ≤ length rest → ⊥) → (value : Option (List Subnet)) → IsReachOf (Some six) (count ∷ rest) value → ⊥
-too_short six count rest none None is = is
-too_short six count rest none (Some list) is = none is.0
+too_short : (paths six : Bool) (count : ℕ) (rest : List ℕ) → (count + 1 ≤ length rest → ⊥) → (value : Option (List Nlri)) → IsReachOf paths (Some six) (count ∷ rest) value → ⊥
+too_short paths six count rest none None is = is
+too_short paths six count rest none (Some list) is = none is.0
 
-reach_by : (six : Bool) (count : ℕ) (rest : List ℕ) (long : Bool) → nat_le (count + 1) (length rest) ≡ long → SomeOrNone (IsReachOf (Some six) (count ∷ rest))
-reach_by six count rest true e = reach_here six count rest (grind (arith, nat_tests)) (joined_decided (prefix_reader six) (drop (count + 1) rest))
-reach_by six count rest false e = inr (too_short six count rest (λ long. grind (arith, nat_tests)))
+reach_by : (paths six : Bool) (count : ℕ) (rest : List ℕ) (long : Bool) → nat_le (count + 1) (length rest) ≡ long → SomeOrNone (IsReachOf paths (Some six) (count ∷ rest))
+reach_by paths six count rest true e = reach_here paths six count rest (grind (arith, nat_tests)) (joined_decided (nlri_reader paths six) (drop (count + 1) rest))
+reach_by paths six count rest false e = inr (too_short paths six count rest (λ long. grind (arith, nat_tests)))
 
-reach_of_decided : (family : Option Bool) (rest : List ℕ) → SomeOrNone (IsReachOf family rest)
-reach_of_decided None rest = inl (None, refl)
-reach_of_decided (Some six) [] = inr (λ value is. is)
-reach_of_decided (Some six) (count ∷ rest) = reach_by six count rest (nat_le (count + 1) (length rest)) refl
+reach_of_decided : (paths : Bool) (family : Option Bool) (rest : List ℕ) → SomeOrNone (IsReachOf paths family rest)
+reach_of_decided paths None rest = inl (None, refl)
+reach_of_decided paths (Some six) [] = inr (λ value is. is)
+reach_of_decided paths (Some six) (count ∷ rest) = reach_by paths six count rest (nat_le (count + 1) (length rest)) refl
 
-reach_decided : (content : List ℕ) → SomeOrNone (IsReach content)
-reach_decided [] = inr (λ value is. is)
-reach_decided (a ∷ []) = inr (λ value is. is)
-reach_decided (a ∷ b ∷ []) = inr (λ value is. is)
-reach_decided (a ∷ b ∷ safi ∷ rest) = reach_of_decided (family_of (from_be_bytes w16 (a ∷ b ∷ [])) safi) rest
+reach_decided : (paths : Bool) (content : List ℕ) → SomeOrNone (IsReach paths content)
+reach_decided paths [] = inr (λ value is. is)
+reach_decided paths (a ∷ []) = inr (λ value is. is)
+reach_decided paths (a ∷ b ∷ []) = inr (λ value is. is)
+reach_decided paths (a ∷ b ∷ safi ∷ rest) = reach_of_decided paths (family_of (from_be_bytes w16 (a ∷ b ∷ [])) safi) rest
 
-no_withdrawn : (six : Bool) (rest : List ℕ) → ((list : List Subnet) → IsJoined (IsPrefix six) rest list → ⊥) → (value : Option (List Subnet)) → IsUnreachOf (Some six) rest value → ⊥
-no_withdrawn six rest none None is = is
-no_withdrawn six rest none (Some list) is = none list is
+no_withdrawn : (paths six : Bool) (rest : List ℕ) → ((list : List Nlri) → IsJoined (IsNlri paths six) rest list → ⊥) → (value : Option (List Nlri)) → IsUnreachOf paths (Some six) rest value → ⊥
+no_withdrawn paths six rest none None is = is
+no_withdrawn paths six rest none (Some list) is = none list is
 
-unreach_here : (six : Bool) (rest : List ℕ) → SomeOrNone (IsJoined (IsPrefix six) rest) → SomeOrNone (IsUnreachOf (Some six) rest)
-unreach_here six rest (inl list) = inl (Some list.0, list.1)
-unreach_here six rest (inr none) = inr (no_withdrawn six rest none)
+unreach_here : (paths six : Bool) (rest : List ℕ) → SomeOrNone (IsJoined (IsNlri paths six) rest) → SomeOrNone (IsUnreachOf paths (Some six) rest)
+unreach_here paths six rest (inl list) = inl (Some list.0, list.1)
+unreach_here paths six rest (inr none) = inr (no_withdrawn paths six rest none)
 
-unreach_of_decided : (family : Option Bool) (rest : List ℕ) → SomeOrNone (IsUnreachOf family rest)
-unreach_of_decided None rest = inl (None, refl)
-unreach_of_decided (Some six) rest = unreach_here six rest (joined_decided (prefix_reader six) rest)
+unreach_of_decided : (paths : Bool) (family : Option Bool) (rest : List ℕ) → SomeOrNone (IsUnreachOf paths family rest)
+unreach_of_decided paths None rest = inl (None, refl)
+unreach_of_decided paths (Some six) rest = unreach_here paths six rest (joined_decided (nlri_reader paths six) rest)
 
-unreach_decided : (content : List ℕ) → SomeOrNone (IsUnreach content)
-unreach_decided [] = inr (λ value is. is)
-unreach_decided (a ∷ []) = inr (λ value is. is)
-unreach_decided (a ∷ b ∷ []) = inr (λ value is. is)
-unreach_decided (a ∷ b ∷ safi ∷ rest) = unreach_of_decided (family_of (from_be_bytes w16 (a ∷ b ∷ [])) safi) rest
+unreach_decided : (paths : Bool) (content : List ℕ) → SomeOrNone (IsUnreach paths content)
+unreach_decided paths [] = inr (λ value is. is)
+unreach_decided paths (a ∷ []) = inr (λ value is. is)
+unreach_decided paths (a ∷ b ∷ []) = inr (λ value is. is)
+unreach_decided paths (a ∷ b ∷ safi ∷ rest) = unreach_of_decided paths (family_of (from_be_bytes w16 (a ∷ b ∷ [])) safi) rest
 
-only_decided : (S : List ℕ → Option (List Subnet) → Type 0) → ((bytes : List ℕ) → SomeOrNone (S bytes)) → (form : Form) (contents : List (List ℕ)) → SomeOrNone (IsOnly S form contents)
+only_decided : (S : List ℕ → Option (List Nlri) → Type 0) → ((bytes : List ℕ) → SomeOrNone (S bytes)) → (form : Form) (contents : List (List ℕ)) → SomeOrNone (IsOnly S form contents)
 only_decided S d Table contents = inl (None, refl)
 only_decided S d Message [] = inl (None, refl)
 only_decided S d Message (content ∷ []) = d content
@@ -110,26 +110,26 @@ only_decided S d Message (content ∷ another ∷ contents) = inr (λ value is. 
 
 -- ---- the whole field
 
-with_parts : (wide : Bool) (form : Form) (bytes : List ℕ) (fields : List Field) → IsJoined IsField bytes fields → SomeOrNone (Reads (IsPath wide) (first_content 2 fields))
-    → SomeOrNone (IsOnly IsReach form (contents_of 14 fields)) → SomeOrNone (IsOnly IsUnreach form (contents_of 15 fields)) → SomeOrNone (IsRead wide form bytes)
-with_parts wide form bytes fields spelled (inl path) (inl announced) (inl withdrawn) =
+with_parts : (wide : Bool) (form : Form) (paths : Bool) (bytes : List ℕ) (fields : List Field) → IsJoined IsField bytes fields → SomeOrNone (Reads (IsPath wide) (first_content 2 fields))
+    → SomeOrNone (IsOnly (IsReach paths) form (contents_of 14 fields)) → SomeOrNone (IsOnly (IsUnreach paths) form (contents_of 15 fields)) → SomeOrNone (IsRead wide form paths bytes)
+with_parts wide form paths bytes fields spelled (inl path) (inl announced) (inl withdrawn) =
     let path4 = path4_some wide (first_content 17 fields) in
     inl (
       record { path = path.0; path4 = path4.0; aggregator = aggregator_of wide (first_content 7 fields); aggregator4 = has_length 8 (first_content 18 fields); announced = announced.0; withdrawn = withdrawn.0 },
       record { fields = fields; spelled = spelled; path = path.1; path4 = path4.1; aggregator = refl; aggregator4 = refl; announced = announced.1; withdrawn = withdrawn.1 },
     )
-with_parts wide form bytes fields spelled (inr none) announced withdrawn = inr (λ (value : Reading) is.
+with_parts wide form paths bytes fields spelled (inr none) announced withdrawn = inr (λ (value : Reading) is.
     none value.path (subst (λ (fs : List Field). Reads (IsPath wide) (first_content 2 fs) value.path) (joined_same field_reader bytes is.fields fields is.spelled spelled) is.path))
-with_parts wide form bytes fields spelled (inl path) (inr none) withdrawn = inr (λ (value : Reading) is.
-    none value.announced (subst (λ (fs : List Field). IsOnly IsReach form (contents_of 14 fs) value.announced) (joined_same field_reader bytes is.fields fields is.spelled spelled) is.announced))
-with_parts wide form bytes fields spelled (inl path) (inl announced) (inr none) = inr (λ (value : Reading) is.
-    none value.withdrawn (subst (λ (fs : List Field). IsOnly IsUnreach form (contents_of 15 fs) value.withdrawn) (joined_same field_reader bytes is.fields fields is.spelled spelled) is.withdrawn))
+with_parts wide form paths bytes fields spelled (inl path) (inr none) withdrawn = inr (λ (value : Reading) is.
+    none value.announced (subst (λ (fs : List Field). IsOnly (IsReach paths) form (contents_of 14 fs) value.announced) (joined_same field_reader bytes is.fields fields is.spelled spelled) is.announced))
+with_parts wide form paths bytes fields spelled (inl path) (inl announced) (inr none) = inr (λ (value : Reading) is.
+    none value.withdrawn (subst (λ (fs : List Field). IsOnly (IsUnreach paths) form (contents_of 15 fs) value.withdrawn) (joined_same field_reader bytes is.fields fields is.spelled spelled) is.withdrawn))
 
-with_fields : (wide : Bool) (form : Form) (bytes : List ℕ) → SomeOrNone (IsJoined IsField bytes) → SomeOrNone (IsRead wide form bytes)
-with_fields wide form bytes (inl fields) =
-    with_parts wide form bytes fields.0 fields.1 (reads_decided (IsPath wide) (path_decided wide) (first_content 2 fields.0))
-    (only_decided IsReach reach_decided form (contents_of 14 fields.0)) (only_decided IsUnreach unreach_decided form (contents_of 15 fields.0))
-with_fields wide form bytes (inr none) = inr (λ value is. none is.fields is.spelled)
+with_fields : (wide : Bool) (form : Form) (paths : Bool) (bytes : List ℕ) → SomeOrNone (IsJoined IsField bytes) → SomeOrNone (IsRead wide form paths bytes)
+with_fields wide form paths bytes (inl fields) =
+    with_parts wide form paths bytes fields.0 fields.1 (reads_decided (IsPath wide) (path_decided wide) (first_content 2 fields.0))
+    (only_decided (IsReach paths) (reach_decided paths) form (contents_of 14 fields.0)) (only_decided (IsUnreach paths) (unreach_decided paths) form (contents_of 15 fields.0))
+with_fields wide form paths bytes (inr none) = inr (λ value is. none is.fields is.spelled)
 
-pub reading_decided : (wide : Bool) (form : Form) (bytes : List ℕ) → SomeOrNone (IsRead wide form bytes)
-reading_decided wide form bytes = with_fields wide form bytes (joined_decided field_reader bytes)
+pub reading_decided : (wide : Bool) (form : Form) (paths : Bool) (bytes : List ℕ) → SomeOrNone (IsRead wide form paths bytes)
+reading_decided wide form paths bytes = with_fields wide form paths bytes (joined_decided field_reader bytes)

@@ -5,5 +5,6 @@ pub mod JoinedLemmas
 pub mod LawLemmas
 pub mod MergedLawLemmas
 pub mod MergingLemmas
+pub mod NlriLemmas
 pub mod PrefixLemmas
 pub mod SegmentLemmas

@@ -1,29 +1,29 @@
 -- Laws of readings, each the contract of a public function of the module `laws`.
 use Rattle.std.specs.Prelude.{◌≡◌, ℕ, ◌<◌, ◌≤◌, ◌↔◌, Bool, List, ◌++◌, length, ◌⊎◌}
-use Rattle.path_model.specs.Prefix.{Subnet}
+use Rattle.path_model.specs.declared.nlri.Nlri.{Nlri}
 use Rattle.bgp_attrs.specs.declared.form.Form.{Form}
 use Rattle.held_bytes.specs.Divided.{NoneBeginsAnother}
 use Rattle.bgp_attrs.specs.declared.items.Item.{Item}
 use Rattle.bgp_attrs.specs.Joined.{IsJoined}
 use Rattle.bgp_attrs.specs.Merging.{merged}
-use Rattle.bgp_attrs.specs.Prefixes.{IsPrefix}
+use Rattle.bgp_attrs.specs.Prefixes.{IsNlri}
 use Rattle.bgp_attrs.specs.Reading.{Reading, IsRead, IsUnreadable}
 
 -- path attributes have one reading, if any
 abbrev pub AttributesHaveOneReading : Type 0
-AttributesHaveOneReading = (wide : Bool) (form : Form) (bytes : List ℕ) (one other : Reading) → IsRead wide form bytes one → IsRead wide form bytes other → one ≡ other
+AttributesHaveOneReading = (wide : Bool) (form : Form) (paths : Bool) (bytes : List ℕ) (one other : Reading) → IsRead wide form paths bytes one → IsRead wide form paths bytes other → one ≡ other
 
 -- bytes are path attributes, or they are none
 abbrev pub AttributesReadOrNot : Type 0
-AttributesReadOrNot = (wide : Bool) (form : Form) (bytes : List ℕ) → ((value : Reading) × IsRead wide form bytes value) ⊎ IsUnreadable wide form bytes
+AttributesReadOrNot = (wide : Bool) (form : Form) (paths : Bool) (bytes : List ℕ) → ((value : Reading) × IsRead wide form paths bytes value) ⊎ IsUnreadable wide form paths bytes
 
--- no prefix's spelling begins another one: what follows, and the prefix itself, are determined
+-- No spelling of a prefix, be it with a path identifier, begins another one: what follows, and the prefix itself, are determined.
 abbrev pub NoPrefixBeginsAnother : Type 0
-NoPrefixBeginsAnother = (six : Bool) → NoneBeginsAnother (IsPrefix six)
+NoPrefixBeginsAnother = (paths six : Bool) → NoneBeginsAnother (IsNlri paths six)
 
--- bytes are the spellings of one list of prefixes, if of any
+-- bytes are the spellings of one list of prefixes, with or without path identifiers, if of any
 abbrev pub PrefixesHaveOneReading : Type 0
-PrefixesHaveOneReading = (six : Bool) (bytes : List ℕ) (ones others : List Subnet) → IsJoined (IsPrefix six) bytes ones → IsJoined (IsPrefix six) bytes others → ones ≡ others
+PrefixesHaveOneReading = (paths six : Bool) (bytes : List ℕ) (ones others : List Nlri) → IsJoined (IsNlri paths six) bytes ones → IsJoined (IsNlri paths six) bytes others → ones ≡ others
 
 -- a front of AS_PATH with AS4_PATH behind it, which counts as many items as AS_PATH
 pub record IsConstructed (items others path : List Item) : Type 0 where

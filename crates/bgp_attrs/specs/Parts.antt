@@ -1,7 +1,7 @@
 -- What single attributes give, found in the list of them; only private contracts cite it.
 use Rattle.std.specs.Prelude.{ℕ, ◌≤◌, Bool, List, length, IfSome}
 use Rattle.std.specs.declared.option.Option.{Option}
-use Rattle.path_model.specs.Prefix.{Subnet}
+use Rattle.path_model.specs.declared.nlri.Nlri.{Nlri}
 use Rattle.bgp_attrs.specs.declared.form.Form.{Form}
 use Rattle.bgp_attrs.specs.declared.pieces.AttributeList.{AttributeList}
 use Rattle.bgp_attrs.specs.declared.pieces.Segments.{Segments}
@@ -31,21 +31,21 @@ abbrev pub HasBadPath : Bool → AttributeList → Type 0
 HasBadPath wide list = (value : Option (List Segment)) → IsPathIn wide list value → ⊥
 
 -- the prefixes of the MP_REACH_NLRI
-abbrev pub IsAnnouncedIn : Form → AttributeList → Option (List Subnet) → Type 0
-IsAnnouncedIn form list value = IsOnly IsReach form (contents_in 14 list) value
+abbrev pub IsAnnouncedIn : Bool → Form → AttributeList → Option (List Nlri) → Type 0
+IsAnnouncedIn paths form list value = IsOnly (IsReach paths) form (contents_in 14 list) value
 
 -- it isn't in form, or repeated
-abbrev pub HasBadReach : Form → AttributeList → Type 0
-HasBadReach form list = (value : Option (List Subnet)) → IsAnnouncedIn form list value → ⊥
+abbrev pub HasBadReach : Bool → Form → AttributeList → Type 0
+HasBadReach paths form list = (value : Option (List Nlri)) → IsAnnouncedIn paths form list value → ⊥
 
 -- the prefixes of the MP_UNREACH_NLRI
-abbrev pub IsWithdrawnIn : Form → AttributeList → Option (List Subnet) → Type 0
-IsWithdrawnIn form list value = IsOnly IsUnreach form (contents_in 15 list) value
+abbrev pub IsWithdrawnIn : Bool → Form → AttributeList → Option (List Nlri) → Type 0
+IsWithdrawnIn paths form list value = IsOnly (IsUnreach paths) form (contents_in 15 list) value
 
 -- it isn't in form, or repeated
-abbrev pub HasBadUnreach : Form → AttributeList → Type 0
-HasBadUnreach form list = (value : Option (List Subnet)) → IsWithdrawnIn form list value → ⊥
+abbrev pub HasBadUnreach : Bool → Form → AttributeList → Type 0
+HasBadUnreach paths form list = (value : Option (List Nlri)) → IsWithdrawnIn paths form list value → ⊥
 
 -- the content gives no such prefixes
-abbrev pub GivesNone : (List ℕ → Option (List Subnet) → Type 0) → List ℕ → Type 0
-GivesNone S content = (value : Option (List Subnet)) → S content value → ⊥
+abbrev pub GivesNone : (List ℕ → Option (List Nlri) → Type 0) → List ℕ → Type 0
+GivesNone S content = (value : Option (List Nlri)) → S content value → ⊥

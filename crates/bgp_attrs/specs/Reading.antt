@@ -2,12 +2,12 @@
 use Rattle.std.specs.Prelude.{◌≡◌, ℕ, slice_get, ◌==◌, ◌+◌, ◌≤◌, Bool, true, false, ◌&&◌, if◌then◌else◌, List, [], ◌∷◌, length, take, drop, Some, None}
 use Rattle.std.specs.declared.option.Option.{Option}
 use Rattle.std.specs.Int.{w16, from_be_bytes}
-use Rattle.path_model.specs.Prefix.{Subnet}
+use Rattle.path_model.specs.declared.nlri.Nlri.{Nlri}
 use Rattle.bgp_attrs.specs.declared.form.Form.{Form}
 use Rattle.bgp_attrs.specs.declared.form.Form.TheVariants.{Table, Message}
 use Rattle.bgp_attrs.specs.Attributes.{Field, IsField, contents_of, first_content}
 use Rattle.bgp_attrs.specs.Joined.{IsJoined}
-use Rattle.bgp_attrs.specs.Prefixes.{IsPrefix}
+use Rattle.bgp_attrs.specs.Prefixes.{IsNlri}
 use Rattle.bgp_attrs.specs.Segments.{Segment, IsSegment, ases_of, as_width}
 
 -- What counts of the attributes; None where an attribute isn't there or counts as absent.
@@ -16,8 +16,8 @@ pub record Reading : Type 0 where
   pub path4 : Option (List Segment)
   pub aggregator : Option ℕ
   pub aggregator4 : Bool
-  pub announced : Option (List Subnet)
-  pub withdrawn : Option (List Subnet)
+  pub announced : Option (List Nlri)
+  pub withdrawn : Option (List Nlri)
 
 -- an attribute that has to be in form, if it is there
 abbrev pub Reads : {A : Type 0} → (List ℕ → A → Type 0) → Option (List ℕ) → Option A → Type 0
@@ -55,50 +55,50 @@ abbrev pub family_of : ℕ → ℕ → Option Bool
 family_of afi safi = if (afi == 2) && (safi == 1) then Some true else (if (afi == 1) && (safi == 1) then Some false else None)
 
 -- behind the family: a next hop behind its length, one reserved byte, prefixes
-abbrev pub IsReachOf : Option Bool → List ℕ → Option (List Subnet) → Type 0
-IsReachOf None rest value = value ≡ None
-IsReachOf (Some six) (count ∷ rest) (Some prefixes) = (count + 1 ≤ length rest) × IsJoined (IsPrefix six) (drop (count + 1) rest) prefixes
-IsReachOf (Some six) (count ∷ rest) None = ⊥
-IsReachOf (Some six) [] value = ⊥
+abbrev pub IsReachOf : Bool → Option Bool → List ℕ → Option (List Nlri) → Type 0
+IsReachOf paths None rest value = value ≡ None
+IsReachOf paths (Some six) (count ∷ rest) (Some prefixes) = (count + 1 ≤ length rest) × IsJoined (IsNlri paths six) (drop (count + 1) rest) prefixes
+IsReachOf paths (Some six) (count ∷ rest) None = ⊥
+IsReachOf paths (Some six) [] value = ⊥
 
 -- MP_REACH_NLRI: two bytes of AFI, one of SAFI; of a family that isn't unicast of IPv4 or IPv6 the rest is unread
-abbrev pub IsReach : List ℕ → Option (List Subnet) → Type 0
-IsReach (high ∷ low ∷ safi ∷ rest) value = IsReachOf (family_of (from_be_bytes w16 (high ∷ low ∷ [])) safi) rest value
-IsReach (high ∷ low ∷ []) value = ⊥
-IsReach (high ∷ []) value = ⊥
-IsReach [] value = ⊥
+abbrev pub IsReach : Bool → List ℕ → Option (List Nlri) → Type 0
+IsReach paths (high ∷ low ∷ safi ∷ rest) value = IsReachOf paths (family_of (from_be_bytes w16 (high ∷ low ∷ [])) safi) rest value
+IsReach paths (high ∷ low ∷ []) value = ⊥
+IsReach paths (high ∷ []) value = ⊥
+IsReach paths [] value = ⊥
 
 -- behind the family: prefixes
-abbrev pub IsUnreachOf : Option Bool → List ℕ → Option (List Subnet) → Type 0
-IsUnreachOf None rest value = value ≡ None
-IsUnreachOf (Some six) rest None = ⊥
-IsUnreachOf (Some six) rest (Some prefixes) = IsJoined (IsPrefix six) rest prefixes
+abbrev pub IsUnreachOf : Bool → Option Bool → List ℕ → Option (List Nlri) → Type 0
+IsUnreachOf paths None rest value = value ≡ None
+IsUnreachOf paths (Some six) rest None = ⊥
+IsUnreachOf paths (Some six) rest (Some prefixes) = IsJoined (IsNlri paths six) rest prefixes
 
 -- MP_UNREACH_NLRI: the same without a next hop
-abbrev pub IsUnreach : List ℕ → Option (List Subnet) → Type 0
-IsUnreach (high ∷ low ∷ safi ∷ rest) value = IsUnreachOf (family_of (from_be_bytes w16 (high ∷ low ∷ [])) safi) rest value
-IsUnreach (high ∷ low ∷ []) value = ⊥
-IsUnreach (high ∷ []) value = ⊥
-IsUnreach [] value = ⊥
+abbrev pub IsUnreach : Bool → List ℕ → Option (List Nlri) → Type 0
+IsUnreach paths (high ∷ low ∷ safi ∷ rest) value = IsUnreachOf paths (family_of (from_be_bytes w16 (high ∷ low ∷ [])) safi) rest value
+IsUnreach paths (high ∷ low ∷ []) value = ⊥
+IsUnreach paths (high ∷ []) value = ⊥
+IsUnreach paths [] value = ⊥
 
 -- in a message at most one, and in form; in a table unread
-abbrev pub IsOnly : (List ℕ → Option (List Subnet) → Type 0) → Form → List (List ℕ) → Option (List Subnet) → Type 0
+abbrev pub IsOnly : (List ℕ → Option (List Nlri) → Type 0) → Form → List (List ℕ) → Option (List Nlri) → Type 0
 IsOnly S Table contents value = value ≡ None
 IsOnly S Message [] value = value ≡ None
 IsOnly S Message (content ∷ []) value = S content value
 IsOnly S Message (content ∷ another ∷ contents) value = ⊥
 
 -- The bytes are path attributes, one after another, and this is what counts of them. The first one of each type counts.
-pub record IsRead (wide : Bool) (form : Form) (bytes : List ℕ) (value : Reading) : Type 0 where
+pub record IsRead (wide : Bool) (form : Form) (paths : Bool) (bytes : List ℕ) (value : Reading) : Type 0 where
   pub fields : List Field
   pub spelled : IsJoined IsField bytes fields
   pub path : Reads (IsPath wide) (first_content 2 fields) value.path
   pub path4 : IsPath4 wide (first_content 17 fields) value.path4
   pub aggregator : value.aggregator ≡ aggregator_of wide (first_content 7 fields)
   pub aggregator4 : value.aggregator4 ≡ has_length 8 (first_content 18 fields)
-  pub announced : IsOnly IsReach form (contents_of 14 fields) value.announced
-  pub withdrawn : IsOnly IsUnreach form (contents_of 15 fields) value.withdrawn
+  pub announced : IsOnly (IsReach paths) form (contents_of 14 fields) value.announced
+  pub withdrawn : IsOnly (IsUnreach paths) form (contents_of 15 fields) value.withdrawn
 
 -- the bytes have no reading
-abbrev pub IsUnreadable : Bool → Form → List ℕ → Type 0
-IsUnreadable wide form bytes = (value : Reading) → IsRead wide form bytes value → ⊥
+abbrev pub IsUnreadable : Bool → Form → Bool → List ℕ → Type 0
+IsUnreadable wide form paths bytes = (value : Reading) → IsRead wide form paths bytes value → ⊥

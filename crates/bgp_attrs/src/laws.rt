@@ -11,12 +11,12 @@ pub fn attributes_read_or_not()
     ensures { AttributesReadOrNot }
 {}
 
-/// No prefix's spelling begins another one.
+/// No prefix's spelling, with or without a path identifier, begins another one.
 pub fn no_prefix_begins_another()
     ensures { NoPrefixBeginsAnother }
 {}
 
-/// Bytes are the spellings of one list of prefixes, if of any.
+/// Bytes are the spellings of one list of prefixes, with or without path identifiers, if of any.
 pub fn prefixes_have_one_reading()
     ensures { PrefixesHaveOneReading }
 {}

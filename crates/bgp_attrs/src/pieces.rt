@@ -2,12 +2,12 @@
 ghost use Rattle.std.specs.Prelude.{◌≡◌, ◌≤◌, length, is_some, true};
 ghost use Rattle.bgp_attrs.specs.Attributes.{field_at};
 ghost use Rattle.bgp_attrs.specs.Joined.{items_of};
-ghost use Rattle.bgp_attrs.specs.Prefixes.{prefix_at};
+ghost use Rattle.bgp_attrs.specs.Prefixes.{nlri_at};
 ghost use Rattle.bgp_attrs.specs.Segments.{segment_at};
 
 use crate::splitting::{take_asn, take_attribute, take_segment};
-use crate::taking::take_prefix;
-use path_model::Prefix;
+use crate::taking::take_nlri;
+use path_model::Nlri;
 
 /// The ASes of a segment that are still to come.
 #[derive(Clone, Copy, Debug)]
@@ -26,13 +26,15 @@ pub struct Segments<'a> {
     ghost whole: { is_some (items_of (segment_at wide) rest.now) ≡ true },
 }
 
-/// The prefixes that are still to come.
+/// The prefixes that are still to come, each with its path identifier if it has one.
 #[derive(Clone, Copy, Debug)]
 pub struct Prefixes<'a> {
     // prefixes, and nothing else
     pub(crate) rest: &'a [u8],
     pub(crate) six: bool,
-    ghost whole: { is_some (items_of (prefix_at six) rest.now) ≡ true },
+    // whether each has a path identifier before it
+    pub(crate) paths: bool,
+    ghost whole: { is_some (items_of (nlri_at paths six) rest.now) ≡ true },
 }
 
 /// One attribute.
@@ -89,14 +91,14 @@ impl<'a> Iterator for Prefixes<'a> {
     ghost use Rattle.std.specs.Iterator.{YieldsFirst, item_count};
     ghost use Rattle.bgp_attrs.specs.Left.{prefixes_left};
 
-    type Item = Prefix;
+    type Item = Nlri;
 
     ghost next_gives = { YieldsFirst prefixes_left };
 
     ghost remaining = { item_count prefixes_left };
 
-    fn next(&mut self) -> Option<Prefix> {
-        match take_prefix(self.rest, self.six) {
+    fn next(&mut self) -> Option<Nlri> {
+        match take_nlri(self.rest, self.six, self.paths) {
             Some(taken) => {
                 self.rest = taken.1;
                 Some(taken.0)

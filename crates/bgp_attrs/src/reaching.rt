@@ -21,10 +21,10 @@ fn family(high: u8, low: u8, safi: u8) -> Option<bool>
 }
 
 // The prefixes behind a next hop and a reserved byte.
-fn after_hop(rest: &[u8], six: bool) -> Result<Option<Prefixes<'_>>, Attributes>
+fn after_hop(rest: &[u8], six: bool, paths: bool) -> Result<Option<Prefixes<'_>>, Attributes>
     ensures ok { IfOk result (λ found.
-        IsReachOf (Some six) rest.now (option_map prefixes_left found)) }
-    ensures err { OnErr result (GivesNone (IsReachOf (Some six)) rest.now) }
+        IsReachOf paths (Some six) rest.now (option_map prefixes_left found)) }
+    ensures err { OnErr result (GivesNone (IsReachOf paths (Some six)) rest.now) }
 {
     match rest {
         [count, rest @ ..] => {
@@ -33,7 +33,7 @@ fn after_hop(rest: &[u8], six: bool) -> Result<Option<Prefixes<'_>>, Attributes>
                 return Err(Attributes);
             }
             let (_, rest) = rest.split_at(skipped);
-            match prefixes(rest, six) {
+            match prefixes(rest, six, paths) {
                 Some(found) => Ok(Some(found)),
                 None => Err(Attributes),
             }
@@ -43,13 +43,13 @@ fn after_hop(rest: &[u8], six: bool) -> Result<Option<Prefixes<'_>>, Attributes>
 }
 
 // The prefixes of MP_REACH_NLRI, or `None` for another family.
-pub(crate) fn reach(content: &[u8]) -> Result<Option<Prefixes<'_>>, Attributes>
-    ensures ok { IfOk result (λ found. IsReach content.now (option_map prefixes_left found)) }
-    ensures err { OnErr result (GivesNone IsReach content.now) }
+pub(crate) fn reach(content: &[u8], paths: bool) -> Result<Option<Prefixes<'_>>, Attributes>
+    ensures ok { IfOk result (λ found. IsReach paths content.now (option_map prefixes_left found)) }
+    ensures err { OnErr result (GivesNone (IsReach paths) content.now) }
 {
     match content {
         [high, low, safi, rest @ ..] => match family(*high, *low, *safi) {
-            Some(six) => after_hop(rest, six),
+            Some(six) => after_hop(rest, six, paths),
             None => Ok(None),
         },
         [_, _] => Err(Attributes),
@@ -59,13 +59,13 @@ pub(crate) fn reach(content: &[u8]) -> Result<Option<Prefixes<'_>>, Attributes>
 }
 
 // The prefixes of MP_UNREACH_NLRI, or `None` for another family.
-pub(crate) fn unreach(content: &[u8]) -> Result<Option<Prefixes<'_>>, Attributes>
-    ensures ok { IfOk result (λ found. IsUnreach content.now (option_map prefixes_left found)) }
-    ensures err { OnErr result (GivesNone IsUnreach content.now) }
+pub(crate) fn unreach(content: &[u8], paths: bool) -> Result<Option<Prefixes<'_>>, Attributes>
+    ensures ok { IfOk result (λ found. IsUnreach paths content.now (option_map prefixes_left found)) }
+    ensures err { OnErr result (GivesNone (IsUnreach paths) content.now) }
 {
     match content {
         [high, low, safi, rest @ ..] => match family(*high, *low, *safi) {
-            Some(six) => match prefixes(rest, six) {
+            Some(six) => match prefixes(rest, six, paths) {
                 Some(found) => Ok(Some(found)),
                 None => Err(Attributes),
             },

@@ -28,16 +28,17 @@ const AS4_AGGREGATOR: u8 = 18;
 /// Reads an attribute field. It takes no memory; the answer keeps slices of the bytes.
 ///
 /// `wide` says that ASes have four bytes (RFC 6793), as in a table's records and between speakers that agreed on it; else they have
-/// two, and AS4_PATH and AS4_AGGREGATOR count. A refusal comes exactly where the bytes have no reading: an attribute's header or
-/// content is cut, the first AS_PATH is malformed, or in a message MP_REACH_NLRI or MP_UNREACH_NLRI is repeated or malformed.
-pub fn read(bytes: &[u8], wide: bool, form: Form) -> Result<Attrs<'_>, Attributes>
-    ensures ok { IfOk result (λ attrs. IsRead wide form bytes.now attrs) }
-    ensures only { (value : Reading) → IsRead wide form bytes.now value → IsOk result }
+/// two, and AS4_PATH and AS4_AGGREGATOR count. `paths` says that each prefix of MP_REACH_NLRI and MP_UNREACH_NLRI has a path identifier
+/// before it (RFC 7911, section 3); in a table both are unread. A refusal comes exactly where the bytes have no reading: an attribute's
+/// header or content is cut, the first AS_PATH is malformed, or in a message MP_REACH_NLRI or MP_UNREACH_NLRI is repeated or malformed.
+pub fn read(bytes: &[u8], wide: bool, form: Form, paths: bool) -> Result<Attrs<'_>, Attributes>
+    ensures ok { IfOk result (λ attrs. IsRead wide form paths bytes.now attrs) }
+    ensures only { (value : Reading) → IsRead wide form paths bytes.now value → IsOk result }
 {
     let fields = attributes(bytes).ok_or(Attributes)?;
     let path = path_in(fields, wide)?;
-    let announced = announced_in(fields, form)?;
-    let withdrawn = withdrawn_in(fields, form)?;
+    let announced = announced_in(fields, form, paths)?;
+    let withdrawn = withdrawn_in(fields, form, paths)?;
     Ok(Attrs {
         path,
         path4: path4_in(fields, wide),
@@ -103,15 +104,16 @@ fn has_aggregator4(fields: AttributeList<'_>) -> bool
 fn announced_in<'a>(
     fields: AttributeList<'a>,
     form: Form,
+    paths: bool,
 ) -> Result<Option<Prefixes<'a>>, Attributes>
     ensures ok { IfOk result (λ found.
-        IsAnnouncedIn form fields.entry (option_map prefixes_left found)) }
-    ensures err { OnErr result (HasBadReach form fields.entry) }
+        IsAnnouncedIn paths form fields.entry (option_map prefixes_left found)) }
+    ensures err { OnErr result (HasBadReach paths form fields.entry) }
 {
     match form {
         Form::Table => Ok(None),
         Form::Message => match only_content(fields, MP_REACH_NLRI)? {
-            Some(content) => reach(content),
+            Some(content) => reach(content, paths),
             None => Ok(None),
         },
     }
@@ -120,15 +122,16 @@ fn announced_in<'a>(
 fn withdrawn_in<'a>(
     fields: AttributeList<'a>,
     form: Form,
+    paths: bool,
 ) -> Result<Option<Prefixes<'a>>, Attributes>
     ensures ok { IfOk result (λ found.
-        IsWithdrawnIn form fields.entry (option_map prefixes_left found)) }
-    ensures err { OnErr result (HasBadUnreach form fields.entry) }
+        IsWithdrawnIn paths form fields.entry (option_map prefixes_left found)) }
+    ensures err { OnErr result (HasBadUnreach paths form fields.entry) }
 {
     match form {
         Form::Table => Ok(None),
         Form::Message => match only_content(fields, MP_UNREACH_NLRI)? {
-            Some(content) => unreach(content),
+            Some(content) => unreach(content, paths),
             None => Ok(None),
         },
     }

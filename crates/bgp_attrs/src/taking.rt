@@ -1,9 +1,9 @@
 //! Blocks and prefixes at the front of bytes.
-ghost use Rattle.std.specs.Prelude.{◌≡◌, ◌≤◌, ◌*◌, length, option_map};
+ghost use Rattle.std.specs.Prelude.{◌≡◌, ◌≤◌, ◌*◌, length, option_map, true};
 ghost use Rattle.bgp_attrs.specs.Blocks.{block_at};
-ghost use Rattle.bgp_attrs.specs.Prefixes.{addr_of, family_bits, prefix_at};
+ghost use Rattle.bgp_attrs.specs.Prefixes.{addr_of, family_bits, nlri_at, prefix_at};
 
-use path_model::{Addr, Prefix};
+use path_model::{Addr, Nlri, Prefix};
 
 /// The bytes behind two bytes of length, and what follows them; `None` where they are cut.
 #[tactic(auto, unfolding(crate::specs::Blocks::block_at))]
@@ -37,6 +37,50 @@ pub fn take_prefix(bytes: &[u8], six: bool) -> Option<(Prefix, &[u8])>
             let (bits, rest) = rest.split_at(count);
             let prefix = Prefix::new(padded_addr(bits, six), *len)?;
             Some((prefix, rest))
+        }
+        _ => None,
+    }
+}
+
+// The first prefix, with its path identifier of four bytes before it if `paths` says so (RFC 7911, section 3), and what follows it;
+// `None` where they are no whole ones.
+#[tactic(auto, unfolding(crate::specs::Prefixes::nlri_at))]
+pub(crate) fn take_nlri(bytes: &[u8], six: bool, paths: bool) -> Option<(Nlri, &[u8])>
+    ensures { option_map (λ x. (x.0, x.1.now)) result ≡ nlri_at paths six bytes.now }
+{
+    if paths {
+        return take_identified(bytes, six);
+    }
+    match take_prefix(bytes, six) {
+        Some(taken) => {
+            let nlri = Nlri {
+                prefix: taken.0,
+                path: None,
+            };
+            Some((nlri, taken.1))
+        }
+        None => None,
+    }
+}
+
+// The first prefix with its path identifier before it, and what follows it.
+#[tactic(auto, unfolding(crate::specs::Prefixes::nlri_at))]
+fn take_identified(bytes: &[u8], six: bool) -> Option<(Nlri, &[u8])>
+    ensures { option_map (λ x. (x.0, x.1.now)) result ≡ nlri_at true six bytes.now }
+{
+    match bytes {
+        [a, b, c, d, rest @ ..] => {
+            let path = u32::from_be_bytes([*a, *b, *c, *d]);
+            match take_prefix(rest, six) {
+                Some(taken) => {
+                    let nlri = Nlri {
+                        prefix: taken.0,
+                        path: Some(path),
+                    };
+                    Some((nlri, taken.1))
+                }
+                None => None,
+            }
         }
         _ => None,
     }

@@ -1,33 +1,40 @@
 //! Whether bytes are prefixes, segments or attributes, and nothing else.
 ghost use Rattle.std.specs.Prelude.{◌≡◌, List, IfSome, IfNone};
-ghost use Rattle.path_model.specs.Prefix.{Subnet};
+ghost use Rattle.path_model.specs.declared.nlri.Nlri.{Nlri as AnyNlri};
 ghost use Rattle.bgp_attrs.specs.Attributes.{Field, IsField};
 ghost use Rattle.bgp_attrs.specs.Joined.{IsJoined};
 ghost use Rattle.bgp_attrs.specs.Left.{segments_left, prefixes_left, fields_left};
-ghost use Rattle.bgp_attrs.specs.Prefixes.{IsPrefix};
+ghost use Rattle.bgp_attrs.specs.Prefixes.{IsNlri};
 ghost use Rattle.bgp_attrs.specs.Reading.{IsPath};
 ghost use Rattle.bgp_attrs.specs.Segments.{Segment};
 
 use crate::pieces::{AttributeList, Prefixes, Segments};
 use crate::splitting::{take_attribute, take_segment};
-use crate::taking::take_prefix;
+use crate::taking::take_nlri;
 
-/// The prefixes that the bytes spell, of IPv6 or else of IPv4; `None` exactly where the bytes aren't whole prefixes of that family.
-/// It takes no memory.
-pub fn prefixes(bytes: &[u8], six: bool) -> Option<Prefixes<'_>>
+/// The prefixes that the bytes spell, of IPv6 or else of IPv4; `None` exactly where the bytes aren't whole prefixes of that family. It
+/// takes no memory.
+///
+/// `paths` says that each prefix has a path identifier of four bytes before it (RFC 7911, section 3), which may be any number; without
+/// it none has one.
+pub fn prefixes(bytes: &[u8], six: bool, paths: bool) -> Option<Prefixes<'_>>
     ensures some { IfSome result (λ found.
-        IsJoined (IsPrefix six) bytes.now (prefixes_left found)) }
-    ensures none { IfNone result ((list : List Subnet) →
-        IsJoined (IsPrefix six) bytes.now list → ⊥) }
+        IsJoined (IsNlri paths six) bytes.now (prefixes_left found)) }
+    ensures none { IfNone result ((list : List AnyNlri) →
+        IsJoined (IsNlri paths six) bytes.now list → ⊥) }
 {
     let mut rest = bytes;
     while !rest.is_empty() {
-        let Some((_, more)) = take_prefix(rest, six) else {
+        let Some((_, more)) = take_nlri(rest, six, paths) else {
             return None;
         };
         rest = more;
     }
-    Some(Prefixes { rest: bytes, six })
+    Some(Prefixes {
+        rest: bytes,
+        six,
+        paths,
+    })
 }
 
 // The segments that the bytes spell.

@@ -6,4 +6,4 @@ use Rattle.bgp_update.specs.Updates.{IsMessageReading}
 
 -- each message has exactly one reading
 abbrev pub EachMessageHasOneReading : Type 0
-EachMessageHasOneReading = (wide : Bool) (peer : Peer) (message : List ℕ) → HasOne (IsMessageReading wide peer message)
+EachMessageHasOneReading = (wide paths : Bool) (peer : Peer) (message : List ℕ) → HasOne (IsMessageReading wide paths peer message)

@@ -3,8 +3,8 @@ use Rattle.std.specs.Prelude.{◌≡◌, Bool, List, [], option_map, unwrap_or, 
 use Rattle.std.specs.declared.option.Option.{Option}
 use Rattle.std.specs.declared.result.Result.{Result}
 use Rattle.path_model.specs.declared.change.Change.{Change}
+use Rattle.path_model.specs.declared.nlri.Nlri.{Nlri}
 use Rattle.path_model.specs.declared.peer.Peer.{Peer}
-use Rattle.path_model.specs.Prefix.{Subnet}
 use Rattle.bgp_attrs.specs.declared.form.Form.TheVariants.{Message}
 use Rattle.bgp_attrs.specs.declared.pieces.Prefixes.{Prefixes}
 use Rattle.bgp_attrs.specs.Left.{prefixes_left}
@@ -14,7 +14,7 @@ use Rattle.bgp_update.specs.declared.fault.UpdateFault.TheVariants as faults
 use Rattle.bgp_update.specs.Updates.{Update, changes_of, AnnouncesWithoutPath, HasPathIfAnnounced}
 
 -- the prefixes, where there are some
-abbrev pub some_left : Option Prefixes → List Subnet
+abbrev pub some_left : Option Prefixes → List Nlri
 some_left prefixes = unwrap_or (option_map prefixes_left prefixes) []
 
 -- by the attributes' reading
@@ -26,9 +26,9 @@ IsOutcomeBy peer update reading (Err faults.Attributes) = ⊥
 IsOutcomeBy peer update reading (Err faults.NoPath) = AnnouncesWithoutPath update reading
 
 -- by the parts
-abbrev pub IsOutcomeOf : Bool → Peer → Update → Result (List Change) UpdateFault → Type 0
-IsOutcomeOf wide peer update (Err faults.NoMemory) = Unit {0}
-IsOutcomeOf wide peer update (Err faults.Message) = ⊥
-IsOutcomeOf wide peer update (Err faults.Attributes) = IsUnreadable wide Message update.attributes
-IsOutcomeOf wide peer update (Err faults.NoPath) = (reading : Reading) × IsRead wide Message update.attributes reading × AnnouncesWithoutPath update reading
-IsOutcomeOf wide peer update (Ok changes) = (reading : Reading) × IsRead wide Message update.attributes reading × HasPathIfAnnounced update reading × (changes ≡ changes_of peer update reading)
+abbrev pub IsOutcomeOf : Bool → Bool → Peer → Update → Result (List Change) UpdateFault → Type 0
+IsOutcomeOf wide paths peer update (Err faults.NoMemory) = Unit {0}
+IsOutcomeOf wide paths peer update (Err faults.Message) = ⊥
+IsOutcomeOf wide paths peer update (Err faults.Attributes) = IsUnreadable wide Message paths update.attributes
+IsOutcomeOf wide paths peer update (Err faults.NoPath) = (reading : Reading) × IsRead wide Message paths update.attributes reading × AnnouncesWithoutPath update reading
+IsOutcomeOf wide paths peer update (Ok changes) = (reading : Reading) × IsRead wide Message paths update.attributes reading × HasPathIfAnnounced update reading × (changes ≡ changes_of peer update reading)

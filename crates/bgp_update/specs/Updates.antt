@@ -3,16 +3,16 @@ use Rattle.std.specs.Prelude.{◌≡◌, ◌≢◌, ℕ, Bool, false, List, [], 
 use Rattle.std.specs.declared.option.Option.{Option}
 use Rattle.std.specs.declared.result.Result.{Result}
 use Rattle.path_model.specs.declared.change.Change.{Change}
+use Rattle.path_model.specs.declared.nlri.Nlri.{Nlri}
 use Rattle.path_model.specs.declared.peer.Peer.{Peer}
 use Rattle.path_model.specs.Batches.{removals, announcements}
-use Rattle.path_model.specs.Prefix.{Subnet}
 use Rattle.path_model.specs.Trail.{Path}
 use Rattle.bgp_attrs.specs.declared.form.Form.TheVariants.{Message}
 use Rattle.bgp_attrs.specs.Blocks.{IsBlock}
 use Rattle.held_bytes.specs.Units.{Begins}
 use Rattle.bgp_attrs.specs.Joined.{IsJoined}
 use Rattle.bgp_attrs.specs.Merging.{trail_in}
-use Rattle.bgp_attrs.specs.Prefixes.{IsPrefix}
+use Rattle.bgp_attrs.specs.Prefixes.{IsNlri}
 use Rattle.bgp_attrs.specs.Reading.{Reading, IsRead, IsUnreadable}
 use Rattle.bgp_update.specs.declared.fault.UpdateFault.{UpdateFault}
 use Rattle.bgp_update.specs.declared.fault.UpdateFault.TheVariants as faults
@@ -20,36 +20,36 @@ use Rattle.bgp_update.specs.Frames.{IsFramed}
 
 -- the parts of an UPDATE
 pub record Update : Type 0 where
-  pub withdrawn : List Subnet
+  pub withdrawn : List Nlri
   pub attributes : List ℕ
-  pub announced : List Subnet
+  pub announced : List Nlri
 
 -- The bytes behind an UPDATE's header: withdrawn IPv4 prefixes and path attributes, each behind their length, and announced IPv4
--- prefixes to the end.
-pub record IsUpdate (rest : List ℕ) (update : Update) : Type 0 where
+-- prefixes to the end. The flag says that each prefix has a path identifier before it (RFC 7911, section 3).
+pub record IsUpdate (paths : Bool) (rest : List ℕ) (update : Update) : Type 0 where
   pub withdrawn : List ℕ
   pub more : List ℕ
   pub announced : List ℕ
   pub first : Begins IsBlock rest withdrawn more
   pub second : Begins IsBlock more update.attributes announced
-  pub are_withdrawn : IsJoined (IsPrefix false) withdrawn update.withdrawn
-  pub are_announced : IsJoined (IsPrefix false) announced update.announced
+  pub are_withdrawn : IsJoined (IsNlri paths false) withdrawn update.withdrawn
+  pub are_announced : IsJoined (IsNlri paths false) announced update.announced
 
 -- the message is in form: an UPDATE of these parts, or of another type, whose rest has no form here
-abbrev pub IsMessage : List ℕ → Option Update → Type 0
-IsMessage message None = (kind : ℕ) × (rest : List ℕ) × IsFramed message kind rest × (kind ≢ 2)
-IsMessage message (Some update) = (rest : List ℕ) × IsFramed message 2 rest × IsUpdate rest update
+abbrev pub IsMessage : Bool → List ℕ → Option Update → Type 0
+IsMessage paths message None = (kind : ℕ) × (rest : List ℕ) × IsFramed message kind rest × (kind ≢ 2)
+IsMessage paths message (Some update) = (rest : List ℕ) × IsFramed message 2 rest × IsUpdate paths rest update
 
 -- all prefixes that are withdrawn: those of the UPDATE, and those of MP_UNREACH_NLRI
-abbrev pub withdrawn_in : Update → Reading → List Subnet
+abbrev pub withdrawn_in : Update → Reading → List Nlri
 withdrawn_in update reading = update.withdrawn ++ unwrap_or reading.withdrawn []
 
 -- all prefixes that are announced: those of the UPDATE, and those of MP_REACH_NLRI
-abbrev pub announced_in : Update → Reading → List Subnet
+abbrev pub announced_in : Update → Reading → List Nlri
 announced_in update reading = update.announced ++ unwrap_or reading.announced []
 
 -- the announcements, where there is a path
-abbrev pub all_announcements : Peer → Option Path → List Subnet → List Change
+abbrev pub all_announcements : Peer → Option Path → List Nlri → List Change
 all_announcements peer None prefixes = []
 all_announcements peer (Some trail) prefixes = announcements peer trail prefixes
 
@@ -66,23 +66,23 @@ abbrev pub HasPathIfAnnounced : Update → Reading → Type 0
 HasPathIfAnnounced update reading = (reading.path ≡ None) → announced_in update reading ≡ []
 
 -- the message is an UPDATE that makes these changes
-abbrev pub MakesChanges : Bool → Peer → List ℕ → List Change → Type 0
-MakesChanges wide peer message changes =
-    (update : Update) × IsMessage message (Some update) × (reading : Reading) × IsRead wide Message update.attributes reading × HasPathIfAnnounced update reading × (changes ≡ changes_of peer update reading)
+abbrev pub MakesChanges : Bool → Bool → Peer → List ℕ → List Change → Type 0
+MakesChanges wide paths peer message changes =
+    (update : Update) × IsMessage paths message (Some update) × (reading : Reading) × IsRead wide Message paths update.attributes reading × HasPathIfAnnounced update reading × (changes ≡ changes_of peer update reading)
 
 -- What the message says: its changes, or the first fault, by the order of the cases. A case has the readings that the ones before it
 -- deny, so that no two hold at once.
-abbrev pub IsMessageReading : Bool → Peer → List ℕ → Result (List Change) UpdateFault → Type 0
-IsMessageReading wide peer message (Err faults.Message) = (shape : Option Update) → IsMessage message shape → ⊥
-IsMessageReading wide peer message (Err faults.Attributes) = (update : Update) × IsMessage message (Some update) × IsUnreadable wide Message update.attributes
-IsMessageReading wide peer message (Err faults.NoPath) = (update : Update) × IsMessage message (Some update) × (reading : Reading) × IsRead wide Message update.attributes reading × AnnouncesWithoutPath update reading
-IsMessageReading wide peer message (Err faults.NoMemory) = ⊥
-IsMessageReading wide peer message (Ok changes) = (IsMessage message None × (changes ≡ [])) ⊎ MakesChanges wide peer message changes
+abbrev pub IsMessageReading : Bool → Bool → Peer → List ℕ → Result (List Change) UpdateFault → Type 0
+IsMessageReading wide paths peer message (Err faults.Message) = (shape : Option Update) → IsMessage paths message shape → ⊥
+IsMessageReading wide paths peer message (Err faults.Attributes) = (update : Update) × IsMessage paths message (Some update) × IsUnreadable wide Message paths update.attributes
+IsMessageReading wide paths peer message (Err faults.NoPath) = (update : Update) × IsMessage paths message (Some update) × (reading : Reading) × IsRead wide Message paths update.attributes reading × AnnouncesWithoutPath update reading
+IsMessageReading wide paths peer message (Err faults.NoMemory) = ⊥
+IsMessageReading wide paths peer message (Ok changes) = (IsMessage paths message None × (changes ≡ [])) ⊎ MakesChanges wide paths peer message changes
 
 -- the answer is what the message says, or want of memory
-abbrev pub IsMessageOutcome : Bool → Peer → List ℕ → Result (List Change) UpdateFault → Type 0
-IsMessageOutcome wide peer message (Err faults.Message) = IsMessageReading wide peer message (Err faults.Message)
-IsMessageOutcome wide peer message (Err faults.Attributes) = IsMessageReading wide peer message (Err faults.Attributes)
-IsMessageOutcome wide peer message (Err faults.NoPath) = IsMessageReading wide peer message (Err faults.NoPath)
-IsMessageOutcome wide peer message (Err faults.NoMemory) = Unit {0}
-IsMessageOutcome wide peer message (Ok changes) = IsMessageReading wide peer message (Ok changes)
+abbrev pub IsMessageOutcome : Bool → Bool → Peer → List ℕ → Result (List Change) UpdateFault → Type 0
+IsMessageOutcome wide paths peer message (Err faults.Message) = IsMessageReading wide paths peer message (Err faults.Message)
+IsMessageOutcome wide paths peer message (Err faults.Attributes) = IsMessageReading wide paths peer message (Err faults.Attributes)
+IsMessageOutcome wide paths peer message (Err faults.NoPath) = IsMessageReading wide paths peer message (Err faults.NoPath)
+IsMessageOutcome wide paths peer message (Err faults.NoMemory) = Unit {0}
+IsMessageOutcome wide paths peer message (Ok changes) = IsMessageReading wide paths peer message (Ok changes)

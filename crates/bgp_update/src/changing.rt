@@ -10,20 +10,28 @@ use crate::parting::Parts;
 use crate::shaping::message_parts;
 use av_base::NoMemory;
 use bgp_attrs::{Attrs, Form, Prefixes};
-use path_model::{Changes, Peer, PrefixList};
+use path_model::{Changes, NlriList, Peer};
 use std::alloc::Global;
 
 /// The changes that a message from a peer makes: its removals, and then its announcements. A message that is no UPDATE makes none.
 ///
-/// All announcements share one path, so it takes the memory of the path once, and some 10 bytes for each prefix.
+/// All announcements share one path, so it takes the memory of the path once, and some 10 bytes for each prefix, 8 more where it has a
+/// path identifier.
 ///
-/// `wide` says that ASes have four bytes. The refusals are tested over the whole message in this order: 24 Message, 23 Attributes,
+/// `wide` says that ASes have four bytes; `paths` that each prefix, withdrawn or announced, has a path identifier before it (RFC 7911,
+/// section 3). The refusals are tested over the whole message in this order: 24 Message, 23 Attributes,
 /// 25 NoPath.
-pub fn read(alloc: Global, message: &[u8], wide: bool, peer: Peer) -> Result<Changes, UpdateFault>
-    ensures { IsMessageOutcome wide peer message.now result }
+pub fn read(
+    alloc: Global,
+    message: &[u8],
+    wide: bool,
+    paths: bool,
+    peer: Peer,
+) -> Result<Changes, UpdateFault>
+    ensures { IsMessageOutcome wide paths peer message.now result }
 {
-    match message_parts(message) {
-        Ok(Some(parts)) => changes_of(alloc, parts, wide, peer),
+    match message_parts(message, paths) {
+        Ok(Some(parts)) => changes_of(alloc, parts, wide, paths, peer),
         Ok(None) => Ok(Changes::new(alloc)),
         Err(_) => Err(UpdateFault::Message),
     }
@@ -34,11 +42,12 @@ fn changes_of(
     alloc: Global,
     parts: Parts<'_>,
     wide: bool,
+    paths: bool,
     peer: Peer,
 ) -> Result<Changes, UpdateFault>
-    ensures { IsOutcomeOf wide peer (update_of parts.entry) result }
+    ensures { IsOutcomeOf wide paths peer (update_of parts.entry) result }
 {
-    match bgp_attrs::read(parts.attributes, wide, Form::Message) {
+    match bgp_attrs::read(parts.attributes, wide, Form::Message, paths) {
         Ok(attrs) => changes_by(alloc, parts, &attrs, peer),
         Err(_) => Err(UpdateFault::Attributes),
     }
@@ -77,7 +86,7 @@ fn all_of(
     alloc: Global,
     prefixes: Prefixes<'_>,
     others: Option<Prefixes<'_>>,
-) -> Result<PrefixList, NoMemory>
+) -> Result<NlriList, NoMemory>
     ensures { IfOk result (λ list.
         list ≡ prefixes_left prefixes.entry ++ some_left others.entry) }
 {
@@ -85,7 +94,7 @@ fn all_of(
         Some(others) => count(prefixes).saturating_add(count(others)),
         None => count(prefixes),
     };
-    let mut list = PrefixList::with_capacity(alloc, number)?;
+    let mut list = NlriList::with_capacity(alloc, number)?;
     put_all(&mut list, prefixes)?;
     if let Some(others) = others {
         put_all(&mut list, others)?;
@@ -102,11 +111,11 @@ fn count(prefixes: Prefixes<'_>) -> usize {
     number
 }
 
-fn put_all(list: &mut PrefixList, prefixes: Prefixes<'_>) -> Result<(), NoMemory>
+fn put_all(list: &mut NlriList, prefixes: Prefixes<'_>) -> Result<(), NoMemory>
     ensures { OnOk result (list.new ≡ list.old ++ prefixes_left prefixes.entry) }
 {
-    for prefix in prefixes {
-        list.push(prefix)?;
+    for nlri in prefixes {
+        list.push(nlri)?;
     }
     Ok(())
 }

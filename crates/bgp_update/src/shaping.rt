@@ -11,16 +11,19 @@ use bgp_attrs::{prefixes, take_block};
 const UPDATE: u8 = 2;
 
 // The parts of a message that is an UPDATE; `None` for one in form that is none.
-pub(crate) fn message_parts(message: &[u8]) -> Result<Option<Parts<'_>>, UpdateFault>
-    ensures ok { IfOk result (λ parts. IsMessage message.now (option_map update_of parts)) }
-    ensures err { OnErr result ((shape : Option Update) → IsMessage message.now shape → ⊥) }
+pub(crate) fn message_parts(
+    message: &[u8],
+    paths: bool,
+) -> Result<Option<Parts<'_>>, UpdateFault>
+    ensures ok { IfOk result (λ parts. IsMessage paths message.now (option_map update_of parts)) }
+    ensures err { OnErr result ((shape : Option Update) → IsMessage paths message.now shape → ⊥) }
 {
     match unframed(message) {
         Some((kind, rest)) => {
             if kind != UPDATE {
                 return Ok(None);
             }
-            match update_parts(rest) {
+            match update_parts(rest, paths) {
                 Some(parts) => Ok(Some(parts)),
                 None => Err(UpdateFault::Message),
             }
@@ -30,14 +33,14 @@ pub(crate) fn message_parts(message: &[u8]) -> Result<Option<Parts<'_>>, UpdateF
 }
 
 // The parts of the bytes behind an UPDATE's header.
-fn update_parts(rest: &[u8]) -> Option<Parts<'_>>
-    ensures some { IfSome result (λ parts. IsUpdate rest.now (update_of parts)) }
-    ensures none { IfNone result ((update : Update) → IsUpdate rest.now update → ⊥) }
+fn update_parts(rest: &[u8], paths: bool) -> Option<Parts<'_>>
+    ensures some { IfSome result (λ parts. IsUpdate paths rest.now (update_of parts)) }
+    ensures none { IfNone result ((update : Update) → IsUpdate paths rest.now update → ⊥) }
 {
     let (withdrawn, rest) = take_block(rest)?;
     let (attributes, rest) = take_block(rest)?;
-    let withdrawn = prefixes(withdrawn, false)?;
-    let announced = prefixes(rest, false)?;
+    let withdrawn = prefixes(withdrawn, false, paths)?;
+    let announced = prefixes(rest, false, paths)?;
     Some(Parts {
         withdrawn,
         attributes,

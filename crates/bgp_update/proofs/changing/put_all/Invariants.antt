@@ -2,5 +2,5 @@ use Rattle.std.proofs.Common.{◌≡◌, ◌++◌}
 use Rattle.bgp_attrs.specs.Left.{prefixes_left}
 use Rattle.bgp_update.proofs.changing.put_all.Given as goal
 
-abbrev pub invariant-loop-prefix : goal.invariant-loop-prefix
-invariant-loop-prefix l = l.list ++ prefixes_left l.prefix-iterator ≡ l.fn.list ++ prefixes_left l.prefixes
+abbrev pub invariant-loop-nlri : goal.invariant-loop-prefix
+invariant-loop-nlri l = l.list ++ prefixes_left l.nlri-iterator ≡ l.fn.list ++ prefixes_left l.prefixes
