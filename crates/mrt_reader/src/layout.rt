@@ -12,11 +12,7 @@ pub(crate) enum Layout {
     /// One route to a prefix of IPv6, or else of IPv4.
     Dump { six: bool },
     /// A BGP message: with microseconds, with ASes of four bytes.
-    Message {
-        timed: bool,
-        as4: bool,
-        paths: bool,
-    },
+    Message { timed: bool, as4: bool, paths: bool },
     /// A state change, likewise.
     State { timed: bool, as4: bool },
     /// Passed over unread.
