@@ -33,7 +33,7 @@ pub(crate) fn rib_parts(body: &[u8], six: bool, paths: bool) -> Option<RibParts<
 // The entries behind their count.
 fn counted_entries(bytes: &[u8], paths: bool) -> Option<Entries<'_>>
     ensures some { IfSome result (λ found. IsCounted paths bytes.now (entries_left found)) }
-    ensures none { IfNone result ((list : List Entry) → IsCounted paths bytes.now list → ⊥) }
+    ensures none { IfNone result ((es : List Entry) → IsCounted paths bytes.now es → ⊥) }
 {
     match bytes {
         [high, low, rest @ ..] => {
@@ -51,7 +51,7 @@ fn counted_entries(bytes: &[u8], paths: bool) -> Option<Entries<'_>>
 fn entries(bytes: &[u8], paths: bool) -> Option<(Entries<'_>, usize)>
     ensures some { IfSome result (λ x. IsJoined (IsEntry paths) bytes.now (entries_left x.0)) }
     ensures number { IfSome result (λ x. x.1 ≡ length (entries_left x.0)) }
-    ensures none { IfNone result ((list : List Entry) → IsJoined (IsEntry paths) bytes.now list → ⊥) }
+    ensures none { IfNone result ((es : List Entry) → IsJoined (IsEntry paths) bytes.now es → ⊥) }
 {
     let mut rest = bytes;
     let mut number = 0;
