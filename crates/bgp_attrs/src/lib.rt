@@ -2,7 +2,8 @@
 //!
 //! The layers above use three contracts. [`read`] answers what counts of an attribute field, exactly where the field has a reading
 //! (`specs/Reading.antt`: `IsRead`). [`Attrs::trail`] gives the path as it is judged, AS4_PATH merged in (`specs/Merging.antt`:
-//! `trail_in`). [`prefixes`] answers the prefixes that bytes spell, exactly where they spell some (`specs/Prefixes.antt`).
+//! `trail_in`). [`prefixes`] answers the prefixes that bytes spell, with or without path identifiers, exactly where they spell some
+//! (`specs/Prefixes.antt`: `IsNlri`).
 //!
 //! Begin reading at `specs/Reading.antt`. All lists in these formats are *joined spellings* (`specs/Joined.antt`): a relation says
 //! which bytes spell one item, and a function that reads the first item is proved to be that relation, so that no spelling begins
