@@ -17,7 +17,7 @@ AttributesHaveOneReading = (wide : Bool) (form : Form) (paths : Bool) (bytes : L
 abbrev pub AttributesReadOrNot : Type 0
 AttributesReadOrNot = (wide : Bool) (form : Form) (paths : Bool) (bytes : List ℕ) → ((value : Reading) × IsRead wide form paths bytes value) ⊎ IsUnreadable wide form paths bytes
 
--- No spelling of a prefix, be it with a path identifier, begins another one: what follows, and the prefix itself, are determined.
+-- No prefix's spelling, with or without a path identifier, begins another one: what follows, and the prefix itself, are determined.
 abbrev pub NoPrefixBeginsAnother : Type 0
 NoPrefixBeginsAnother = (paths six : Bool) → NoneBeginsAnother (IsNlri paths six)
 

@@ -54,7 +54,8 @@ has_length n (Some content) = length content == n
 abbrev pub family_of : ℕ → ℕ → Option Bool
 family_of afi safi = if (afi == 2) && (safi == 1) then Some true else (if (afi == 1) && (safi == 1) then Some false else None)
 
--- behind the family: a next hop behind its length, one reserved byte, prefixes
+-- behind the family: a next hop behind its length, one reserved byte, prefixes; the flag says that each prefix has a path identifier
+-- before it (RFC 7911, section 3)
 abbrev pub IsReachOf : Bool → Option Bool → List ℕ → Option (List Nlri) → Type 0
 IsReachOf paths None rest value = value ≡ None
 IsReachOf paths (Some six) (count ∷ rest) (Some prefixes) = (count + 1 ≤ length rest) × IsJoined (IsNlri paths six) (drop (count + 1) rest) prefixes

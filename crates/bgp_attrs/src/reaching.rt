@@ -44,7 +44,8 @@ fn after_hop(rest: &[u8], six: bool, paths: bool) -> Result<Option<Prefixes<'_>>
 
 // The prefixes of MP_REACH_NLRI, or `None` for another family.
 pub(crate) fn reach(content: &[u8], paths: bool) -> Result<Option<Prefixes<'_>>, Attributes>
-    ensures ok { IfOk result (λ found. IsReach paths content.now (option_map prefixes_left found)) }
+    ensures ok { IfOk result (λ found.
+        IsReach paths content.now (option_map prefixes_left found)) }
     ensures err { OnErr result (GivesNone (IsReach paths) content.now) }
 {
     match content {
@@ -60,7 +61,8 @@ pub(crate) fn reach(content: &[u8], paths: bool) -> Result<Option<Prefixes<'_>>,
 
 // The prefixes of MP_UNREACH_NLRI, or `None` for another family.
 pub(crate) fn unreach(content: &[u8], paths: bool) -> Result<Option<Prefixes<'_>>, Attributes>
-    ensures ok { IfOk result (λ found. IsUnreach paths content.now (option_map prefixes_left found)) }
+    ensures ok { IfOk result (λ found.
+        IsUnreach paths content.now (option_map prefixes_left found)) }
     ensures err { OnErr result (GivesNone (IsUnreach paths) content.now) }
 {
     match content {

@@ -8,17 +8,17 @@ use Rattle.std.proofs.lemmas.List.{take_at, length-append}
 use Rattle.std.proofs.lemmas.Option.{same_Some}
 use Rattle.av_base.specs.One.{HasOne}
 use Rattle.path_model.specs.declared.change.Change.{Change}
+use Rattle.path_model.specs.declared.nlri.Nlri.{Nlri}
 use Rattle.path_model.specs.declared.peer.Peer.{Peer}
-use Rattle.path_model.specs.Prefix.{Subnet}
 use Rattle.bgp_attrs.specs.declared.form.Form.TheVariants.{Message}
 use Rattle.bgp_attrs.specs.Blocks.{block_at}
 use Rattle.bgp_attrs.specs.Joined.{IsJoined}
-use Rattle.bgp_attrs.specs.Prefixes.{IsPrefix}
+use Rattle.bgp_attrs.specs.Prefixes.{IsNlri}
 use Rattle.bgp_attrs.specs.Reading.{Reading, IsRead, IsUnreadable}
 use Rattle.bgp_attrs.specs.Segments.{Segment}
 use Rattle.bgp_attrs.proofs.DecideLemmas.{SomeOrNone, joined_decided, reading_decided}
 use Rattle.bgp_attrs.proofs.LawLemmas as attrs
-use Rattle.bgp_attrs.proofs.PrefixLemmas.{prefix_reader}
+use Rattle.bgp_attrs.proofs.NlriLemmas.{nlri_reader}
 use Rattle.bgp_update.specs.declared.fault.UpdateFault.{UpdateFault}
 use Rattle.bgp_update.specs.declared.fault.UpdateFault.TheVariants as faults
 use Rattle.bgp_update.specs.Frames.{marker, IsFramed}
@@ -27,68 +27,68 @@ use Rattle.bgp_update.proofs.FrameLemmas.{frame_rest, no_first, no_second, no_wi
 
 -- ---- no two readings
 
-updates_same : (message : List ℕ) (one other : Update) → IsMessage message (Some one) → IsMessage message (Some other) → one ≡ other
-updates_same message one other p q = same_Some one other (message_same message (Some one) (Some other) p q)
+updates_same : (paths : Bool) (message : List ℕ) (one other : Update) → IsMessage paths message (Some one) → IsMessage paths message (Some other) → one ≡ other
+updates_same paths message one other p q = same_Some one other (message_same paths message (Some one) (Some other) p q)
 
-not_both : (message : List ℕ) (update : Update) → IsMessage message None → IsMessage message (Some update) → ⊥
-not_both message update p q = let e = message_same message None (Some update) p q in cc
+not_both : (paths : Bool) (message : List ℕ) (update : Update) → IsMessage paths message None → IsMessage paths message (Some update) → ⊥
+not_both paths message update p q = let e = message_same paths message None (Some update) p q in cc
 
-unreadable_read : (wide : Bool) (message : List ℕ) (one other : Update) (reading : Reading) → IsMessage message (Some one) → IsUnreadable wide Message one.attributes → IsMessage message (Some other) → IsRead wide Message other.attributes reading → ⊥
-unreadable_read wide message one other reading p unread q read =
-    unread reading (subst (λ (u : Update). IsRead wide Message u.attributes reading) (sym (updates_same message one other p q)) read)
+unreadable_read : (wide paths : Bool) (message : List ℕ) (one other : Update) (reading : Reading) → IsMessage paths message (Some one) → IsUnreadable wide Message paths one.attributes → IsMessage paths message (Some other) → IsRead wide Message paths other.attributes reading → ⊥
+unreadable_read wide paths message one other reading p unread q read =
+    unread reading (subst (λ (u : Update). IsRead wide Message paths u.attributes reading) (sym (updates_same paths message one other p q)) read)
 
-readings_same : (wide : Bool) (message : List ℕ) (one other : Update) (x y : Reading) → IsMessage message (Some one) → IsRead wide Message one.attributes x → IsMessage message (Some other) → IsRead wide Message other.attributes y → x ≡ y
-readings_same wide message one other x y p read q read_other =
-    attrs.reading_same wide Message one.attributes x y read (subst (λ (u : Update). IsRead wide Message u.attributes y) (sym (updates_same message one other p q)) read_other)
+readings_same : (wide paths : Bool) (message : List ℕ) (one other : Update) (x y : Reading) → IsMessage paths message (Some one) → IsRead wide Message paths one.attributes x → IsMessage paths message (Some other) → IsRead wide Message paths other.attributes y → x ≡ y
+readings_same wide paths message one other x y p read q read_other =
+    attrs.reading_same wide Message paths one.attributes x y read (subst (λ (u : Update). IsRead wide Message paths u.attributes y) (sym (updates_same paths message one other p q)) read_other)
 
-lacks_has : (wide : Bool) (message : List ℕ) (one other : Update) (x y : Reading) → IsMessage message (Some one) → IsRead wide Message one.attributes x → AnnouncesWithoutPath one x
-    → IsMessage message (Some other) → IsRead wide Message other.attributes y → HasPathIfAnnounced other y → ⊥
-lacks_has wide message one other x y p read lacks q read_other has =
-    let updates = updates_same message one other p q in
-    let readings = readings_same wide message one other x y p read q read_other in
+lacks_has : (wide paths : Bool) (message : List ℕ) (one other : Update) (x y : Reading) → IsMessage paths message (Some one) → IsRead wide Message paths one.attributes x → AnnouncesWithoutPath one x
+    → IsMessage paths message (Some other) → IsRead wide Message paths other.attributes y → HasPathIfAnnounced other y → ⊥
+lacks_has wide paths message one other x y p read lacks q read_other has =
+    let updates = updates_same paths message one other p q in
+    let readings = readings_same wide paths message one other x y p read q read_other in
     let here : HasPathIfAnnounced one x = subst (λ (u : Update). HasPathIfAnnounced u x) (sym updates) (subst (HasPathIfAnnounced other) (sym readings) has) in
     lacks.1 (here lacks.0)
 
-makes_same : (wide : Bool) (peer : Peer) (message : List ℕ) (changes others : List Change) → MakesChanges wide peer message changes → MakesChanges wide peer message others → changes ≡ others
-makes_same wide peer message changes others p q =
-    let updates = updates_same message p.0 q.0 p.1 q.1 in
-    let readings = readings_same wide message p.0 q.0 p.2 q.2 p.1 p.3 q.1 q.3 in
+makes_same : (wide paths : Bool) (peer : Peer) (message : List ℕ) (changes others : List Change) → MakesChanges wide paths peer message changes → MakesChanges wide paths peer message others → changes ≡ others
+makes_same wide paths peer message changes others p q =
+    let updates = updates_same paths message p.0 q.0 p.1 q.1 in
+    let readings = readings_same wide paths message p.0 q.0 p.2 q.2 p.1 p.3 q.1 q.3 in
     p.5 ∙ (λ i. changes_of peer (updates i) (readings i)) ∙ sym q.5
 
-changes_same : (wide : Bool) (peer : Peer) (message : List ℕ) (changes others : List Change) → IsMessageReading wide peer message (Ok changes) → IsMessageReading wide peer message (Ok others) → changes ≡ others
-changes_same wide peer message changes others (inl p) (inl q) = p.1 ∙ sym q.1
-changes_same wide peer message changes others (inl p) (inr q) = absurd (not_both message q.0 p.0 q.1)
-changes_same wide peer message changes others (inr p) (inl q) = absurd (not_both message p.0 q.0 p.1)
-changes_same wide peer message changes others (inr p) (inr q) = makes_same wide peer message changes others p q
+changes_same : (wide paths : Bool) (peer : Peer) (message : List ℕ) (changes others : List Change) → IsMessageReading wide paths peer message (Ok changes) → IsMessageReading wide paths peer message (Ok others) → changes ≡ others
+changes_same wide paths peer message changes others (inl p) (inl q) = p.1 ∙ sym q.1
+changes_same wide paths peer message changes others (inl p) (inr q) = absurd (not_both paths message q.0 p.0 q.1)
+changes_same wide paths peer message changes others (inr p) (inl q) = absurd (not_both paths message p.0 q.0 p.1)
+changes_same wide paths peer message changes others (inr p) (inr q) = makes_same wide paths peer message changes others p q
 
-pub reading_same : (wide : Bool) (peer : Peer) (message : List ℕ) (one other : Result (List Change) UpdateFault) → IsMessageReading wide peer message one → IsMessageReading wide peer message other → one ≡ other
-reading_same wide peer message (Err faults.NoMemory) other p q = absurd p
-reading_same wide peer message (Err faults.Message) (Err faults.NoMemory) p q = absurd q
-reading_same wide peer message (Err faults.Message) (Err faults.Message) p q = refl
-reading_same wide peer message (Err faults.Message) (Err faults.Attributes) p q = absurd (p (Some q.0) q.1)
-reading_same wide peer message (Err faults.Message) (Err faults.NoPath) p q = absurd (p (Some q.0) q.1)
-reading_same wide peer message (Err faults.Message) (Ok changes) p (inl q) = absurd (p None q.0)
-reading_same wide peer message (Err faults.Message) (Ok changes) p (inr q) = absurd (p (Some q.0) q.1)
-reading_same wide peer message (Err faults.Attributes) (Err faults.NoMemory) p q = absurd q
-reading_same wide peer message (Err faults.Attributes) (Err faults.Message) p q = absurd (q (Some p.0) p.1)
-reading_same wide peer message (Err faults.Attributes) (Err faults.Attributes) p q = refl
-reading_same wide peer message (Err faults.Attributes) (Err faults.NoPath) p q = absurd (unreadable_read wide message p.0 q.0 q.2 p.1 p.2 q.1 q.3)
-reading_same wide peer message (Err faults.Attributes) (Ok changes) p (inl q) = absurd (not_both message p.0 q.0 p.1)
-reading_same wide peer message (Err faults.Attributes) (Ok changes) p (inr q) = absurd (unreadable_read wide message p.0 q.0 q.2 p.1 p.2 q.1 q.3)
-reading_same wide peer message (Err faults.NoPath) (Err faults.NoMemory) p q = absurd q
-reading_same wide peer message (Err faults.NoPath) (Err faults.Message) p q = absurd (q (Some p.0) p.1)
-reading_same wide peer message (Err faults.NoPath) (Err faults.Attributes) p q = absurd (unreadable_read wide message q.0 p.0 p.2 q.1 q.2 p.1 p.3)
-reading_same wide peer message (Err faults.NoPath) (Err faults.NoPath) p q = refl
-reading_same wide peer message (Err faults.NoPath) (Ok changes) p (inl q) = absurd (not_both message p.0 q.0 p.1)
-reading_same wide peer message (Err faults.NoPath) (Ok changes) p (inr q) = absurd (lacks_has wide message p.0 q.0 p.2 q.2 p.1 p.3 p.4 q.1 q.3 q.4)
-reading_same wide peer message (Ok changes) (Err faults.NoMemory) p q = absurd q
-reading_same wide peer message (Ok changes) (Err faults.Message) (inl p) q = absurd (q None p.0)
-reading_same wide peer message (Ok changes) (Err faults.Message) (inr p) q = absurd (q (Some p.0) p.1)
-reading_same wide peer message (Ok changes) (Err faults.Attributes) (inl p) q = absurd (not_both message q.0 p.0 q.1)
-reading_same wide peer message (Ok changes) (Err faults.Attributes) (inr p) q = absurd (unreadable_read wide message q.0 p.0 p.2 q.1 q.2 p.1 p.3)
-reading_same wide peer message (Ok changes) (Err faults.NoPath) (inl p) q = absurd (not_both message q.0 p.0 q.1)
-reading_same wide peer message (Ok changes) (Err faults.NoPath) (inr p) q = absurd (lacks_has wide message q.0 p.0 q.2 p.2 q.1 q.3 q.4 p.1 p.3 p.4)
-reading_same wide peer message (Ok changes) (Ok others) p q = ap Ok (changes_same wide peer message changes others p q)
+pub reading_same : (wide paths : Bool) (peer : Peer) (message : List ℕ) (one other : Result (List Change) UpdateFault) → IsMessageReading wide paths peer message one → IsMessageReading wide paths peer message other → one ≡ other
+reading_same wide paths peer message (Err faults.NoMemory) other p q = absurd p
+reading_same wide paths peer message (Err faults.Message) (Err faults.NoMemory) p q = absurd q
+reading_same wide paths peer message (Err faults.Message) (Err faults.Message) p q = refl
+reading_same wide paths peer message (Err faults.Message) (Err faults.Attributes) p q = absurd (p (Some q.0) q.1)
+reading_same wide paths peer message (Err faults.Message) (Err faults.NoPath) p q = absurd (p (Some q.0) q.1)
+reading_same wide paths peer message (Err faults.Message) (Ok changes) p (inl q) = absurd (p None q.0)
+reading_same wide paths peer message (Err faults.Message) (Ok changes) p (inr q) = absurd (p (Some q.0) q.1)
+reading_same wide paths peer message (Err faults.Attributes) (Err faults.NoMemory) p q = absurd q
+reading_same wide paths peer message (Err faults.Attributes) (Err faults.Message) p q = absurd (q (Some p.0) p.1)
+reading_same wide paths peer message (Err faults.Attributes) (Err faults.Attributes) p q = refl
+reading_same wide paths peer message (Err faults.Attributes) (Err faults.NoPath) p q = absurd (unreadable_read wide paths message p.0 q.0 q.2 p.1 p.2 q.1 q.3)
+reading_same wide paths peer message (Err faults.Attributes) (Ok changes) p (inl q) = absurd (not_both paths message p.0 q.0 p.1)
+reading_same wide paths peer message (Err faults.Attributes) (Ok changes) p (inr q) = absurd (unreadable_read wide paths message p.0 q.0 q.2 p.1 p.2 q.1 q.3)
+reading_same wide paths peer message (Err faults.NoPath) (Err faults.NoMemory) p q = absurd q
+reading_same wide paths peer message (Err faults.NoPath) (Err faults.Message) p q = absurd (q (Some p.0) p.1)
+reading_same wide paths peer message (Err faults.NoPath) (Err faults.Attributes) p q = absurd (unreadable_read wide paths message q.0 p.0 p.2 q.1 q.2 p.1 p.3)
+reading_same wide paths peer message (Err faults.NoPath) (Err faults.NoPath) p q = refl
+reading_same wide paths peer message (Err faults.NoPath) (Ok changes) p (inl q) = absurd (not_both paths message p.0 q.0 p.1)
+reading_same wide paths peer message (Err faults.NoPath) (Ok changes) p (inr q) = absurd (lacks_has wide paths message p.0 q.0 p.2 q.2 p.1 p.3 p.4 q.1 q.3 q.4)
+reading_same wide paths peer message (Ok changes) (Err faults.NoMemory) p q = absurd q
+reading_same wide paths peer message (Ok changes) (Err faults.Message) (inl p) q = absurd (q None p.0)
+reading_same wide paths peer message (Ok changes) (Err faults.Message) (inr p) q = absurd (q (Some p.0) p.1)
+reading_same wide paths peer message (Ok changes) (Err faults.Attributes) (inl p) q = absurd (not_both paths message q.0 p.0 q.1)
+reading_same wide paths peer message (Ok changes) (Err faults.Attributes) (inr p) q = absurd (unreadable_read wide paths message q.0 p.0 p.2 q.1 q.2 p.1 p.3)
+reading_same wide paths peer message (Ok changes) (Err faults.NoPath) (inl p) q = absurd (not_both paths message q.0 p.0 q.1)
+reading_same wide paths peer message (Ok changes) (Err faults.NoPath) (inr p) q = absurd (lacks_has wide paths message q.0 p.0 q.2 p.2 q.1 q.3 q.4 p.1 p.3 p.4)
+reading_same wide paths peer message (Ok changes) (Ok others) p q = ap Ok (changes_same wide paths peer message changes others p q)
 
 -- ---- some reading
 
@@ -131,58 +131,58 @@ frame_from message (inr none) = inr (λ x is. none (is.count ++ (x.0 ∷ x.1)) i
 
 -- ---- the parts
 
-lists_decided : (rest w m a n : List ℕ) → block_at rest ≡ Some (w, m) → block_at m ≡ Some (a, n) → SomeOrNone (IsJoined (IsPrefix false) w) → SomeOrNone (IsJoined (IsPrefix false) n) → SomeOrNone (IsUpdate rest)
-lists_decided rest w m a n e f (inl withdrawn) (inl announced) = inl (record { withdrawn = withdrawn.0; attributes = a; announced = announced.0 }, update_made rest w m a n withdrawn.0 announced.0 e f withdrawn.1 announced.1)
-lists_decided rest w m a n e f (inr none) announced = inr (no_withdrawn rest w m e none)
-lists_decided rest w m a n e f (inl withdrawn) (inr none) = inr (no_announced rest w m a n e f none)
+lists_decided : (paths : Bool) (rest w m a n : List ℕ) → block_at rest ≡ Some (w, m) → block_at m ≡ Some (a, n) → SomeOrNone (IsJoined (IsNlri paths false) w) → SomeOrNone (IsJoined (IsNlri paths false) n) → SomeOrNone (IsUpdate paths rest)
+lists_decided paths rest w m a n e f (inl withdrawn) (inl announced) = inl (record { withdrawn = withdrawn.0; attributes = a; announced = announced.0 }, update_made paths rest w m a n withdrawn.0 announced.0 e f withdrawn.1 announced.1)
+lists_decided paths rest w m a n e f (inr none) announced = inr (no_withdrawn paths rest w m e none)
+lists_decided paths rest w m a n e f (inl withdrawn) (inr none) = inr (no_announced paths rest w m a n e f none)
 
-second_decided : (rest w m : List ℕ) → block_at rest ≡ Some (w, m) → (second : Option (List ℕ × List ℕ)) → block_at m ≡ second → SomeOrNone (IsUpdate rest)
-second_decided rest w m e None f = inr (no_second rest w m e f)
-second_decided rest w m e (Some x) f = lists_decided rest w m x.0 x.1 e f (joined_decided (prefix_reader false) w) (joined_decided (prefix_reader false) x.1)
+second_decided : (paths : Bool) (rest w m : List ℕ) → block_at rest ≡ Some (w, m) → (second : Option (List ℕ × List ℕ)) → block_at m ≡ second → SomeOrNone (IsUpdate paths rest)
+second_decided paths rest w m e None f = inr (no_second paths rest w m e f)
+second_decided paths rest w m e (Some x) f = lists_decided paths rest w m x.0 x.1 e f (joined_decided (nlri_reader paths false) w) (joined_decided (nlri_reader paths false) x.1)
 
-first_decided : (rest : List ℕ) (first : Option (List ℕ × List ℕ)) → block_at rest ≡ first → SomeOrNone (IsUpdate rest)
-first_decided rest None e = inr (no_first rest e)
-first_decided rest (Some x) e = second_decided rest x.0 x.1 e (block_at x.1) refl
+first_decided : (paths : Bool) (rest : List ℕ) (first : Option (List ℕ × List ℕ)) → block_at rest ≡ first → SomeOrNone (IsUpdate paths rest)
+first_decided paths rest None e = inr (no_first paths rest e)
+first_decided paths rest (Some x) e = second_decided paths rest x.0 x.1 e (block_at x.1) refl
 
-update_in : (message : List ℕ) (kind : ℕ) (rest : List ℕ) → IsFramed message kind rest → kind ≡ 2 → SomeOrNone (IsUpdate rest) → SomeOrNone (IsMessage message)
-update_in message kind rest framed two (inl update) = inl (Some update.0, (rest, subst (λ (k : ℕ). IsFramed message k rest) two framed, update.1))
-update_in message kind rest framed two (inr none) = inr (no_message message kind rest framed two none)
+update_in : (paths : Bool) (message : List ℕ) (kind : ℕ) (rest : List ℕ) → IsFramed message kind rest → kind ≡ 2 → SomeOrNone (IsUpdate paths rest) → SomeOrNone (IsMessage paths message)
+update_in paths message kind rest framed two (inl update) = inl (Some update.0, (rest, subst (λ (k : ℕ). IsFramed message k rest) two framed, update.1))
+update_in paths message kind rest framed two (inr none) = inr (no_message paths message kind rest framed two none)
 
-by_kind : (message : List ℕ) (kind : ℕ) (rest : List ℕ) → IsFramed message kind rest → (two : Bool) → (kind == 2) ≡ two → SomeOrNone (IsMessage message)
-by_kind message kind rest framed true e = update_in message kind rest framed (grind (arith, nat_tests)) (first_decided rest (block_at rest) refl)
-by_kind message kind rest framed false e = inl (None, (kind, rest, framed, λ two. grind (arith, nat_tests)))
+by_kind : (paths : Bool) (message : List ℕ) (kind : ℕ) (rest : List ℕ) → IsFramed message kind rest → (two : Bool) → (kind == 2) ≡ two → SomeOrNone (IsMessage paths message)
+by_kind paths message kind rest framed true e = update_in paths message kind rest framed (grind (arith, nat_tests)) (first_decided paths rest (block_at rest) refl)
+by_kind paths message kind rest framed false e = inl (None, (kind, rest, framed, λ two. grind (arith, nat_tests)))
 
-by_frame : (message : List ℕ) → SomeOrNone (IsFrame message) → SomeOrNone (IsMessage message)
-by_frame message (inl x) = by_kind message x.0.0 x.0.1 x.1 (x.0.0 == 2) refl
-by_frame message (inr none) = inr (no_frame message (λ kind rest is. none (kind, rest) is))
+by_frame : (paths : Bool) (message : List ℕ) → SomeOrNone (IsFrame message) → SomeOrNone (IsMessage paths message)
+by_frame paths message (inl x) = by_kind paths message x.0.0 x.0.1 x.1 (x.0.0 == 2) refl
+by_frame paths message (inr none) = inr (no_frame paths message (λ kind rest is. none (kind, rest) is))
 
-pub message_decided : (message : List ℕ) → SomeOrNone (IsMessage message)
-message_decided message = by_frame message (frame_from message (starts_decided marker message))
+pub message_decided : (paths : Bool) (message : List ℕ) → SomeOrNone (IsMessage paths message)
+message_decided paths message = by_frame paths message (frame_from message (starts_decided marker message))
 
 -- ---- the changes
 
-abbrev HasReading : Bool → Peer → List ℕ → Type 0
-HasReading wide peer message = (result : Result (List Change) UpdateFault) × IsMessageReading wide peer message result
+abbrev HasReading : Bool → Bool → Peer → List ℕ → Type 0
+HasReading wide paths peer message = (result : Result (List Change) UpdateFault) × IsMessageReading wide paths peer message result
 
-by_path : (wide : Bool) (peer : Peer) (message : List ℕ) (update : Update) → IsMessage message (Some update) → (reading : Reading) → IsRead wide Message update.attributes reading
-    → (path : Option (List Segment)) → reading.path ≡ path → (announced : List Subnet) → announced_in update reading ≡ announced → HasReading wide peer message
-by_path wide peer message update is reading read (Some path) p announced a = (Ok (changes_of peer update reading), inr (update, is, reading, read, (λ none. absurd (let both : Some path ≡ None = sym p ∙ none in cc)), refl))
-by_path wide peer message update is reading read None p [] a = (Ok (changes_of peer update reading), inr (update, is, reading, read, (λ none. a), refl))
-by_path wide peer message update is reading read None p (prefix ∷ prefixes) a = (Err faults.NoPath, (update, is, reading, read, (p, λ none. (let both : prefix ∷ prefixes ≡ [] = sym a ∙ none in cc))))
+by_path : (wide paths : Bool) (peer : Peer) (message : List ℕ) (update : Update) → IsMessage paths message (Some update) → (reading : Reading) → IsRead wide Message paths update.attributes reading
+    → (path : Option (List Segment)) → reading.path ≡ path → (announced : List Nlri) → announced_in update reading ≡ announced → HasReading wide paths peer message
+by_path wide paths peer message update is reading read (Some path) p announced a = (Ok (changes_of peer update reading), inr (update, is, reading, read, (λ none. absurd (let both : Some path ≡ None = sym p ∙ none in cc)), refl))
+by_path wide paths peer message update is reading read None p [] a = (Ok (changes_of peer update reading), inr (update, is, reading, read, (λ none. a), refl))
+by_path wide paths peer message update is reading read None p (prefix ∷ prefixes) a = (Err faults.NoPath, (update, is, reading, read, (p, λ none. (let both : prefix ∷ prefixes ≡ [] = sym a ∙ none in cc))))
 
-by_attributes : (wide : Bool) (peer : Peer) (message : List ℕ) (update : Update) → IsMessage message (Some update) → SomeOrNone (IsRead wide Message update.attributes) → HasReading wide peer message
-by_attributes wide peer message update is (inl x) = by_path wide peer message update is x.0 x.1 x.0.path refl (announced_in update x.0) refl
-by_attributes wide peer message update is (inr none) = (Err faults.Attributes, (update, is, none))
+by_attributes : (wide paths : Bool) (peer : Peer) (message : List ℕ) (update : Update) → IsMessage paths message (Some update) → SomeOrNone (IsRead wide Message paths update.attributes) → HasReading wide paths peer message
+by_attributes wide paths peer message update is (inl x) = by_path wide paths peer message update is x.0 x.1 x.0.path refl (announced_in update x.0) refl
+by_attributes wide paths peer message update is (inr none) = (Err faults.Attributes, (update, is, none))
 
-by_message : (wide : Bool) (peer : Peer) (message : List ℕ) → SomeOrNone (IsMessage message) → HasReading wide peer message
-by_message wide peer message (inl (None, is)) = (Ok [], inl (is, refl))
-by_message wide peer message (inl (Some update, is)) = by_attributes wide peer message update is (reading_decided wide Message update.attributes)
-by_message wide peer message (inr none) = (Err faults.Message, none)
+by_message : (wide paths : Bool) (peer : Peer) (message : List ℕ) → SomeOrNone (IsMessage paths message) → HasReading wide paths peer message
+by_message wide paths peer message (inl (None, is)) = (Ok [], inl (is, refl))
+by_message wide paths peer message (inl (Some update, is)) = by_attributes wide paths peer message update is (reading_decided wide Message paths update.attributes)
+by_message wide paths peer message (inr none) = (Err faults.Message, none)
 
-pub reading_some : (wide : Bool) (peer : Peer) (message : List ℕ) → (result : Result (List Change) UpdateFault) × IsMessageReading wide peer message result
-reading_some wide peer message = by_message wide peer message (message_decided message)
+pub reading_some : (wide paths : Bool) (peer : Peer) (message : List ℕ) → (result : Result (List Change) UpdateFault) × IsMessageReading wide paths peer message result
+reading_some wide paths peer message = by_message wide paths peer message (message_decided paths message)
 
-pub one_reading : (wide : Bool) (peer : Peer) (message : List ℕ) → HasOne (IsMessageReading wide peer message)
-one_reading wide peer message =
-    let some = reading_some wide peer message in
-    record { one = some.0; is = some.1; only = λ other is. reading_same wide peer message other some.0 is some.1 }
+pub one_reading : (wide paths : Bool) (peer : Peer) (message : List ℕ) → HasOne (IsMessageReading wide paths peer message)
+one_reading wide paths peer message =
+    let some = reading_some wide paths peer message in
+    record { one = some.0; is = some.1; only = λ other is. reading_same wide paths peer message other some.0 is some.1 }

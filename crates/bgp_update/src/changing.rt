@@ -15,7 +15,7 @@ use std::alloc::Global;
 
 /// The changes that a message from a peer makes: its removals, and then its announcements. A message that is no UPDATE makes none.
 ///
-/// All announcements share one path, so it takes the memory of the path once, and some 10 bytes for each prefix, 8 more where it has a
+/// All announcements share one path, so it takes the memory of the path once, and some 11 bytes for each prefix, 8 more where it has a
 /// path identifier.
 ///
 /// `wide` says that ASes have four bytes; `paths` that each prefix, withdrawn or announced, has a path identifier before it (RFC 7911,
@@ -81,7 +81,7 @@ fn changes_by(
     }
 }
 
-// The prefixes of an UPDATE and then those of an attribute, in one list without room to spare.
+// The prefixes of an UPDATE and then those of an attribute, in one list that has room for one word of each from the start.
 fn all_of(
     alloc: Global,
     prefixes: Prefixes<'_>,

@@ -11,10 +11,7 @@ use bgp_attrs::{prefixes, take_block};
 const UPDATE: u8 = 2;
 
 // The parts of a message that is an UPDATE; `None` for one in form that is none.
-pub(crate) fn message_parts(
-    message: &[u8],
-    paths: bool,
-) -> Result<Option<Parts<'_>>, UpdateFault>
+pub(crate) fn message_parts(message: &[u8], paths: bool) -> Result<Option<Parts<'_>>, UpdateFault>
     ensures ok { IfOk result (λ parts. IsMessage paths message.now (option_map update_of parts)) }
     ensures err { OnErr result ((shape : Option Update) → IsMessage paths message.now shape → ⊥) }
 {
