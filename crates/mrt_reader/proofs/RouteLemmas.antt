@@ -15,9 +15,8 @@ use Rattle.mrt_reader.specs.declared.body.Body.TheVariants as bodies
 use Rattle.mrt_reader.specs.declared.fault.BodyFault.{BodyFault}
 use Rattle.mrt_reader.specs.declared.fault.BodyFault.TheVariants as faults
 use Rattle.mrt_reader.specs.Bodies.{OrNoMemory, RibSays}
-use Rattle.mrt_reader.specs.Dumps.{Dumped}
 use Rattle.mrt_reader.specs.Ribs.{Entry, Rib, IsRib}
-use Rattle.mrt_reader.specs.Routes.{AnyOf, IsWithin, IsBeyond, EntryReadable, EntryUnreadable, EntryLacksPath, nlri_in, IsRoute, AreRoutes, EntriesSay, DumpSays}
+use Rattle.mrt_reader.specs.Routes.{AnyOf, IsWithin, IsBeyond, EntryReadable, EntryUnreadable, EntryLacksPath, nlri_in, IsRoute, AreRoutes, EntriesSay}
 use Rattle.mrt_reader.specs.Routing.{IsPut, Going}
 
 any_behind : {A : Type 0} (P : A → Type 0) (front left : List A) → AnyOf P left → AnyOf P (front ++ left)
@@ -149,14 +148,3 @@ or_maps P Q f (Err faults.NoMemory) p = tt
 pub rib_says : (paths six : Bool) (peers : Option (List Peer)) (body : List ℕ) (table : List Peer) (rib : Rib) (result : Result Body BodyFault) → IsRib paths six body rib → peers ≡ Some table
     → OrNoMemory (EntriesSay table rib.prefix rib.entries) result → OrNoMemory (RibSays paths six peers body) result
 rib_says paths six peers body table rib result is e say = or_maps (EntriesSay table rib.prefix rib.entries) (RibSays paths six peers body) (λ r s. rib_from paths six peers body table rib r is e s) result say
-
--- ---- the one route of a TABLE_DUMP record
-
-pub dump_says : (dumped : Dumped) (old new : List Change) (key : Key) (fault : BodyFault) → IsPut false key dumped.attributes old new (Err fault) → OrNoMemory (DumpSays dumped) (Err fault)
-dump_says dumped old new key faults.Attributes put = put
-dump_says dumped old new key faults.NoMemory put = tt
-dump_says dumped old new key faults.NoPath put = absurd put
-dump_says dumped old new key faults.Message put = absurd put
-dump_says dumped old new key faults.PeerIndex put = absurd put
-dump_says dumped old new key faults.NoPeerTable put = absurd put
-dump_says dumped old new key faults.Body put = absurd put

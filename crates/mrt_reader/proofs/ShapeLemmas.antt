@@ -50,11 +50,6 @@ heads (a ∷ b ∷ []) (c ∷ d ∷ x ∷ more) r s p q e = absurd (omega arith)
 
 -- ---- entries behind their count
 
-pub counted_made : (paths : Bool) (bytes : List ℕ) (entries : List Entry) → 2 ≤ length bytes → IsJoined (IsEntry paths) (drop 2 bytes) entries → length entries ≡ from_be_bytes w16 (get_or bytes 0 0 ∷ get_or bytes 1 0 ∷ []) → IsCounted paths bytes entries
-counted_made paths [] entries long joined counts = absurd (omega arith)
-counted_made paths (a ∷ []) entries long joined counts = absurd (omega arith)
-counted_made paths (a ∷ b ∷ rest) entries long joined counts = record { count = a ∷ b ∷ []; behind = rest; two = refl; counts = sym counts; whole = refl; are_entries = joined }
-
 pub counted_of : (paths : Bool) (bytes : List ℕ) (entries : List Entry) → 2 ≤ length bytes → IsCounted paths bytes entries → IsJoined (IsEntry paths) (drop 2 bytes) entries × (from_be_bytes w16 (get_or bytes 0 0 ∷ get_or bytes 1 0 ∷ []) ≡ length entries)
 counted_of paths [] entries long is = absurd (omega arith)
 counted_of paths (a ∷ []) entries long is = absurd (omega arith)
