@@ -1,56 +1,61 @@
 -- The first entry is read exactly where the bytes begin with one.
-use Rattle.std.proofs.Common.{◌≡◌, ℕ, List, ◌++◌, length, take, drop, Some, refl, sym, ap, subst, ◌∙◌, append_assoc, arith}
-use Rattle.std.specs.Prelude.{nat_lt, option_and_then, option_map}
-use Rattle.std.specs.Int.{w16, from_be_bytes}
-use Rattle.std.proofs.lemmas.List.{take-append-drop, take_at, length-take, length-drop, length-append}
+use Rattle.std.proofs.Common.{◌≡◌, ℕ, Bool, List, ◌++◌, length, Some, refl, sym, ap, subst, ◌∙◌, append_assoc, arith}
+use Rattle.std.proofs.lemmas.List.{length-append}
+use Rattle.std.proofs.lemmas.Option.{some_pair_parts}
 use Rattle.held_bytes.specs.Units.{Begins}
+use Rattle.bgp_attrs.specs.Blocks.{IsBlock, block_at}
 use Rattle.bgp_attrs.specs.Joined.{IsReader}
-use Rattle.bgp_attrs.proofs.JoinedLemmas.{and_then_some, option_map_some}
-use Rattle.bgp_attrs.specs.Blocks.{block_at}
 use Rattle.bgp_attrs.proofs.BlockLemmas.{block_reader}
-use Rattle.mrt_reader.specs.Readers.{cut}
-use Rattle.mrt_reader.specs.Ribs.{Entry, IsEntry, entry_at}
-use Rattle.mrt_reader.proofs.FieldLemmas.{cut_at, cut_some}
+use Rattle.bgp_attrs.proofs.JoinedLemmas.{and_then_some}
+use Rattle.mrt_reader.specs.Fields.{SpellsTwo, SpellsPath}
+use Rattle.mrt_reader.specs.Readers.{cut, two_at, path_at, entry_at}
+use Rattle.mrt_reader.specs.Ribs.{Entry, IsEntry}
+use Rattle.mrt_reader.proofs.FieldLemmas.{and_then_is, three_parts, cut_at, cut_finds, two_finds, two_only, path_finds, path_only}
 
-abbrev entry_with : List ℕ → List ℕ × List ℕ → Entry × List ℕ
-entry_with head y = (record { index = from_be_bytes w16 (take 2 head); attributes = y.0 }, y.1)
+regrouped : (a b c d rest : List ℕ) → (a ++ (b ++ (c ++ d))) ++ rest ≡ a ++ (b ++ (c ++ (d ++ rest)))
+regrouped a b c d rest = simp append_assoc
 
-finds : (bytes : List ℕ) (entry : Entry) (rest : List ℕ) → entry_at bytes ≡ Some (entry, rest) → Begins IsEntry bytes entry rest
+-- four parts, each found in front of what is behind the one before
+joined : (bytes a ra b rb c rc d rd rest : List ℕ) → bytes ≡ a ++ ra → ra ≡ b ++ rb → rb ≡ c ++ rc → rc ≡ d ++ rd → rd ≡ rest → bytes ≡ (a ++ (b ++ (c ++ d))) ++ rest
+joined bytes a ra b rb c rc d rd rest p q r s t =
+    three_parts bytes a ra b rb c (d ++ rest) p q (r ∙ ap (λ (xs : List ℕ). c ++ xs) (s ∙ ap (λ (xs : List ℕ). d ++ xs) t)) ∙ sym (regrouped a b c d rest)
+
+finds : (paths : Bool) (bytes : List ℕ) (entry : Entry) (rest : List ℕ) → entry_at paths bytes ≡ Some (entry, rest) → Begins (IsEntry paths) bytes entry rest
 unfolding entry_at
-finds bytes entry rest e =
-    let a = and_then_some (λ (x : List ℕ × List ℕ). option_map (entry_with x.0) (block_at x.1)) (cut 6 bytes) (entry, rest) e in
-    let c = cut_some (nat_lt (length bytes) 6) 6 bytes a.0 refl a.1 in
-    let b = option_map_some (entry_with a.0.0) (block_at a.0.1) (entry, rest) a.2 in
-    let head = take 6 bytes in
-    let behind = drop 6 bytes in
-    let same_head : a.0.0 ≡ head = ap (λ (x : List ℕ × List ℕ). x.0) (sym c.1) in
-    let same_rest : a.0.1 ≡ behind = ap (λ (x : List ℕ × List ℕ). x.1) (sym c.1) in
-    let f = block_reader.finds behind b.0.0 b.0.1 (ap block_at (sym same_rest) ∙ b.1) in
-    let len : length head ≡ 6 = omega (arith, length-take 6 bytes) in
-    let made : entry_with head b.0 ≡ (entry, rest) = ap (λ (h : List ℕ). entry_with h b.0) (sym same_head) ∙ b.2 in
-    let joined : bytes ≡ (take 2 head ++ (drop 2 head ++ f.front)) ++ b.0.1 =
-    sym (take-append-drop 6 bytes) ∙ ap (λ (xs : List ℕ). head ++ xs) f.whole ∙ sym (append_assoc head f.front b.0.1)
-    ∙ ap (λ (xs : List ℕ). (xs ++ f.front) ++ b.0.1) (sym (take-append-drop 2 head)) ∙ ap (λ (xs : List ℕ). xs ++ b.0.1) (append_assoc (take 2 head) (drop 2 head) f.front) in
-    subst (λ (x : Entry × List ℕ). Begins IsEntry bytes x.0 x.1) made (record {
-      front = take 2 head ++ (drop 2 head ++ f.front);
-      spelled = record { index = take 2 head; time = drop 2 head; block = f.front; two = omega (arith, length-take 2 head); says = refl; four = omega (arith, length-drop 2 head); is_block = f.spelled; whole = refl };
-      whole = joined;
+finds paths bytes entry rest e =
+    let a = and_then_some _ (two_at bytes) (entry, rest) e in
+    let b = and_then_some _ (cut 4 a.0.1) (entry, rest) a.2 in
+    let c = and_then_some _ (path_at paths b.0.1) (entry, rest) b.2 in
+    let d = and_then_some _ (block_at c.0.1) (entry, rest) c.2 in
+    let made = some_pair_parts (record { index = a.0.0; path = c.0.0; attributes = d.0.0 }) entry d.0.1 rest d.2 in
+    let p1 = two_finds bytes a.0.0 a.0.1 a.1 in
+    let p2 = cut_finds 4 a.0.1 b.0 b.1 in
+    let p3 = path_finds paths b.0.1 c.0.0 c.0.1 c.1 in
+    let p4 = block_reader.finds c.0.1 d.0.0 d.0.1 d.1 in
+    subst (λ (x : Entry). Begins (IsEntry paths) bytes x rest) made.0 (record {
+      front = p1.0 ++ (b.0.0 ++ (p3.0 ++ p4.front));
+      spelled = record { index = p1.0; time = b.0.0; identifier = p3.0; block = p4.front; is_index = p1.1; four = p2.0; is_path = p3.1; is_block = p4.spelled; whole = refl };
+      whole = joined bytes p1.0 a.0.1 b.0.0 b.0.1 p3.0 c.0.1 p4.front d.0.1 rest p1.2 p2.1 p3.2 p4.whole made.1;
     })
 
-only : (bytes : List ℕ) (entry : Entry) (rest : List ℕ) → Begins IsEntry bytes entry rest → entry_at bytes ≡ Some (entry, rest)
+entry_here : (paths : Bool) (index time identifier block rest : List ℕ) (entry : Entry) → SpellsTwo index entry.index → length time ≡ 4 → SpellsPath paths identifier entry.path → IsBlock block entry.attributes
+    → entry_at paths (index ++ (time ++ (identifier ++ (block ++ rest)))) ≡ Some (entry, rest)
 unfolding entry_at
-only bytes entry rest b =
-    let s = b.spelled in
-    let head = s.index ++ s.time in
-    let bytes-is : bytes ≡ head ++ (s.block ++ rest) =
-    b.whole ∙ ap (λ (xs : List ℕ). xs ++ rest) (s.whole ∙ sym (append_assoc s.index s.time s.block)) ∙ append_assoc head s.block rest in
-    let six : length head ≡ 6 = omega (arith, length-append s.index s.time, s.two, s.four) in
-    let block = block_reader.only (s.block ++ rest) entry.attributes rest (record { front = s.block; spelled = s.is_block; whole = refl }) in
-    let index : from_be_bytes w16 (take 2 head) ≡ entry.index = ap (from_be_bytes w16) (take_at s.index s.time 2 s.two) ∙ sym s.says in
-    ap (λ (xs : List ℕ). option_and_then (λ (x : List ℕ × List ℕ). option_map (entry_with x.0) (block_at x.1)) (cut 6 xs)) bytes-is
-    ∙ ap (option_and_then (λ (x : List ℕ × List ℕ). option_map (entry_with x.0) (block_at x.1))) (cut_at 6 head (s.block ++ rest) six)
-    ∙ ap (option_map (entry_with head)) block
-    ∙ ap (λ (i : ℕ). Some (record { index = i; attributes = entry.attributes }, rest)) index
+entry_here paths index time identifier block rest entry is_index four is_path is_block =
+    let r3 = block ++ rest in
+    let r2 = identifier ++ r3 in
+    let r1 = time ++ r2 in
+    let found = Some (entry, rest) in
+    and_then_is _ (two_at (index ++ r1)) (entry.index, r1) found (two_only index entry.index r1 is_index)
+    (and_then_is _ (cut 4 r1) (time, r2) found (cut_at 4 time r2 four)
+    (and_then_is _ (path_at paths r2) (entry.path, r3) found (path_only paths identifier entry.path r3 is_path)
+    (and_then_is _ (block_at r3) (entry.attributes, rest) found (block_reader.only r3 entry.attributes rest (record { front = block; spelled = is_block; whole = refl })) refl)))
 
-pub entry_reader : IsReader IsEntry entry_at
-entry_reader = record { finds = finds; only = only; some = λ front entry s. omega (arith, s.two, ap length s.whole, length-append s.index (s.time ++ s.block)) }
+only : (paths : Bool) (bytes : List ℕ) (entry : Entry) (rest : List ℕ) → Begins (IsEntry paths) bytes entry rest → entry_at paths bytes ≡ Some (entry, rest)
+only paths bytes entry rest b =
+    let s = b.spelled in
+    let bytes-is = b.whole ∙ ap (λ (xs : List ℕ). xs ++ rest) s.whole ∙ regrouped s.index s.time s.identifier s.block rest in
+    ap (entry_at paths) bytes-is ∙ entry_here paths s.index s.time s.identifier s.block rest entry s.is_index s.four s.is_path s.is_block
+
+pub entry_reader : (paths : Bool) → IsReader (IsEntry paths) (entry_at paths)
+entry_reader paths = record { finds = finds paths; only = only paths; some = λ front entry s. omega (arith, s.is_index.0, ap length s.whole, length-append s.index (s.time ++ (s.identifier ++ s.block))) }

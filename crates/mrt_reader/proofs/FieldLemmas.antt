@@ -9,8 +9,8 @@ use Rattle.std.proofs.lemmas.Bool.Decides.{nat_tests}
 use Rattle.path_model.specs.declared.addr.Addr.{Addr}
 use Rattle.bgp_attrs.specs.Prefixes.{addr_of}
 use Rattle.bgp_attrs.proofs.JoinedLemmas.{and_then_some}
-use Rattle.mrt_reader.specs.Fields.{SpellsTwo, SpellsFour, SpellsAsn, asn_size, SpellsAddr, addr_size}
-use Rattle.mrt_reader.specs.Readers.{cut, two_at, four_at, asn_at, addr_at}
+use Rattle.mrt_reader.specs.Fields.{SpellsTwo, SpellsFour, SpellsAsn, asn_size, SpellsPath, SpellsAddr, addr_size}
+use Rattle.mrt_reader.specs.Readers.{cut, two_at, four_at, asn_at, path_at, addr_at}
 
 -- what was read is exactly what has the form
 pub record Reads {A : Type 0} (HasForm : A → Type 0) (found : Option A) : Type 0 where
@@ -98,6 +98,22 @@ asn_any false part e = (from_be_bytes w16 part, (e, refl))
 pub asn_long : (wide : Bool) (part : List ℕ) (asn : ℕ) → SpellsAsn wide part asn → length part ≡ asn_size wide
 asn_long true part asn h = h.0
 asn_long false part asn h = h.0
+
+-- ---- path identifiers
+
+pub path_finds : (paths : Bool) (bytes : List ℕ) (path : Option ℕ) (rest : List ℕ) → path_at paths bytes ≡ Some (path, rest) → Front (λ part. SpellsPath paths part path) bytes rest
+path_finds false bytes path rest e = let p = some_pair_parts None path bytes rest e in ([], (refl, sym p.0), p.1)
+path_finds true bytes path rest e =
+    let a = and_then_some (λ (x : ℕ × List ℕ). Some (Some x.0, x.1)) (four_at bytes) (path, rest) e in
+    let p = some_pair_parts (Some a.0.0) path a.0.1 rest a.2 in
+    let f = four_finds bytes a.0.0 a.0.1 a.1 in
+    subst (λ (found : Option ℕ). Front (λ part. SpellsPath true part found) bytes rest) p.0 (f.0, f.1, f.2 ∙ ap (λ (xs : List ℕ). f.0 ++ xs) p.1)
+
+pub path_only : (paths : Bool) (part : List ℕ) (path : Option ℕ) (rest : List ℕ) → SpellsPath paths part path → path_at paths (part ++ rest) ≡ Some (path, rest)
+path_only false part path rest h = λ i. Some (sym h.1 i, h.0 i ++ rest)
+path_only true part None rest h = absurd h
+path_only true part (Some identifier) rest h =
+    and_then_is (λ (x : ℕ × List ℕ). Some (Some x.0, x.1)) (four_at (part ++ rest)) (identifier, rest) (Some (Some identifier, rest)) (four_only part identifier rest h) refl
 
 -- ---- addresses
 

@@ -19,18 +19,18 @@ use Rattle.mrt_reader.specs.Routes.{DumpSays}
 use Rattle.mrt_reader.specs.Sessions.{IsRecordedMessage, IsStateChange}
 use Rattle.mrt_reader.proofs.FormLemmas.{form_reads}
 
-raised_reads : (as4 : Bool) (peer : Peer) (message : List ℕ) (inner : Result (List Change) UpdateFault) → messages.IsMessageReading as4 peer message inner → Err NoMemory ≡ raised inner → ⊥
-raised_reads as4 peer message (Ok changes) reads is = cc
-raised_reads as4 peer message (Err update_faults.Message) reads is = cc
-raised_reads as4 peer message (Err update_faults.Attributes) reads is = cc
-raised_reads as4 peer message (Err update_faults.NoPath) reads is = cc
-raised_reads as4 peer message (Err update_faults.NoMemory) reads is = reads
+raised_reads : (as4 paths : Bool) (peer : Peer) (message : List ℕ) (inner : Result (List Change) UpdateFault) → messages.IsMessageReading as4 paths peer message inner → Err NoMemory ≡ raised inner → ⊥
+raised_reads as4 paths peer message (Ok changes) reads is = cc
+raised_reads as4 paths peer message (Err update_faults.Message) reads is = cc
+raised_reads as4 paths peer message (Err update_faults.Attributes) reads is = cc
+raised_reads as4 paths peer message (Err update_faults.NoPath) reads is = cc
+raised_reads as4 paths peer message (Err update_faults.NoMemory) reads is = reads
 
 layout_reads : (layout : Layout) (peers : Option (List Peer)) (body : List ℕ) → LayoutSays layout peers body (Err NoMemory) → ⊥
 layout_reads layouts.PeerIndex peers body says = form_reads (IsPeerTable body) TableSays (λ table e. cc) says
-layout_reads (layouts.Rib six) peers body says = says
+layout_reads (layouts.Rib six paths) peers body says = says
 layout_reads (layouts.Dump six) peers body says = form_reads (IsTableDump six body) DumpSays (λ dumped never. never) says
-layout_reads (layouts.Message timed as4) peers body says = form_reads (λ (it : Peer × List ℕ). IsRecordedMessage timed as4 body it.0 it.1) (MessageSays as4) (λ it inner. raised_reads as4 it.0 it.1 inner.0 inner.1 inner.2) says
+layout_reads (layouts.Message timed as4 paths) peers body says = form_reads (λ (it : Peer × List ℕ). IsRecordedMessage timed as4 body it.0 it.1) (MessageSays as4 paths) (λ it inner. raised_reads as4 paths it.0 it.1 inner.0 inner.1 inner.2) says
 layout_reads (layouts.State timed as4) peers body says = form_reads (λ (it : Peer × ℕ). IsStateChange timed as4 body it.0 it.1) StateSays (λ it e. cc) says
 layout_reads layouts.Other peers body says = cc
 

@@ -8,16 +8,15 @@ use Rattle.path_model.specs.declared.change.Change.{Change}
 use Rattle.path_model.specs.declared.change.Change.TheVariants.{Announce}
 use Rattle.path_model.specs.declared.key.Key.{Key}
 use Rattle.path_model.specs.declared.peer.Peer.{Peer}
+use Rattle.path_model.specs.Key.{key_of}
 use Rattle.path_model.specs.Prefix.{Subnet}
-use Rattle.path_model.specs.Batches.{key_of}
 use Rattle.mrt_reader.specs.declared.body.Body.{Body}
 use Rattle.mrt_reader.specs.declared.body.Body.TheVariants as bodies
 use Rattle.mrt_reader.specs.declared.fault.BodyFault.{BodyFault}
 use Rattle.mrt_reader.specs.declared.fault.BodyFault.TheVariants as faults
 use Rattle.mrt_reader.specs.Bodies.{OrNoMemory, RibSays}
-use Rattle.mrt_reader.specs.Dumps.{Dumped}
 use Rattle.mrt_reader.specs.Ribs.{Entry, Rib, IsRib}
-use Rattle.mrt_reader.specs.Routes.{AnyOf, IsWithin, IsBeyond, EntryReadable, EntryUnreadable, EntryLacksPath, IsRoute, AreRoutes, EntriesSay, DumpSays}
+use Rattle.mrt_reader.specs.Routes.{AnyOf, IsWithin, IsBeyond, EntryReadable, EntryUnreadable, EntryLacksPath, nlri_in, IsRoute, AreRoutes, EntriesSay}
 use Rattle.mrt_reader.specs.Routing.{IsPut, Going}
 
 any_behind : {A : Type 0} (P : A → Type 0) (front left : List A) → AnyOf P left → AnyOf P (front ++ left)
@@ -85,10 +84,10 @@ Going-none peers prefix all left changes g e =
 -- ---- the same, where what is left begins with the entry
 
 pub next_route : (peers : List Peer) (prefix : Subnet) (all before left : List Entry) (entry : Entry) (changes new : List Change) (no_path : Bool) (peer : Peer)
-    → Going peers prefix all before changes no_path → before ≡ entry ∷ left → slice_get peers entry.index ≡ Some peer → IsPut true (key_of peer prefix) entry.attributes changes new (Ok true) → Going peers prefix all left new no_path
+    → Going peers prefix all before changes no_path → before ≡ entry ∷ left → slice_get peers entry.index ≡ Some peer → IsPut true (key_of peer (nlri_in prefix entry)) entry.attributes changes new (Ok true) → Going peers prefix all left new no_path
 next_route peers prefix all before left entry changes new no_path peer g e is_peer put =
     let h : Going peers prefix all (entry ∷ left) changes no_path = subst (λ (l : List Entry). Going peers prefix all l changes no_path) e g in
-    let change = Announce (key_of peer prefix) put.0 in
+    let change = Announce (key_of peer (nlri_in prefix entry)) put.0 in
     let made = Going-route peers prefix all left entry changes change no_path h (record { peer = peer; trail = put.0; is_peer = is_peer; gives = put.1; is_change = refl }) in
     subst (λ (cs : List Change). Going peers prefix all left cs no_path) (sym put.2) made
 
@@ -122,18 +121,18 @@ stops_beyond peers prefix all before left entry changes no_path g e none =
     Going-any (IsBeyond peers) peers prefix all left entry changes no_path h (get_none peers entry.index none)
 
 -- a whole record says what its entries say
-pub rib_from : (six : Bool) (peers : Option (List Peer)) (body : List ℕ) (table : List Peer) (rib : Rib) (result : Result Body BodyFault) → IsRib six body rib → peers ≡ Some table
-    → EntriesSay table rib.prefix rib.entries result → RibSays six peers body result
-rib_from six peers body table rib (Ok (bodies.Routes changes)) is e say = (rib, table, is, e, say)
-rib_from six peers body table rib (Ok (bodies.Peers others)) is e say = absurd say
-rib_from six peers body table rib (Ok bodies.Passed) is e say = absurd say
-rib_from six peers body table rib (Err faults.Body) is e say = absurd say
-rib_from six peers body table rib (Err faults.NoPeerTable) is e say = absurd say
-rib_from six peers body table rib (Err faults.PeerIndex) is e say = (rib, table, is, e, say)
-rib_from six peers body table rib (Err faults.Message) is e say = absurd say
-rib_from six peers body table rib (Err faults.Attributes) is e say = (rib, table, is, e, say)
-rib_from six peers body table rib (Err faults.NoPath) is e say = (rib, table, is, e, say)
-rib_from six peers body table rib (Err faults.NoMemory) is e say = absurd say
+pub rib_from : (paths six : Bool) (peers : Option (List Peer)) (body : List ℕ) (table : List Peer) (rib : Rib) (result : Result Body BodyFault) → IsRib paths six body rib → peers ≡ Some table
+    → EntriesSay table rib.prefix rib.entries result → RibSays paths six peers body result
+rib_from paths six peers body table rib (Ok (bodies.Routes changes)) is e say = (rib, table, is, e, say)
+rib_from paths six peers body table rib (Ok (bodies.Peers others)) is e say = absurd say
+rib_from paths six peers body table rib (Ok bodies.Passed) is e say = absurd say
+rib_from paths six peers body table rib (Err faults.Body) is e say = absurd say
+rib_from paths six peers body table rib (Err faults.NoPeerTable) is e say = absurd say
+rib_from paths six peers body table rib (Err faults.PeerIndex) is e say = (rib, table, is, e, say)
+rib_from paths six peers body table rib (Err faults.Message) is e say = absurd say
+rib_from paths six peers body table rib (Err faults.Attributes) is e say = (rib, table, is, e, say)
+rib_from paths six peers body table rib (Err faults.NoPath) is e say = (rib, table, is, e, say)
+rib_from paths six peers body table rib (Err faults.NoMemory) is e say = absurd say
 
 -- what follows from an answer follows from want of memory too
 or_maps : (P Q : Result Body BodyFault → Type 0) → ((result : Result Body BodyFault) → P result → Q result) → (result : Result Body BodyFault) → OrNoMemory P result → OrNoMemory Q result
@@ -146,17 +145,6 @@ or_maps P Q f (Err faults.Attributes) p = f (Err faults.Attributes) p
 or_maps P Q f (Err faults.NoPath) p = f (Err faults.NoPath) p
 or_maps P Q f (Err faults.NoMemory) p = tt
 
-pub rib_says : (six : Bool) (peers : Option (List Peer)) (body : List ℕ) (table : List Peer) (rib : Rib) (result : Result Body BodyFault) → IsRib six body rib → peers ≡ Some table
-    → OrNoMemory (EntriesSay table rib.prefix rib.entries) result → OrNoMemory (RibSays six peers body) result
-rib_says six peers body table rib result is e say = or_maps (EntriesSay table rib.prefix rib.entries) (RibSays six peers body) (λ r s. rib_from six peers body table rib r is e s) result say
-
--- ---- the one route of a TABLE_DUMP record
-
-pub dump_says : (dumped : Dumped) (old new : List Change) (key : Key) (fault : BodyFault) → IsPut false key dumped.attributes old new (Err fault) → OrNoMemory (DumpSays dumped) (Err fault)
-dump_says dumped old new key faults.Attributes put = put
-dump_says dumped old new key faults.NoMemory put = tt
-dump_says dumped old new key faults.NoPath put = absurd put
-dump_says dumped old new key faults.Message put = absurd put
-dump_says dumped old new key faults.PeerIndex put = absurd put
-dump_says dumped old new key faults.NoPeerTable put = absurd put
-dump_says dumped old new key faults.Body put = absurd put
+pub rib_says : (paths six : Bool) (peers : Option (List Peer)) (body : List ℕ) (table : List Peer) (rib : Rib) (result : Result Body BodyFault) → IsRib paths six body rib → peers ≡ Some table
+    → OrNoMemory (EntriesSay table rib.prefix rib.entries) result → OrNoMemory (RibSays paths six peers body) result
+rib_says paths six peers body table rib result is e say = or_maps (EntriesSay table rib.prefix rib.entries) (RibSays paths six peers body) (λ r s. rib_from paths six peers body table rib r is e s) result say

@@ -8,6 +8,7 @@ use Rattle.std.specs.declared.result.Result.{Result}
 use Rattle.path_model.specs.declared.change.Change.{Change}
 use Rattle.path_model.specs.declared.change.Change.TheVariants.{Announce}
 use Rattle.path_model.specs.declared.peer.Peer.{Peer}
+use Rattle.path_model.specs.Key.{key_of}
 use Rattle.path_model.specs.Prefix.{Subnet}
 use Rattle.path_model.specs.Trail.{Path}
 use Rattle.bgp_attrs.specs.declared.form.Form.TheVariants.{Table}
@@ -16,7 +17,6 @@ use Rattle.bgp_attrs.specs.Reading.{IsUnreadable}
 use Rattle.bgp_attrs.specs.Segments.{Segment}
 use Rattle.bgp_attrs.proofs.JoinedLemmas.{joined_same}
 use Rattle.bgp_attrs.proofs.LawLemmas as attrs
-use Rattle.path_model.specs.Batches.{key_of}
 use Rattle.bgp_update.proofs.MessageLemmas as messages
 use Rattle.mrt_reader.specs.declared.body.Body.{Body}
 use Rattle.mrt_reader.specs.declared.body.Body.TheVariants as bodies
@@ -31,7 +31,7 @@ use Rattle.mrt_reader.specs.Peers.{IsPeerTable}
 use Rattle.mrt_reader.specs.Readers.{dump_at, message_at, state_at, table_at}
 use Rattle.mrt_reader.specs.Records.{Recorded}
 use Rattle.mrt_reader.specs.Ribs.{Entry, Rib, IsCounted, IsRib}
-use Rattle.mrt_reader.specs.Routes.{AnyOf, LacksPath, GivesPath, IsWithin, IsBeyond, EntryReadable, EntryUnreadable, EntryLacksPath, IsRoute, AreRoutes, EntriesSay, DumpSays}
+use Rattle.mrt_reader.specs.Routes.{AnyOf, LacksPath, GivesPath, IsWithin, IsBeyond, EntryReadable, EntryUnreadable, EntryLacksPath, nlri_in, IsRoute, AreRoutes, EntriesSay, dumped_nlri, DumpSays}
 use Rattle.mrt_reader.specs.Sessions.{IsRecordedMessage, IsStateChange}
 use Rattle.mrt_reader.proofs.DumpLemmas.{dump_reads}
 use Rattle.mrt_reader.proofs.EntryLemmas.{entry_reader}
@@ -44,11 +44,11 @@ use Rattle.mrt_reader.proofs.ShapeLemmas.{read_prefix, counted_of, counted_long}
 
 gives_same : (wide : Bool) (attributes : List ℕ) (one other : Path) → GivesPath wide attributes one → GivesPath wide attributes other → one ≡ other
 gives_same wide attributes one other p q =
-    same_Some one other (sym p.2 ∙ ap trail_in (attrs.reading_same wide Table attributes p.0 q.0 p.1 q.1) ∙ q.2)
+    same_Some one other (sym p.2 ∙ ap trail_in (attrs.reading_same wide Table false attributes p.0 q.0 p.1 q.1) ∙ q.2)
 
 gives_lacks : (wide : Bool) (attributes : List ℕ) (trail : Path) → GivesPath wide attributes trail → LacksPath wide attributes → ⊥
 gives_lacks wide attributes trail p q =
-    let same = attrs.reading_same wide Table attributes p.0 q.0 p.1 q.1 in
+    let same = attrs.reading_same wide Table false attributes p.0 q.0 p.1 q.1 in
     let none : trail_in p.0 ≡ None = ap trail_in same ∙ ap (option_map (λ (path : List Segment). path_of_items (merged_with path (used_in q.0)))) q.2 in
     let both : Some trail ≡ None = sym p.2 ∙ none in
     cc
@@ -96,7 +96,7 @@ route_same : (peers : List Peer) (prefix : Subnet) (entry : Entry) (one other : 
 route_same peers prefix entry one other p q =
     let peer = same_Some p.peer q.peer (sym p.is_peer ∙ q.is_peer) in
     let trail = gives_same true entry.attributes p.trail q.trail p.gives q.gives in
-    p.is_change ∙ (λ i. Announce (key_of (peer i) prefix) (trail i)) ∙ sym q.is_change
+    p.is_change ∙ (λ i. Announce (key_of (peer i) (nlri_in prefix entry)) (trail i)) ∙ sym q.is_change
 
 routes_same : (peers : List Peer) (prefix : Subnet) (entries : List Entry) (changes others : List Change) → AreRoutes peers prefix entries changes → AreRoutes peers prefix entries others → changes ≡ others
 routes_same peers prefix [] changes others p q = p ∙ sym q
@@ -145,64 +145,64 @@ cases_same peers prefix entries one other (inr (inr (inr p))) (inr (inr (inr q))
 
 -- ---- RIB records
 
-counted_same : (bytes : List ℕ) (entries others : List Entry) → IsCounted bytes entries → IsCounted bytes others → entries ≡ others
-counted_same bytes entries others p q =
-    let long = counted_long bytes entries p in
-    joined_same entry_reader (drop 2 bytes) entries others (counted_of bytes entries long p).0 (counted_of bytes others long q).0
+counted_same : (paths : Bool) (bytes : List ℕ) (entries others : List Entry) → IsCounted paths bytes entries → IsCounted paths bytes others → entries ≡ others
+counted_same paths bytes entries others p q =
+    let long = counted_long paths bytes entries p in
+    joined_same (entry_reader paths) (drop 2 bytes) entries others (counted_of paths bytes entries long p).0 (counted_of paths bytes others long q).0
 
-rib_same : (six : Bool) (body : List ℕ) (one other : Rib) → IsRib six body one → IsRib six body other → one ≡ other
-rib_same six body one other p q =
-    let parts = some_pair_parts one.prefix other.prefix p.counted q.counted (sym (read_prefix six body one p) ∙ read_prefix six body other q) in
-    let entries = counted_same q.counted one.entries other.entries (subst (λ (bytes : List ℕ). IsCounted bytes one.entries) parts.1 p.entries) q.entries in
+rib_same : (paths six : Bool) (body : List ℕ) (one other : Rib) → IsRib paths six body one → IsRib paths six body other → one ≡ other
+rib_same paths six body one other p q =
+    let parts = some_pair_parts one.prefix other.prefix p.counted q.counted (sym (read_prefix paths six body one p) ∙ read_prefix paths six body other q) in
+    let entries = counted_same paths q.counted one.entries other.entries (subst (λ (bytes : List ℕ). IsCounted paths bytes one.entries) parts.1 p.entries) q.entries in
     λ i. record { prefix = parts.0 i; entries = entries i }
 
 -- the three things that a RIB record says
-abbrev RibCase : Bool → Option (List Peer) → List ℕ → Result Body BodyFault → Type 0
-RibCase six peers body reading =
-    (((rib : Rib) → IsRib six body rib → ⊥) × (reading ≡ Err faults.Body))
-    ⊎ ((rib : Rib) × IsRib six body rib × (peers ≡ None) × (reading ≡ Err faults.NoPeerTable))
-    ⊎ HasEntries six peers body reading
+abbrev RibCase : Bool → Bool → Option (List Peer) → List ℕ → Result Body BodyFault → Type 0
+RibCase paths six peers body reading =
+    (((rib : Rib) → IsRib paths six body rib → ⊥) × (reading ≡ Err faults.Body))
+    ⊎ ((rib : Rib) × IsRib paths six body rib × (peers ≡ None) × (reading ≡ Err faults.NoPeerTable))
+    ⊎ HasEntries paths six peers body reading
 
-rib_case : (six : Bool) (peers : Option (List Peer)) (body : List ℕ) (reading : Result Body BodyFault) → RibSays six peers body reading → RibCase six peers body reading
-rib_case six peers body (Err faults.Body) say = inl (say, refl)
-rib_case six peers body (Err faults.NoPeerTable) say = inr (inl (say.0, say.1, say.2, refl))
-rib_case six peers body (Err faults.PeerIndex) say = inr (inr say)
-rib_case six peers body (Err faults.Message) say = absurd say
-rib_case six peers body (Err faults.Attributes) say = inr (inr say)
-rib_case six peers body (Err faults.NoPath) say = inr (inr say)
-rib_case six peers body (Err faults.NoMemory) say = absurd say
-rib_case six peers body (Ok (bodies.Routes changes)) say = inr (inr say)
-rib_case six peers body (Ok (bodies.Peers table)) say = absurd say
-rib_case six peers body (Ok bodies.Passed) say = absurd say
+rib_case : (paths six : Bool) (peers : Option (List Peer)) (body : List ℕ) (reading : Result Body BodyFault) → RibSays paths six peers body reading → RibCase paths six peers body reading
+rib_case paths six peers body (Err faults.Body) say = inl (say, refl)
+rib_case paths six peers body (Err faults.NoPeerTable) say = inr (inl (say.0, say.1, say.2, refl))
+rib_case paths six peers body (Err faults.PeerIndex) say = inr (inr say)
+rib_case paths six peers body (Err faults.Message) say = absurd say
+rib_case paths six peers body (Err faults.Attributes) say = inr (inr say)
+rib_case paths six peers body (Err faults.NoPath) say = inr (inr say)
+rib_case paths six peers body (Err faults.NoMemory) say = absurd say
+rib_case paths six peers body (Ok (bodies.Routes changes)) say = inr (inr say)
+rib_case paths six peers body (Ok (bodies.Peers table)) say = absurd say
+rib_case paths six peers body (Ok bodies.Passed) say = absurd say
 
 tables_apart : (peers : Option (List Peer)) (table : List Peer) → peers ≡ None → peers ≡ Some table → ⊥
 tables_apart peers table p q = let both : None ≡ Some table = sym p ∙ q in cc
 
-entries_same : (six : Bool) (peers : Option (List Peer)) (body : List ℕ) (one other : Result Body BodyFault) → HasEntries six peers body one → HasEntries six peers body other → one ≡ other
-entries_same six peers body one other p q =
-    let ribs : p.0 ≡ q.0 = rib_same six body p.0 q.0 p.2 q.2 in
+entries_same : (paths six : Bool) (peers : Option (List Peer)) (body : List ℕ) (one other : Result Body BodyFault) → HasEntries paths six peers body one → HasEntries paths six peers body other → one ≡ other
+entries_same paths six peers body one other p q =
+    let ribs : p.0 ≡ q.0 = rib_same paths six body p.0 q.0 p.2 q.2 in
     let tables : p.1 ≡ q.1 = same_Some p.1 q.1 (sym p.3 ∙ q.3) in
     let here : EntriesSay p.1 p.0.prefix p.0.entries other = subst (λ (r : Rib). EntriesSay p.1 r.prefix r.entries other) (sym ribs) (subst (λ (t : List Peer). EntriesSay t q.0.prefix q.0.entries other) (sym tables) q.4) in
     cases_same p.1 p.0.prefix p.0.entries one other (entries_case p.1 p.0.prefix p.0.entries one p.4) (entries_case p.1 p.0.prefix p.0.entries other here)
 
-ribs_say_same : (six : Bool) (peers : Option (List Peer)) (body : List ℕ) (one other : Result Body BodyFault) → RibCase six peers body one → RibCase six peers body other → one ≡ other
-ribs_say_same six peers body one other (inl p) (inl q) = p.1 ∙ sym q.1
-ribs_say_same six peers body one other (inl p) (inr (inl q)) = absurd (p.0 q.0 q.1)
-ribs_say_same six peers body one other (inl p) (inr (inr q)) = absurd (p.0 q.0 q.2)
-ribs_say_same six peers body one other (inr (inl p)) (inl q) = absurd (q.0 p.0 p.1)
-ribs_say_same six peers body one other (inr (inl p)) (inr (inl q)) = p.3 ∙ sym q.3
-ribs_say_same six peers body one other (inr (inl p)) (inr (inr q)) = absurd (tables_apart peers q.1 p.2 q.3)
-ribs_say_same six peers body one other (inr (inr p)) (inl q) = absurd (q.0 p.0 p.2)
-ribs_say_same six peers body one other (inr (inr p)) (inr (inl q)) = absurd (tables_apart peers p.1 q.2 p.3)
-ribs_say_same six peers body one other (inr (inr p)) (inr (inr q)) = entries_same six peers body one other p q
+ribs_say_same : (paths six : Bool) (peers : Option (List Peer)) (body : List ℕ) (one other : Result Body BodyFault) → RibCase paths six peers body one → RibCase paths six peers body other → one ≡ other
+ribs_say_same paths six peers body one other (inl p) (inl q) = p.1 ∙ sym q.1
+ribs_say_same paths six peers body one other (inl p) (inr (inl q)) = absurd (p.0 q.0 q.1)
+ribs_say_same paths six peers body one other (inl p) (inr (inr q)) = absurd (p.0 q.0 q.2)
+ribs_say_same paths six peers body one other (inr (inl p)) (inl q) = absurd (q.0 p.0 p.1)
+ribs_say_same paths six peers body one other (inr (inl p)) (inr (inl q)) = p.3 ∙ sym q.3
+ribs_say_same paths six peers body one other (inr (inl p)) (inr (inr q)) = absurd (tables_apart peers q.1 p.2 q.3)
+ribs_say_same paths six peers body one other (inr (inr p)) (inl q) = absurd (q.0 p.0 p.2)
+ribs_say_same paths six peers body one other (inr (inr p)) (inr (inl q)) = absurd (tables_apart peers p.1 q.2 p.3)
+ribs_say_same paths six peers body one other (inr (inr p)) (inr (inr q)) = entries_same paths six peers body one other p q
 
 -- ---- TABLE_DUMP records
 
 -- the three things that a route says
 abbrev DumpCase : Dumped → Result Body BodyFault → Type 0
 DumpCase dumped reading =
-    ((trail : Path) × GivesPath false dumped.attributes trail × (reading ≡ Ok (bodies.Routes (Announce (key_of dumped.peer dumped.prefix) trail ∷ []))))
-    ⊎ (IsUnreadable false Table dumped.attributes × (reading ≡ Err faults.Attributes))
+    ((trail : Path) × GivesPath false dumped.attributes trail × (reading ≡ Ok (bodies.Routes (Announce (key_of dumped.peer (dumped_nlri dumped)) trail ∷ []))))
+    ⊎ (IsUnreadable false Table false dumped.attributes × (reading ≡ Err faults.Attributes))
     ⊎ (LacksPath false dumped.attributes × (reading ≡ Err faults.NoPath))
 
 dump_case : (dumped : Dumped) (reading : Result Body BodyFault) → DumpSays dumped reading → DumpCase dumped reading
@@ -219,7 +219,7 @@ dump_case dumped (Err faults.NoMemory) say = absurd say
 
 dumps_say_same : (dumped : Dumped) (one other : Result Body BodyFault) → DumpCase dumped one → DumpCase dumped other → one ≡ other
 dumps_say_same dumped one other (inl p) (inl q) =
-    p.2 ∙ ap (λ (trail : Path). Ok (bodies.Routes (Announce (key_of dumped.peer dumped.prefix) trail ∷ []))) (gives_same false dumped.attributes p.0 q.0 p.1 q.1) ∙ sym q.2
+    p.2 ∙ ap (λ (trail : Path). Ok (bodies.Routes (Announce (key_of dumped.peer (dumped_nlri dumped)) trail ∷ []))) (gives_same false dumped.attributes p.0 q.0 p.1 q.1) ∙ sym q.2
 dumps_say_same dumped one other (inl p) (inr (inl q)) = absurd (q.0 p.1.0 p.1.1)
 dumps_say_same dumped one other (inl p) (inr (inr q)) = absurd (gives_lacks false dumped.attributes p.0 p.1 q.0)
 dumps_say_same dumped one other (inr (inl p)) (inl q) = absurd (p.0 q.1.0 q.1.1)
@@ -234,15 +234,15 @@ dump_says_same dumped one other p q = dumps_say_same dumped one other (dump_case
 
 -- ---- all layouts
 
-message_says_same : (as4 : Bool) (it : Peer × List ℕ) (one other : Result Body BodyFault) → MessageSays as4 it one → MessageSays as4 it other → one ≡ other
-message_says_same as4 (peer, message) one other p q = p.2 ∙ ap raised (messages.reading_same as4 peer message p.0 q.0 p.1 q.1) ∙ sym q.2
+message_says_same : (as4 paths : Bool) (it : Peer × List ℕ) (one other : Result Body BodyFault) → MessageSays as4 paths it one → MessageSays as4 paths it other → one ≡ other
+message_says_same as4 paths (peer, message) one other p q = p.2 ∙ ap raised (messages.reading_same as4 paths peer message p.0 q.0 p.1 q.1) ∙ sym q.2
 
 layout_says_same : (layout : Layout) (peers : Option (List Peer)) (body : List ℕ) (one other : Result Body BodyFault) → LayoutSays layout peers body one → LayoutSays layout peers body other → one ≡ other
 layout_says_same layouts.PeerIndex peers body one other p q = form_same (IsPeerTable body) TableSays (table_at body) one other (table_reads body) (λ peers a b. a ∙ sym b) p q
-layout_says_same (layouts.Rib six) peers body one other p q = ribs_say_same six peers body one other (rib_case six peers body one p) (rib_case six peers body other q)
+layout_says_same (layouts.Rib six paths) peers body one other p q = ribs_say_same paths six peers body one other (rib_case paths six peers body one p) (rib_case paths six peers body other q)
 layout_says_same (layouts.Dump six) peers body one other p q = form_same (IsTableDump six body) DumpSays (dump_at six body) one other (dump_reads six body) (λ dumped a b. dump_says_same dumped one other a b) p q
-layout_says_same (layouts.Message timed as4) peers body one other p q =
-    form_same (λ (it : Peer × List ℕ). IsRecordedMessage timed as4 body it.0 it.1) (MessageSays as4) (message_at timed as4 body) one other (message_reads timed as4 body) (λ it a b. message_says_same as4 it one other a b) p q
+layout_says_same (layouts.Message timed as4 paths) peers body one other p q =
+    form_same (λ (it : Peer × List ℕ). IsRecordedMessage timed as4 body it.0 it.1) (MessageSays as4 paths) (message_at timed as4 body) one other (message_reads timed as4 body) (λ it a b. message_says_same as4 paths it one other a b) p q
 layout_says_same (layouts.State timed as4) peers body one other p q =
     form_same (λ (it : Peer × ℕ). IsStateChange timed as4 body it.0 it.1) StateSays (state_at timed as4 body) one other (state_reads timed as4 body) (λ it a b. a ∙ sym b) p q
 layout_says_same layouts.Other peers body one other p q = p ∙ sym q

@@ -50,42 +50,37 @@ heads (a ∷ b ∷ []) (c ∷ d ∷ x ∷ more) r s p q e = absurd (omega arith)
 
 -- ---- entries behind their count
 
-pub counted_made : (bytes : List ℕ) (entries : List Entry) → 2 ≤ length bytes → IsJoined IsEntry (drop 2 bytes) entries → length entries ≡ from_be_bytes w16 (get_or bytes 0 0 ∷ get_or bytes 1 0 ∷ []) → IsCounted bytes entries
-counted_made [] entries long joined counts = absurd (omega arith)
-counted_made (a ∷ []) entries long joined counts = absurd (omega arith)
-counted_made (a ∷ b ∷ rest) entries long joined counts = record { count = a ∷ b ∷ []; behind = rest; two = refl; counts = sym counts; whole = refl; are_entries = joined }
-
-pub counted_of : (bytes : List ℕ) (entries : List Entry) → 2 ≤ length bytes → IsCounted bytes entries → IsJoined IsEntry (drop 2 bytes) entries × (from_be_bytes w16 (get_or bytes 0 0 ∷ get_or bytes 1 0 ∷ []) ≡ length entries)
-counted_of [] entries long is = absurd (omega arith)
-counted_of (a ∷ []) entries long is = absurd (omega arith)
-counted_of (a ∷ b ∷ rest) entries long is =
+pub counted_of : (paths : Bool) (bytes : List ℕ) (entries : List Entry) → 2 ≤ length bytes → IsCounted paths bytes entries → IsJoined (IsEntry paths) (drop 2 bytes) entries × (from_be_bytes w16 (get_or bytes 0 0 ∷ get_or bytes 1 0 ∷ []) ≡ length entries)
+counted_of paths [] entries long is = absurd (omega arith)
+counted_of paths (a ∷ []) entries long is = absurd (omega arith)
+counted_of paths (a ∷ b ∷ rest) entries long is =
     let h = heads (a ∷ b ∷ []) is.count rest is.behind refl is.two is.whole in
-    (subst (λ (bytes : List ℕ). IsJoined IsEntry bytes entries) (sym h.1) is.are_entries, ap (from_be_bytes w16) h.0 ∙ is.counts)
+    (subst (λ (bytes : List ℕ). IsJoined (IsEntry paths) bytes entries) (sym h.1) is.are_entries, ap (from_be_bytes w16) h.0 ∙ is.counts)
 
-pub counted_long : (bytes : List ℕ) (entries : List Entry) → IsCounted bytes entries → 2 ≤ length bytes
-counted_long bytes entries is = omega (arith, is.two, ap length is.whole, length-append is.count is.behind)
+pub counted_long : (paths : Bool) (bytes : List ℕ) (entries : List Entry) → IsCounted paths bytes entries → 2 ≤ length bytes
+counted_long paths bytes entries is = omega (arith, is.two, ap length is.whole, length-append is.count is.behind)
 
 -- ---- the whole record
 
-behind_is : (six : Bool) (body : List ℕ) (rib : Rib) (is : IsRib six body rib) → drop 4 body ≡ is.behind
-behind_is six body rib is = ap (drop 4) is.whole ∙ drop_at is.sequence is.behind 4 is.four
+behind_is : (paths six : Bool) (body : List ℕ) (rib : Rib) (is : IsRib paths six body rib) → drop 4 body ≡ is.behind
+behind_is paths six body rib is = ap (drop 4) is.whole ∙ drop_at is.sequence is.behind 4 is.four
 
-pub rib_long : (six : Bool) (body : List ℕ) → length body < 4 → (rib : Rib) → IsRib six body rib → ⊥
-rib_long six body short rib is = omega (arith, is.four, ap length is.whole, length-append is.sequence is.behind)
+pub rib_long : (paths six : Bool) (body : List ℕ) → length body < 4 → (rib : Rib) → IsRib paths six body rib → ⊥
+rib_long paths six body short rib is = omega (arith, is.four, ap length is.whole, length-append is.sequence is.behind)
 
-pub read_prefix : (six : Bool) (body : List ℕ) (rib : Rib) (is : IsRib six body rib) → prefix_at six (drop 4 body) ≡ Some (rib.prefix, is.counted)
-read_prefix six body rib is = ap (prefix_at six) (behind_is six body rib is) ∙ (prefix_reader six).only is.behind rib.prefix is.counted is.prefix
+pub read_prefix : (paths six : Bool) (body : List ℕ) (rib : Rib) (is : IsRib paths six body rib) → prefix_at six (drop 4 body) ≡ Some (rib.prefix, is.counted)
+read_prefix paths six body rib is = ap (prefix_at six) (behind_is paths six body rib is) ∙ (prefix_reader six).only is.behind rib.prefix is.counted is.prefix
 
-pub rib_no_prefix : (six : Bool) (body : List ℕ) → prefix_at six (drop 4 body) ≡ None → (rib : Rib) → IsRib six body rib → ⊥
-rib_no_prefix six body none rib is = let e = read_prefix six body rib is in cc
+pub rib_no_prefix : (paths six : Bool) (body : List ℕ) → prefix_at six (drop 4 body) ≡ None → (rib : Rib) → IsRib paths six body rib → ⊥
+rib_no_prefix paths six body none rib is = let e = read_prefix paths six body rib is in cc
 
-pub rib_no_entries : (six : Bool) (body : List ℕ) (prefix : Subnet) (rest : List ℕ) → prefix_at six (drop 4 body) ≡ Some (prefix, rest) → ((entries : List Entry) → IsCounted rest entries → ⊥) → (rib : Rib) → IsRib six body rib → ⊥
-rib_no_entries six body prefix rest e none rib is =
-    let p = some_pair_parts rib.prefix prefix is.counted rest (sym (read_prefix six body rib is) ∙ e) in
-    none rib.entries (subst (λ (bytes : List ℕ). IsCounted bytes rib.entries) p.1 is.entries)
+pub rib_no_entries : (paths six : Bool) (body : List ℕ) (prefix : Subnet) (rest : List ℕ) → prefix_at six (drop 4 body) ≡ Some (prefix, rest) → ((entries : List Entry) → IsCounted paths rest entries → ⊥) → (rib : Rib) → IsRib paths six body rib → ⊥
+rib_no_entries paths six body prefix rest e none rib is =
+    let p = some_pair_parts rib.prefix prefix is.counted rest (sym (read_prefix paths six body rib is) ∙ e) in
+    none rib.entries (subst (λ (bytes : List ℕ). IsCounted paths bytes rib.entries) p.1 is.entries)
 
-pub rib_made : (six : Bool) (body : List ℕ) (prefix : Subnet) (rest : List ℕ) (entries : List Entry) → 4 ≤ length body → prefix_at six (drop 4 body) ≡ Some (prefix, rest) → IsCounted rest entries → IsRib six body (record { prefix = prefix; entries = entries })
-rib_made six body prefix rest entries long e counted = record {
+pub rib_made : (paths six : Bool) (body : List ℕ) (prefix : Subnet) (rest : List ℕ) (entries : List Entry) → 4 ≤ length body → prefix_at six (drop 4 body) ≡ Some (prefix, rest) → IsCounted paths rest entries → IsRib paths six body (record { prefix = prefix; entries = entries })
+rib_made paths six body prefix rest entries long e counted = record {
   sequence = take 4 body;
   behind = drop 4 body;
   counted = rest;

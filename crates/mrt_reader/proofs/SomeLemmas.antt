@@ -9,6 +9,7 @@ use Rattle.av_base.specs.One.{HasOne}
 use Rattle.path_model.specs.declared.change.Change.{Change}
 use Rattle.path_model.specs.declared.change.Change.TheVariants.{Announce}
 use Rattle.path_model.specs.declared.peer.Peer.{Peer}
+use Rattle.path_model.specs.Key.{key_of}
 use Rattle.path_model.specs.Prefix.{Subnet}
 use Rattle.path_model.specs.Trail.{Path}
 use Rattle.bgp_attrs.specs.declared.form.Form.TheVariants.{Table}
@@ -19,7 +20,6 @@ use Rattle.bgp_attrs.specs.Reading.{Reading, IsRead}
 use Rattle.bgp_attrs.specs.Segments.{Segment}
 use Rattle.bgp_attrs.proofs.DecideLemmas.{SomeOrNone, joined_decided, reading_decided}
 use Rattle.bgp_attrs.proofs.JoinedLemmas.{joined_same}
-use Rattle.path_model.specs.Batches.{key_of}
 use Rattle.bgp_update.proofs.MessageLemmas as messages
 use Rattle.mrt_reader.specs.declared.body.Body.TheVariants as bodies
 use Rattle.mrt_reader.specs.declared.fault.BodyFault.TheVariants as faults
@@ -32,7 +32,7 @@ use Rattle.mrt_reader.specs.Peers.{IsPeerTable}
 use Rattle.mrt_reader.specs.Readers.{dump_at, message_at, state_at, table_at}
 use Rattle.mrt_reader.specs.Records.{Recorded}
 use Rattle.mrt_reader.specs.Ribs.{Entry, IsEntry, IsCounted, IsRib}
-use Rattle.mrt_reader.specs.Routes.{AnyOf, LacksPath, GivesPath, IsWithin, IsBeyond, EntryReadable, EntryUnreadable, EntryLacksPath, AreRoutes, EntriesSay, DumpSays}
+use Rattle.mrt_reader.specs.Routes.{AnyOf, LacksPath, GivesPath, IsWithin, IsBeyond, EntryReadable, EntryUnreadable, EntryLacksPath, nlri_in, AreRoutes, EntriesSay, dumped_nlri, DumpSays}
 use Rattle.mrt_reader.specs.Sessions.{IsRecordedMessage, IsStateChange}
 use Rattle.mrt_reader.proofs.DumpLemmas.{dump_reads}
 use Rattle.mrt_reader.proofs.EntryLemmas.{entry_reader}
@@ -45,37 +45,37 @@ use Rattle.mrt_reader.proofs.ShapeLemmas.{counted_of, counted_long, rib_long, ri
 
 -- ---- the form of a RIB record
 
-counted_by : (a b : ℕ) (rest : List ℕ) (entries : List Entry) → IsJoined IsEntry rest entries → (counts : Bool) → (from_be_bytes w16 (a ∷ b ∷ []) == length entries) ≡ counts → SomeOrNone (IsCounted (a ∷ b ∷ rest))
-counted_by a b rest entries joined true e = inl (entries, record { count = a ∷ b ∷ []; behind = rest; two = refl; counts = grind (arith, nat_tests); whole = refl; are_entries = joined })
-counted_by a b rest entries joined false e = inr (λ (others : List Entry) is.
-    let o = counted_of (a ∷ b ∷ rest) others (counted_long (a ∷ b ∷ rest) others is) is in
-    let sizes = ap length (joined_same entry_reader rest others entries o.0 joined) in
+counted_by : (paths : Bool) (a b : ℕ) (rest : List ℕ) (entries : List Entry) → IsJoined (IsEntry paths) rest entries → (counts : Bool) → (from_be_bytes w16 (a ∷ b ∷ []) == length entries) ≡ counts → SomeOrNone (IsCounted paths (a ∷ b ∷ rest))
+counted_by paths a b rest entries joined true e = inl (entries, record { count = a ∷ b ∷ []; behind = rest; two = refl; counts = grind (arith, nat_tests); whole = refl; are_entries = joined })
+counted_by paths a b rest entries joined false e = inr (λ (others : List Entry) is.
+    let o = counted_of paths (a ∷ b ∷ rest) others (counted_long paths (a ∷ b ∷ rest) others is) is in
+    let sizes = ap length (joined_same (entry_reader paths) rest others entries o.0 joined) in
     let counts = o.1 in
     grind (arith, nat_tests))
 
-counted_from : (a b : ℕ) (rest : List ℕ) → SomeOrNone (IsJoined IsEntry rest) → SomeOrNone (IsCounted (a ∷ b ∷ rest))
-counted_from a b rest (inl entries) = counted_by a b rest entries.0 entries.1 (from_be_bytes w16 (a ∷ b ∷ []) == length entries.0) refl
-counted_from a b rest (inr none) = inr (λ others is. none others (counted_of (a ∷ b ∷ rest) others (counted_long (a ∷ b ∷ rest) others is) is).0)
+counted_from : (paths : Bool) (a b : ℕ) (rest : List ℕ) → SomeOrNone (IsJoined (IsEntry paths) rest) → SomeOrNone (IsCounted paths (a ∷ b ∷ rest))
+counted_from paths a b rest (inl entries) = counted_by paths a b rest entries.0 entries.1 (from_be_bytes w16 (a ∷ b ∷ []) == length entries.0) refl
+counted_from paths a b rest (inr none) = inr (λ others is. none others (counted_of paths (a ∷ b ∷ rest) others (counted_long paths (a ∷ b ∷ rest) others is) is).0)
 
-counted_decided : (bytes : List ℕ) → SomeOrNone (IsCounted bytes)
-counted_decided [] = inr (λ entries is. (let long = counted_long [] entries is in omega arith))
-counted_decided (a ∷ []) = inr (λ entries is. (let long = counted_long (a ∷ []) entries is in omega arith))
-counted_decided (a ∷ b ∷ rest) = counted_from a b rest (joined_decided entry_reader rest)
+counted_decided : (paths : Bool) (bytes : List ℕ) → SomeOrNone (IsCounted paths bytes)
+counted_decided paths [] = inr (λ entries is. (let long = counted_long paths [] entries is in omega arith))
+counted_decided paths (a ∷ []) = inr (λ entries is. (let long = counted_long paths (a ∷ []) entries is in omega arith))
+counted_decided paths (a ∷ b ∷ rest) = counted_from paths a b rest (joined_decided (entry_reader paths) rest)
 
-rib_behind : (six : Bool) (body : List ℕ) → 4 ≤ length body → (prefix : Subnet) (rest : List ℕ) → prefix_at six (drop 4 body) ≡ Some (prefix, rest) → SomeOrNone (IsCounted rest) → SomeOrNone (IsRib six body)
-rib_behind six body long prefix rest e (inl entries) = inl (record { prefix = prefix; entries = entries.0 }, rib_made six body prefix rest entries.0 long e entries.1)
-rib_behind six body long prefix rest e (inr none) = inr (rib_no_entries six body prefix rest e none)
+rib_behind : (paths six : Bool) (body : List ℕ) → 4 ≤ length body → (prefix : Subnet) (rest : List ℕ) → prefix_at six (drop 4 body) ≡ Some (prefix, rest) → SomeOrNone (IsCounted paths rest) → SomeOrNone (IsRib paths six body)
+rib_behind paths six body long prefix rest e (inl entries) = inl (record { prefix = prefix; entries = entries.0 }, rib_made paths six body prefix rest entries.0 long e entries.1)
+rib_behind paths six body long prefix rest e (inr none) = inr (rib_no_entries paths six body prefix rest e none)
 
-rib_by_prefix : (six : Bool) (body : List ℕ) → 4 ≤ length body → (first : Option (Subnet × List ℕ)) → prefix_at six (drop 4 body) ≡ first → SomeOrNone (IsRib six body)
-rib_by_prefix six body long None e = inr (rib_no_prefix six body e)
-rib_by_prefix six body long (Some x) e = rib_behind six body long x.0 x.1 e (counted_decided x.1)
+rib_by_prefix : (paths six : Bool) (body : List ℕ) → 4 ≤ length body → (first : Option (Subnet × List ℕ)) → prefix_at six (drop 4 body) ≡ first → SomeOrNone (IsRib paths six body)
+rib_by_prefix paths six body long None e = inr (rib_no_prefix paths six body e)
+rib_by_prefix paths six body long (Some x) e = rib_behind paths six body long x.0 x.1 e (counted_decided paths x.1)
 
-rib_by_length : (six : Bool) (body : List ℕ) (short : Bool) → nat_lt (length body) 4 ≡ short → SomeOrNone (IsRib six body)
-rib_by_length six body true e = inr (rib_long six body (grind (arith, nat_tests)))
-rib_by_length six body false e = rib_by_prefix six body (grind (arith, nat_tests)) (prefix_at six (drop 4 body)) refl
+rib_by_length : (paths six : Bool) (body : List ℕ) (short : Bool) → nat_lt (length body) 4 ≡ short → SomeOrNone (IsRib paths six body)
+rib_by_length paths six body true e = inr (rib_long paths six body (grind (arith, nat_tests)))
+rib_by_length paths six body false e = rib_by_prefix paths six body (grind (arith, nat_tests)) (prefix_at six (drop 4 body)) refl
 
-rib_decided : (six : Bool) (body : List ℕ) → SomeOrNone (IsRib six body)
-rib_decided six body = rib_by_length six body (nat_lt (length body) 4) refl
+rib_decided : (paths six : Bool) (body : List ℕ) → SomeOrNone (IsRib paths six body)
+rib_decided paths six body = rib_by_length paths six body (nat_lt (length body) 4) refl
 
 -- ---- the entries
 
@@ -95,7 +95,7 @@ within_or_beyond peers entry = by_test (nat_lt entry.index (length peers)) refl
     by_test true e = inl (grind (arith, nat_tests))
     by_test false e = inr (grind (arith, nat_tests))
 
-path_or_none : (wide : Bool) (attributes : List ℕ) (reading : Reading) → IsRead wide Table attributes reading → (path : Option (List Segment)) → reading.path ≡ path
+path_or_none : (wide : Bool) (attributes : List ℕ) (reading : Reading) → IsRead wide Table false attributes reading → (path : Option (List Segment)) → reading.path ≡ path
     → ((trail : Path) × GivesPath wide attributes trail) ⊎ LacksPath wide attributes
 path_or_none wide attributes reading is (Some path) e =
     inl (path_of_items (merged_with path (used_in reading)), (reading, is, ap (option_map (λ (p : List Segment). path_of_items (merged_with p (used_in reading)))) e))
@@ -124,7 +124,7 @@ routes_some peers prefix [] within give = ([], refl)
 routes_some peers prefix (entry ∷ entries) within give =
     let peer = get_some peers entry.index within.0 in
     let others = routes_some peers prefix entries within.1 give.1 in
-    let change = Announce (key_of peer.0 prefix) give.0.0 in
+    let change = Announce (key_of peer.0 (nlri_in prefix entry)) give.0.0 in
     (change ∷ others.0, (change, others.0, refl, record { peer = peer.0; trail = give.0.0; is_peer = peer.1; gives = give.0.1; is_change = refl }, others.1))
 
 entries_by : (peers : List Peer) (prefix : Subnet) (entries : List Entry) → AllByRecursion (IsWithin peers) entries → AllByRecursion EntryReadable entries ⊎ AnyOf EntryUnreadable entries → Says (EntriesSay peers prefix entries)
@@ -137,37 +137,37 @@ entries_by peers prefix entries within (inl read) = with_paths (paths_or_none en
 
 entries_some : (peers : List Peer) (prefix : Subnet) (entries : List Entry) → AllByRecursion (IsWithin peers) entries ⊎ AnyOf (IsBeyond peers) entries → Says (EntriesSay peers prefix entries)
 entries_some peers prefix entries (inr any) = (Err faults.PeerIndex, any)
-entries_some peers prefix entries (inl within) = entries_by peers prefix entries within (all_or_any EntryReadable EntryUnreadable (λ entry. reading_decided true Table entry.attributes) entries)
+entries_some peers prefix entries (inl within) = entries_by peers prefix entries within (all_or_any EntryReadable EntryUnreadable (λ entry. reading_decided true Table false entry.attributes) entries)
 
 -- ---- all layouts
 
-rib_some : (six : Bool) (peers : Option (List Peer)) (body : List ℕ) → SomeOrNone (IsRib six body) → Says (RibSays six peers body)
-rib_some six peers body (inr none) = (Err faults.Body, none)
-rib_some six None body (inl rib) = (Err faults.NoPeerTable, (rib.0, rib.1, refl))
-rib_some six (Some table) body (inl rib) =
+rib_some : (paths six : Bool) (peers : Option (List Peer)) (body : List ℕ) → SomeOrNone (IsRib paths six body) → Says (RibSays paths six peers body)
+rib_some paths six peers body (inr none) = (Err faults.Body, none)
+rib_some paths six None body (inl rib) = (Err faults.NoPeerTable, (rib.0, rib.1, refl))
+rib_some paths six (Some table) body (inl rib) =
     let say = entries_some table rib.0.prefix rib.0.entries (all_or_any (IsWithin table) (IsBeyond table) (within_or_beyond table) rib.0.entries) in
-    (say.0, rib_from six (Some table) body table rib.0 say.0 rib.1 refl say.1)
+    (say.0, rib_from paths six (Some table) body table rib.0 say.0 rib.1 refl say.1)
 
-dump_by : (dumped : Dumped) → SomeOrNone (IsRead false Table dumped.attributes) → Says (DumpSays dumped)
+dump_by : (dumped : Dumped) → SomeOrNone (IsRead false Table false dumped.attributes) → Says (DumpSays dumped)
 dump_by dumped (inr none) = (Err faults.Attributes, none)
 dump_by dumped (inl x) = with_path (path_or_none false dumped.attributes x.0 x.1 x.0.path refl)
   where
     with_path : ((trail : Path) × GivesPath false dumped.attributes trail) ⊎ LacksPath false dumped.attributes → Says (DumpSays dumped)
-    with_path (inl give) = (Ok (bodies.Routes (Announce (key_of dumped.peer dumped.prefix) give.0 ∷ [])), (give.0, give.1, refl))
+    with_path (inl give) = (Ok (bodies.Routes (Announce (key_of dumped.peer (dumped_nlri dumped)) give.0 ∷ [])), (give.0, give.1, refl))
     with_path (inr lacks) = (Err faults.NoPath, lacks)
 
-message_some : (as4 : Bool) (it : Peer × List ℕ) → Says (MessageSays as4 it)
-message_some as4 (peer, message) = let inner = messages.reading_some as4 peer message in (raised inner.0, (inner.0, inner.1, refl))
+message_some : (as4 paths : Bool) (it : Peer × List ℕ) → Says (MessageSays as4 paths it)
+message_some as4 paths (peer, message) = let inner = messages.reading_some as4 paths peer message in (raised inner.0, (inner.0, inner.1, refl))
 
 state_some : (it : Peer × ℕ) → Says (StateSays it)
 state_some (peer, state) = (Ok (bodies.Routes (changes_at peer state)), refl)
 
 layout_some : (layout : Layout) (peers : Option (List Peer)) (body : List ℕ) → Says (LayoutSays layout peers body)
 layout_some layouts.PeerIndex peers body = form_some (IsPeerTable body) TableSays (table_at body) (table_reads body) (λ table. (Ok (bodies.Peers table), refl))
-layout_some (layouts.Rib six) peers body = rib_some six peers body (rib_decided six body)
-layout_some (layouts.Dump six) peers body = form_some (IsTableDump six body) DumpSays (dump_at six body) (dump_reads six body) (λ dumped. dump_by dumped (reading_decided false Table dumped.attributes))
-layout_some (layouts.Message timed as4) peers body =
-    form_some (λ (it : Peer × List ℕ). IsRecordedMessage timed as4 body it.0 it.1) (MessageSays as4) (message_at timed as4 body) (message_reads timed as4 body) (message_some as4)
+layout_some (layouts.Rib six paths) peers body = rib_some paths six peers body (rib_decided paths six body)
+layout_some (layouts.Dump six) peers body = form_some (IsTableDump six body) DumpSays (dump_at six body) (dump_reads six body) (λ dumped. dump_by dumped (reading_decided false Table false dumped.attributes))
+layout_some (layouts.Message timed as4 paths) peers body =
+    form_some (λ (it : Peer × List ℕ). IsRecordedMessage timed as4 body it.0 it.1) (MessageSays as4 paths) (message_at timed as4 body) (message_reads timed as4 body) (message_some as4 paths)
 layout_some (layouts.State timed as4) peers body =
     form_some (λ (it : Peer × ℕ). IsStateChange timed as4 body it.0 it.1) StateSays (state_at timed as4 body) (state_reads timed as4 body) state_some
 layout_some layouts.Other peers body = (Ok bodies.Passed, refl)

@@ -1,5 +1,6 @@
 -- Fields of fixed sizes, of which bodies are made.
-use Rattle.std.specs.Prelude.{◌≡◌, ℕ, Bool, true, false, List, length}
+use Rattle.std.specs.Prelude.{◌≡◌, ℕ, Bool, true, false, List, [], length, Some, None}
+use Rattle.std.specs.declared.option.Option.{Option}
 use Rattle.std.specs.Int.{w16, w32, from_be_bytes}
 use Rattle.path_model.specs.declared.addr.Addr.{Addr}
 use Rattle.bgp_attrs.specs.Prefixes.{addr_of}
@@ -21,6 +22,12 @@ SpellsAsn false bytes asn = SpellsTwo bytes asn
 abbrev pub asn_size : Bool → ℕ
 asn_size true = 4
 asn_size false = 2
+
+-- the bytes spell a path identifier in four bytes; or there are none, and no identifier
+abbrev pub SpellsPath : Bool → List ℕ → Option ℕ → Type 0
+SpellsPath true bytes (Some identifier) = SpellsFour bytes identifier
+SpellsPath true bytes None = ⊥
+SpellsPath false bytes path = (bytes ≡ []) × (path ≡ None)
 
 -- how many bytes an address of IPv6, or of IPv4, has
 abbrev pub addr_size : Bool → ℕ

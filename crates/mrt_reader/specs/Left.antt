@@ -6,16 +6,17 @@ use Rattle.mrt_reader.specs.declared.entries.RibEntry.{RibEntry}
 use Rattle.mrt_reader.specs.declared.parts.DumpParts.{DumpParts}
 use Rattle.mrt_reader.specs.declared.parts.RibParts.{RibParts}
 use Rattle.mrt_reader.specs.Dumps.{Dumped}
-use Rattle.mrt_reader.specs.Ribs.{Entry, Rib, entry_at}
+use Rattle.mrt_reader.specs.Readers.{entry_at}
+use Rattle.mrt_reader.specs.Ribs.{Entry, Rib}
 
 abbrev pub entry_of : RibEntry → Entry
-entry_of entry = record { index = entry.index; attributes = entry.attributes.now }
+entry_of entry = record { index = entry.index; path = entry.path; attributes = entry.attributes.now }
 
 abbrev pub entries_left : Entries → List Entry
-entries_left entries = unwrap_or (items_of entry_at entries.rest.now) []
+entries_left entries = unwrap_or (items_of (entry_at entries.paths) entries.rest.now) []
 
 abbrev pub rib_of : RibParts → Rib
 rib_of parts = record { prefix = parts.prefix; entries = entries_left parts.entries }
 
 abbrev pub dumped_of : DumpParts → Dumped
-dumped_of parts = record { prefix = parts.key.prefix; peer = parts.key.peer; attributes = parts.attributes.now }
+dumped_of parts = record { prefix = parts.prefix; peer = parts.peer; attributes = parts.attributes.now }

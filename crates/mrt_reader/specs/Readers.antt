@@ -1,6 +1,6 @@
--- Fields, peer tables, TABLE_DUMP records, messages and state changes, read from the left: each reader gives the value and the bytes behind
--- it, or None where it is cut. Only private contracts cite it; `FieldLemmas`, `TableLemmas`, `DumpLemmas` and `SessionLemmas` say that each
--- reads exactly what `Fields`, `Peers`, `Dumps` and `Sessions` say.
+-- Fields, peer tables, entries of RIB records, TABLE_DUMP records, messages and state changes, read from the left: each reader gives the
+-- value and the bytes behind it, or None where it is cut. Only private contracts cite it; `FieldLemmas`, `TableLemmas`, `EntryLemmas`,
+-- `DumpLemmas` and `SessionLemmas` say that each reads exactly what `Fields`, `Peers`, `Ribs`, `Dumps` and `Sessions` say.
 use Rattle.std.specs.Prelude.{ℕ, ◌==◌, nat_lt, Bool, true, false, if◌then◌else◌, List, [], ◌∷◌, length, take, drop, Some, None, option_and_then}
 use Rattle.std.specs.declared.option.Option.{Option}
 use Rattle.std.specs.Int.{w16, w32, from_be_bytes}
@@ -13,6 +13,7 @@ use Rattle.bgp_attrs.specs.Prefixes.{addr_of}
 use Rattle.mrt_reader.specs.Dumps.{Dumped}
 use Rattle.mrt_reader.specs.Fields.{addr_size}
 use Rattle.mrt_reader.specs.Peers.{is_six, is_wide}
+use Rattle.mrt_reader.specs.Ribs.{Entry}
 
 -- one field, and then the next
 infixl 10 ◌>>=◌
@@ -46,6 +47,13 @@ four_at [] = None
 abbrev pub asn_at : Bool → List ℕ → Option (ℕ × List ℕ)
 asn_at true bytes = four_at bytes
 asn_at false bytes = two_at bytes
+
+-- a path identifier, where there is to be one
+abbrev pub path_at : Bool → List ℕ → Option (Option ℕ × List ℕ)
+path_at false bytes = Some (None, bytes)
+path_at true bytes = do
+  identifier ← four_at bytes
+  Some (Some identifier.0, identifier.1)
 
 -- an address
 unfoldable pub addr_at : Bool → List ℕ → Option (Addr × List ℕ)
@@ -86,6 +94,17 @@ table_at body = do
   part ← counted_part body
   peers ← items_of peer_at part.1
   counted part.0 peers
+
+-- ---- entries of RIB records
+
+-- index, time, path identifier, the attributes behind their length
+unfoldable pub entry_at : Bool → List ℕ → Option (Entry × List ℕ)
+entry_at paths bytes = do
+  index ← two_at bytes
+  time ← cut 4 index.1
+  path ← path_at paths time.1
+  block ← block_at path.1
+  Some (record { index = index.0; path = path.0; attributes = block.0 }, block.1)
 
 -- ---- TABLE_DUMP records
 

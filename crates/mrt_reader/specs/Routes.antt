@@ -4,13 +4,14 @@ use Rattle.std.specs.declared.result.Result.{Result}
 use Rattle.std.specs.List.{AllByRecursion}
 use Rattle.path_model.specs.declared.change.Change.{Change}
 use Rattle.path_model.specs.declared.change.Change.TheVariants.{Announce}
+use Rattle.path_model.specs.declared.nlri.Nlri.{Nlri}
 use Rattle.path_model.specs.declared.peer.Peer.{Peer}
+use Rattle.path_model.specs.Key.{key_of}
 use Rattle.path_model.specs.Prefix.{Subnet}
 use Rattle.path_model.specs.Trail.{Path}
 use Rattle.bgp_attrs.specs.declared.form.Form.TheVariants.{Table}
 use Rattle.bgp_attrs.specs.Merging.{trail_in}
 use Rattle.bgp_attrs.specs.Reading.{Reading, IsRead, IsUnreadable}
-use Rattle.path_model.specs.Batches.{key_of}
 use Rattle.mrt_reader.specs.declared.body.Body.{Body}
 use Rattle.mrt_reader.specs.declared.body.Body.TheVariants as bodies
 use Rattle.mrt_reader.specs.declared.fault.BodyFault.{BodyFault}
@@ -25,15 +26,15 @@ AnyOf P (x ∷ xs) = P x ⊎ AnyOf P xs
 
 -- the attributes have a reading
 abbrev pub IsReadable : Bool → List ℕ → Type 0
-IsReadable wide attributes = (reading : Reading) × IsRead wide Table attributes reading
+IsReadable wide attributes = (reading : Reading) × IsRead wide Table false attributes reading
 
 -- they have one, without AS_PATH
 abbrev pub LacksPath : Bool → List ℕ → Type 0
-LacksPath wide attributes = (reading : Reading) × IsRead wide Table attributes reading × (reading.path ≡ None)
+LacksPath wide attributes = (reading : Reading) × IsRead wide Table false attributes reading × (reading.path ≡ None)
 
 -- they give this path
 abbrev pub GivesPath : Bool → List ℕ → Path → Type 0
-GivesPath wide attributes trail = (reading : Reading) × IsRead wide Table attributes reading × (trail_in reading ≡ Some trail)
+GivesPath wide attributes trail = (reading : Reading) × IsRead wide Table false attributes reading × (trail_in reading ≡ Some trail)
 
 -- ---- the entries of a RIB record, by the peer table before it
 
@@ -50,18 +51,22 @@ abbrev pub EntryReadable : Entry → Type 0
 EntryReadable entry = IsReadable true entry.attributes
 
 abbrev pub EntryUnreadable : Entry → Type 0
-EntryUnreadable entry = IsUnreadable true Table entry.attributes
+EntryUnreadable entry = IsUnreadable true Table false entry.attributes
 
 abbrev pub EntryLacksPath : Entry → Type 0
 EntryLacksPath entry = LacksPath true entry.attributes
 
--- the entry's peer announces the prefix with the entry's path
+-- the prefix with the entry's path identifier, if it has one
+abbrev pub nlri_in : Subnet → Entry → Nlri
+nlri_in prefix entry = record { prefix = prefix; path = entry.path }
+
+-- the entry's peer announces the prefix, under the entry's path identifier, with the entry's path
 pub record IsRoute (peers : List Peer) (prefix : Subnet) (entry : Entry) (change : Change) : Type 0 where
   pub peer : Peer
   pub trail : Path
   pub is_peer : slice_get peers entry.index ≡ Some peer
   pub gives : GivesPath true entry.attributes trail
-  pub is_change : change ≡ Announce (key_of peer prefix) trail
+  pub is_change : change ≡ Announce (key_of peer (nlri_in prefix entry)) trail
 
 -- one announcement for each entry, in order
 abbrev pub AreRoutes : List Peer → Subnet → List Entry → List Change → Type 0
@@ -84,15 +89,19 @@ EntriesSay peers prefix entries (Err faults.NoMemory) = ⊥
 
 -- ---- the route of a TABLE_DUMP record, with ASes of two bytes
 
+-- its prefix, with no path identifier
+abbrev pub dumped_nlri : Dumped → Nlri
+dumped_nlri dumped = record { prefix = dumped.prefix; path = None }
+
 -- What it says: its announcement; or its attributes have no reading; or they have one without a path.
 abbrev pub DumpSays : Dumped → Result Body BodyFault → Type 0
-DumpSays dumped (Ok (bodies.Routes changes)) = (trail : Path) × GivesPath false dumped.attributes trail × (changes ≡ Announce (key_of dumped.peer dumped.prefix) trail ∷ [])
+DumpSays dumped (Ok (bodies.Routes changes)) = (trail : Path) × GivesPath false dumped.attributes trail × (changes ≡ Announce (key_of dumped.peer (dumped_nlri dumped)) trail ∷ [])
 DumpSays dumped (Ok (bodies.Peers table)) = ⊥
 DumpSays dumped (Ok bodies.Passed) = ⊥
 DumpSays dumped (Err faults.Body) = ⊥
 DumpSays dumped (Err faults.NoPeerTable) = ⊥
 DumpSays dumped (Err faults.PeerIndex) = ⊥
 DumpSays dumped (Err faults.Message) = ⊥
-DumpSays dumped (Err faults.Attributes) = IsUnreadable false Table dumped.attributes
+DumpSays dumped (Err faults.Attributes) = IsUnreadable false Table false dumped.attributes
 DumpSays dumped (Err faults.NoPath) = LacksPath false dumped.attributes
 DumpSays dumped (Err faults.NoMemory) = ⊥

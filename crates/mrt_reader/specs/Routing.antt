@@ -19,7 +19,7 @@ use Rattle.mrt_reader.specs.Routes.{AnyOf, LacksPath, GivesPath, EntryReadable, 
 abbrev pub IsPut : Bool → Key → List ℕ → List Change → List Change → Result Bool BodyFault → Type 0
 IsPut wide key attributes old new (Ok true) = (trail : Path) × GivesPath wide attributes trail × (new ≡ old ++ Announce key trail ∷ [])
 IsPut wide key attributes old new (Ok false) = LacksPath wide attributes × (new ≡ old)
-IsPut wide key attributes old new (Err faults.Attributes) = IsUnreadable wide Table attributes
+IsPut wide key attributes old new (Err faults.Attributes) = IsUnreadable wide Table false attributes
 IsPut wide key attributes old new (Err faults.NoMemory) = Unit {0}
 IsPut wide key attributes old new (Err faults.NoPath) = ⊥
 IsPut wide key attributes old new (Err faults.Message) = ⊥

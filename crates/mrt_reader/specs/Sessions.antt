@@ -1,4 +1,5 @@
--- The bodies of recorded messages and state changes (RFC 6396, section 4.4; extended timestamps: section 3).
+-- The bodies of recorded messages and state changes (RFC 6396, section 4.4; extended timestamps: section 3; messages whose prefixes have
+-- path identifiers: RFC 8050, section 3).
 use Rattle.std.specs.Prelude.{◌≡◌, ℕ, Bool, true, false, List, ◌++◌, length}
 use Rattle.path_model.specs.declared.peer.Peer.{Peer}
 use Rattle.mrt_reader.specs.Fields.{SpellsTwo, SpellsAsn, asn_size, SpellsAddr, addr_size}

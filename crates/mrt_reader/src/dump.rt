@@ -36,7 +36,8 @@ fn dump_parts(body: &[u8], six: bool) -> Option<DumpParts<'_>>
     let prefix = Prefix::new(addr, len)?;
     let (peer, attributes) = take_route(rest, six)?;
     Some(DumpParts {
-        key: Key { peer, prefix },
+        peer,
+        prefix,
         attributes,
     })
 }
@@ -65,12 +66,17 @@ fn last_block(bytes: &[u8]) -> Option<&[u8]>
     Some(block)
 }
 
-// The route of the parts.
+// The route of the parts: its peer announces one path for the prefix, with no identifier.
 fn route_of(alloc: Global, parts: DumpParts<'_>) -> Result<Body, BodyFault>
     ensures { OrNoMemory (DumpSays (dumped_of parts.entry)) result }
 {
     let mut changes = Changes::new(alloc);
-    match put_route(alloc, &mut changes, parts.key, parts.attributes, false) {
+    let key = Key {
+        peer: parts.peer,
+        prefix: parts.prefix,
+        path: None,
+    };
+    match put_route(alloc, &mut changes, key, parts.attributes, false) {
         Ok(true) => Ok(Body::Routes(changes)),
         Ok(false) => Err(BodyFault::NoPath),
         Err(fault) => Err(fault),

@@ -1,14 +1,15 @@
 //! The entries of a RIB record.
 ghost use Rattle.std.specs.Prelude.{◌≡◌, is_some, true};
 ghost use Rattle.bgp_attrs.specs.Joined.{items_of};
-ghost use Rattle.mrt_reader.specs.Ribs.{entry_at};
+ghost use Rattle.mrt_reader.specs.Readers.{entry_at};
 
 use crate::splitting::take_entry;
 
-/// An entry: a peer's place in the peer table, and the attributes of its route.
+/// An entry: a peer's place in the peer table, and the path identifier, if there is one, and the attributes of its route.
 #[derive(Clone, Copy, Debug)]
 pub(crate) struct RibEntry<'a> {
     pub(crate) index: u16,
+    pub(crate) path: Option<u32>,
     pub(crate) attributes: &'a [u8],
 }
 
@@ -17,7 +18,9 @@ pub(crate) struct RibEntry<'a> {
 pub(crate) struct Entries<'a> {
     // entries, and nothing else
     pub(crate) rest: &'a [u8],
-    ghost whole: { is_some (items_of entry_at rest.now) ≡ true },
+    // whether each has a path identifier
+    pub(crate) paths: bool,
+    ghost whole: { is_some (items_of (entry_at paths) rest.now) ≡ true },
 }
 
 impl<'a> Iterator for Entries<'a> {
@@ -31,7 +34,7 @@ impl<'a> Iterator for Entries<'a> {
     ghost remaining = { item_count entries_left };
 
     fn next(&mut self) -> Option<RibEntry<'a>> {
-        let (entry, rest) = take_entry(self.rest)?;
+        let (entry, rest) = take_entry(self.rest, self.paths)?;
         self.rest = rest;
         Some(entry)
     }

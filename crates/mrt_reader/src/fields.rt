@@ -2,7 +2,7 @@
 ghost use Rattle.std.specs.Prelude.{◌≡◌, option_map, length};
 ghost use Rattle.bgp_attrs.specs.Prefixes.{addr_of};
 ghost use Rattle.mrt_reader.specs.Fields.{addr_size};
-ghost use Rattle.mrt_reader.specs.Readers.{cut, byte_at, two_at, four_at, asn_at, addr_at};
+ghost use Rattle.mrt_reader.specs.Readers.{cut, byte_at, two_at, four_at, asn_at, path_at, addr_at};
 
 use path_model::Addr;
 
@@ -57,6 +57,18 @@ pub(crate) fn take_asn(bytes: &[u8], wide: bool) -> Option<(u32, &[u8])>
     } else {
         let (asn, rest) = take_two(bytes)?;
         Some((u32::from(asn), rest))
+    }
+}
+
+// A path identifier, where there is to be one.
+pub(crate) fn take_path(bytes: &[u8], paths: bool) -> Option<(Option<u32>, &[u8])>
+    ensures { option_map (λ x. (x.0, x.1.now)) result ≡ path_at paths bytes.now }
+{
+    if paths {
+        let (path, rest) = take_four(bytes)?;
+        Some((Some(path), rest))
+    } else {
+        Some((None, bytes))
     }
 }
 

@@ -2,17 +2,17 @@
 ghost use Rattle.std.specs.Prelude.{◌≡◌};
 ghost use Rattle.mrt_reader.specs.Layouts as words;
 
-/// Which layout a body has. Path identifiers (RFC 8050, section 4) would be a further field of RIB records and messages.
+/// Which layout a body has. `paths` says that its entries, or the prefixes of its message, have path identifiers (RFC 8050).
 #[derive(Clone, Copy, Debug)]
 pub(crate) enum Layout {
     /// A peer table.
     PeerIndex,
     /// The routes to a prefix of IPv6, or else of IPv4.
-    Rib { six: bool },
-    /// One route, likewise.
+    Rib { six: bool, paths: bool },
+    /// One route to a prefix of IPv6, or else of IPv4.
     Dump { six: bool },
     /// A BGP message: with microseconds, with ASes of four bytes.
-    Message { timed: bool, as4: bool },
+    Message { timed: bool, as4: bool, paths: bool },
     /// A state change, likewise.
     State { timed: bool, as4: bool },
     /// Passed over unread.
@@ -49,8 +49,22 @@ fn table_layout(subkind: u16) -> Layout
 {
     match subkind {
         1 => Layout::PeerIndex,
-        2 => Layout::Rib { six: false },
-        4 => Layout::Rib { six: true },
+        2 => Layout::Rib {
+            six: false,
+            paths: false,
+        },
+        4 => Layout::Rib {
+            six: true,
+            paths: false,
+        },
+        8 => Layout::Rib {
+            six: false,
+            paths: true,
+        },
+        10 => Layout::Rib {
+            six: true,
+            paths: true,
+        },
         _ => Layout::Other,
     }
 }
@@ -61,9 +75,27 @@ fn session_layout(timed: bool, subkind: u16) -> Layout
 {
     match subkind {
         0 => Layout::State { timed, as4: false },
-        1 => Layout::Message { timed, as4: false },
-        4 => Layout::Message { timed, as4: true },
+        1 => Layout::Message {
+            timed,
+            as4: false,
+            paths: false,
+        },
+        4 => Layout::Message {
+            timed,
+            as4: true,
+            paths: false,
+        },
         5 => Layout::State { timed, as4: true },
+        8 => Layout::Message {
+            timed,
+            as4: false,
+            paths: true,
+        },
+        9 => Layout::Message {
+            timed,
+            as4: true,
+            paths: true,
+        },
         _ => Layout::Other,
     }
 }

@@ -1,6 +1,6 @@
 //! The parts of table records, as slices of them.
 use crate::entries::Entries;
-use path_model::{Key, Prefix};
+use path_model::{Peer, Prefix};
 
 /// The parts of a RIB record.
 #[derive(Clone, Copy, Debug)]
@@ -12,6 +12,7 @@ pub(crate) struct RibParts<'a> {
 /// The parts of a TABLE_DUMP record.
 #[derive(Clone, Copy, Debug)]
 pub(crate) struct DumpParts<'a> {
-    pub(crate) key: Key,
+    pub(crate) peer: Peer,
+    pub(crate) prefix: Prefix,
     pub(crate) attributes: &'a [u8],
 }

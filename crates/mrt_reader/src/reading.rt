@@ -14,7 +14,8 @@ use crate::session::{read_message, read_state};
 use crate::table::read_table;
 use std::alloc::Global;
 
-/// Reads the body of a record, by the last peer table before it.
+/// Reads the body of a record, by the last peer table before it (RFC 6396, section 4). Of the subtypes with path identifiers (RFC 8050)
+/// the unicast tables and the messages that were received are read; each of their routes has its identifier in its key.
 ///
 /// The refusals are tested over the whole record in this order: 28 Body, 29 NoPeerTable, 30 PeerIndex, 24 Message, 23 Attributes,
 /// 25 NoPath. A refused record changes nothing, so no entry before a malformed one counts.
@@ -27,9 +28,9 @@ pub fn read_body(
 {
     match layout_of(unit.kind, unit.subkind) {
         Layout::PeerIndex => read_table(alloc, unit.body),
-        Layout::Rib { six } => read_rib(alloc, unit.body, six, peers),
+        Layout::Rib { six, paths } => read_rib(alloc, unit.body, six, paths, peers),
         Layout::Dump { six } => read_dump(alloc, unit.body, six),
-        Layout::Message { timed, as4 } => read_message(alloc, unit.body, timed, as4),
+        Layout::Message { timed, as4, paths } => read_message(alloc, unit.body, timed, as4, paths),
         Layout::State { timed, as4 } => read_state(alloc, unit.body, timed, as4),
         Layout::Other => Ok(Body::Passed),
     }

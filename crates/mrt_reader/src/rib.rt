@@ -14,11 +14,12 @@ pub(crate) fn read_rib(
     alloc: Global,
     body: &[u8],
     six: bool,
+    paths: bool,
     peers: Option<&PeerTable>,
 ) -> Result<Body, BodyFault>
-    ensures { OrNoMemory (RibSays six (option_copied peers.entry) body.now) result }
+    ensures { OrNoMemory (RibSays paths six (option_copied peers.entry) body.now) result }
 {
-    match rib_parts(body, six) {
+    match rib_parts(body, six, paths) {
         Some(parts) => match peers {
             Some(peers) => routes_of_entries(alloc, peers, &parts.prefix, parts.entries),
             None => Err(BodyFault::NoPeerTable),

@@ -35,6 +35,7 @@ pub(crate) fn routes_of_entries(
                 let key = Key {
                     peer,
                     prefix: *prefix,
+                    path: entry.path,
                 };
                 if !put_route(alloc, &mut changes, key, entry.attributes, true)? {
                     no_path = true;
@@ -63,7 +64,8 @@ fn are_within(peers: &PeerTable, entries: Entries<'_>) -> bool
     true
 }
 
-// Announces the key, if the attributes have a path. `wide` says that their ASes have four bytes.
+// Announces the key, if the attributes have a path. `wide` says that their ASes have four bytes. A table's attributes are read without
+// path identifiers, since the prefixes in them are unread.
 pub(crate) fn put_route(
     alloc: Global,
     changes: &mut Changes,
@@ -73,7 +75,7 @@ pub(crate) fn put_route(
 ) -> Result<bool, BodyFault>
     ensures { IsPut wide key attributes.now changes.old changes.new result }
 {
-    match bgp_attrs::read(attributes, wide, Form::Table) {
+    match bgp_attrs::read(attributes, wide, Form::Table, false) {
         Ok(attrs) => match attrs.trail(alloc)? {
             Some(trail) => {
                 changes.announce(key, trail)?;

@@ -13,25 +13,32 @@ use std::alloc::Global;
 
 const ESTABLISHED: u16 = 6;
 
-// The changes of a recorded message.
+// The changes of a recorded message. `paths` says that its prefixes have path identifiers.
 pub(crate) fn read_message(
     alloc: Global,
     body: &[u8],
     timed: bool,
     as4: bool,
+    paths: bool,
 ) -> Result<Body, BodyFault>
-    ensures { OrNoMemory (ByParts (message_at timed as4 body.now) (MessageSays as4)) result }
+    ensures { OrNoMemory (ByParts (message_at timed as4 body.now) (MessageSays as4 paths)) result }
 {
     match take_message(body, timed, as4) {
-        Some((peer, message)) => changes_of(alloc, message, as4, peer),
+        Some((peer, message)) => changes_of(alloc, message, as4, paths, peer),
         None => Err(BodyFault::Body),
     }
 }
 
-fn changes_of(alloc: Global, message: &[u8], as4: bool, peer: Peer) -> Result<Body, BodyFault>
-    ensures { OrNoMemory (MessageSays as4 (peer, message.now)) result }
+fn changes_of(
+    alloc: Global,
+    message: &[u8],
+    as4: bool,
+    paths: bool,
+    peer: Peer,
+) -> Result<Body, BodyFault>
+    ensures { OrNoMemory (MessageSays as4 paths (peer, message.now)) result }
 {
-    match bgp_update::read(alloc, message, as4, peer) {
+    match bgp_update::read(alloc, message, as4, paths, peer) {
         Ok(changes) => Ok(Body::Routes(changes)),
         Err(UpdateFault::Message) => Err(BodyFault::Message),
         Err(UpdateFault::Attributes) => Err(BodyFault::Attributes),

@@ -10,16 +10,16 @@ use crate::splitting::take_entry;
 use bgp_attrs::take_prefix;
 
 // The parts of a body, where it is in form.
-pub(crate) fn rib_parts(body: &[u8], six: bool) -> Option<RibParts<'_>>
-    ensures some { IfSome result (λ parts. IsRib six body.now (rib_of parts)) }
-    ensures none { IfNone result ((rib : Rib) → IsRib six body.now rib → ⊥) }
+pub(crate) fn rib_parts(body: &[u8], six: bool, paths: bool) -> Option<RibParts<'_>>
+    ensures some { IfSome result (λ parts. IsRib paths six body.now (rib_of parts)) }
+    ensures none { IfNone result ((rib : Rib) → IsRib paths six body.now rib → ⊥) }
 {
     if body.len() < 4 {
         return None;
     }
     let (_, behind) = body.split_at(4);
     match take_prefix(behind, six) {
-        Some(taken) => match counted_entries(taken.1) {
+        Some(taken) => match counted_entries(taken.1, paths) {
             Some(entries) => Some(RibParts {
                 prefix: taken.0,
                 entries,
@@ -31,13 +31,13 @@ pub(crate) fn rib_parts(body: &[u8], six: bool) -> Option<RibParts<'_>>
 }
 
 // The entries behind their count.
-fn counted_entries(bytes: &[u8]) -> Option<Entries<'_>>
-    ensures some { IfSome result (λ found. IsCounted bytes.now (entries_left found)) }
-    ensures none { IfNone result ((list : List Entry) → IsCounted bytes.now list → ⊥) }
+fn counted_entries(bytes: &[u8], paths: bool) -> Option<Entries<'_>>
+    ensures some { IfSome result (λ found. IsCounted paths bytes.now (entries_left found)) }
+    ensures none { IfNone result ((es : List Entry) → IsCounted paths bytes.now es → ⊥) }
 {
     match bytes {
         [high, low, rest @ ..] => {
-            let (found, number) = entries(rest)?;
+            let (found, number) = entries(rest, paths)?;
             if number != usize::from(u16::from_be_bytes([*high, *low])) {
                 return None;
             }
@@ -48,17 +48,17 @@ fn counted_entries(bytes: &[u8]) -> Option<Entries<'_>>
 }
 
 // The entries that the bytes spell, and how many they are.
-fn entries(bytes: &[u8]) -> Option<(Entries<'_>, usize)>
-    ensures some { IfSome result (λ x. IsJoined IsEntry bytes.now (entries_left x.0)) }
+fn entries(bytes: &[u8], paths: bool) -> Option<(Entries<'_>, usize)>
+    ensures some { IfSome result (λ x. IsJoined (IsEntry paths) bytes.now (entries_left x.0)) }
     ensures number { IfSome result (λ x. x.1 ≡ length (entries_left x.0)) }
-    ensures none { IfNone result ((list : List Entry) → IsJoined IsEntry bytes.now list → ⊥) }
+    ensures none { IfNone result ((es : List Entry) → IsJoined (IsEntry paths) bytes.now es → ⊥) }
 {
     let mut rest = bytes;
     let mut number = 0;
     while !rest.is_empty() {
-        let (_, more) = take_entry(rest)?;
+        let (_, more) = take_entry(rest, paths)?;
         rest = more;
         number += 1;
     }
-    Some((Entries { rest: bytes }, number))
+    Some((Entries { rest: bytes, paths }, number))
 }

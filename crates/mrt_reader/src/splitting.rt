@@ -1,22 +1,25 @@
 //! The first entry of a RIB record.
 ghost use Rattle.std.specs.Prelude.{◌≡◌, option_map};
 ghost use Rattle.mrt_reader.specs.Left.{entry_of};
-ghost use Rattle.mrt_reader.specs.Ribs.{entry_at};
+ghost use Rattle.mrt_reader.specs.Readers.{entry_at};
 
 use crate::entries::RibEntry;
+use crate::fields::{take, take_path, take_two};
 use bgp_attrs::take_block;
 
-// The first entry and the bytes behind it. A path identifier would stand behind the time.
-#[tactic(auto, unfolding(crate::specs::Ribs::entry_at))]
-pub(crate) fn take_entry(bytes: &[u8]) -> Option<(RibEntry<'_>, &[u8])>
-    ensures { option_map (λ x. (entry_of x.0, x.1.now)) result ≡ entry_at bytes.now }
+// The first entry, with its path identifier where entries have one, and the bytes behind it.
+#[tactic(auto, unfolding(crate::specs::Readers::entry_at))]
+pub(crate) fn take_entry(bytes: &[u8], paths: bool) -> Option<(RibEntry<'_>, &[u8])>
+    ensures { option_map (λ x. (entry_of x.0, x.1.now)) result ≡ entry_at paths bytes.now }
 {
-    match bytes {
-        [high, low, _, _, _, _, rest @ ..] => {
-            let index = u16::from_be_bytes([*high, *low]);
-            let (attributes, rest) = take_block(rest)?;
-            Some((RibEntry { index, attributes }, rest))
-        }
-        _ => None,
-    }
+    let (index, rest) = take_two(bytes)?;
+    let (_, rest) = take(rest, 4)?;
+    let (path, rest) = take_path(rest, paths)?;
+    let (attributes, rest) = take_block(rest)?;
+    let entry = RibEntry {
+        index,
+        path,
+        attributes,
+    };
+    Some((entry, rest))
 }

@@ -33,9 +33,9 @@ returns-in-Dump c =
 pub returns-in-Message : goal.returns-in-Message
 returns-in-Message c =
     let body = c.args.unit.now.body.now in
-    let is : layout_of c.args.unit.now.kind c.args.unit.now.subkind ≡ Message c.in-Message.timed c.in-Message.as4 = sym c.layout_of.ensures ∙ c.in-Message.is in
+    let is : layout_of c.args.unit.now.kind c.args.unit.now.subkind ≡ Message c.in-Message.timed c.in-Message.as4 c.in-Message.paths = sym c.layout_of.ensures ∙ c.in-Message.is in
     subst (λ (layout : Layout). OrNoMemory (λ r. LayoutSays layout (option_copied c.args.peers) body r) c.read_message.result) (sym is)
-    (or_by_form (λ (it : Peer × List ℕ). IsRecordedMessage c.in-Message.timed c.in-Message.as4 body it.0 it.1) (MessageSays c.in-Message.as4) (message_at c.in-Message.timed c.in-Message.as4 body) c.read_message.result (message_reads c.in-Message.timed c.in-Message.as4 body) c.read_message.ensures)
+    (or_by_form (λ (it : Peer × List ℕ). IsRecordedMessage c.in-Message.timed c.in-Message.as4 body it.0 it.1) (MessageSays c.in-Message.as4 c.in-Message.paths) (message_at c.in-Message.timed c.in-Message.as4 body) c.read_message.result (message_reads c.in-Message.timed c.in-Message.as4 body) c.read_message.ensures)
 
 pub returns-in-State : goal.returns-in-State
 returns-in-State c =
