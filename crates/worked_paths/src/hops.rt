@@ -31,6 +31,15 @@ fn test_hops(rt: &impl Abort, index: &HopIndex, asn: u32, wanted: &[(u32, usize)
     assert!(rt; left.next().is_none());
 }
 
+// Compares the cases of the hop between two ASes.
+fn test_between(rt: &impl Abort, index: &HopIndex, x: u32, y: u32, wanted: &[usize]) {
+    let mut left = wanted.iter();
+    for case in index.between(x, y) {
+        assert!(rt; left.next() == Some(&case));
+    }
+    assert!(rt; left.next().is_none());
+}
+
 #[test]
 fn finds_hops(rt: HostRuntime) -> Result<(), NoMemory> {
     test_hops(&rt, &HopIndex::new(rt.alloc()), 2, &[]);
@@ -38,6 +47,9 @@ fn finds_hops(rt: HostRuntime) -> Result<(), NoMemory> {
     test_hops(&rt, &index, 2, &[(1, 7), (3, 5), (3, 7)]);
     test_hops(&rt, &index, 1, &[(2, 7)]);
     test_hops(&rt, &index, 4, &[]);
+    test_between(&rt, &index, 2, 3, &[5, 7]);
+    test_between(&rt, &index, 3, 2, &[5, 7]);
+    test_between(&rt, &index, 1, 3, &[]);
     Ok(())
 }
 
