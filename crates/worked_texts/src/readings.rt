@@ -25,6 +25,8 @@ enum Reading {
     Sync(&'static str, u32),
     Judge(Role, u32, &'static [u32]),
     Report,
+    // of the peer 192.0.2.1 in AS 64501 and the prefix 198.51.100.0/24, with a path identifier or without
+    Why(Option<u32>),
     Refused(LineFault),
 }
 
@@ -164,6 +166,57 @@ const JUDGEMENTS: [Row; 14] = [
     (b"judge peer 00 1", Reading::Refused(LineFault::Number)),
 ];
 
+const QUESTIONS: [Row; 14] = [
+    (b"why 192.0.2.1 64501 198.51.100.0/24", Reading::Why(None)),
+    (
+        b"why 192.0.2.1 64501 198.51.100.0/24 0",
+        Reading::Why(Some(0)),
+    ),
+    (
+        b"why 192.0.2.1 64501 198.51.100.0/24\t4294967295 ",
+        Reading::Why(Some(4_294_967_295)),
+    ),
+    (b"why 192.0.2.1 64501", Reading::Refused(LineFault::Words)),
+    (b"why 192.0.2.1 x", Reading::Refused(LineFault::Words)),
+    (
+        b"why 192.0.2.1 64501 198.51.100.0/24 1 2",
+        Reading::Refused(LineFault::Words),
+    ),
+    (
+        b"why 192.0.2.1 64501 198.51.100.0/24 path 1",
+        Reading::Refused(LineFault::Words),
+    ),
+    // What is spelled wrong comes before what is no number, wherever it stands.
+    (
+        b"why 192.0.2.1 64501 198.51.100.0/24 x 2",
+        Reading::Refused(LineFault::Words),
+    ),
+    (
+        b"why 192.0.2.1 x 198.51.100.1/24 x",
+        Reading::Refused(LineFault::Words),
+    ),
+    (
+        b"why 192.0.2.1 x 198.51.100.0/24 1",
+        Reading::Refused(LineFault::Number),
+    ),
+    (
+        b"why 192.0.2.1 64501 198.51.100.0/24 x",
+        Reading::Refused(LineFault::Number),
+    ),
+    (
+        b"why 192.0.2.1 64501 198.51.100.0/24 01",
+        Reading::Refused(LineFault::Number),
+    ),
+    (
+        b"why 192.0.2.1 64501 198.51.100.0/24 -1",
+        Reading::Refused(LineFault::Number),
+    ),
+    (
+        b"why 192.0.2.1 64501 198.51.100.0/24 4294967296",
+        Reading::Refused(LineFault::Number),
+    ),
+];
+
 // Whether a line was read so.
 fn is_read_so(read: &Result<Command, LineFault>, reading: Reading) -> bool {
     match (read, reading) {
@@ -202,9 +255,18 @@ fn is_read_so(read: &Result<Command, LineFault>, reading: Reading) -> bool {
         (Ok(Command::Judge(role, neighbour, path)), Reading::Judge(of, wanted, all)) => {
             *role == of && *neighbour == wanted && path.as_slice() == all
         }
+        (Ok(Command::Why(addr, asn, prefix, path)), Reading::Why(wanted)) => {
+            is_asked(*addr, *asn, prefix) && *path == wanted
+        }
         (Err(fault), Reading::Refused(cause)) => *fault == cause,
         _ => false,
     }
+}
+
+// Whether it is the peer and the prefix of the questions.
+fn is_asked(addr: Addr, asn: u32, prefix: &Prefix) -> bool {
+    let is_peer = addr == Addr::V4(0xc000_0201) && asn == 64_501;
+    is_peer && prefix.addr() == Addr::V4(0xc633_6400) && prefix.len() == 24
 }
 
 // Reads each line of a table.
@@ -224,74 +286,7 @@ fn reads_lines(rt: HostRuntime) {
     test_lines(&rt, alloc, &DUMPS);
     test_lines(&rt, alloc, &FEEDS);
     test_lines(&rt, alloc, &JUDGEMENTS);
-}
-
-// A line that asks of the peer 192.0.2.1 in AS 64501 and the prefix 198.51.100.0/24, and with which path identifier, or why it is refused.
-const QUESTIONS: [(&[u8], Result<Option<u32>, LineFault>); 14] = [
-    (b"why 192.0.2.1 64501 198.51.100.0/24", Ok(None)),
-    (b"why 192.0.2.1 64501 198.51.100.0/24 0", Ok(Some(0))),
-    (
-        b"why 192.0.2.1 64501 198.51.100.0/24\t4294967295 ",
-        Ok(Some(4_294_967_295)),
-    ),
-    (b"why 192.0.2.1 64501", Err(LineFault::Words)),
-    (b"why 192.0.2.1 x", Err(LineFault::Words)),
-    (
-        b"why 192.0.2.1 64501 198.51.100.0/24 1 2",
-        Err(LineFault::Words),
-    ),
-    // What is spelled wrong comes before what is no number, wherever it stands.
-    (
-        b"why 192.0.2.1 64501 198.51.100.0/24 x 2",
-        Err(LineFault::Words),
-    ),
-    (b"why 192.0.2.1 x 198.51.100.1/24 x", Err(LineFault::Words)),
-    (b"why 192.0.2.1 x 198.51.100.0/24 1", Err(LineFault::Number)),
-    (
-        b"why 192.0.2.1 64501 198.51.100.0/24 x",
-        Err(LineFault::Number),
-    ),
-    (
-        b"why 192.0.2.1 64501 198.51.100.0/24 01",
-        Err(LineFault::Number),
-    ),
-    (
-        b"why 192.0.2.1 64501 198.51.100.0/24 -1",
-        Err(LineFault::Number),
-    ),
-    (
-        b"why 192.0.2.1 64501 198.51.100.0/24 4294967296",
-        Err(LineFault::Number),
-    ),
-    (
-        b"why 192.0.2.1 64501 198.51.100.0/24 path 1",
-        Err(LineFault::Words),
-    ),
-];
-
-// With which path identifier such a line asks, or why it is refused; nothing where it is another line.
-fn asked(read: Result<Command, LineFault>) -> Option<Result<Option<u32>, LineFault>> {
-    match read {
-        Ok(Command::Why(addr, asn, prefix, path)) => {
-            let is_theirs = addr == Addr::V4(0xc000_0201) && asn == 64_501;
-            let is_wanted = Some(prefix) == Prefix::new(Addr::V4(0xc633_6400), 24);
-            if is_theirs && is_wanted {
-                Some(Ok(path))
-            } else {
-                None
-            }
-        }
-        Ok(_) => None,
-        Err(fault) => Some(Err(fault)),
-    }
-}
-
-#[test]
-fn reads_questions(rt: HostRuntime) {
-    let alloc = rt.alloc();
-    for (i, (line, wanted)) in QUESTIONS.iter().enumerate() {
-        assert!(rt; asked(read(alloc, line)) == Some(*wanted), "row {i}");
-    }
+    test_lines(&rt, alloc, &QUESTIONS);
 }
 
 // Reads a line of one byte so many times.
