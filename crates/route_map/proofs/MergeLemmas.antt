@@ -204,6 +204,10 @@ module _ {V : Type 0} where
           ∙ sym (lookup_removed nlri_total k q (merged es fs) all_sorted))
 
   -- ---- whether there are any
+  pub two_nothing : AreTwo {V = V} [] []
+  unfolding IsStrictlySortedBy
+  two_nothing = record { plain = tt; marked = tt; plain_in_order = tt; marked_in_order = tt }
+
   inserted_some : (k : Nlri) (v : V) (es : List (Nlri × V)) → insert_entry nlri_cmp es k v ≢ []
   inserted_some k v [] e = cc
   inserted_some k v (x ∷ es) e = by_order (nlri_cmp k x.0) e where
