@@ -1,5 +1,6 @@
 -- A pair more or less where prefixes of both families, without path identifiers and with them, are held apart.
-use Rattle.std.proofs.Common.{◌≡◌, ℕ, Bool, true, false, cond, ◌||◌, List, ◌++◌, refl, ap, sym, subst, ◌∙◌, true≢false}
+use Rattle.std.proofs.Common.{◌≡◌, ℕ, Bool, true, false, cond, ◌||◌, List, [], ◌∷◌, ◌++◌, length, arith, refl, ap, sym, subst, ◌∙◌, true≢false}
+use Rattle.std.specs.Prelude.{is_some}
 use Rattle.std.specs.BTreeMap.{is_at}
 use Rattle.std.specs.Cmp.{Equal-is}
 use Rattle.std.specs.Ordering.{nat_cmp}
@@ -7,10 +8,12 @@ use Rattle.std.proofs.lemmas.Bool.{false_from_ne_true}
 use Rattle.std.proofs.lemmas.List.Folds.{list_any-append}
 use Rattle.std.proofs.lemmas.Map.Lookups.{exact_pairs, exact_unsigned}
 use Rattle.path_model.specs.declared.nlri.Nlri.{Nlri}
+use Rattle.path_model.specs.Halves.{is_six}
 use Rattle.path_model.specs.Key.{nlri_cmp}
 use Rattle.path_model.proofs.OrderLemmas.{nlri_exact}
 use Rattle.route_map.specs.Keys.{pair_cmp, has_pair}
 use Rattle.route_map.specs.Numbered.{kind_of, AreApart, AreOfKind, SetsPair}
+use Rattle.sorted_map.proofs.BlockLemmas.{first_is_empty}
 use Rattle.route_map.proofs.NumberedLemmas.{or_none}
 
 same_pair : (a b : ℕ × Nlri) → is_at (pair_cmp a) b ≡ true → b ≡ a
@@ -29,6 +32,9 @@ not_there kind pairs pair of_kind differ = false_from_ne_true (has_pair pairs pa
 
 not_in_either : (first rest : List (ℕ × Nlri)) (pair : ℕ × Nlri) → has_pair first pair ≡ false → has_pair rest pair ≡ false → has_pair (first ++ rest) pair ≡ false
 not_in_either first rest pair one other = list_any-append (is_at (pair_cmp pair)) first rest ∙ ap (λ (t : Bool). t || has_pair rest pair) one ∙ other
+
+pub kind_is : (q : Nlri) (six mark : Bool) → is_six q.prefix.addr ≡ six → is_some q.path ≡ mark → kind_of q ≡ (six, mark)
+kind_is q six mark family marked = λ i. (family i, marked i)
 
 -- ---- one of two lists changes
 module _ (first rest : List (ℕ × Nlri)) (pair : ℕ × Nlri) (held : Bool) where
@@ -107,3 +113,22 @@ module _ (v4 v6 m4 m6 : List (ℕ × Nlri)) (apart : AreApart v4 v6 m4 m6) (n : 
         (no_six true true here (λ e f. true≢false f)))
         (no_four true true here (λ e f. true≢false f)),
   )
+
+-- ---- whether there are any
+no_length : (xs : List (ℕ × Nlri)) → length xs ≡ 0 → xs ≡ []
+no_length [] e = refl
+no_length (x ∷ xs) e = absurd (omega (arith, e))
+
+pub none_of_all : (v4 v6 m4 m6 : List (ℕ × Nlri)) → length v4 ≡ 0 → length v6 ≡ 0 → length m4 ≡ 0 → length m6 ≡ 0 → v4 ++ (v6 ++ (m4 ++ m6)) ≡ []
+none_of_all v4 v6 m4 m6 a b c d = ap (λ (xs : List (ℕ × Nlri)). xs ++ (v6 ++ (m4 ++ m6))) (no_length v4 a) ∙ ap (λ (xs : List (ℕ × Nlri)). xs ++ (m4 ++ m6)) (no_length v6 b)
+    ∙ ap (λ (xs : List (ℕ × Nlri)). xs ++ m6) (no_length m4 c) ∙ no_length m6 d
+
+rest_is_empty : (xs ys : List (ℕ × Nlri)) → xs ++ ys ≡ [] → ys ≡ []
+rest_is_empty [] ys none = none
+rest_is_empty (x ∷ xs) ys none = absurd cc
+
+pub each_is_empty : (v4 v6 m4 m6 : List (ℕ × Nlri)) → v4 ++ (v6 ++ (m4 ++ m6)) ≡ [] → (length v4 ≡ 0) × (length v6 ≡ 0) × (length m4 ≡ 0) × (length m6 ≡ 0)
+each_is_empty v4 v6 m4 m6 none =
+    let behind : v6 ++ (m4 ++ m6) ≡ [] = rest_is_empty v4 (v6 ++ (m4 ++ m6)) none in
+    let marked : m4 ++ m6 ≡ [] = rest_is_empty v6 (m4 ++ m6) behind in
+    (first_is_empty v4 (v6 ++ (m4 ++ m6)) none, first_is_empty v6 (m4 ++ m6) behind, first_is_empty m4 m6 marked, ap length (rest_is_empty m4 m6 marked))

@@ -1,4 +1,4 @@
-use Rattle.std.proofs.Common.{◌||◌, Bool, ap, ◌∙◌}
+use Rattle.std.proofs.Common.{◌||◌, Bool, false, ap, ◌∙◌}
 use Rattle.std.specs.declared.ops.Bound.TheVariants.{Included, Excluded}
 use Rattle.std.specs.BTreeMap.Range.{range_contains}
 use Rattle.std.specs.List.{filter}
