@@ -1,5 +1,5 @@
 -- The next of one peer's routes: of those without a path identifier or of those with one.
-use Rattle.std.proofs.Common.{◌≡◌, ◌<◌, true, List, [], ◌∷◌, length, None, Some, rules, refl, ap, sym, subst, ◌∙◌, true≢false}
+use Rattle.std.proofs.Common.{◌≡◌, List, [], ◌∷◌, length, None, Some, rules, refl, ap, sym, subst, ◌∙◌, true≢false}
 use Rattle.std.specs.Borrow.{Bor}
 use Rattle.std.specs.Prelude.{is_some}
 use Rattle.std.specs.declared.option.Option.{Option}
@@ -100,10 +100,11 @@ module _ {V : Type 0} where
       by_case : (gs : List (Nlri × V)) → AreTwo ((x.0, x.1.now) ∷ es') gs → first_nlri gs ≡ Some mark → AreTwo es' gs × (merged es gs ≡ (x.0, x.1.now) ∷ merged es' gs)
       by_case [] all some = absurd cc
       by_case (g ∷ gs) all some =
-          let same : mark ≡ g.0 = cc in
-          (two_after_plain (x.0, x.1.now) es' (g ∷ gs) all,
-          ap (λ (xs : List (Nlri × V)). merged xs (g ∷ gs)) gives.first
-          ∙ plain_first (x.0, x.1.now) g es' gs all (ap (nlri_cmp x.0) (sym same) ∙ gives.below))
+          let same : mark ≡ g.0 = cc in (
+            two_after_plain (x.0, x.1.now) es' (g ∷ gs) all,
+            ap (λ (xs : List (Nlri × V)). merged xs (g ∷ gs)) gives.first
+                ∙ plain_first (x.0, x.1.now) g es' gs all (ap (nlri_cmp x.0) (sym same) ∙ gives.below),
+          )
 
     -- and where it isn't
     pub behind : (mark : Nlri) → first_nlri fs ≡ Some mark → (es' : List (Nlri × V)) → IsNotBelow es mark es' → (r : Option (Nlri × Bor V)) (fs' : List (Nlri × V)) → Gives fs r fs'
@@ -112,9 +113,10 @@ module _ {V : Type 0} where
     behind mark some es' left (Some x) fs' gives =
         let all : AreTwo es ((x.0, x.1.now) ∷ fs') = subst (AreTwo es) gives two in
         let first : Some x.0 ≡ Some mark = sym (ap (λ (xs : List (Nlri × V)). first_nlri xs) gives) ∙ some in
-        let same : mark ≡ x.0 = cc in
-        (subst (λ (xs : List (Nlri × V)). AreTwo xs fs') (sym left.same) (two_after_mark (x.0, x.1.now) es fs' all),
-        ap (merged es) gives ∙ by_case es all (subst (FirstIsNotBelow es) same left.behind) ∙ ap (λ (xs : List (Nlri × V)). (x.0, x.1.now) ∷ merged xs fs') (sym left.same)) where
+        let same : mark ≡ x.0 = cc in (
+          subst (λ (xs : List (Nlri × V)). AreTwo xs fs') (sym left.same) (two_after_mark (x.0, x.1.now) es fs' all),
+          ap (merged es) gives ∙ by_case es all (subst (FirstIsNotBelow es) same left.behind) ∙ ap (λ (xs : List (Nlri × V)). (x.0, x.1.now) ∷ merged xs fs') (sym left.same),
+        ) where
           by_case : (ds : List (Nlri × V)) → AreTwo ds ((x.0, x.1.now) ∷ fs') → FirstIsNotBelow ds x.0 → merged ds ((x.0, x.1.now) ∷ fs') ≡ (x.0, x.1.now) ∷ merged ds fs'
           by_case [] all none = refl
           by_case (d ∷ ds) all not_below = mark_first d (x.0, x.1.now) ds fs' all not_below
