@@ -208,7 +208,7 @@ module _ (asn next number : ℕ) (is_next : next ≡ asn + 1) where
         → (is_le (ordering_then (ordering_then o (nat_cmp asn h.1)) (addr_cmp (V4 0) h.2)) && not (is_le (ordering_then (ordering_then o (nat_cmp next h.1)) (addr_cmp (V4 0) h.2))))
         ≡ (is_eq o && nat_eq asn h.1)
     by_order Less = refl
-    by_order Equal = in_range addr_cmp (V4 0) addr_least asn next is_next (h.1, h.2)
+    by_order Equal = in_range addr_cmp (V4 0) asn next is_next (h.1, h.2) (addr_least h.2)
     by_order Greater = refl
 
   one_holder : (q : Key) (h : Holder) → ((nat_eq number h.0 && nat_eq asn h.1) && is_at (peer_cmp (record { addr = h.2; asn = asn })) q.peer) ≡ (nat_eq asn q.peer.asn && is_at (holder_cmp (holder_of q.peer number)) h)

@@ -1,5 +1,5 @@
 -- The routes of one peer: those without a path identifier in their places among those with one.
-use Rattle.std.proofs.Common.{◌≡◌, ◌≢◌, ℕ, Bool, true, false, cond, T, ◌&&◌, List, [], ◌∷◌, ◌++◌, None, Some, refl, ap, sym, subst, ◌∙◌, true≢false}
+use Rattle.std.proofs.Common.{◌≡◌, ◌≢◌, ℕ, Bool, true, false, cond, T, ◌&&◌, List, [], ◌∷◌, None, Some, refl, ap, sym, subst, ◌∙◌, true≢false}
 use Rattle.std.specs.Prelude.{is_some}
 use Rattle.std.specs.declared.option.Option.{Option}
 use Rattle.std.specs.declared.cmp.Ordering.{Ordering}
@@ -11,8 +11,8 @@ use Rattle.std.specs.FinMap.Entries.{below_all, is_sorted, same_entries}
 use Rattle.std.specs.List.{AllByRecursion}
 use Rattle.std.specs.List.Sorted.{IsStrictlySortedBy}
 use Rattle.std.specs.Map.{keys_of, lookup, remove_entry}
-use Rattle.std.specs.Ordering.{match_ordering, ordering_reverse, is_eq, is_lt}
-use Rattle.std.proofs.lemmas.Map.{NonePasses, lookup-none}
+use Rattle.std.specs.Ordering.{match_ordering, is_lt}
+use Rattle.std.proofs.lemmas.Map.{lookup-none}
 use Rattle.std.proofs.lemmas.Map.Keys.{sorted_head, sorted_tail}
 use Rattle.path_model.specs.declared.nlri.Nlri.{Nlri}
 use Rattle.path_model.specs.Key.{nlri_cmp}
@@ -20,7 +20,7 @@ use Rattle.path_model.specs.Order.{nlri_total}
 use Rattle.path_model.proofs.MapLemmas.{get_entries}
 use Rattle.path_model.proofs.OrderLemmas.{nlri_exact}
 use Rattle.route_map.specs.Merged.{marked, merged, plain, AreMarked, AreTwo}
-use Rattle.sorted_map.proofs.BlockLemmas.{all_more, all_inserted, all_removed, insert_first, insert_second, lookup_inserted, lookup_removed, of_entries, of_keys, sorted_inserted, sorted_removed}
+use Rattle.sorted_map.proofs.BlockLemmas.{all_more, all_inserted, all_removed, lookup_inserted, lookup_removed, sorted_inserted, sorted_removed}
 
 both_of : (a b : Bool) → T a → T b → T (a && b)
 both_of true b p q = q
@@ -204,6 +204,10 @@ module _ {V : Type 0} where
           ∙ sym (lookup_removed nlri_total k q (merged es fs) all_sorted))
 
   -- ---- whether there are any
+  pub two_nothing : AreTwo {V = V} [] []
+  unfolding IsStrictlySortedBy
+  two_nothing = record { plain = tt; marked = tt; plain_in_order = tt; marked_in_order = tt }
+
   inserted_some : (k : Nlri) (v : V) (es : List (Nlri × V)) → insert_entry nlri_cmp es k v ≢ []
   inserted_some k v [] e = cc
   inserted_some k v (x ∷ es) e = by_order (nlri_cmp k x.0) e where

@@ -30,7 +30,7 @@ impl<'a, V> Model for PlainLeft<'a, V> {
 impl<'a, V> PlainLeft<'a, V> {
     // All these.
     pub(crate) fn of(rest: PlainIter<'a, V>) -> PlainLeft<'a, V>
-        ensures { result ≡ rest }
+        ensures { result ≡ rest.entry }
     {
         PlainLeft { kept: None, rest }
     }

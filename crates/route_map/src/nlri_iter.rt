@@ -32,7 +32,7 @@ impl<'a, V> NlriIter<'a, V> {
     // All these.
     pub(crate) fn of(plain: PlainIter<'a, V>, marked: MarkedIter<'a, V>) -> NlriIter<'a, V>
         requires { AreTwo plain marked }
-        ensures { result ≡ merged plain marked }
+        ensures { result ≡ merged plain.entry marked.entry }
     {
         NlriIter {
             plain: PlainLeft::of(plain),

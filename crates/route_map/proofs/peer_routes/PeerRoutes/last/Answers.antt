@@ -1,4 +1,3 @@
-use Rattle.std.proofs.Common.{◌∙◌}
 use Rattle.route_map.proofs.LastLemmas.{has_plain, has_marked}
 use Rattle.route_map.proofs.MergeLemmas.{both_are_empty}
 use Rattle.route_map.proofs.peer_routes.PeerRoutes.last.Goals as goal
