@@ -16,7 +16,8 @@ use crate::sending::{finish, send_query, spell_query, spell_report};
 use crate::telling::{Telling, cause_of_end};
 use analyser::{Analyser, Event};
 use av_base::{Links, NoMemory, Steps};
-use path_model::{Name, Rows};
+use attestations::Terms;
+use path_model::Name;
 use report_text::FeedEnd;
 use rtr_session::{Act, Delta, Ending, Phase};
 use std::alloc::Global;
@@ -247,7 +248,7 @@ fn change_of(name: &Name, delta: Delta) -> Result<TableChange, NoMemory>
     ensures { IfOk result (λ change. change ≡ change_by name.now delta) }
 {
     match delta {
-        Delta::Whole(rows) => Ok(TableChange::Replace(name.copy()?, rows)),
+        Delta::Whole(rows) => Ok(TableChange::Replace(name.copy()?, Terms::of(rows)?)),
         Delta::Part(patch) => Ok(TableChange::Patch(name.copy()?, patch)),
     }
 }
@@ -259,7 +260,7 @@ fn clearing(alloc: Global, name: &Name, ending: Ending) -> Result<Option<TableCh
     match ending {
         Ending::SessionChanged => {
             let name = name.copy()?;
-            Ok(Some(TableChange::Replace(name, Rows::new(alloc))))
+            Ok(Some(TableChange::Replace(name, Terms::new(alloc))))
         }
         Ending::Unexpected => Ok(None),
         Ending::UnknownWithdrawal => Ok(None),

@@ -1,6 +1,6 @@
 -- The routes with their cases and marks, by a table and roles. Private contracts alone cite it.
 use Rattle.std.specs.Prelude.{ℕ, ⊤}
-use Rattle.path_model.specs.CurrentTable.{Parts}
+use Rattle.attestations.specs.CurrentTable.{Parts}
 use Rattle.path_model.specs.Roles.{Relations}
 use Rattle.path_model.specs.Trail.{Path as AnyPath}
 use Rattle.shared_cases.specs.Cases.{Slots, at, IsStoredAs}

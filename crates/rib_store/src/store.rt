@@ -1,7 +1,7 @@
 //! The store.
 ghost use Rattle.std.specs.Prelude.{◌≡◌, ◌<◌, ◌≤◌, ◌^◌, ◌+◌, ◌-◌, [], length, IfNone, IfSome, IfOk, None};
 ghost use Rattle.std.specs.FinMap as fin;
-ghost use Rattle.path_model.specs.CurrentTable.{Parts};
+ghost use Rattle.attestations.specs.CurrentTable.{Parts};
 ghost use Rattle.path_model.specs.Roles.{set_role};
 ghost use Rattle.path_model.specs.Routes.{performed};
 ghost use Rattle.shared_cases.specs.Cases.{at, IsIndexOf, IsShown as IsCase};

@@ -3,7 +3,7 @@ ghost use Rattle.std.specs.Prelude.{◌≡◌, ◌≤◌, ◌+◌, ◌-◌, ℕ,
 ghost use Rattle.std.specs.List.Sorted.{IsStrictlySortedBy};
 ghost use Rattle.std.specs.Ordering.{nat_cmp};
 ghost use Rattle.path_model.specs.Authority.{Table};
-ghost use Rattle.path_model.specs.ComputedTable.{table_of};
+ghost use Rattle.attestations.specs.ComputedTable.{table_of};
 ghost use Rattle.path_model.specs.Roles.{Relations};
 ghost use Rattle.vap_table.specs.Moves.{AreMoves};
 ghost use Rattle.shared_cases.specs.Cases.{at, AreSameCases};

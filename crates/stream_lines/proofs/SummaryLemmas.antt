@@ -8,12 +8,12 @@ use Rattle.std.proofs.lemmas.List.Kept.{IsStrictlyIncreasing-filter}
 use Rattle.std.proofs.lemmas.Map.Keys.{IsStrictlyIncreasing-from_sorted, sorted_from_strictly_increasing}
 use Rattle.std.proofs.lemmas.Map.Views.{any-filter_same, exact_unsigned_eq}
 use Rattle.path_model.specs.Authority.{Table, has}
-use Rattle.path_model.specs.ComputedTable.{onto, attested, unfiltered, sourced, given, row_made, ascending_of, table_of}
-use Rattle.path_model.specs.CurrentTable.{Parts}
+use Rattle.attestations.specs.ComputedTable.{onto, attested, unfiltered, sourced, given, row_made, ascending_of, table_of}
+use Rattle.attestations.specs.CurrentTable.{Parts}
 use Rattle.path_model.specs.Rows.{RowMap}
 use Rattle.path_model.proofs.AscendingLemmas.{ascending_sorted, has_ascending, same_members}
 use Rattle.path_model.proofs.MemberLemmas.{has-append}
-use Rattle.path_model.proofs.PartsLemmas.{parts_have_one_table, table_is_current}
+use Rattle.attestations.proofs.PartsLemmas.{parts_have_one_table, table_is_current}
 use Rattle.vap_table.specs.Vaps.{IsNumberOfRows}
 use Rattle.vap_table.proofs.MemberLemmas.{has_key}
 use Rattle.report_text.specs.declared.summary.Summary.{Summary}

@@ -1,6 +1,6 @@
 use Rattle.std.proofs.Common.{◌≡◌, ◌-◌, ap, subst, ◌∙◌}
-use Rattle.path_model.specs.ComputedTable.{table_of}
-use Rattle.path_model.specs.CurrentTable.{Parts}
+use Rattle.attestations.specs.ComputedTable.{table_of}
+use Rattle.attestations.specs.CurrentTable.{Parts}
 use Rattle.vap_table.specs.Change.{Alters}
 use Rattle.shared_cases.specs.Grounds.{grounds}
 use Rattle.shared_cases.specs.Touched.{AreWithinTouched}

@@ -1,7 +1,7 @@
 use Rattle.std.proofs.Common.{inr, sym, subst, None, Some, ◌≡◌}
 use Rattle.path_model.specs.declared.role.Role.{Role}
 use Rattle.path_model.specs.Roles.{role_of}
-use Rattle.path_model.specs.ComputedTable.{table_of}
+use Rattle.attestations.specs.ComputedTable.{table_of}
 use Rattle.path_model.specs.PrintedWitness.{IsPrinted}
 use Rattle.shared_cases.specs.declared.case_name.CaseName.{CaseName}
 use Rattle.shared_cases.specs.Cases.{Slots, at, IsAbsent, Rewrites}
