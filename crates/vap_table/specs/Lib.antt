@@ -1,7 +1,9 @@
 pub mod Change
 pub mod Codes
+pub mod Comparing
 pub mod Counting
 pub mod Current
+pub mod Lasts
 pub mod Laws
 pub mod Moves
 pub mod Naming
@@ -9,4 +11,5 @@ pub mod Shown
 pub mod Sources
 pub mod Stepping
 pub mod Tally
+pub mod Turning
 pub mod Vaps

@@ -1,14 +1,16 @@
 //! The current table with its parts.
 ghost use Rattle.std.specs.Prelude.{◌≡◌, IfOk};
 ghost use Rattle.std.specs.Option.{option_copied};
-ghost use Rattle.path_model.specs.CurrentTable.{no_parts, IsCurrentRow};
-ghost use Rattle.path_model.specs.ComputedTable.{table_of};
+ghost use Rattle.attestations.specs.CurrentTable.{no_parts, IsCurrentRow};
+ghost use Rattle.attestations.specs.ComputedTable.{table_of};
 ghost use Rattle.vap_table.specs.Change.{Alters};
 ghost use Rattle.vap_table.specs.Moves.{AreMoves};
 ghost use Rattle.vap_table.specs.Tally.{IsTallyOf};
 ghost use Rattle.vap_table.specs.Vaps.{IsNumberOfRows};
 
 use crate::current::Current;
+use crate::lasts::Lasts;
+use crate::listing::{with, without};
 use crate::parts::HeldParts;
 use crate::refreshing::refreshed;
 use crate::searching::holds;
@@ -27,6 +29,8 @@ pub struct Vaps {
     current: Current,
     // the tally of each customer of which something has a row, made from the parts
     tallies: Tallies,
+    // the last moments of the attestations with an end, with their customers
+    lasts: Lasts,
 }
 
 /// A function of its own, so that what lets a table go needn't say how.
@@ -36,12 +40,13 @@ impl Drop for Vaps {
             parts: _parts,
             current: _current,
             tallies: _tallies,
+            lasts: _lasts,
         } = self;
     }
 }
 
 impl Model for Vaps {
-    ghost use Rattle.path_model.specs.CurrentTable.{Parts};
+    ghost use Rattle.attestations.specs.CurrentTable.{Parts};
     ghost use Rattle.vap_table.specs.Codes.{coded_parts};
     ghost use Rattle.vap_table.specs.Counting.{IsTallied};
 
@@ -51,7 +56,7 @@ impl Model for Vaps {
 
     ghost view = { λ v. v.parts };
 
-    ghost invariant = { λ v. IsTallied v.current v.tallies v.parts };
+    ghost invariant = { λ v. IsTallied v.current v.tallies v.lasts v.parts };
 }
 
 impl Vaps {
@@ -63,11 +68,13 @@ impl Vaps {
             parts: HeldParts::new(alloc),
             current: Current::new(alloc),
             tallies: Tallies::new(alloc),
+            lasts: Lasts::new(alloc),
         }
     }
 
     /// The table after a change, and the customers whose current row moved. It visits only the customers that the change names, and takes for
-    /// each the time of its row and of what the change says of it. A change by hand that changes nothing takes a look-up.
+    /// each the time of its row and of what the change says of it. Another moment names those with an attestation that is alive at one of the two
+    /// moments and not at the other one. A change by hand, or a moment, that changes nothing takes a look-up.
     pub fn change(self, change: TableChange) -> Result<(Vaps, Moves), NoMemory>
         ensures parts { IfOk result (λ r. Alters self change r.0) }
         ensures moves { IfOk result (λ r. AreMoves (table_of self) (table_of r.0) r.1) }
@@ -88,16 +95,20 @@ impl Vaps {
             mut parts,
             current,
             tallies,
+            lasts,
         } = self;
-        let names = parts.named(&change)?;
-        let before = current.rows_of(parts.alloc, &parts, &names)?;
-        let tallies = tallies.follow(&parts, &change, &names)?;
+        let names = parts.named(&lasts, &change)?;
+        let before = current.rows_of(parts.alloc, &parts, &names.all)?;
+        let tallies = tallies.follow(&parts, &change, &names.all)?;
+        let lasts = without(lasts, &parts.sources, &names.ended);
         parts.change(change)?;
-        let (current, moves) = refreshed(&parts, current, &tallies, before, &names)?;
+        let lasts = with(lasts, &parts.sources, &names.ended)?;
+        let (current, moves) = refreshed(&parts, current, &tallies, before, &names.all)?;
         let vaps = Vaps {
             parts,
             current,
             tallies,
+            lasts,
         };
         Ok((vaps, moves))
     }
@@ -116,8 +127,9 @@ impl Vaps {
         self.current.customers.len() as u64
     }
 
-    /// How many named sources and how many assertions have a row of a customer, and how many of them hold each number; `None` exactly where
-    /// there is no such row. Filters are no matter. It costs one ordered look-up, and takes no memory.
+    /// How many alive attestations the named sources have of a customer, each counted once in each of them, how many assertions have a row of it,
+    /// and how many of them hold each number; `None` exactly where there is no such attestation or row. Filters are no matter. It costs one
+    /// ordered look-up, and takes no memory.
     pub fn tally(&self, customer: u32) -> Option<&Tally>
         ensures { IsTallyOf self.now customer (option_copied result) }
     {
