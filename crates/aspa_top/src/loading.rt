@@ -129,18 +129,22 @@ fn understand(alloc: Global, kind: &FileKind, bytes: &[u8]) -> Result<Outcome, N
     ensures comes { IfOk result (Understands kind.now bytes.now) }
 {
     match kind {
-        FileKind::Payloads(name) => rows_outcome(name, read_many(alloc, bytes)),
+        FileKind::Payloads(name) => rows_outcome(alloc, name, read_many(alloc, bytes)),
         FileKind::PayloadLines(name) => terms_outcome(name, read_lines(alloc, bytes)),
         FileKind::Slurm => slurm_outcome(alloc, bytes),
     }
 }
 
 // What comes of a payload file that was read so; its rows never end.
-fn rows_outcome(name: &Name, reading: Result<Rows, FileFault>) -> Result<Outcome, NoMemory>
+fn rows_outcome(
+    alloc: Global,
+    name: &Name,
+    reading: Result<Rows, FileFault>,
+) -> Result<Outcome, NoMemory>
     ensures comes { IfOk result (IsRowsOutcome name.now reading) }
 {
     match reading {
-        Ok(rows) => terms_outcome(name, Ok(Terms::of(rows)?)),
+        Ok(rows) => terms_outcome(name, Ok(Terms::of(alloc, rows)?)),
         Err(fault) => refused_for(fault),
     }
 }

@@ -220,7 +220,7 @@ fn perform<K: Links>(
     match act {
         Act::Nothing => Ok((Outcome::Open(feed), None)),
         Act::Apply(delta) => {
-            let change = change_of(name, delta)?;
+            let change = change_of(alloc, name, delta)?;
             Ok((Outcome::Open(feed), Some(change)))
         }
         Act::Send(query) => {
@@ -244,11 +244,11 @@ fn perform<K: Links>(
 }
 
 // An End of Data replaces or patches the source of the feed's name.
-fn change_of(name: &Name, delta: Delta) -> Result<TableChange, NoMemory>
+fn change_of(alloc: Global, name: &Name, delta: Delta) -> Result<TableChange, NoMemory>
     ensures { IfOk result (λ change. change ≡ change_by name.now delta) }
 {
     match delta {
-        Delta::Whole(rows) => Ok(TableChange::Replace(name.copy()?, Terms::of(rows)?)),
+        Delta::Whole(rows) => Ok(TableChange::Replace(name.copy()?, Terms::of(alloc, rows)?)),
         Delta::Part(patch) => Ok(TableChange::Patch(name.copy()?, patch)),
     }
 }

@@ -40,7 +40,7 @@ pub fn workload_of(alloc: Global, seed: u64) -> Result<Workload, NoMemory>
 fn draw_loading(alloc: Global, rng: &mut Lcg64Xsh32) -> Result<Vec<Event>, NoMemory>
     ensures { IfOk result (λ events. DrawsLoading rng.old events.items rng.new) }
 {
-    let terms = Terms::of(draw_rows(alloc, rng)?)?;
+    let terms = Terms::of(alloc, draw_rows(alloc, rng)?)?;
     let mut events = Vec::new(alloc);
     events.push(Event::Table(TableChange::Replace(name_of_source(alloc)?, terms)))?;
     add_roles(&mut events)?;

@@ -30,7 +30,7 @@ fn source(alloc: Global) -> Result<Event, NoMemory> {
     let Some(name) = Name::new(alloc, b"s")? else {
         return Err(NoMemory);
     };
-    Ok(Event::Table(TableChange::Replace(name, Terms::of(rows)?)))
+    Ok(Event::Table(TableChange::Replace(name, Terms::of(alloc, rows)?)))
 }
 
 // Routes to as many networks of 24 bits from 11.0.0.0 on, each from an origin of its own.
