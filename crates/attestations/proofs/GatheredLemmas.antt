@@ -1,5 +1,5 @@
 -- What is gathered: the first attestation of each customer is held apart from the others.
-use Rattle.std.proofs.Common.{◌≡◌, ℕ, Bool, true, false, cond, List, [], ◌∷◌, ◌++◌, refl, ap, sym, ◌∙◌, subst}
+use Rattle.std.proofs.Common.{◌≡◌, ℕ, Bool, true, false, cond, List, [], ◌∷◌, ◌++◌, refl, ap, sym, ◌∙◌}
 use Rattle.std.specs.declared.option.Option.{Option}
 use Rattle.std.specs.declared.option.Option.TheVariants.{Some, None}
 use Rattle.std.specs.Option.{option_map}
@@ -54,14 +54,14 @@ pub more_gathered : (firsts : TermMap) (others new : List (ℕ × List Term)) (k
 more_gathered firsts others new k t moves = map.same_map nat_cmp_total map.nat_cmp-IsAntisymmetric _ _ (λ q.
     get-gathered firsts new q ∙ ap (joined (map.get firsts q)) (moves q) ∙ by_case q (eq_by_cmp nat_cmp q k) refl
     ∙ sym (map.get-insert nat_cmp_total (gathered firsts others) k (list_or_none (map.get (gathered firsts others) k) ++ t ∷ []) q)) where
-  list : List Term
-  list = list_or_none (map.find nat_cmp k others) ++ t ∷ []
+      list : List Term
+      list = list_or_none (map.find nat_cmp k others) ++ t ∷ []
 
-  by_case : (q : ℕ) (b : Bool) → eq_by_cmp nat_cmp q k ≡ b → joined (map.get firsts q) (cond b (Some list) (map.find nat_cmp q others))
-      ≡ cond b (Some (list_or_none (map.get (gathered firsts others) k) ++ t ∷ [])) (map.get (gathered firsts others) q)
-  by_case q true is = ap (λ (x : ℕ). joined (map.get firsts x) (Some list)) (same_key q k is) ∙ grown (map.get firsts k) (map.find nat_cmp k others) t
-      ∙ ap (λ (o : Option (List Term)). Some (list_or_none o ++ t ∷ [])) (sym (get-gathered firsts others k))
-  by_case q false is = sym (get-gathered firsts others q)
+      by_case : (q : ℕ) (b : Bool) → eq_by_cmp nat_cmp q k ≡ b → joined (map.get firsts q) (cond b (Some list) (map.find nat_cmp q others))
+          ≡ cond b (Some (list_or_none (map.get (gathered firsts others) k) ++ t ∷ [])) (map.get (gathered firsts others) q)
+      by_case q true is = ap (λ (x : ℕ). joined (map.get firsts x) (Some list)) (same_key q k is) ∙ grown (map.get firsts k) (map.find nat_cmp k others) t
+          ∙ ap (λ (o : Option (List Term)). Some (list_or_none o ++ t ∷ [])) (sym (get-gathered firsts others k))
+      by_case q false is = sym (get-gathered firsts others q)
 
 -- the first of a customer of which there are no others
 pub first_gathered : (firsts new : TermMap) (others : List (ℕ × List Term)) (k : ℕ) (t : Term) → map.get firsts k ≡ None → map.find nat_cmp k others ≡ None → new ≡ map.insert firsts k (only t)
@@ -71,14 +71,14 @@ first_gathered firsts new others k t no_first no_others is = map.same_map nat_cm
     ∙ ap (λ (o : Option SetOfTerms). joined o (map.find nat_cmp q others)) (ap (λ (m : TermMap). map.get m q) is ∙ map.get-insert nat_cmp_total firsts k (only t) q)
     ∙ by_case q (eq_by_cmp nat_cmp q k) refl
     ∙ sym (map.get-insert nat_cmp_total (gathered firsts others) k (list_or_none (map.get (gathered firsts others) k) ++ t ∷ []) q)) where
-  none : map.get (gathered firsts others) k ≡ None
-  none = get-gathered firsts others k ∙ (λ i. joined (no_first i) (no_others i))
+      none : map.get (gathered firsts others) k ≡ None
+      none = get-gathered firsts others k ∙ (λ i. joined (no_first i) (no_others i))
 
-  by_case : (q : ℕ) (b : Bool) → eq_by_cmp nat_cmp q k ≡ b → joined (cond b (Some (only t)) (map.get firsts q)) (map.find nat_cmp q others)
-      ≡ cond b (Some (list_or_none (map.get (gathered firsts others) k) ++ t ∷ [])) (map.get (gathered firsts others) q)
-  by_case q true is = (λ i. Some (members_only t i ++ list_or_none ((ap (λ (x : ℕ). map.find nat_cmp x others) (same_key q k is) ∙ no_others) i)))
-      ∙ ap (λ (o : Option (List Term)). Some (list_or_none o ++ t ∷ [])) (sym none)
-  by_case q false is = sym (get-gathered firsts others q)
+      by_case : (q : ℕ) (b : Bool) → eq_by_cmp nat_cmp q k ≡ b → joined (cond b (Some (only t)) (map.get firsts q)) (map.find nat_cmp q others)
+          ≡ cond b (Some (list_or_none (map.get (gathered firsts others) k) ++ t ∷ [])) (map.get (gathered firsts others) q)
+      by_case q true is = (λ i. Some (members_only t i ++ list_or_none ((ap (λ (x : ℕ). map.find nat_cmp x others) (same_key q k is) ∙ no_others) i)))
+          ∙ ap (λ (o : Option (List Term)). Some (list_or_none o ++ t ∷ [])) (sym none)
+      by_case q false is = sym (get-gathered firsts others q)
 
 -- what std says of a list that grew, or of one that was begun
 pub appended : (firsts : TermMap) (others new : List (ℕ × List Term)) (k : ℕ) (t : Term) (list now : List Term) (whole : TermLists)

@@ -108,6 +108,7 @@ pub row_alone : (terms : List Term) (t : Term) (row : List ℕ) (none same : Boo
 row_alone terms t row none same is some one until_is is_none compared =
     let rows = slice_eq-Decides Decides-eqb t.providers row same compared in
     let alone = one_item terms t is some one in
-    let ends : t.until ≡ None = never_until t.until none until_is is_none in
-    (λ e. alone ∙ (λ i. (record { providers = rows.0 e i; until = ends i }) ∷ []),
-    λ e. rows.1 (ap (λ (ts : List Term). (slice_index_or ts 0 t).providers) (sym alone ∙ e)))
+    let ends : t.until ≡ None = never_until t.until none until_is is_none in (
+      λ e. alone ∙ (λ i. (record { providers = rows.0 e i; until = ends i }) ∷ []),
+      λ e. rows.1 (ap (λ (ts : List Term). (slice_index_or ts 0 t).providers) (sym alone ∙ e)),
+    )

@@ -5,7 +5,6 @@ use Rattle.std.specs.declared.result.Result.TheVariants.{Ok, Err}
 use Rattle.std.specs.Map.{lookup, set_value}
 use Rattle.std.specs.BTreeMap.{is_at}
 use Rattle.std.specs.Ordering.{nat_cmp}
-use Rattle.std.specs.FinMap as map
 use Rattle.std.proofs.lemmas.Map.Steps.{set_value_same}
 use Rattle.attestations.specs.declared.term.Term.{Term}
 use Rattle.attestations.specs.Gathered.{list_or_none}
