@@ -9,8 +9,8 @@ use Rattle.std.proofs.lemmas.Map.Views.{exact_unsigned_eq}
 use Rattle.path_model.specs.Authority.{has}
 use Rattle.path_model.specs.Rows.{PatchMap}
 use Rattle.attestations.specs.declared.term.Term.{Term}
-use Rattle.attestations.specs.Terms.{SetOfTerms, TermMap, members, set_of, terms_or_none}
-use Rattle.attestations.proofs.TermLemmas.{members_empty, members_never_ending, set_of_members}
+use Rattle.attestations.specs.Terms.{SetOfTerms, TermMap, lasting, members, set_of, terms_or_none}
+use Rattle.attestations.proofs.TermLemmas.{members_empty, members_only, set_of_members}
 use Rattle.vap_table.specs.declared.change.TableChange.TheVariants.{Replace, Patch}
 use Rattle.vap_table.specs.Change.{IsPatched, terms_in, given_terms, patched_terms}
 use Rattle.vap_table.specs.Comparing.{lists_of, IsLeft, IsLeftOrLasting, HaveSameLasts, NeverEnd}
@@ -83,7 +83,7 @@ lasts_of_replace old name terms names same new is x out m = ap (λ (parts : Part
 
 given_never_ends : (given : Option (List ℕ)) → NeverEnd (of_one (given_terms given))
 given_never_ends None m = ap (λ (ts : List Term). lasts_among ts m) members_empty
-given_never_ends (Some row) m = ap (λ (ts : List Term). lasts_among ts m) (members_never_ending row)
+given_never_ends (Some row) m = ap (λ (ts : List Term). lasts_among ts m) (members_only (lasting row))
 
 patched_lasts : (given : Option (Option (List ℕ))) (own : Option SetOfTerms) → (is_some given ≡ true → NeverEnd (of_one own)) → HaveSameLasts (of_one own) (of_one (patched_terms given own))
 patched_lasts None own never m = refl

@@ -410,3 +410,7 @@ pub same_lasts : (m x : ℕ) (sources : Sources) (name : List ℕ) (terms : Term
 same_lasts m x [] name terms same = lasts_appended (list_of terms x) [] m ∙ or_none (lasts_among (list_of terms x) m) ∙ sym same ∙ ap (λ (ts : List Term). lasts_among ts m) (none_of_empty x)
 same_lasts m x (s ∷ ss) name terms same = let b : Bool = pointwise nat_eq name s.0 in
     lasts_at m x b s terms ss (with_source ss name terms) (of_first m x b s.1 (terms_in ss name) terms same) (λ e. same_lasts m x ss name terms (of_rest m x b s.1 (terms_in ss name) terms same e))
+
+-- at the start no moment is listed
+pub none_listed : AreLasts [] []
+none_listed x m = refl

@@ -17,7 +17,7 @@ use Rattle.attestations.specs.CurrentTable.{Parts}
 use Rattle.attestations.specs.ComputedTable.{onto, attested}
 use Rattle.attestations.specs.declared.term.Term.{Term}
 use Rattle.attestations.specs.Terms.{SetOfTerms, TermMap, lasting, members, terms_or_none}
-use Rattle.attestations.proofs.TermLemmas.{members_empty, members_never_ending}
+use Rattle.attestations.proofs.TermLemmas.{members_empty, members_only}
 use Rattle.path_model.proofs.MemberLemmas.{has-append}
 use Rattle.vap_table.specs.declared.tally.Tally.{Tally}
 use Rattle.vap_table.specs.declared.change.TableChange.TheVariants.{Replace, Patch, Slurm, Filter, Unfilter, Assert, Unassert, At}
@@ -102,7 +102,7 @@ listed_row given = option_to_list (option_map lasting given)
 
 listed_given : (given : Option (List ℕ)) → members (terms_or_none (given_terms given)) ≡ listed_row given
 listed_given None = members_empty
-listed_given (Some row) = members_never_ending row
+listed_given (Some row) = members_only (lasting row)
 
 pub tally_of_patch : (old : Parts) (name : List ℕ) (patch : PatchMap) (x : ℕ) (given : Option (List ℕ)) (list : List Term) (tally : Option Tally) → map.get patch x ≡ Some given → list ≡ listed_row given
     → ((terms : TermMap) → list_of terms x ≡ list → IsTallyOfRows (attested old.moment (with_source old.sources name terms) x) (asserted old x) tally) → (new : Parts) → Alters old (Patch name patch) new → IsTallyOf new x tally

@@ -25,7 +25,7 @@ pub(crate) struct Named {
 }
 
 impl Named {
-    /// These, of which no attestation may end.
+    /// These, for a change that leaves all attestations as they are.
     pub(crate) fn unended(alloc: Global, all: Customers) -> Named
         ensures all { result.all ≡ all }
         ensures ended { result.ended ≡ [] }
@@ -36,13 +36,21 @@ impl Named {
         }
     }
 
+    /// One customer alone, for such a change.
+    pub(crate) fn one(alloc: Global, customer: u32) -> Result<Named, NoMemory>
+        ensures { IfOk result (λ names. (q : ℕ) → has names.all q ≡ nat_eq customer q) }
+    {
+        let names = Customers::one(alloc, customer)?;
+        Ok(Named::unended(alloc, names))
+    }
+
     // Names a customer with these attestations.
     fn add(&mut self, customer: u32, attested: Option<Attested<'_>>) -> Result<(), NoMemory>
         ensures all { OnOk result ((q : ℕ)
             → has self.new.all q ≡ (has self.old.all q || nat_eq customer q)) }
         ensures ended { OnOk result ((q : ℕ) → has self.new.ended q ≡ false
             → (has self.old.ended q ≡ false)
-            × (nat_eq customer q ≡ true → NeverEnd (attested_list attested))) }
+            × (nat_eq customer q ≡ true → NeverEnd (attested_list attested.entry))) }
     {
         self.all.insert(customer)?;
         match attested {
@@ -65,11 +73,11 @@ impl Named {
         ensures all { OnOk result ((q : ℕ) → has self.new.all q ≡ false
             → (has self.old.all q ≡ false)
             × (nat_eq customer q ≡ true
-            → IsLeft (Some (listed attested)) (set_if other))) }
+            → IsLeft (Some (listed attested.entry)) (set_if other.entry))) }
         ensures ended { OnOk result ((q : ℕ) → has self.new.ended q ≡ false
             → (has self.old.ended q ≡ false)
             × (nat_eq customer q ≡ true
-            → IsLeftOrLasting (Some (listed attested)) (set_if other))) }
+            → IsLeftOrLasting (Some (listed attested.entry)) (set_if other.entry))) }
     {
         if is_same(attested, other) {
             return Ok(());
@@ -152,7 +160,7 @@ fn named_among(alloc: Global, terms: &Terms, patch: &Patch) -> Result<Named, NoM
 
 // Whether the other attestations are there and are the same.
 fn is_same(attested: Attested<'_>, other: Option<Attested<'_>>) -> bool
-    ensures { IsTrue result → IsLeft (Some (listed attested)) (set_if other) }
+    ensures { IsTrue result → IsLeft (Some (listed attested.entry)) (set_if other.entry) }
 {
     match other {
         None => false,

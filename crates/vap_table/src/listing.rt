@@ -15,7 +15,7 @@ impl Sources {
         ensures { OnOk result
             (AddsLasts lasts.old customer (all_terms self.now customer) lasts.new) }
     {
-        for (_, terms) in &self.named {
+        for (_, terms) in self.as_slice() {
             add_of(lasts, customer, terms.of_customer(customer))?;
         }
         Ok(())
@@ -25,7 +25,7 @@ impl Sources {
     fn remove_lasts(&self, lasts: &mut Lasts, customer: u32)
         ensures { DropsLasts lasts.old customer (all_terms self.now customer) lasts.new }
     {
-        for (_, terms) in &self.named {
+        for (_, terms) in self.as_slice() {
             remove_of(lasts, customer, terms.of_customer(customer));
         }
     }
@@ -37,7 +37,7 @@ fn add_of(
     customer: u32,
     attested: Option<Attested<'_>>,
 ) -> Result<(), NoMemory>
-    ensures { OnOk result (AddsLasts lasts.old customer (attested_list attested) lasts.new) }
+    ensures { OnOk result (AddsLasts lasts.old customer (attested_list attested.entry) lasts.new) }
 {
     match attested {
         Some(Attested::Terms(terms)) => lasts.add(customer, terms),
@@ -48,7 +48,7 @@ fn add_of(
 
 // They aren't listed.
 fn remove_of(lasts: &mut Lasts, customer: u32, attested: Option<Attested<'_>>)
-    ensures { DropsLasts lasts.old customer (attested_list attested) lasts.new }
+    ensures { DropsLasts lasts.old customer (attested_list attested.entry) lasts.new }
 {
     match attested {
         Some(Attested::Terms(terms)) => lasts.remove_all(customer, terms),

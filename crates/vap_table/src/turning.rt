@@ -32,7 +32,7 @@ impl Sources {
             (IsTurned (attested from self.now customer) (attested to self.now customer) tally) }
     {
         let mut tally = tally;
-        for (_, terms) in &self.named {
+        for (_, terms) in self.as_slice() {
             tally = turned(alloc, tally, Some(from), Some(to), terms.of_customer(customer))?;
         }
         Ok(tally)
@@ -51,8 +51,8 @@ pub(crate) fn turned(
     requires ordered { IsOrdered tally }
     requires sets { HaveSetsOfProviders (attested_list attested) }
     ensures ordered { IfOk result IsOrdered }
-    ensures tally { IfOk result (IsTurned (rows_at from (attested_list attested))
-        (rows_at to (attested_list attested)) tally) }
+    ensures tally { IfOk result (IsTurned (rows_at from (attested_list attested.entry))
+        (rows_at to (attested_list attested.entry)) tally) }
 {
     match attested {
         None => Ok(tally),

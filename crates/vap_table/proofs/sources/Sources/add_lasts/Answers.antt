@@ -1,0 +1,10 @@
+use Rattle.vap_table.proofs.sources.Sources.add_lasts.Goals as goal
+
+pub loop-terms-init : goal.loop-terms-init
+loop-terms-init c = ?
+
+pub loop-terms-preserved : goal.loop-terms-preserved
+loop-terms-preserved c = ?
+
+pub returns : goal.returns
+returns c = ?
