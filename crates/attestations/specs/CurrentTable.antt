@@ -1,10 +1,10 @@
 -- The table that holds now, of all that attests.
-use Rattle.std.specs.Prelude.{◌≡◌, ◌≢◌, ℕ, true, false, ◌⊎◌, List, [], ◌∷◌}
-use Rattle.std.specs.List.Sorted.{IsStrictlyIncreasing}
+use Rattle.std.specs.Prelude.{◌≡◌, ℕ, true, false, ◌⊎◌, List, [], ◌∷◌}
 use Rattle.std.specs.FinMap as map
 use Rattle.std.specs.declared.option.Option.{Option}
 use Rattle.std.specs.declared.option.Option.TheVariants.{Some, None}
 use Rattle.path_model.specs.Authority.{Table, has}
+pub use Rattle.path_model.specs.CurrentTable.{IsUnion}
 use Rattle.path_model.specs.Rows.{RowMap}
 use Rattle.attestations.specs.declared.term.Term.{Term}
 use Rattle.attestations.specs.Terms.{SetOfTerms, TermMap, is_alive, terms_or_none}
@@ -42,14 +42,6 @@ abbrev pub GoesIn : Parts → ℕ → List ℕ → Type 0
 GoesIn parts x row =
     ((has parts.slurm_filters x ≡ false) × (has parts.filters x ≡ false) × IsAttested parts.moment parts.sources x row)
     ⊎ ((map.get parts.slurm_assertions x ≡ Some row) ⊎ (map.get parts.assertions x ≡ Some row))
-
--- The union of all rows that go in, less 0, which names no provider (draft-ietf-sidrops-aspa-profile: AS 0 as the only provider says that
--- the customer has none).
-pub record IsUnion (Goes : List ℕ → Type 0) (row : List ℕ) : Type 0 where
-  pub some : (given : List ℕ) × Goes given
-  pub ascending : IsStrictlyIncreasing row
-  pub within : (y : ℕ) → has row y ≡ true → (y ≢ 0) × ((given : List ℕ) × Goes given × (has given y ≡ true))
-  pub all : (y : ℕ) (given : List ℕ) → y ≢ 0 → Goes given → has given y ≡ true → has row y ≡ true
 
 -- the row of a customer in the current table: none where no row goes in
 abbrev pub IsCurrentRow : Parts → ℕ → Option (List ℕ) → Type 0

@@ -68,21 +68,14 @@ impl GatheredTerms {
         match self.others.get_mut(&customer) {
             Some(list) => list.push(term),
             None => match self.firsts.of_customer(customer) {
-                Some(_) => self.begin(customer, term),
+                Some(_) => {
+                    let list = TermList::one(self.alloc, term)?;
+                    self.others.insert(customer, list)?;
+                    Ok(())
+                }
                 None => self.firsts.set_only(customer, term),
             },
         }
-    }
-
-    // An attestation of a customer after its first one.
-    fn begin(&mut self, customer: u32, term: Term) -> Result<(), NoMemory>
-        requires { IsStrictlyIncreasing term.providers }
-        ensures err { OnErr result (self.new ≡ self.old) }
-    {
-        let mut list = TermList::new(self.alloc);
-        list.push(term)?;
-        self.others.insert(customer, list)?;
-        Ok(())
     }
 
     /// The attestations: each customer's are the set of its list.

@@ -38,6 +38,16 @@ impl TermList {
         }
     }
 
+    /// A list of one, whose providers strictly ascend.
+    pub(crate) fn one(alloc: Global, term: Term) -> Result<TermList, NoMemory>
+        requires { IsStrictlyIncreasing term.providers }
+        ensures { IfOk result (λ list. list ≡ term ∷ []) }
+    {
+        let mut list = TermList::new(alloc);
+        list.push(term)?;
+        Ok(list)
+    }
+
     /// A copy of what is lent, if there is anything.
     pub(crate) fn copied(
         alloc: Global,
@@ -49,12 +59,9 @@ impl TermList {
         match attested {
             None => Ok(TermList::new(alloc)),
             Some(Attested::Row(row)) => {
-                let mut list = TermList::new(alloc);
-                list.push(Term {
-                    providers: row.copy()?,
-                    until: None,
-                })?;
-                Ok(list)
+                let providers = row.copy()?;
+                let until = None;
+                TermList::one(alloc, Term { providers, until })
             }
             Some(Attested::Terms(terms)) => Ok(TermList {
                 terms: Vec::from_clones(alloc, terms)?,

@@ -65,6 +65,8 @@ impl Terms {
     pub fn of(alloc: Global, rows: Rows) -> Result<Terms, NoMemory>
         ensures { IfOk result (λ terms. terms ≡ terms_of rows) }
     {
+        // a call that says that they are sets
+        let _ = rows.entries();
         Ok(Terms {
             alloc,
             rows,
@@ -79,15 +81,15 @@ impl Terms {
         ensures whole { attested_list result ≡ members (terms_or_none (map.get self.now customer)) }
         ensures sets { HaveSetsOfProviders (attested_list result) }
     {
-        if let Some(row) = self.rows.row(customer) {
-            return Some(Attested::Row(row));
-        }
-        if let Some(term) = self.single.get(&customer) {
-            return Some(Attested::Terms(slice::from_ref(term)));
-        }
-        match self.many.get(&customer) {
-            Some(terms) => Some(Attested::Terms(terms.as_slice())),
-            None => None,
+        match self.rows.row(customer) {
+            Some(row) => Some(Attested::Row(row)),
+            None => match self.single.get(&customer) {
+                Some(term) => Some(Attested::Terms(slice::from_ref(term))),
+                None => match self.many.get(&customer) {
+                    Some(terms) => Some(Attested::Terms(terms.as_slice())),
+                    None => None,
+                },
+            },
         }
     }
 
@@ -115,8 +117,7 @@ impl Terms {
         ensures err { OnErr result (self.new ≡ self.old) }
     {
         let providers = AsList::from_slice(self.alloc, providers)?.into_set();
-        let mut list = TermList::new(self.alloc);
-        list.push(Term { providers, until })?;
+        let list = TermList::one(self.alloc, Term { providers, until })?;
         self.unite_list(customer, list)
     }
 
