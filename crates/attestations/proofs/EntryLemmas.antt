@@ -10,8 +10,7 @@ use Rattle.std.specs.List.{AllByRecursion, IsDistinct}
 use Rattle.std.specs.List.Sorted.{IsStrictlySortedBy}
 use Rattle.std.specs.Map.{keys_of}
 use Rattle.std.proofs.lemmas.Map.Keys.{IsDistinct-from_sorted, sorted_head}
-use Rattle.path_model.specs.Rows.{RowMap}
-use Rattle.attestations.specs.Terms.{EachRowNeverEnds, TermMap, each, never_ending, terms_of}
+use Rattle.attestations.specs.Terms.{EachRowNeverEnds, each, never_ending, terms_of}
 
 -- the first that is there
 abbrev pub first : {X : Type 0} → Option X → Option X → Option X

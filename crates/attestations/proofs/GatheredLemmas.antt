@@ -1,13 +1,14 @@
 -- What is gathered: the first attestation of each customer is held apart from the others.
-use Rattle.std.proofs.Common.{◌≡◌, ℕ, Bool, true, false, cond, List, [], ◌∷◌, ◌++◌, refl, ap, sym, ◌∙◌, subst}
+use Rattle.std.proofs.Common.{◌≡◌, ℕ, Bool, true, false, cond, List, [], ◌∷◌, ◌++◌, refl, ap, sym, ◌∙◌}
 use Rattle.std.specs.declared.option.Option.{Option}
 use Rattle.std.specs.declared.option.Option.TheVariants.{Some, None}
 use Rattle.std.specs.Option.{option_map}
 use Rattle.std.specs.Ordering.{nat_cmp, eq_by_cmp}
 use Rattle.std.specs.Cmp.{Equal-is, nat_cmp_total}
+use Rattle.std.specs.BTreeMap.{is_at}
 use Rattle.std.specs.FinMap as map
 use Rattle.std.specs.List.Sorted.{IsStrictlySortedBy}
-use Rattle.std.specs.Map.{keys_of}
+use Rattle.std.specs.Map.{keys_of, lookup}
 use Rattle.std.proofs.lemmas.List.{append-nil, append_assoc}
 use Rattle.std.proofs.lemmas.Map.Keys.{sorted_tail}
 use Rattle.attestations.specs.declared.term.Term.{Term}
@@ -15,7 +16,7 @@ use Rattle.attestations.specs.Gathered.{AreTermsOf, TermLists, list_or_none, wit
 use Rattle.attestations.specs.Held.{gathered, in_order, with_list}
 use Rattle.attestations.specs.Terms.{SetOfTerms, TermMap, members, only, set_of, terms_or_none}
 use Rattle.attestations.proofs.EntryLemmas.{absent}
-use Rattle.attestations.proofs.HeldLemmas.{MovesTo}
+use Rattle.attestations.proofs.HeldLemmas.{MovesTo, found, moves_to}
 use Rattle.attestations.proofs.TermLemmas.{members_empty, members_only, set_of_members}
 
 -- the list of a customer, of its first attestation and the others
@@ -43,10 +44,6 @@ nothing_gathered = map.same_map nat_cmp_total map.nat_cmp-IsAntisymmetric _ _ (�
 
 -- ---- one more
 
--- what is at a customer, where only that is changed
-at_key : {X : Type 0} (f : ℕ → Option X) (k : ℕ) (new : Option X) (now : Option X) (q : ℕ) → f k ≡ new → now ≡ cond (eq_by_cmp nat_cmp q k) (f k) (f q) → now ≡ cond (eq_by_cmp nat_cmp q k) new (f q)
-at_key f k new now q is e = e ∙ ap (λ (o : Option X). cond (eq_by_cmp nat_cmp q k) o (f q)) is
-
 grown : (o : Option SetOfTerms) (others : Option (List Term)) (t : Term) → joined o (Some (list_or_none others ++ t ∷ [])) ≡ Some (list_or_none (joined o others) ++ t ∷ [])
 grown None others t = refl
 grown (Some terms) others t = ap Some (sym (append_assoc (members terms) (list_or_none others) (t ∷ [])))
@@ -57,14 +54,14 @@ pub more_gathered : (firsts : TermMap) (others new : List (ℕ × List Term)) (k
 more_gathered firsts others new k t moves = map.same_map nat_cmp_total map.nat_cmp-IsAntisymmetric _ _ (λ q.
     get-gathered firsts new q ∙ ap (joined (map.get firsts q)) (moves q) ∙ by_case q (eq_by_cmp nat_cmp q k) refl
     ∙ sym (map.get-insert nat_cmp_total (gathered firsts others) k (list_or_none (map.get (gathered firsts others) k) ++ t ∷ []) q)) where
-  list : List Term
-  list = list_or_none (map.find nat_cmp k others) ++ t ∷ []
+      list : List Term
+      list = list_or_none (map.find nat_cmp k others) ++ t ∷ []
 
-  by_case : (q : ℕ) (b : Bool) → eq_by_cmp nat_cmp q k ≡ b → joined (map.get firsts q) (cond b (Some list) (map.find nat_cmp q others))
-      ≡ cond b (Some (list_or_none (map.get (gathered firsts others) k) ++ t ∷ [])) (map.get (gathered firsts others) q)
-  by_case q true is = ap (λ (x : ℕ). joined (map.get firsts x) (Some list)) (same_key q k is) ∙ grown (map.get firsts k) (map.find nat_cmp k others) t
-      ∙ ap (λ (o : Option (List Term)). Some (list_or_none o ++ t ∷ [])) (sym (get-gathered firsts others k))
-  by_case q false is = sym (get-gathered firsts others q)
+      by_case : (q : ℕ) (b : Bool) → eq_by_cmp nat_cmp q k ≡ b → joined (map.get firsts q) (cond b (Some list) (map.find nat_cmp q others))
+          ≡ cond b (Some (list_or_none (map.get (gathered firsts others) k) ++ t ∷ [])) (map.get (gathered firsts others) q)
+      by_case q true is = ap (λ (x : ℕ). joined (map.get firsts x) (Some list)) (same_key q k is) ∙ grown (map.get firsts k) (map.find nat_cmp k others) t
+          ∙ ap (λ (o : Option (List Term)). Some (list_or_none o ++ t ∷ [])) (sym (get-gathered firsts others k))
+      by_case q false is = sym (get-gathered firsts others q)
 
 -- the first of a customer of which there are no others
 pub first_gathered : (firsts new : TermMap) (others : List (ℕ × List Term)) (k : ℕ) (t : Term) → map.get firsts k ≡ None → map.find nat_cmp k others ≡ None → new ≡ map.insert firsts k (only t)
@@ -74,14 +71,28 @@ first_gathered firsts new others k t no_first no_others is = map.same_map nat_cm
     ∙ ap (λ (o : Option SetOfTerms). joined o (map.find nat_cmp q others)) (ap (λ (m : TermMap). map.get m q) is ∙ map.get-insert nat_cmp_total firsts k (only t) q)
     ∙ by_case q (eq_by_cmp nat_cmp q k) refl
     ∙ sym (map.get-insert nat_cmp_total (gathered firsts others) k (list_or_none (map.get (gathered firsts others) k) ++ t ∷ []) q)) where
-  none : map.get (gathered firsts others) k ≡ None
-  none = get-gathered firsts others k ∙ (λ i. joined (no_first i) (no_others i))
+      none : map.get (gathered firsts others) k ≡ None
+      none = get-gathered firsts others k ∙ (λ i. joined (no_first i) (no_others i))
 
-  by_case : (q : ℕ) (b : Bool) → eq_by_cmp nat_cmp q k ≡ b → joined (cond b (Some (only t)) (map.get firsts q)) (map.find nat_cmp q others)
-      ≡ cond b (Some (list_or_none (map.get (gathered firsts others) k) ++ t ∷ [])) (map.get (gathered firsts others) q)
-  by_case q true is = (λ i. Some (members_only t i ++ list_or_none ((ap (λ (x : ℕ). map.find nat_cmp x others) (same_key q k is) ∙ no_others) i)))
-      ∙ ap (λ (o : Option (List Term)). Some (list_or_none o ++ t ∷ [])) (sym none)
-  by_case q false is = sym (get-gathered firsts others q)
+      by_case : (q : ℕ) (b : Bool) → eq_by_cmp nat_cmp q k ≡ b → joined (cond b (Some (only t)) (map.get firsts q)) (map.find nat_cmp q others)
+          ≡ cond b (Some (list_or_none (map.get (gathered firsts others) k) ++ t ∷ [])) (map.get (gathered firsts others) q)
+      by_case q true is = (λ i. Some (members_only t i ++ list_or_none ((ap (λ (x : ℕ). map.find nat_cmp x others) (same_key q k is) ∙ no_others) i)))
+          ∙ ap (λ (o : Option (List Term)). Some (list_or_none o ++ t ∷ [])) (sym none)
+      by_case q false is = sym (get-gathered firsts others q)
+
+-- what std says of a list that grew, or of one that was begun
+pub appended : (firsts : TermMap) (others new : List (ℕ × List Term)) (k : ℕ) (t : Term) (list now : List Term) (whole : TermLists)
+    → ((q : ℕ) → lookup (is_at (nat_cmp q)) new ≡ cond (is_at (nat_cmp k) q) (Some now) (lookup (is_at (nat_cmp q)) others))
+    → now ≡ list ++ t ∷ [] → list_or_none (lookup (is_at (nat_cmp k)) others) ≡ list → gathered firsts others ≡ whole → gathered firsts new ≡ with_gathered whole k t
+appended firsts others new k t list now whole updates is was whole_is = more_gathered firsts others new k t (λ q. moves_to others new k (Some now) updates q
+    ∙ ap (λ (ts : List Term). cond (eq_by_cmp nat_cmp q k) (Some ts) (map.find nat_cmp q others)) (is ∙ ap (λ (ts : List Term). ts ++ t ∷ []) (sym was ∙ ap list_or_none (sym (found others k)))))
+    ∙ ap (λ (m : TermLists). with_gathered m k t) whole_is
+
+pub begun : (firsts new : TermMap) (others : List (ℕ × List Term)) (k : ℕ) (t s : Term) (whole : TermLists) → map.get firsts k ≡ None → lookup (is_at (nat_cmp k)) others ≡ None
+    → new ≡ map.insert firsts k (only s) → s ≡ t → gathered firsts others ≡ whole → gathered new others ≡ with_gathered whole k t
+begun firsts new others k t s whole no_first no_others is same whole_is =
+    first_gathered firsts new others k t no_first (found others k ∙ no_others) (is ∙ ap (λ (u : Term). map.insert firsts k (only u)) same)
+    ∙ ap (λ (m : TermLists). with_gathered m k t) whole_is
 
 -- ---- the sets
 

@@ -17,7 +17,7 @@ use Rattle.path_model.proofs.UnionLawLemmas.{one_set}
 use Rattle.attestations.specs.declared.term.Term.{Term}
 use Rattle.attestations.specs.Entries.{AreEntriesOf}
 use Rattle.attestations.specs.Held.{IsHeld, held}
-use Rattle.attestations.specs.Terms.{SetOfTerms, TermMap, AllHaveSets, HaveSetsOfProviders, each, lasting, members, never_ending, only, set_of, term_cmp, terms_of, terms_or_none}
+use Rattle.attestations.specs.Terms.{SetOfTerms, HaveSetsOfProviders, each, lasting, members, never_ending, only, set_of, term_cmp, terms_of, terms_or_none}
 use Rattle.attestations.proofs.EntryLemmas.{each_never_ends, first, find-append, find-each, distinct_append, distinct_each}
 use Rattle.attestations.proofs.TermLemmas.{members_empty, members_of_rising, members_only, sets_only}
 
@@ -83,9 +83,6 @@ sets_moved false o o0 here there = there
 pub sets_none : HaveSetsOfProviders (members (terms_or_none None))
 sets_none = subst HaveSetsOfProviders (sym members_empty) tt
 
-pub none_held : AllHaveSets map.empty
-none_held q = subst (λ (o : Option SetOfTerms). HaveSetsOfProviders (members (terms_or_none o))) (sym (map.get-empty nat_cmp q)) sets_none
-
 module _ (rows : RowMap) (single : List (ℕ × Term)) (many : List (ℕ × SetOfTerms)) (rows' : RowMap) (single' : List (ℕ × Term)) (many' : List (ℕ × SetOfTerms))
     (k : ℕ) (r : Option (List ℕ)) (s : Option Term) (m : Option SetOfTerms)
     (of_rows : MovesRowTo rows k r rows') (of_single : MovesTo single k s single') (of_many : MovesTo many k m many') where
@@ -150,13 +147,13 @@ entries_whole rows listed single many is q =
     ∙ (λ i. first (of_rows i) (of_others i))
     ∙ listed_three (map.get rows q) (map.find nat_cmp q single) (map.find nat_cmp q many)
     ∙ ap (option_map members) (sym (get-held rows single many q)) where
-  of_rows : map.find nat_cmp q (each (λ row. lasting row ∷ []) listed) ≡ option_map (λ row. lasting row ∷ []) (map.get rows q)
-  of_rows = find-each (λ row. lasting row ∷ []) q listed
-      ∙ ap (option_map (λ row. lasting row ∷ [])) (sym (map.get-from_entries nat_cmp_total listed q) ∙ ap (λ (m : RowMap). map.get m q) is)
+      of_rows : map.find nat_cmp q (each (λ row. lasting row ∷ []) listed) ≡ option_map (λ row. lasting row ∷ []) (map.get rows q)
+      of_rows = find-each (λ row. lasting row ∷ []) q listed
+          ∙ ap (option_map (λ row. lasting row ∷ [])) (sym (map.get-from_entries nat_cmp_total listed q) ∙ ap (λ (m : RowMap). map.get m q) is)
 
-  of_others : map.find nat_cmp q (each (λ t. t ∷ []) single ++ each members many) ≡ first (option_map (λ t. t ∷ []) (map.find nat_cmp q single)) (option_map members (map.find nat_cmp q many))
-  of_others = find-append q (each (λ t. t ∷ []) single) (each members many)
-      ∙ (λ i. first (find-each (λ t. t ∷ []) q single i) (find-each members q many i))
+      of_others : map.find nat_cmp q (each (λ t. t ∷ []) single ++ each members many) ≡ first (option_map (λ t. t ∷ []) (map.find nat_cmp q single)) (option_map members (map.find nat_cmp q many))
+      of_others = find-append q (each (λ t. t ∷ []) single) (each members many)
+          ∙ (λ i. first (find-each (λ t. t ∷ []) q single i) (find-each members q many i))
 
 is_some_map : {X Y : Type 0} (f : X → Y) (o : Option X) → is_some (option_map f o) ≡ is_some o
 is_some_map f None = refl
@@ -174,12 +171,12 @@ entries_once rows listed single many is h a b c =
     (λ q s. find-append q (each (λ t. t ∷ []) single) (each members many)
     ∙ (λ i. first ((find-each (λ t. t ∷ []) q single ∙ ap (option_map (λ t. t ∷ [])) (h.not_single q (row_some q s))) i)
     ((find-each members q many ∙ ap (option_map members) (h.not_many q (row_some q s))) i))) where
-  single_some : (q : ℕ) → is_some (map.find nat_cmp q (each (λ t. t ∷ []) single)) ≡ true → is_some (map.find nat_cmp q single) ≡ true
-  single_some q s = sym (ap is_some (find-each (λ t. t ∷ []) q single) ∙ is_some_map (λ t. t ∷ []) (map.find nat_cmp q single)) ∙ s
+      single_some : (q : ℕ) → is_some (map.find nat_cmp q (each (λ t. t ∷ []) single)) ≡ true → is_some (map.find nat_cmp q single) ≡ true
+      single_some q s = sym (ap is_some (find-each (λ t. t ∷ []) q single) ∙ is_some_map (λ t. t ∷ []) (map.find nat_cmp q single)) ∙ s
 
-  row_some : (q : ℕ) → is_some (map.find nat_cmp q (each (λ row. lasting row ∷ []) listed)) ≡ true → is_some (map.get rows q) ≡ true
-  row_some q s = sym (ap is_some (find-each (λ row. lasting row ∷ []) q listed) ∙ is_some_map (λ row. lasting row ∷ []) (map.find nat_cmp q listed)
-      ∙ ap is_some (sym (map.get-from_entries nat_cmp_total listed q) ∙ ap (λ (m : RowMap). map.get m q) is)) ∙ s
+      row_some : (q : ℕ) → is_some (map.find nat_cmp q (each (λ row. lasting row ∷ []) listed)) ≡ true → is_some (map.get rows q) ≡ true
+      row_some q s = sym (ap is_some (find-each (λ row. lasting row ∷ []) q listed) ∙ is_some_map (λ row. lasting row ∷ []) (map.find nat_cmp q listed)
+          ∙ ap is_some (sym (map.get-from_entries nat_cmp_total listed q) ∙ ap (λ (m : RowMap). map.get m q) is)) ∙ s
 
 pub never : {P : Type 0} → false ≡ true → P
 never e = absurd cc

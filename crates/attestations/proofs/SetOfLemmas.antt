@@ -1,21 +1,20 @@
 -- Sets that are held as sorted lists, for any keys whose order tells them apart.
-use Rattle.std.proofs.Common.{◌≡◌, ℕ, suc, Bool, true, false, cond, ◌||◌, List, [], ◌∷◌, ◌++◌, map, length, is_some, Less, Some, None, refl, ap, sym, ◌∙◌, subst, arith}
+use Rattle.std.proofs.Common.{◌≡◌, Bool, true, false, cond, ◌||◌, List, [], ◌∷◌, ◌++◌, map, length, is_some, Less, Some, None, refl, ap, sym, ◌∙◌, subst, arith}
 use Rattle.std.specs.declared.cmp.Ordering.{Ordering}
 use Rattle.std.specs.declared.cmp.Ordering.TheVariants.{Equal, Greater}
 use Rattle.std.specs.declared.option.Option.{Option}
 use Rattle.std.specs.Ordering.{eq_by_cmp}
 use Rattle.std.specs.Cmp.{IsTotalOrder, Equal-is}
-use Rattle.std.specs.List.{AllByRecursion, list_any, dedup, dedup_from, All}
+use Rattle.std.specs.List.{AllByRecursion, list_any, dedup, dedup_from}
 use Rattle.std.specs.List.Sorted.{IsStrictlySortedBy, IsSorted, IsPermutation}
 use Rattle.std.specs.List.Retain.{IsFiltered, DiffersFromLast}
 use Rattle.std.specs.FinMap as map
 use Rattle.std.specs.FinMap.Entries.{put, by_order}
 use Rattle.std.proofs.lemmas.Map.Lookups.{CmpEqualImpliesEq}
 use Rattle.std.proofs.lemmas.Map.Keys.{sorted_head, sorted_tail}
-use Rattle.std.proofs.lemmas.List.Filters.{dedup_is, All-dedup}
+use Rattle.std.proofs.lemmas.List.Filters.{dedup_is}
 use Rattle.std.proofs.lemmas.List.Kept.{IsStrictlySortedBy-dedup}
-use Rattle.std.proofs.lemmas.List.Sorted.{list_any-IsPermutation, All-permutation}
-use Rattle.std.proofs.lemmas.List.Elements.{All-from_recursion, recursion_from_All}
+use Rattle.std.proofs.lemmas.List.Sorted.{list_any-IsPermutation}
 
 -- a finite set: the keys of a map with nothing at each
 abbrev pub Keyed : {K : Type 0} → (K → K → Ordering) → Type 0
@@ -110,10 +109,6 @@ module _ {K : Type 0} {R : K → K → Ordering} (total : IsTotalOrder R) where
 
   pub rises_sorted : (ys zs : List K) → IsSorted R ys → IsFiltered (DiffersFromLast (eq_by_cmp R)) [] ys zs → IsStrictlySortedBy R zs
   rises_sorted ys zs sorted filtered = subst (IsStrictlySortedBy R) (sym (dedup_is (eq_by_cmp R) ys zs filtered)) (IsStrictlySortedBy-dedup total (λ x y. refl) ys sorted)
-
-  pub each_sorted : (P : K → Type 0) (xs ys zs : List K) → IsPermutation xs ys → IsFiltered (DiffersFromLast (eq_by_cmp R)) [] ys zs → AllByRecursion P xs → AllByRecursion P zs
-  each_sorted P xs ys zs moved filtered all = subst (AllByRecursion P) (sym (dedup_is (eq_by_cmp R) ys zs filtered))
-      (recursion_from_All P (dedup (eq_by_cmp R) ys) (All-dedup (eq_by_cmp R) P ys (All-permutation P xs ys moved (All-from_recursion P xs all))))
 
 module _ {K : Type 0} {R : K → K → Ordering} (total : IsTotalOrder R) (P : K → Type 0) where
   abbrev each_key : List (K × Unit {0}) → Type 0

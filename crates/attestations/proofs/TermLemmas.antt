@@ -1,20 +1,23 @@
 -- Attestations, and sets of them.
-use Rattle.std.proofs.Common.{◌≡◌, ℕ, true, List, [], ◌∷◌, ◌++◌, refl, ap, sym, ◌∙◌, subst, Equal}
+use Rattle.std.proofs.Common.{◌≡◌, ℕ, ◌<◌, ◌≤◌, nat_eq, Bool, true, not, List, [], ◌∷◌, ◌++◌, length, slice_index_or, is_some, refl, ap, sym, ◌∙◌, subst, Equal, arith}
 use Rattle.std.specs.declared.cmp.Ordering.{Ordering}
 use Rattle.std.specs.declared.cmp.Ordering.TheVariants.{Less, Greater}
 use Rattle.std.specs.declared.option.Option.{Option}
 use Rattle.std.specs.declared.option.Option.TheVariants.{Some, None}
 use Rattle.std.specs.Ordering.{nat_cmp, ordering_then, eq_by_cmp, is_eq}
 use Rattle.std.specs.Option.{option_cmp}
-use Rattle.std.specs.Cmp.{tied_itself}
-use Rattle.std.specs.Cmp.Lexicographic.{slice_cmp}
+use Rattle.std.specs.Bool.{Decides}
+use Rattle.std.specs.Cmp.{Equal-is, tied_itself}
+use Rattle.std.specs.Cmp.Lexicographic.{pointwise, slice_cmp}
 use Rattle.std.specs.FinMap as map
 use Rattle.std.specs.List.Sorted.{IsStrictlySortedBy, IsStrictlyIncreasing, IsPermutation}
 use Rattle.std.specs.List.Retain.{IsFiltered, DiffersFromLast}
+use Rattle.std.proofs.lemmas.Bool.Decides.{Decides-eqb}
+use Rattle.std.proofs.lemmas.Slice.Eq.{slice_eq-Decides}
 use Rattle.std.proofs.lemmas.Map.Lookups.{CmpEqualImpliesEq}
 use Rattle.attestations.specs.declared.term.Term.{Term}
 use Rattle.attestations.specs.Order.{term_total}
-use Rattle.attestations.specs.Terms.{SetOfTerms, HaveSetsOfProviders, term_cmp, members, only, set_of, with_term}
+use Rattle.attestations.specs.Terms.{SetOfTerms, HaveSetsOfProviders, lasting, term_cmp, members, only, set_of, with_term}
 use Rattle.attestations.proofs.SetOfLemmas.{each_member, in_set, keys_listed, same_keyed, set_of_sorted_list, set_pushed}
 
 both_equal : (o r : Ordering) → ordering_then o r ≡ Equal → (o ≡ Equal) × (r ≡ Equal)
@@ -36,6 +39,13 @@ term_exact a b e =
 
 pub term_itself : (t : Term) → eq_by_cmp term_cmp t t ≡ true
 term_itself t = ap is_eq (tied_itself term_total t)
+
+terms_decide : (a b : Term) → Decides (eq_by_cmp term_cmp a b) (a ≡ b)
+terms_decide a b = (λ e. term_exact a b ((Equal-is (term_cmp a b)).0 e), λ e. ap (eq_by_cmp term_cmp a) (sym e) ∙ term_itself a)
+
+-- what `==` says of two lists
+pub same_lists : (xs ys : List Term) (r : Bool) → r ≡ pointwise (eq_by_cmp term_cmp) xs ys → Decides r (xs ≡ ys)
+same_lists xs ys r is = slice_eq-Decides terms_decide xs ys r is
 
 -- the members of the set of a list that rises are the list
 pub members_of_rising : (terms : List Term) → IsStrictlySortedBy term_cmp terms → members (set_of terms) ≡ terms
@@ -80,3 +90,25 @@ sets_only t ascends = sets_of_list (t ∷ []) (ascends, tt)
 -- and back
 pub only_ascends : (t : Term) → HaveSetsOfProviders (members (only t)) → IsStrictlyIncreasing t.providers
 only_ascends t all = (subst HaveSetsOfProviders (members_only t) all).0
+
+-- ---- one attestation that never ends
+
+one_item : (terms : List Term) (t : Term) → t ≡ slice_index_or terms 0 t → 1 ≤ length terms → length terms < 2 → terms ≡ t ∷ []
+one_item [] t is some one = absurd (omega arith)
+one_item (u ∷ []) t is some one = ap (λ (x : Term). x ∷ []) (sym is)
+one_item (u ∷ v ∷ us) t is some one = absurd (omega arith)
+
+never_until : (o : Option ℕ) (r : Bool) → is_some o ≡ not r → r ≡ true → o ≡ None
+never_until None r e f = refl
+never_until (Some end) r e f = absurd cc
+
+-- whether a list of one is a row's
+pub row_alone : (terms : List Term) (t : Term) (row : List ℕ) (none same : Bool) → t ≡ slice_index_or terms 0 t → 1 ≤ length terms → length terms < 2
+    → is_some t.until ≡ not none → none ≡ true → same ≡ pointwise nat_eq t.providers row → Decides same (terms ≡ lasting row ∷ [])
+row_alone terms t row none same is some one until_is is_none compared =
+    let rows = slice_eq-Decides Decides-eqb t.providers row same compared in
+    let alone = one_item terms t is some one in
+    let ends : t.until ≡ None = never_until t.until none until_is is_none in (
+      λ e. alone ∙ (λ i. (record { providers = rows.0 e i; until = ends i }) ∷ []),
+      λ e. rows.1 (ap (λ (ts : List Term). (slice_index_or ts 0 t).providers) (sym alone ∙ e)),
+    )

@@ -1,16 +1,14 @@
 -- How attestations are held: the types' own models and private contracts alone cite this.
 use Rattle.std.specs.Prelude.{◌≡◌, ℕ, true, List, [], ◌∷◌, ◌++◌, is_some}
 use Rattle.std.specs.FinMap as map
-use Rattle.std.specs.List.Sorted.{IsStrictlySortedBy}
 use Rattle.std.specs.Ordering.{nat_cmp}
-use Rattle.std.specs.declared.option.Option.{Option}
-use Rattle.std.specs.declared.option.Option.TheVariants.{Some, None}
+use Rattle.std.specs.declared.option.Option.TheVariants.{None}
 use Rattle.std.specs.declared.result.Result.{Result}
 use Rattle.std.specs.declared.result.Result.TheVariants.{Ok, Err}
 use Rattle.path_model.specs.Rows.{RowMap}
 use Rattle.attestations.specs.declared.term.Term.{Term}
 use Rattle.attestations.specs.Gathered.{TermLists, list_or_none}
-use Rattle.attestations.specs.Terms.{SetOfTerms, TermMap, AllHaveSets, each, members, never_ending, only, set_of, term_cmp, terms_or_none}
+use Rattle.attestations.specs.Terms.{SetOfTerms, TermMap, AllHaveSets, each, members, never_ending, only, set_of, terms_or_none}
 
 -- The attestations of three maps: rows, of which each is one attestation that never ends; one attestation of each customer; several.
 abbrev pub held : RowMap → List (ℕ × Term) → List (ℕ × SetOfTerms) → TermMap

@@ -1,6 +1,5 @@
-use Rattle.std.proofs.Common.{List, sym, ap, ◌∙◌, subst}
-use Rattle.attestations.specs.declared.term.Term.{Term}
-use Rattle.attestations.specs.Terms.{SetOfTerms, HaveSetsOfProviders, members, set_of}
+use Rattle.std.proofs.Common.{sym, subst}
+use Rattle.attestations.specs.Terms.{SetOfTerms, HaveSetsOfProviders, members}
 use Rattle.attestations.proofs.TermLemmas.{sets_of_list}
 use Rattle.attestations.proofs.term_list.TermList.into_set.Goals as goal
 

@@ -16,6 +16,6 @@ returns-clause-whole c = subst (λ (es : List (ℕ × Term)). AreEntriesOf c.arg
 pub returns-clause-once : goal.returns-clause-once
 returns-clause-once c =
     let of_maps = entries_once c.self.inside.rows c.entries.result.inner c.self.inside.single.entries c.self.inside.many.entries c.entries.ensures.whole c.self.invariant
-        c.entries.ensures.rising c.iter.ensures.ordered c.iter-2.ensures.ordered in
+    c.entries.ensures.rising c.iter.ensures.ordered c.iter-2.ensures.ordered in
     subst (λ (es : List (ℕ × Term)). IsDistinct nat_eq (keys_of (three_entries c.entries.result.inner es c.iter-2.result))) (sym c.iter.ensures.rest)
     (subst (λ (es : List (ℕ × SetOfTerms)). IsDistinct nat_eq (keys_of (three_entries c.entries.result.inner c.self.inside.single.entries es))) (sym c.iter-2.ensures.rest) of_maps)

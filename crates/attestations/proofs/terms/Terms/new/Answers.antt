@@ -1,10 +1,10 @@
-use Rattle.std.proofs.Common.{List, ℕ, [], sym, subst, ap, ◌∙◌}
+use Rattle.std.proofs.Common.{List, ℕ, [], sym, subst, ◌∙◌}
 use Rattle.std.specs.FinMap as map
 use Rattle.path_model.specs.Rows.{RowMap}
 use Rattle.path_model.proofs.RowLemmas.{sets_empty}
 use Rattle.attestations.specs.declared.term.Term.{Term}
 use Rattle.attestations.specs.Held.{IsHeld, held}
-use Rattle.attestations.specs.Terms.{SetOfTerms, terms_of}
+use Rattle.attestations.specs.Terms.{SetOfTerms}
 use Rattle.attestations.proofs.EntryLemmas.{no_terms}
 use Rattle.attestations.proofs.HeldLemmas.{held_rows, rows_held}
 use Rattle.attestations.proofs.terms.Terms.new.Goals as goal

@@ -1,9 +1,9 @@
-use Rattle.std.proofs.Common.{◌≡◌, ℕ, List, [], ◌∷◌, Some, None, refl, ap, sym, ◌∙◌, subst}
+use Rattle.std.proofs.Common.{ℕ, List, [], ◌∷◌, Some, ap, sym, ◌∙◌, subst}
 use Rattle.std.specs.declared.option.Option.{Option}
 use Rattle.std.specs.Ordering.{nat_cmp}
 use Rattle.std.specs.FinMap as map
 use Rattle.attestations.specs.declared.term.Term.{Term}
-use Rattle.attestations.specs.Terms.{SetOfTerms, TermMap, HaveSetsOfProviders, lasting, members, never_ending, only, set_of, terms_or_none}
+use Rattle.attestations.specs.Terms.{SetOfTerms, TermMap, HaveSetsOfProviders, lasting, members, set_of, terms_or_none}
 use Rattle.attestations.proofs.HeldLemmas.{found, get-held, lent, of_three}
 use Rattle.attestations.proofs.TermLemmas.{members_empty, one_rises, set_of_members}
 use Rattle.attestations.proofs.terms.Terms.of_customer.Goals as goal

@@ -1,11 +1,11 @@
-use Rattle.std.proofs.Common.{List, ◌++◌, ◌∷◌, [], OnOk, ap, ◌∙◌, subst}
+use Rattle.std.proofs.Common.{ℕ, List, OnOk, ap, ◌∙◌, subst}
 use Rattle.std.specs.declared.result.Result.{Result}
 use Rattle.std.specs.declared.result.Result.TheVariants.{Ok, Err}
 use Rattle.std.specs.FinMap as map
 use Rattle.path_model.specs.Sets.{IsSetOf}
 use Rattle.attestations.specs.declared.term.Term.{Term}
 use Rattle.attestations.specs.Held.{with_list}
-use Rattle.attestations.specs.Terms.{SetOfTerms, terms_or_none}
+use Rattle.attestations.specs.Terms.{terms_or_none}
 use Rattle.attestations.proofs.TermLemmas.{united}
 use Rattle.attestations.proofs.terms.Terms.unite.Goals as goal
 
