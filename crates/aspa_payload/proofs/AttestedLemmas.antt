@@ -199,8 +199,11 @@ record IsAt (units : List Dated) (x : ℕ) (own : Option SetOfTerms) : Type 0 wh
 at_customer : (units : List Dated) (terms : TermMap) → AreAttested units terms → (x : ℕ) → IsAt units x (map.get terms x)
 at_customer units terms are x = record { within = are.within x; all = are.all x; some = are.some x }
 
+none_has : (t : Term) → map.contains_key (terms_or_none None) t ≡ false
+none_has t = ap is_some (map.get-empty term_cmp t)
+
 no_term : (t : Term) → map.contains_key (terms_or_none None) t ≡ true → ⊥
-no_term t h = let none : is_some (map.get (map.empty {R = term_cmp} {X = Unit {0}}) t) ≡ false = ap is_some (map.get-empty term_cmp t) in cc
+no_term t h = let none = none_has t in cc
 
 none_or_some : (units : List Dated) (x : ℕ) (terms : SetOfTerms) → IsAt units x None → IsAt units x (Some terms) → ⊥
 none_or_some units x terms none some = let t = some.some (λ e. cc) in no_term t.0 (none.all t.0 t.1)

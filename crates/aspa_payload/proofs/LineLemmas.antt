@@ -1,11 +1,11 @@
 -- A line, its text, and the bytes that this decodes to.
-use Rattle.std.proofs.Common.{◌≡◌, ℕ, List, drop, Option, sym, ap, ◌∙◌}
+use Rattle.std.proofs.Common.{◌≡◌, ℕ, List, drop, Option, sym, ap, ◌∙◌, subst}
 use Rattle.std.specs.declared.result.Result.{Result}
 use Rattle.std.specs.declared.result.Result.TheVariants.{Ok, Err}
 use Rattle.path_model.specs.Union.{Attestation}
 use Rattle.aspa_payload.specs.Reading.{IsReading, IsRefused, IsWhole}
 use Rattle.aspa_payload.specs.Answers.{Answers, MemoryOr}
-use Rattle.aspa_payload.specs.Line.{Decodes, IsTextRefused, IsTextReading, Has, IsLineRefused}
+use Rattle.aspa_payload.specs.Line.{Decodes, IsTextRefused, IsTextReading, text_of, word_of, SpellsEnd, IsLineRefused}
 use Rattle.aspa_payload.proofs.AnswerLemmas.{memory_or}
 use Rattle.aspa_payload.specs.declared.fault.PayloadFault.{PayloadFault}
 use Rattle.aspa_payload.specs.declared.fault.PayloadFault.TheVariants.{NotDer, Version, NoProviders, Order, SelfProvider, Base64, Moment, NoMemory}
@@ -31,17 +31,20 @@ text_answer text bytes d (Ok a) h = record { bytes = bytes; decodes = d; payload
 text_answer text bytes d (Err fault) h = memory_or fault _ _ (text_refusal text bytes d fault) h
 
 -- and what the text breaks, the line breaks
-pub line_refusal : (line text : List ℕ) (until : Option ℕ) → Has line text until → (f : PayloadFault) → IsTextRefused text f
-    → IsLineRefused line f
-line_refusal line text until has NotDer h = record { text = text; until = until; has = has; refused = h }
-line_refusal line text until has Version h = record { text = text; until = until; has = has; refused = h }
-line_refusal line text until has NoProviders h = record { text = text; until = until; has = has; refused = h }
-line_refusal line text until has Order h = record { text = text; until = until; has = has; refused = h }
-line_refusal line text until has SelfProvider h = record { text = text; until = until; has = has; refused = h }
-line_refusal line text until has Base64 h = record { text = text; until = until; has = has; refused = h }
-line_refusal line text until has Moment h = absurd h.2.1.2
-line_refusal line text until has NoMemory h = record { text = text; until = until; has = has; refused = h }
+pub line_refusal : (line : List ℕ) (until : Option ℕ) → SpellsEnd (word_of line) until → (f : PayloadFault)
+    → IsTextRefused (text_of line) f → IsLineRefused line f
+line_refusal line until end NotDer h = record { until = until; end = end; refused = h }
+line_refusal line until end Version h = record { until = until; end = end; refused = h }
+line_refusal line until end NoProviders h = record { until = until; end = end; refused = h }
+line_refusal line until end Order h = record { until = until; end = end; refused = h }
+line_refusal line until end SelfProvider h = record { until = until; end = end; refused = h }
+line_refusal line until end Base64 h = record { until = until; end = end; refused = h }
+line_refusal line until end Moment h = absurd h.2.1.2
+line_refusal line until end NoMemory h = record { until = until; end = end; refused = h }
 
-pub line_refused : (line text : List ℕ) (until : Option ℕ) → Has line text until → (f : PayloadFault)
-    → MemoryOr f (IsTextRefused text f) → MemoryOr f (IsLineRefused line f)
-line_refused line text until has f h = memory_or f _ _ (line_refusal line text until has f) h
+pub line_refused : (line text : List ℕ) (word : Option (List ℕ)) (until : Option ℕ) (f : PayloadFault) → text ≡ text_of line
+    → word ≡ word_of line → SpellsEnd word until → MemoryOr f (IsTextRefused text f) → MemoryOr f (IsLineRefused line f)
+line_refused line text word until f is_text is_word end h =
+    memory_or f _ _
+    (λ refused. line_refusal line until (subst (λ (w : Option (List ℕ)). SpellsEnd w until) is_word end) f (subst (λ (t : List ℕ). IsTextRefused t f) is_text refused))
+    h

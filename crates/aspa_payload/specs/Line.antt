@@ -1,6 +1,7 @@
 -- A line: the base64 of one payload (RFC 4648, section 4, strict and with padding), alone or with the moment at which what it attests ends.
-use Rattle.std.specs.Prelude.{◌≡◌, ℕ, List, [], ◌∷◌, ◌++◌}
+use Rattle.std.specs.Prelude.{◌≡◌, ℕ, ◌==◌, ◌+◌, Bool, List, [], drop, position}
 use Rattle.std.specs.Borrow.{Bor}
+use Rattle.std.specs.List.{before_first}
 use Rattle.std.specs.Option.{option_map}
 use Rattle.std.specs.declared.option.Option.{Option}
 use Rattle.std.specs.declared.option.Option.TheVariants.{Some, None}
@@ -8,7 +9,6 @@ use Rattle.std.specs.declared.result.Result.{Result}
 use Rattle.std.specs.declared.result.Result.TheVariants.{Ok, Err}
 use Rattle.base64.specs.Engines.{standard}
 use Rattle.base64.specs.GeneralPurpose.{decode_of}
-use Rattle.av_text.specs.Marks.{Lacks}
 use Rattle.av_text.specs.Number.{IsNumber, IsNoNumber}
 use Rattle.path_model.specs.Union.{Attestation}
 use Rattle.aspa_payload.specs.Reading.{TakesPayload, IsRefused, IsWhole}
@@ -40,12 +40,19 @@ IsTextReading text (Err fault) = IsTextRefused text fault
 
 -- ---- the line
 
--- the line is this text, and behind its first space, if it has one, stands this word (32 is a space)
-abbrev pub IsSplit : List ℕ → List ℕ → Option (List ℕ) → Type 0
-IsSplit line text None = (line ≡ text) × Lacks 32 text
-IsSplit line text (Some word) = (line ≡ text ++ 32 ∷ word) × Lacks 32 text
+-- a space
+abbrev pub is_space : ℕ → Bool
+is_space byte = byte == 32
 
--- the word is the moment of this end, and where there is none it never ends
+-- a line's text is what stands before its first space, or all of it
+abbrev pub text_of : List ℕ → List ℕ
+text_of line = before_first is_space line
+
+-- the word behind its first space, if it has one
+abbrev pub word_of : List ℕ → Option (List ℕ)
+word_of line = option_map (λ place. drop (place + 1) line) (position is_space line)
+
+-- the word is the moment of this end, and without a word there is none: it never ends
 abbrev pub SpellsEnd : Option (List ℕ) → Option ℕ → Type 0
 SpellsEnd None None = Unit {0}
 SpellsEnd None (Some moment) = ⊥
@@ -57,35 +64,20 @@ abbrev pub SpellsNoEnd : Option (List ℕ) → Type 0
 SpellsNoEnd None = ⊥
 SpellsNoEnd (Some word) = IsNoNumber word
 
--- the line has this text, and this end
-pub record Has (line text : List ℕ) (until : Option ℕ) : Type 0 where
-  pub word : Option (List ℕ)
-  pub split : IsSplit line text word
-  pub end : SpellsEnd word until
-
--- the line has an end that is no moment
-pub record HasNoMoment (line : List ℕ) : Type 0 where
-  pub text : List ℕ
-  pub word : Option (List ℕ)
-  pub split : IsSplit line text word
-  pub none : SpellsNoEnd word
-
 -- the line is the base64 of this payload, with the moment of its end if it has one
 pub record IsLineOf (line : List ℕ) (unit : Dated) : Type 0 where
-  pub text : List ℕ
-  pub has : Has line text unit.until
-  pub is : IsTextOf text unit.payload
+  pub end : SpellsEnd (word_of line) unit.until
+  pub is : IsTextOf (text_of line) unit.payload
 
--- the moment of the line's end is one, and its text breaks this rule first
+-- it has an end, or none, and its text breaks this rule first
 pub record HasBadText (line : List ℕ) (fault : PayloadFault) : Type 0 where
-  pub text : List ℕ
   pub until : Option ℕ
-  pub has : Has line text until
-  pub refused : IsTextRefused text fault
+  pub end : SpellsEnd (word_of line) until
+  pub refused : IsTextRefused (text_of line) fault
 
 -- the first rule that the line breaks
 abbrev pub IsLineRefused : List ℕ → PayloadFault → Type 0
-IsLineRefused line Moment = HasNoMoment line
+IsLineRefused line Moment = SpellsNoEnd (word_of line)
 IsLineRefused line fault = HasBadText line fault
 
 -- the reading of a line that isn't empty

@@ -1,6 +1,15 @@
 //! A line: the base64 of one payload, alone or with the moment at which what it attests ends.
-ghost use Rattle.std.specs.Prelude.{◌≡◌, Some, None, Ok, IfOk, IfErr};
-ghost use Rattle.aspa_payload.specs.Line.{lent, IsLineReading, IsSplit, IsTextReading, SpellsEnd, SpellsNoEnd};
+ghost use Rattle.std.specs.Prelude.{◌≡◌, Some, None, Ok, IfOk, IfErr, position};
+ghost use Rattle.aspa_payload.specs.Line.{
+  is_space,
+  lent,
+  text_of,
+  word_of,
+  IsLineReading,
+  IsTextReading,
+  SpellsEnd,
+  SpellsNoEnd,
+};
 ghost use Rattle.aspa_payload.specs.Answers.{Answers};
 
 use crate::fault::PayloadFault;
@@ -34,11 +43,12 @@ pub(crate) fn read_line(
 
 // The text of a line, and the word behind its first space, if it has one.
 fn split(line: &[u8]) -> (&[u8], Option<&[u8]>)
-    ensures { IsSplit line.now result.0.now (lent result.1) }
+    ensures text { result.0.now ≡ text_of line.now }
+    ensures word { lent result.1 ≡ word_of line.now }
 {
-    match line.iter().position(|byte| *byte == b' ') {
-        Some(space) => {
-            let (text, behind) = line.split_at(space);
+    match first_space(line) {
+        Some(place) => {
+            let (text, behind) = line.split_at(place);
             let (_, word) = behind.split_at(1);
             (text, Some(word))
         }
@@ -46,10 +56,17 @@ fn split(line: &[u8]) -> (&[u8], Option<&[u8]>)
     }
 }
 
+// Where the first space stands.
+fn first_space(line: &[u8]) -> Option<usize>
+    ensures { result ≡ position is_space line.now }
+{
+    line.iter().position(|byte| *byte == b' ')
+}
+
 // The end of a line that has this word; without one it never ends.
 fn read_end(word: Option<&[u8]>) -> Result<Option<u32>, PayloadFault>
-    ensures end { IfOk result (SpellsEnd (lent word)) }
-    ensures refused { IfErr result (λ fault. (fault ≡ PayloadFault.Moment) × SpellsNoEnd (lent word)) }
+    ensures end { IfOk result (SpellsEnd (lent word.entry)) }
+    ensures refused { IfErr result (λ fault. (fault ≡ PayloadFault.Moment) × SpellsNoEnd (lent word.entry)) }
 {
     let Some(word) = word else {
         return Ok(None);
