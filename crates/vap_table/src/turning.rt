@@ -33,7 +33,13 @@ impl Sources {
     {
         let mut tally = tally;
         for (_, terms) in self.as_slice() {
-            tally = turned(alloc, tally, Some(from), Some(to), terms.of_customer(customer))?;
+            tally = turned(
+                alloc,
+                tally,
+                Some(from),
+                Some(to),
+                terms.of_customer(customer),
+            )?;
         }
         Ok(tally)
     }
