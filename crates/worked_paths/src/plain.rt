@@ -101,7 +101,10 @@ impl Plain {
         let Some(name) = Name::new(self.alloc, b"all")? else {
             return Err(NoMemory);
         };
-        let (table, _moves) = Vaps::new(self.alloc).change(TableChange::Replace(name, Terms::of(self.alloc, rows)?))?;
+        let (table, _moves) = Vaps::new(self.alloc).change(TableChange::Replace(
+            name,
+            Terms::of(self.alloc, rows)?,
+        ))?;
         Ok(table)
     }
 

@@ -199,7 +199,9 @@ fn counts_what_is_alive(rt: HostRuntime) {
             ))
         );
     }
-    assert!(rt; after_ending(rt.alloc(), 10).is_some_and(|(vaps, _)| vaps.tally(CUSTOMER).is_none()));
+    assert!(rt;
+        after_ending(rt.alloc(), 10).is_some_and(|(vaps, _)| vaps.tally(CUSTOMER).is_none())
+    );
 }
 
 #[test]
