@@ -4,6 +4,8 @@ use Rattle.std.specs.declared.option.Option.{Option}
 use Rattle.std.specs.Option.{option_map}
 use Rattle.std.specs.Ordering.{nat_cmp, eq_by_cmp}
 use Rattle.std.specs.Cmp.{nat_eq_equiv, unsigned_tied}
+use Rattle.std.specs.BTreeMap.{is_at}
+use Rattle.std.specs.Map.{lookup}
 use Rattle.std.specs.FinMap as map
 use Rattle.std.proofs.lemmas.Map.Views.{exact_unsigned_eq}
 use Rattle.path_model.specs.Authority.{has}
@@ -41,6 +43,13 @@ saying_next P first whole left names now x list added so_far q out is = so_far q
   by_case : (b : Bool) → eq_by_cmp nat_cmp q x ≡ b → P q (cond b (Some list) (map.find nat_cmp q left))
   by_case true t = (added q out).1 (subst (λ (k : ℕ). nat_eq x k ≡ true) (itself x q t) (nat_eq_equiv.refl x))
   by_case false t = is
+
+-- what is said of the customer that is added, by what the others have of it
+pub added_at : (P : Option (List Term) → Option SetOfTerms → Type 0) (others : TermMap) (names now : List ℕ) (x : ℕ) (list : List Term) (other : Option SetOfTerms) → other ≡ map.get others x
+    → ((q : ℕ) → has now q ≡ false → (has names q ≡ false) × (nat_eq x q ≡ true → P (Some list) other))
+    → (q : ℕ) → has now q ≡ false → (has names q ≡ false) × (nat_eq x q ≡ true → P (Some list) (map.get others q))
+added_at P others names now x list other is added q out = ((added q out).0,
+    λ e. subst (λ (k : ℕ). P (Some list) (map.get others k)) (exact_unsigned_eq x q e) (subst (λ (o : Option SetOfTerms). P (Some list) o) is ((added q out).1 e)))
 
 -- ---- compared in both directions
 
@@ -96,15 +105,15 @@ lasts_of_patch old name patch names never new (terms, patched, is) x out m = ap 
 -- ---- the customers of a patch
 
 abbrev pub Sparing : (ℕ → Bool) → TermMap → List (ℕ × Option (List ℕ)) → List ℕ → Type 0
-Sparing said terms left names = (q : ℕ) → has names q ≡ false → said q ≡ true → (is_some (map.find nat_cmp q left) ≡ true) ⊎ NeverEnd (list_of terms q)
+Sparing said terms left names = (q : ℕ) → has names q ≡ false → said q ≡ true → (is_some (lookup (is_at (nat_cmp q)) left) ≡ true) ⊎ NeverEnd (list_of terms q)
 
-pub sparing_start : (patch : PatchMap) (terms : TermMap) (left : List (ℕ × Option (List ℕ))) (names : List ℕ) → ((q : ℕ) → map.find nat_cmp q left ≡ map.get patch q) → Sparing (λ q. is_some (map.get patch q)) terms left names
+pub sparing_start : (patch : PatchMap) (terms : TermMap) (left : List (ℕ × Option (List ℕ))) (names : List ℕ) → ((q : ℕ) → lookup (is_at (nat_cmp q)) left ≡ map.get patch q) → Sparing (λ q. is_some (map.get patch q)) terms left names
 sparing_start patch terms left names same q out said = inl (ap is_some (same q) ∙ said)
 
 pub sparing_next : (said : ℕ → Bool) (terms : TermMap) (left : List (ℕ × Option (List ℕ))) (names now : List ℕ) (x : ℕ) (given : Option (List ℕ)) → ((q : ℕ) → has now q ≡ false → (has names q ≡ false) × (nat_eq x q ≡ true → NeverEnd (list_of terms x)))
     → Sparing said terms ((x, given) ∷ left) names → Sparing said terms left now
-sparing_next said terms left names now x given added so_far q out there = by_case (eq_by_cmp nat_cmp q x) refl (so_far q (added q out).0 there) where
-  by_case : (b : Bool) → eq_by_cmp nat_cmp q x ≡ b → (is_some (cond b (Some given) (map.find nat_cmp q left)) ≡ true) ⊎ NeverEnd (list_of terms q) → (is_some (map.find nat_cmp q left) ≡ true) ⊎ NeverEnd (list_of terms q)
+sparing_next said terms left names now x given added so_far q out there = by_case (is_at (nat_cmp q) x) refl (so_far q (added q out).0 there) where
+  by_case : (b : Bool) → is_at (nat_cmp q) x ≡ b → (is_some (cond b (Some given) (lookup (is_at (nat_cmp q)) left)) ≡ true) ⊎ NeverEnd (list_of terms q) → (is_some (lookup (is_at (nat_cmp q)) left) ≡ true) ⊎ NeverEnd (list_of terms q)
   by_case true t is = inr (subst (λ (k : ℕ). NeverEnd (list_of terms k)) (itself x q t) ((added q out).1 (subst (λ (k : ℕ). nat_eq x k ≡ true) (itself x q t) (nat_eq_equiv.refl x))))
   by_case false t is = is
 
@@ -113,3 +122,11 @@ sparing_end said terms names so_far q out there = by_case (so_far q out there) w
   by_case : (false ≡ true) ⊎ NeverEnd (list_of terms q) → NeverEnd (list_of terms q)
   by_case (inl no') = absurd (true≢false (sym no'))
   by_case (inr never) = never
+
+none_more : (b : Bool) → b ≡ (b || false)
+none_more true = refl
+none_more false = refl
+
+-- where no entry is left all are named
+pub all_named : {X : Type 0} (names : List ℕ) (left : List (ℕ × X)) (q : ℕ) → left ≡ [] → has names q ≡ (has names q || is_some (lookup (is_at (nat_cmp q)) left))
+all_named {X} names left q none = none_more (has names q) ∙ ap (λ (entries : List (ℕ × X)). has names q || is_some (lookup (is_at (nat_cmp q)) entries)) (sym none)

@@ -1,5 +1,5 @@
 -- Rows of sources that are counted in place of others.
-use Rattle.std.proofs.Common.{◌≡◌, ℕ, nat_eq, ◌+◌, Bool, true, false, cond, List, [], ◌∷◌, ◌++◌, length, length-append, filter, map, Some, None, refl, sym, ap, subst, ◌∙◌, arith}
+use Rattle.std.proofs.Common.{◌≡◌, ℕ, nat_eq, ◌+◌, Bool, true, false, cond, List, [], ◌∷◌, ◌++◌, length, length-append, filter, map, Some, None, is_some, refl, sym, ap, subst, ◌∙◌, arith}
 use Rattle.std.specs.declared.option.Option.{Option}
 use Rattle.std.specs.FinMap as finite
 use Rattle.std.specs.Cmp.Lexicographic.{pointwise}
@@ -7,7 +7,7 @@ use Rattle.std.proofs.lemmas.List.{nil_from_length}
 use Rattle.path_model.specs.Authority.{has}
 use Rattle.attestations.specs.declared.term.Term.{Term}
 use Rattle.attestations.specs.ComputedTable.{attested}
-use Rattle.attestations.specs.Terms.{TermMap, alive_among, alive_of}
+use Rattle.attestations.specs.Terms.{TermMap, alive_among, alive_of, lasting}
 use Rattle.vap_table.specs.declared.tally.Tally.{Tally}
 use Rattle.vap_table.specs.declared.tallied.Side.TheVariants.{Sources}
 use Rattle.vap_table.specs.Change.{with_source, terms_in}
@@ -164,6 +164,11 @@ rows_next moment t ts = by (is_counted moment t.until) where
 pub rows_never : (ts : List Term) → rows_at None ts ≡ []
 rows_never [] = refl
 rows_never (t ∷ ts) = rows_never ts
+
+-- one that never ends is counted where there is a moment
+pub rows_of_lasting : (moment : Option ℕ) (row : List ℕ) → rows_at moment (lasting row ∷ []) ≡ row_if (is_some moment) row
+rows_of_lasting None row = refl
+rows_of_lasting (Some m) row = refl
 
 -- ---- the attestations of one source
 

@@ -10,7 +10,7 @@ use Rattle.vap_table.proofs.CountingLemmas.{ordered}
 use Rattle.vap_table.proofs.TurningLemmas.{source_put}
 use Rattle.vap_table.proofs.parts.HeldParts.resourced.Goals as goal
 
-pub turned-requires-clause-ordered : goal.turned-without-requires-clause-ordered
+pub turned-requires-clause-ordered : goal.turned-requires-clause-ordered
 turned-requires-clause-ordered c = ordered (attested c.args.self.now.moment c.args.self.now.sources c.args.customer) (asserted c.args.self.now c.args.customer) c.args.tally c.requires.tally
 
 pub returns : goal.returns

@@ -4,7 +4,9 @@ use Rattle.attestations.specs.CurrentTable.{Parts}
 use Rattle.attestations.specs.ComputedTable.{table_of}
 use Rattle.vap_table.specs.declared.moves.RowMove.{RowMove}
 use Rattle.vap_table.specs.Current.{rows_among}
+use Rattle.vap_table.specs.Lasts.{AreLasts, AreLastsBut}
 use Rattle.vap_table.specs.Moves.{AreMoves}
+use Rattle.vap_table.proofs.LastsLemmas.{others_listed}
 use Rattle.vap_table.proofs.MovesLemmas.{are_moves, same_moves}
 use Rattle.vap_table.proofs.TalliesLemmas.{all_followed}
 use Rattle.vap_table.proofs.VapsLemmas.{same_row, still_kept}
@@ -38,8 +40,12 @@ invariant_of-vaps c = record {
   tallied = all_followed c.self.inside.parts c.change.new.self c.in_ok-names.names.all c.self.inside.tallies c.in_ok-tallies.tallies c.self.invariant.tallied
       (c.in_ok-tallies.ensures.named c.change.new.self c.in_ok-change.ensures) c.in_ok-tallies.ensures.others
       (λ q out. c.in_ok-names.ensures.all c.change.new.self c.in_ok-change.ensures q out);
-  lasts = c.in_ok-lasts.ensures;
+  lasts = subst (λ (parts : Parts). AreLasts c.in_ok-lasts.lasts parts.sources) c.parts-2.view_is c.in_ok-lasts.ensures;
 }
 
-pub with-lasts-requires : goal.with-lasts-requires
-with-lasts-requires c = ?
+pub with-requires : goal.with-requires
+with-requires c =
+    let ended : List ℕ = c.in_ok-names.names.ended in
+    subst (λ (parts : Parts). AreLastsBut c.without-lasts.result parts.sources ended) (sym c.parts-2.view_is)
+    (others_listed c.without-lasts.result c.self.inside.parts.sources c.change.new.self.sources ended (λ x out m. c.in_ok-names.ensures.ended c.change.new.self c.in_ok-change.ensures x out m)
+    (subst (λ (parts : Parts). AreLastsBut c.without-lasts.result parts.sources ended) c.parts.view_is c.without-lasts.ensures))
