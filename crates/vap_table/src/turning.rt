@@ -1,7 +1,7 @@
 //! A customer's tally, once other attestations are counted, or those at another moment.
 ghost use Rattle.std.specs.Prelude.{◌≡◌, is_some, IfOk};
 ghost use Rattle.std.specs.List.Sorted.{IsStrictlyIncreasing};
-ghost use Rattle.attestations.specs.Attested.{attested_list};
+ghost use Rattle.attestations.specs.Attested.{attested_list, listed};
 ghost use Rattle.attestations.specs.ComputedTable.{attested};
 ghost use Rattle.attestations.specs.Terms.{HaveSetsOfProviders};
 ghost use Rattle.vap_table.specs.Counting.{IsOrdered};
@@ -56,11 +56,33 @@ pub(crate) fn turned(
 {
     match attested {
         None => Ok(tally),
-        Some(Attested::Row(row)) => {
+        Some(attested) => {
+            let next = turned_listed(alloc, tally, from, to, attested)?;
+            Ok(next)
+        }
+    }
+}
+
+// The same, where there are any.
+fn turned_listed(
+    alloc: Global,
+    tally: Option<Tally>,
+    from: Option<u32>,
+    to: Option<u32>,
+    attested: Attested<'_>,
+) -> Result<Option<Tally>, NoMemory>
+    requires ordered { IsOrdered tally }
+    requires sets { HaveSetsOfProviders (listed attested) }
+    ensures ordered { IfOk result IsOrdered }
+    ensures tally { IfOk result (IsTurned (rows_at from (listed attested.entry))
+        (rows_at to (listed attested.entry)) tally) }
+{
+    match attested {
+        Attested::Row(row) => {
             let next = turned_row(alloc, tally, from.is_some(), to.is_some(), row)?;
             Ok(next)
         }
-        Some(Attested::Terms(terms)) => {
+        Attested::Terms(terms) => {
             let next = turned_terms(alloc, tally, from, to, terms)?;
             Ok(next)
         }

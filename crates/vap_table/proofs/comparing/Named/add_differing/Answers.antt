@@ -37,10 +37,10 @@ loop-customer-preserved c =
 
 pub returns-clause-all : goal.returns-clause-all
 returns-clause-all c q out =
-    subst (λ (entries : List (ℕ × List Term)). Saying (λ q l. IsLeft l (map.get c.args.others.now q)) c.args.self.now.all (lists_of c.args.terms.now) entries c.loop-customer.self.all) c.in-None.ensures.steps
+    subst (λ (entries : List (ℕ × List Term)). Saying (λ q l. IsLeft l (map.get c.args.others.now q)) c.args.self.now.all (lists_of c.args.terms.now) entries c.loop-customer.self.all) c.in-None.ensures.steps.0
     c.loop-customer.invariant.0 q out tt
 
 pub returns-clause-ended : goal.returns-clause-ended
 returns-clause-ended c q out =
-    subst (λ (entries : List (ℕ × List Term)). Saying (λ q l. IsLeftOrLasting l (map.get c.args.others.now q)) c.args.self.now.ended (lists_of c.args.terms.now) entries c.loop-customer.self.ended) c.in-None.ensures.steps
+    subst (λ (entries : List (ℕ × List Term)). Saying (λ q l. IsLeftOrLasting l (map.get c.args.others.now q)) c.args.self.now.ended (lists_of c.args.terms.now) entries c.loop-customer.self.ended) c.in-None.ensures.steps.0
     c.loop-customer.invariant.1 q out tt
