@@ -48,8 +48,10 @@ saying_next P first whole left names now x list added so_far q out is = so_far q
 pub added_at : (P : Option (List Term) → Option SetOfTerms → Type 0) (others : TermMap) (names now : List ℕ) (x : ℕ) (list : List Term) (other : Option SetOfTerms) → other ≡ map.get others x
     → ((q : ℕ) → has now q ≡ false → (has names q ≡ false) × (nat_eq x q ≡ true → P (Some list) other))
     → (q : ℕ) → has now q ≡ false → (has names q ≡ false) × (nat_eq x q ≡ true → P (Some list) (map.get others q))
-added_at P others names now x list other is added q out = ((added q out).0,
-    λ e. subst (λ (k : ℕ). P (Some list) (map.get others k)) (exact_unsigned_eq x q e) (subst (λ (o : Option SetOfTerms). P (Some list) o) is ((added q out).1 e)))
+added_at P others names now x list other is added q out = (
+  (added q out).0,
+  λ e. subst (λ (k : ℕ). P (Some list) (map.get others k)) (exact_unsigned_eq x q e) (subst (λ (o : Option SetOfTerms). P (Some list) o) is ((added q out).1 e)),
+)
 
 -- ---- compared in both directions
 

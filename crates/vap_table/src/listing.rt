@@ -32,11 +32,7 @@ impl Sources {
 }
 
 // The last moments of these attestations, if there are any, are listed.
-fn add_of(
-    lasts: &mut Lasts,
-    customer: u32,
-    attested: Option<Attested<'_>>,
-) -> Result<(), NoMemory>
+fn add_of(lasts: &mut Lasts, customer: u32, attested: Option<Attested<'_>>) -> Result<(), NoMemory>
     ensures { OnOk result (AddsLasts lasts.old customer (attested_list attested.entry) lasts.new) }
 {
     match attested {

@@ -33,14 +33,20 @@ impl Sources {
     {
         let mut tally = tally;
         for (_, terms) in self.as_slice() {
-            tally = turned(alloc, tally, Some(from), Some(to), terms.of_customer(customer))?;
+            tally = turned(
+                alloc,
+                tally,
+                Some(from),
+                Some(to),
+                terms.of_customer(customer),
+            )?;
         }
         Ok(tally)
     }
 }
 
-/// The tally that counts what is alive of these attestations at the one moment, once it counts what is alive of them at the other one. Where
-/// there is no moment, nothing of them is counted.
+/// The tally that counts what is alive of these attestations at the one moment, once it counts what is alive of them at the other one.
+/// Where there is no moment, nothing of them is counted.
 pub(crate) fn turned(
     alloc: Global,
     tally: Option<Tally>,

@@ -22,15 +22,16 @@ loop-term-preserved c =
     let i : ℕ = c.loop-term.term-index in
     let t : Term = c.term-item.result in
     let rest : List Term = drop (i + 1) terms in
-    let split : drop i terms ≡ t ∷ rest = drop_item terms i t c.loop-term-test.true c.term-item.is in
-    (turning_next (rows_at from terms) (rows_at to terms) (row_if (is_counted from t.until) t.providers) (row_if (is_counted to t.until) t.providers) (rows_at from rest) (rows_at to rest)
-    c.args.tally c.loop-term.tally c.in_ok-tally.tally c.in_ok-tally.ensures.ordered
-    (subst (λ (is : Bool). IsTurned (row_if (is_counted from t.until) t.providers) (row_if is t.providers) c.loop-term.tally c.in_ok-tally.tally) c.is_counted-is.ensures
-    (subst (λ (was : Bool). IsTurned (row_if was t.providers) (row_if c.is_counted-is.result t.providers) c.loop-term.tally c.in_ok-tally.tally) c.is_counted-was.ensures c.in_ok-tally.ensures.tally))
-    (subst (λ (come : List (List ℕ)). Turning (rows_at from terms) (rows_at to terms) (row_if (is_counted from t.until) t.providers ++ rows_at from rest) come c.args.tally c.loop-term.tally) (rows_next to t rest)
-    (subst (λ (gone : List (List ℕ)). Turning (rows_at from terms) (rows_at to terms) gone (rows_at to (t ∷ rest)) c.args.tally c.loop-term.tally) (rows_next from t rest)
-    (subst (λ (left : List Term). Turning (rows_at from terms) (rows_at to terms) (rows_at from left) (rows_at to left) c.args.tally c.loop-term.tally) split c.loop-term.invariant.0))),
-    (subst (λ (left : List Term). HaveSetsOfProviders left) split c.loop-term.invariant.1).1)
+    let split : drop i terms ≡ t ∷ rest = drop_item terms i t c.loop-term-test.true c.term-item.is in (
+      turning_next (rows_at from terms) (rows_at to terms) (row_if (is_counted from t.until) t.providers) (row_if (is_counted to t.until) t.providers) (rows_at from rest) (rows_at to rest)
+          c.args.tally c.loop-term.tally c.in_ok-tally.tally c.in_ok-tally.ensures.ordered
+          (subst (λ (is : Bool). IsTurned (row_if (is_counted from t.until) t.providers) (row_if is t.providers) c.loop-term.tally c.in_ok-tally.tally) c.is_counted-is.ensures
+          (subst (λ (was : Bool). IsTurned (row_if was t.providers) (row_if c.is_counted-is.result t.providers) c.loop-term.tally c.in_ok-tally.tally) c.is_counted-was.ensures c.in_ok-tally.ensures.tally))
+          (subst (λ (come : List (List ℕ)). Turning (rows_at from terms) (rows_at to terms) (row_if (is_counted from t.until) t.providers ++ rows_at from rest) come c.args.tally c.loop-term.tally) (rows_next to t rest)
+          (subst (λ (gone : List (List ℕ)). Turning (rows_at from terms) (rows_at to terms) gone (rows_at to (t ∷ rest)) c.args.tally c.loop-term.tally) (rows_next from t rest)
+          (subst (λ (left : List Term). Turning (rows_at from terms) (rows_at to terms) (rows_at from left) (rows_at to left) c.args.tally c.loop-term.tally) split c.loop-term.invariant.0))),
+      (subst (λ (left : List Term). HaveSetsOfProviders left) split c.loop-term.invariant.1).1,
+    )
 
 pub returns-clause-tally : goal.returns-clause-tally
 returns-clause-tally c =

@@ -14,9 +14,10 @@ loop-customer-init c =
     let first = c.args.self.now in
     let whole = lists_of c.args.terms.now in
     let entries : List (ℕ × List Term) = terms_left c.into_iter-customer-iterator.result in
-    let same = λ (q : ℕ). ap (λ (r : TermEntries). map.find nat_cmp q (terms_left r)) c.into_iter-customer-iterator.ensures.into_iter_gives ∙ c.entries-customer-items.ensures.whole q in
-    (saying_start (λ q list. IsLeft list (map.get c.args.others.now q)) first.all whole entries same,
-    saying_start (λ q list. IsLeftOrLasting list (map.get c.args.others.now q)) first.ended whole entries same)
+    let same = λ (q : ℕ). ap (λ (r : TermEntries). map.find nat_cmp q (terms_left r)) c.into_iter-customer-iterator.ensures.into_iter_gives ∙ c.entries-customer-items.ensures.whole q in (
+      saying_start (λ q list. IsLeft list (map.get c.args.others.now q)) first.all whole entries same,
+      saying_start (λ q list. IsLeftOrLasting list (map.get c.args.others.now q)) first.ended whole entries same,
+    )
 
 pub loop-customer-preserved : goal.loop-customer-preserved
 loop-customer-preserved c =
@@ -27,13 +28,14 @@ loop-customer-preserved c =
     let others = c.args.others.now in
     let x : ℕ = c.in-Some.customer in
     let list : List Term = listed c.in-Some.attested in
-    let left : List (ℕ × List Term) = terms_left c.next.new.self in
-    (saying_next (λ q l. IsLeft l (map.get others q)) first.all whole left names.all now.all x list
-    (added_at IsLeft others names.all now.all x list (set_if c.of_customer.result) c.of_customer.ensures.given c.in_ok-add_if_differs.ensures.all)
-    (subst (λ (entries : List (ℕ × List Term)). Saying (λ q l. IsLeft l (map.get others q)) first.all whole entries names.all) c.in-Some.ensures.steps c.loop-customer.invariant.0),
-    saying_next (λ q l. IsLeftOrLasting l (map.get others q)) first.ended whole left names.ended now.ended x list
-    (added_at IsLeftOrLasting others names.ended now.ended x list (set_if c.of_customer.result) c.of_customer.ensures.given c.in_ok-add_if_differs.ensures.ended)
-    (subst (λ (entries : List (ℕ × List Term)). Saying (λ q l. IsLeftOrLasting l (map.get others q)) first.ended whole entries names.ended) c.in-Some.ensures.steps c.loop-customer.invariant.1))
+    let left : List (ℕ × List Term) = terms_left c.next.new.self in (
+      saying_next (λ q l. IsLeft l (map.get others q)) first.all whole left names.all now.all x list
+          (added_at IsLeft others names.all now.all x list (set_if c.of_customer.result) c.of_customer.ensures.given c.in_ok-add_if_differs.ensures.all)
+          (subst (λ (entries : List (ℕ × List Term)). Saying (λ q l. IsLeft l (map.get others q)) first.all whole entries names.all) c.in-Some.ensures.steps c.loop-customer.invariant.0),
+      saying_next (λ q l. IsLeftOrLasting l (map.get others q)) first.ended whole left names.ended now.ended x list
+          (added_at IsLeftOrLasting others names.ended now.ended x list (set_if c.of_customer.result) c.of_customer.ensures.given c.in_ok-add_if_differs.ensures.ended)
+          (subst (λ (entries : List (ℕ × List Term)). Saying (λ q l. IsLeftOrLasting l (map.get others q)) first.ended whole entries names.ended) c.in-Some.ensures.steps c.loop-customer.invariant.1),
+    )
 
 pub returns-clause-all : goal.returns-clause-all
 returns-clause-all c q out =
