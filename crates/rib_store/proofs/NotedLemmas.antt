@@ -4,7 +4,8 @@ use Rattle.std.specs.declared.option.Option.{Option}
 use Rattle.std.specs.BTreeMap.{is_at}
 use Rattle.std.specs.FinMap as fin
 use Rattle.std.specs.Map.{lookup}
-use Rattle.std.specs.Option.{is_some, option_map}
+use Rattle.std.specs.Borrow.{Bor}
+use Rattle.std.specs.Option.{is_some, option_copied, option_map}
 use Rattle.std.specs.Ordering.{eq_by_cmp}
 use Rattle.path_model.specs.declared.key.Key.{Key}
 use Rattle.path_model.specs.declared.verdict.Verdict.{Verdict}
@@ -137,6 +138,16 @@ note_new None true was none = refl
 note_new None false was none = refl
 note_new (Some v) true was none = absurd (let e : Some v ≡ None = none refl in cc)
 note_new (Some v) false was none = refl
+
+-- where the key has a note, no other one comes
+pub note_stays : (before : Option (Option Verdict)) (here : Bool) (was : Option Verdict) → (here ≡ true → is_some before ≡ true) → before ≡ or_noted before here was
+note_stays None true was some = absurd (true≢false (sym (some refl)))
+note_stays None false was some = refl
+note_stays (Some v) here was some = refl
+
+pub some_copied : {A : Type 0} (o : Option (Bor A)) → is_some o ≡ true → is_some (option_copied o) ≡ true
+some_copied None e = e
+some_copied (Some v) e = refl
 
 pub none_of : {A : Type 0} (o : Option A) → is_some o ≡ false → o ≡ None
 none_of None e = refl
