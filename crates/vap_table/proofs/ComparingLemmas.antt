@@ -11,10 +11,10 @@ use Rattle.std.proofs.lemmas.Map.Views.{exact_unsigned_eq}
 use Rattle.path_model.specs.Authority.{has}
 use Rattle.path_model.specs.Rows.{PatchMap}
 use Rattle.attestations.specs.declared.term.Term.{Term}
-use Rattle.attestations.specs.Terms.{SetOfTerms, TermMap, lasting, members, set_of, terms_or_none}
+use Rattle.attestations.specs.Terms.{SetOfTerms, TermMap, lasting, members, terms_or_none}
 use Rattle.attestations.proofs.TermLemmas.{members_empty, members_only, set_of_members}
 use Rattle.vap_table.specs.declared.change.TableChange.TheVariants.{Replace, Patch}
-use Rattle.vap_table.specs.Change.{IsPatched, terms_in, given_terms, patched_terms}
+use Rattle.vap_table.specs.Change.{terms_in, given_terms, patched_terms}
 use Rattle.vap_table.specs.Comparing.{lists_of, IsLeft, IsLeftOrLasting, HaveSameLasts, NeverEnd}
 use Rattle.vap_table.specs.Lasts.{all_terms, lasts_among}
 use Rattle.vap_table.specs.Naming.{NamesLasts}

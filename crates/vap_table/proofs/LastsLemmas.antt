@@ -20,11 +20,11 @@ use Rattle.std.proofs.lemmas.Map.Views.{exact_unsigned_eq}
 use Rattle.attestations.specs.declared.term.Term.{Term}
 use Rattle.path_model.specs.Authority.{has}
 use Rattle.attestations.specs.ComputedTable.{attested}
-use Rattle.attestations.specs.Terms.{TermMap, SetOfTerms, members, is_alive, alive_among, alive_of, terms_or_none}
+use Rattle.attestations.specs.Terms.{TermMap, members, is_alive, alive_among, alive_of, terms_or_none}
 use Rattle.vap_table.specs.Lasts.{all_terms, is_last, lasts_among, pair_cmp, has_last, SetsLast, AddsLasts, DropsLasts, AreLasts, AreLastsBut, HasNoneBetween}
 use Rattle.vap_table.specs.Change.{with_source, terms_in}
 use Rattle.vap_table.specs.Sources.{list_of, row_of_one, first_row}
-use Rattle.vap_table.proofs.CurrentLemmas.{Filling, filling_next, first_of_left}
+use Rattle.vap_table.proofs.CurrentLemmas.{Filling, filling_next}
 use Rattle.vap_table.proofs.SourcesLemmas.{none_of_empty}
 
 and_swap : (a b : Bool) → (a && b) ≡ (b && a)

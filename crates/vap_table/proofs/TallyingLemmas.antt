@@ -6,7 +6,6 @@ use Rattle.std.specs.declared.option.Option.{Option}
 use Rattle.std.specs.Ordering.{nat_cmp}
 use Rattle.std.specs.BTreeMap.{is_at}
 use Rattle.std.specs.Cmp.{nat_cmp_total, nat_eq_equiv, unsigned_tied}
-use Rattle.std.specs.Cmp.Lexicographic.{pointwise}
 use Rattle.std.specs.FinMap as map
 use Rattle.std.proofs.lemmas.Bool.{false_from_ne_true}
 use Rattle.std.proofs.lemmas.Map.Views.{exact_unsigned_eq}
@@ -23,7 +22,7 @@ use Rattle.vap_table.specs.declared.tally.Tally.{Tally}
 use Rattle.vap_table.specs.declared.change.TableChange.TheVariants.{Replace, Patch, Slurm, Filter, Unfilter, Assert, Unassert, At}
 use Rattle.vap_table.specs.declared.stepping.Step.TheVariants.{AssertionMore}
 use Rattle.vap_table.specs.declared.tallied.Side.{Side}
-use Rattle.vap_table.specs.declared.tallied.Side.TheVariants.{Sources, Assertions}
+use Rattle.vap_table.specs.declared.tallied.Side.TheVariants.{Assertions}
 use Rattle.vap_table.specs.Change.{Alters, with_source, terms_in, given_terms, patched_terms}
 use Rattle.vap_table.specs.Counting.{one, holds, missing, asserted_with, IsGrown, IsGrownBy, IsTallyBySide}
 use Rattle.vap_table.specs.Sources.{list_of}

@@ -14,7 +14,7 @@ use Rattle.vap_table.specs.Change.{with_source, terms_in}
 use Rattle.vap_table.specs.Counting.{one, IsGrownBy, IsOrdered, IsTallyBySide}
 use Rattle.vap_table.specs.Sources.{list_of}
 use Rattle.vap_table.specs.Tally.{holding, IsTallyOfRows}
-use Rattle.vap_table.specs.Turning.{is_counted, row_if, rows_at, AreGrown, AreTurned, IsTurned}
+use Rattle.vap_table.specs.Turning.{is_counted, row_if, rows_at, AreGrown, IsTurned}
 use Rattle.vap_table.proofs.SourcesLemmas.{none_of_empty}
 
 -- ---- rows among others

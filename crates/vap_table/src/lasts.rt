@@ -10,8 +10,8 @@ use std::alloc::Global;
 use std::collections::BTreeSet;
 use std::marker::Model;
 
-/// The last moments of attestations with an end, each with its customer, by rising moment. A pair takes some 12 bytes. An attestation that is
-/// never alive, as its end is 0, has no last moment.
+/// The last moments of attestations with an end, each with its customer, by rising moment. A pair takes some 12 bytes. An attestation
+/// that is never alive, as its end is 0, has no last moment.
 #[derive(Debug, Drop)]
 pub(crate) struct Lasts {
     pairs: BTreeSet<(u32, u32)>,

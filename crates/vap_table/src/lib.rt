@@ -4,12 +4,13 @@
 //! row moved. What a change makes of the parts is defined in `specs/Change.antt`; begin reading there, and then in `specs/Moves.antt`.
 //! The current table of given parts is defined in `attestations` (`CurrentTable`).
 //!
-//! A change visits only the customers that it names (`naming`, `comparing`), and none where it changes nothing (`idle`). An index has the last
-//! moments of the attestations that end (`lasts`, `listing`), so another moment names only the customers with an attestation that is alive
-//! at one of the two moments alone. Each customer has a tally (`specs/Tally.antt`): how many alive attestations and how many assertions there
-//! are of it, and which numbers they hold. [`Vaps::tally`] lends it. A change takes the rows that it replaces off the tally and adds the new
-//! ones (`tallying`, `turning`, `tallied`, `stepping`), so no other source is looked at but for another moment, and the current row is read off
-//! the tally (`shown`). `current` keeps the rows that the first source doesn't have as they are, and `refreshing` does so customer by customer.
+//! A change visits only the customers that it names (`naming`, `comparing`), and none where it changes nothing (`idle`). An index has the
+//! last moments of the attestations that end (`lasts`, `listing`), so another moment names only the customers with an attestation that is
+//! alive at one of the two moments alone. Each customer has a tally (`specs/Tally.antt`): how many alive attestations and how many
+//! assertions there are of it, and which numbers they hold. [`Vaps::tally`] lends it. A change takes the rows that it replaces off the
+//! tally and adds the new ones (`tallying`, `turning`, `tallied`, `stepping`), so other sources are looked at for another moment alone,
+//! and the current row is read off the tally (`shown`). `current` keeps the rows that the first source doesn't have as they are, and
+//! `refreshing` does so customer by customer.
 #![tactic(auto)]
 
 mod change;

@@ -45,8 +45,8 @@ impl Sources {
     }
 }
 
-/// The tally that counts what is alive of these attestations at the one moment, once it counts what is alive of them at the other one. Where
-/// there is no moment, nothing of them is counted.
+/// The tally that counts what is alive of these attestations at the one moment, once it counts what is alive of them at the other one.
+/// Where there is no moment, nothing of them is counted.
 pub(crate) fn turned(
     alloc: Global,
     tally: Option<Tally>,

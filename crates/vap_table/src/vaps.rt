@@ -72,9 +72,9 @@ impl Vaps {
         }
     }
 
-    /// The table after a change, and the customers whose current row moved. It visits only the customers that the change names, and takes for
-    /// each the time of its row and of what the change says of it. Another moment names those with an attestation that is alive at one of the two
-    /// moments and not at the other one. A change by hand, or a moment, that changes nothing takes a look-up.
+    /// The table after a change, and the customers whose current row moved. It visits only the customers that the change names, and takes
+    /// for each the time of its row and of what the change says of it. Another moment names those with an attestation that is alive at one
+    /// of the two moments and not at the other one. A change by hand, or a moment, that changes nothing takes a look-up.
     pub fn change(self, change: TableChange) -> Result<(Vaps, Moves), NoMemory>
         ensures parts { IfOk result (λ r. Alters self change r.0) }
         ensures moves { IfOk result (λ r. AreMoves (table_of self) (table_of r.0) r.1) }
@@ -127,9 +127,9 @@ impl Vaps {
         self.current.customers.len() as u64
     }
 
-    /// How many alive attestations the named sources have of a customer, each counted once in each of them, how many assertions have a row of it,
-    /// and how many of them hold each number; `None` exactly where there is no such attestation or row. Filters are no matter. It costs one
-    /// ordered look-up, and takes no memory.
+    /// How many alive attestations the named sources have of a customer, each counted once in each of them, how many assertions have a row
+    /// of it, and how many of them hold each number; `None` exactly where there is no such attestation or row. Filters are no matter. It
+    /// costs one ordered look-up, and takes no memory.
     pub fn tally(&self, customer: u32) -> Option<&Tally>
         ensures { IsTallyOf self.now customer (option_copied result) }
     {

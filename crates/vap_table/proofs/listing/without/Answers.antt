@@ -1,6 +1,5 @@
-use Rattle.std.proofs.Common.{◌≡◌, ℕ, true, List, ◌∷◌, ◌||◌, nat_eq, ap, sym, subst, ◌∙◌}
+use Rattle.std.proofs.Common.{◌≡◌, ℕ, true, List, ◌∷◌, sym, subst, ◌∙◌}
 use Rattle.std.specs.Map.Iter.{deref}
-use Rattle.std.proofs.Math.Bool.{or-true}
 use Rattle.std.proofs.lemmas.Map.Iter.{rest_more}
 use Rattle.path_model.specs.Authority.{has}
 use Rattle.vap_table.proofs.LastsLemmas.{Forgetting, forgetting_start, forgetting_next, forgotten, has_head, has_tail}

@@ -1,4 +1,4 @@
-use Rattle.std.proofs.Common.{◌≡◌, Bool, true, false, List, [], ◌∷◌, ℕ, sym, subst}
+use Rattle.std.proofs.Common.{Bool, List, [], ◌∷◌, ℕ, sym, subst}
 use Rattle.vap_table.specs.Turning.{row_if, IsTurned}
 use Rattle.vap_table.proofs.TurningLemmas.{row_come, row_gone}
 use Rattle.vap_table.proofs.turning.turned_row.Goals as goal

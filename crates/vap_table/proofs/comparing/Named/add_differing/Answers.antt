@@ -1,5 +1,4 @@
-use Rattle.std.proofs.Common.{ℕ, List, ◌∷◌, Some, nat_cmp, ap, sym, subst, ◌∙◌}
-use Rattle.std.specs.declared.option.Option.{Option}
+use Rattle.std.proofs.Common.{ℕ, List, nat_cmp, ap, subst, ◌∙◌}
 use Rattle.std.specs.FinMap as map
 use Rattle.attestations.specs.declared.term.Term.{Term}
 use Rattle.attestations.specs.declared.term_entries.TermEntries.{TermEntries}

@@ -1,7 +1,6 @@
-use Rattle.std.proofs.Common.{◌≡◌, ℕ, List, ◌||◌, false, ap, sym, ◌∙◌, subst}
+use Rattle.std.proofs.Common.{◌≡◌, ℕ, List, ◌||◌, false, ap, sym, ◌∙◌}
 use Rattle.path_model.specs.Authority.{has}
 use Rattle.std.specs.List.{filter}
-use Rattle.vap_table.specs.Lasts.{has_last}
 use Rattle.vap_table.proofs.LastsLemmas.{gives, between, none_given, none_named, given_next}
 use Rattle.vap_table.proofs.lasts.Lasts.between.Goals as goal
 

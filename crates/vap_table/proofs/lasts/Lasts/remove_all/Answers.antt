@@ -1,7 +1,6 @@
-use Rattle.std.proofs.Common.{ℕ, ◌+◌, List, ◌∷◌, [], drop, sym, subst}
+use Rattle.std.proofs.Common.{ℕ, ◌+◌, List, drop, subst}
 use Rattle.std.proofs.lemmas.List.{drop_all}
 use Rattle.attestations.specs.declared.term.Term.{Term}
-use Rattle.vap_table.specs.Lasts.{AddsLasts, DropsLasts}
 use Rattle.vap_table.proofs.LastsLemmas.{Dropping, dropping_next, dropping_end, drop_item}
 use Rattle.vap_table.proofs.lasts.Lasts.remove_all.Goals as goal
 

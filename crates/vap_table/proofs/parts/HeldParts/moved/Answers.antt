@@ -1,4 +1,4 @@
-use Rattle.std.proofs.Common.{◌≡◌, ℕ, sym, subst}
+use Rattle.std.proofs.Common.{sym, subst}
 use Rattle.attestations.specs.CurrentTable.{Parts}
 use Rattle.attestations.specs.ComputedTable.{attested}
 use Rattle.vap_table.specs.declared.change.TableChange.TheVariants.{At}

@@ -1,4 +1,4 @@
-use Rattle.std.proofs.Common.{◌≡◌, ℕ, ◌+◌, List, ◌∷◌, drop, ap, sym, subst}
+use Rattle.std.proofs.Common.{ℕ, ◌+◌, List, drop, ap, sym, subst}
 use Rattle.std.proofs.lemmas.List.{drop_all}
 use Rattle.attestations.specs.declared.term.Term.{Term}
 use Rattle.attestations.specs.Terms.{TermMap}
