@@ -91,14 +91,22 @@ fn refuses_files_of_lines(rt: HostRuntime) {
             PayloadFault::Moment,
         ),
         (b"MBGgAwIBAQIDAPvwMAUCAwD78Q== x", 1, PayloadFault::Moment),
-        (b"MBGgAwIBAQIDAPvwMAUCAwD78Q== 0100", 1, PayloadFault::Moment),
+        (
+            b"MBGgAwIBAQIDAPvwMAUCAwD78Q== 0100",
+            1,
+            PayloadFault::Moment,
+        ),
         (b"MBGgAwIBAQIDAPvwMAUCAwD78Q== -1", 1, PayloadFault::Moment),
         (
             b"MBGgAwIBAQIDAPvwMAUCAwD78Q== 4294967296",
             1,
             PayloadFault::Moment,
         ),
-        (b"MBGgAwIBAQIDAPvwMAUCAwD78Q==  100", 1, PayloadFault::Moment),
+        (
+            b"MBGgAwIBAQIDAPvwMAUCAwD78Q==  100",
+            1,
+            PayloadFault::Moment,
+        ),
         (
             b"MBGgAwIBAQIDAPvwMAUCAwD78Q== 100 ",
             1,
