@@ -9,7 +9,11 @@
 //! above keeps it in step by [`KeysByNumber::follow`], and `specs/Keys.antt` says what it is that a key has a number.
 #![tactic(auto)]
 
+mod boxed_iter;
+mod boxed_routes;
 mod by_number;
+mod identified_iter;
+mod identified_routes;
 mod ipv4_nlri;
 mod ipv4_plain;
 mod ipv4_subnet;
@@ -17,8 +21,6 @@ mod ipv6_plain;
 mod iter;
 mod keys_by_number;
 mod left;
-mod marked_iter;
-mod marked_routes;
 mod nlri_iter;
 mod peer_iter;
 mod peer_routes;

@@ -1,12 +1,9 @@
 //! The values of one peer's routes with a path identifier.
 ghost use Rattle.std.specs.Prelude.{◌≡◌, ◌↔◌, [], IfNone, IfOk, IfSome, OnOk, OnErr, IsTrue, option_copied};
-ghost use Rattle.std.specs.BTreeMap.{insert_entry, is_at};
-ghost use Rattle.std.specs.Map.{lookup, remove_entry};
-ghost use Rattle.path_model.specs.Key.{nlri_cmp};
-ghost use Rattle.route_map.specs.Merged.{marked, HasNlri};
+ghost use Rattle.route_map.specs.Merged.{identified, value_of, with_value, without_nlri, HasNlri};
 
+use crate::identified_iter::IdentifiedIter;
 use crate::ipv4_nlri::Ipv4Nlri;
-use crate::marked_iter::MarkedIter;
 use av_base::NoMemory;
 use path_model::{Nlri, Prefix};
 use sorted_map::Sorted;
@@ -15,13 +12,13 @@ use std::marker::Model;
 
 // The value of each prefix and path identifier that one peer has a route to (RFC 7911, section 3).
 #[derive(Drop)]
-pub(crate) struct MarkedRoutes<V> {
+pub(crate) struct IdentifiedRoutes<V> {
     // an IPv4 prefix takes 12 bytes with its identifier, and an IPv6 prefix 32
     v4: Sorted<Ipv4Nlri, V>,
     v6: Sorted<Nlri, V>,
 }
 
-impl<V> Model for MarkedRoutes<V> {
+impl<V> Model for IdentifiedRoutes<V> {
     ghost use Rattle.std.specs.Prelude.{List, ◌++◌};
     ghost use Rattle.path_model.specs.declared.nlri.Nlri.{Nlri};
     ghost use Rattle.route_map.specs.Families.{AreByFamily};
@@ -33,12 +30,12 @@ impl<V> Model for MarkedRoutes<V> {
     ghost invariant = { λ r. AreByFamily r.v4 r.v6 };
 }
 
-impl<V> MarkedRoutes<V> {
+impl<V> IdentifiedRoutes<V> {
     // None at all. It takes no memory.
-    pub(crate) fn new(alloc: Global) -> MarkedRoutes<V>
+    pub(crate) fn new(alloc: Global) -> IdentifiedRoutes<V>
         ensures { result ≡ [] }
     {
-        MarkedRoutes {
+        IdentifiedRoutes {
             v4: Sorted::new(alloc),
             v6: Sorted::new(alloc),
         }
@@ -53,7 +50,7 @@ impl<V> MarkedRoutes<V> {
 
     // The value of a prefix.
     pub(crate) fn get(&self, prefix: &Prefix, path: u32) -> Option<&V>
-        ensures { option_copied result ≡ lookup (is_at (nlri_cmp (marked prefix.now path))) self.now }
+        ensures { option_copied result ≡ value_of self.now (identified prefix.now path) }
     {
         match Ipv4Nlri::of(prefix, path) {
             Some(subnet) => self.v4.get(&subnet),
@@ -76,17 +73,17 @@ impl<V> MarkedRoutes<V> {
     }
 
     // All in order.
-    pub(crate) fn iter(&self) -> MarkedIter<'_, V>
+    pub(crate) fn iter(&self) -> IdentifiedIter<'_, V>
         ensures { result ≡ self.now }
     {
-        MarkedIter {
+        IdentifiedIter {
             v4: self.v4.iter(),
             v6: self.v6.iter(),
         }
     }
 }
 
-impl<V: Copy> MarkedRoutes<V> {
+impl<V: Copy> IdentifiedRoutes<V> {
     // Gives a prefix a value, and answers the one that it had. Where there was no memory nothing changed.
     pub(crate) fn insert(
         &mut self,
@@ -94,8 +91,8 @@ impl<V: Copy> MarkedRoutes<V> {
         path: u32,
         value: V,
     ) -> Result<Option<V>, NoMemory>
-        ensures before { IfOk result (λ v. v ≡ lookup (is_at (nlri_cmp (marked prefix.now path))) self.old) }
-        ensures put { OnOk result (self.new ≡ insert_entry nlri_cmp self.old (marked prefix.now path) value) }
+        ensures before { IfOk result (λ v. v ≡ value_of self.old (identified prefix.now path)) }
+        ensures put { OnOk result (self.new ≡ with_value self.old (identified prefix.now path) value) }
         ensures same { OnErr result (self.new ≡ self.old) }
     {
         match Ipv4Nlri::of(prefix, path) {
@@ -105,11 +102,11 @@ impl<V: Copy> MarkedRoutes<V> {
     }
 }
 
-impl<V: Drop> MarkedRoutes<V> {
+impl<V: Drop> IdentifiedRoutes<V> {
     // Takes the value of a prefix out, where it has one. It takes no memory.
     pub(crate) fn remove(&mut self, prefix: &Prefix, path: u32) -> Option<V>
-        ensures before { result ≡ lookup (is_at (nlri_cmp (marked prefix.now path))) self.old }
-        ensures removed { self.new ≡ remove_entry (is_at (nlri_cmp (marked prefix.now path))) self.old }
+        ensures before { result ≡ value_of self.old (identified prefix.now path) }
+        ensures removed { self.new ≡ without_nlri self.old (identified prefix.now path) }
     {
         match Ipv4Nlri::of(prefix, path) {
             Some(subnet) => self.v4.remove(&subnet),
@@ -120,7 +117,7 @@ impl<V: Drop> MarkedRoutes<V> {
 
 // A prefix with a path identifier.
 fn nlri_of(prefix: &Prefix, path: u32) -> Nlri
-    ensures { result ≡ marked prefix.now path }
+    ensures { result ≡ identified prefix.now path }
 {
     Nlri {
         prefix: *prefix,

@@ -5,16 +5,16 @@ use Rattle.std.specs.List.{filter}
 use Rattle.path_model.specs.declared.nlri.Nlri.{Nlri}
 use Rattle.path_model.specs.Key.{key_of}
 use Rattle.route_map.specs.Keys.{has_key, pair_cmp}
-use Rattle.route_map.specs.Numbered.{least_marked}
-use Rattle.route_map.proofs.NumberedLemmas.{gives, given, gives_next, marked_least}
-use Rattle.route_map.proofs.by_number.push_keys_of_marked_four.Goals as goal
+use Rattle.route_map.specs.Numbered.{least_identified}
+use Rattle.route_map.proofs.NumberedLemmas.{gives, given, gives_next, identified_least}
+use Rattle.route_map.proofs.by_number.push_keys_of_identified_four.Goals as goal
 
 pub loop-pair-init : goal.loop-pair-init
 loop-pair-init c = λ q. ap (λ (t : Bool). has_key c.args.keys.now.items q || t)
     (ap (gives c.args.peer q)
     (c.into_iter-pair-iterator.ensures.into_iter_gives ∙ c.range-pair-items.ensures.between tt
     ∙ ap (λ (s : Nlri). filter (range_contains pair_cmp (Included (c.args.number, s)) (Excluded (c.args.next, s))) c.args.numbered.now.keys) c.least-least.ensures)
-    ∙ given c.args.peer q c.args.number c.args.next c.requires.next least_marked c.args.numbered.now.keys (marked_least false c.args.numbered.now.keys c.requires.kind))
+    ∙ given c.args.peer q c.args.number c.args.next c.requires.next least_identified c.args.numbered.now.keys (identified_least false c.args.numbered.now.keys c.requires.kind))
 
 pub loop-pair-preserved : goal.loop-pair-preserved
 loop-pair-preserved c = λ q.

@@ -7,12 +7,12 @@ use std::marker::Model;
 
 // The prefixes that one peer has a route to with a path identifier, in order, each with its value.
 #[derive(Drop)]
-pub(crate) struct MarkedIter<'a, V> {
+pub(crate) struct IdentifiedIter<'a, V> {
     pub(crate) v4: sorted_map::Iter<'a, Ipv4Nlri, V>,
     pub(crate) v6: sorted_map::Iter<'a, Nlri, V>,
 }
 
-impl<'a, V> Model for MarkedIter<'a, V> {
+impl<'a, V> Model for IdentifiedIter<'a, V> {
     ghost use Rattle.std.specs.Prelude.{List, ◌++◌};
     ghost use Rattle.path_model.specs.declared.nlri.Nlri.{Nlri};
 
@@ -21,7 +21,7 @@ impl<'a, V> Model for MarkedIter<'a, V> {
     ghost view = { λ i. i.v4 ++ i.v6 };
 }
 
-impl<'a, V> Iterator for MarkedIter<'a, V> {
+impl<'a, V> Iterator for IdentifiedIter<'a, V> {
     type Item = (Nlri, &'a V);
 
     ghost next_gives = { YieldsFirstBy (λ e. (e.0, e.1.now)) (λ left. left) };

@@ -1,7 +1,7 @@
 use Rattle.std.proofs.Common.{◌++◌, ◌-◌, length, ap, sym, subst, ◌∙◌}
 use Rattle.route_map.specs.Merged.{HasNlri}
 use Rattle.route_map.proofs.LastLemmas.{found_first, found_from_place, found_second, none_from_place}
-use Rattle.route_map.proofs.marked_routes.MarkedRoutes.last.Goals as goal
+use Rattle.route_map.proofs.identified_routes.IdentifiedRoutes.last.Goals as goal
 
 pub returns-in-Some-clause-some : goal.returns-in-Some-clause-some
 returns-in-Some-clause-some g c =

@@ -6,7 +6,7 @@ use Rattle.path_model.specs.declared.nlri.Nlri.{Nlri}
 use Rattle.route_map.specs.Keys.{pair_cmp}
 use Rattle.route_map.specs.Numbered.{least_nlri}
 use Rattle.route_map.proofs.NumberedLemmas.{none_from, some_from, all_least}
-use Rattle.route_map.proofs.by_number.marked_six_has.Goals as goal
+use Rattle.route_map.proofs.by_number.identified_six_has.Goals as goal
 
 pub returns-in-None : goal.returns-in-None
 returns-in-None c =

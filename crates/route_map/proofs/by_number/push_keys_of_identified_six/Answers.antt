@@ -6,7 +6,7 @@ use Rattle.path_model.specs.declared.nlri.Nlri.{Nlri}
 use Rattle.route_map.specs.Keys.{has_key, pair_cmp}
 use Rattle.route_map.specs.Numbered.{least_nlri}
 use Rattle.route_map.proofs.NumberedLemmas.{gives, given, gives_next, all_least}
-use Rattle.route_map.proofs.by_number.push_keys_of_marked_six.Goals as goal
+use Rattle.route_map.proofs.by_number.push_keys_of_identified_six.Goals as goal
 
 pub loop-pair-init : goal.loop-pair-init
 loop-pair-init c = λ q. ap (λ (t : Bool). has_key c.args.keys.now.items q || t)

@@ -4,7 +4,7 @@ use Rattle.path_model.specs.declared.key.Key.{Key}
 use Rattle.path_model.specs.Key.{peer_cmp, nlri_of}
 use Rattle.route_map.specs.Keys.{has_key, has_pair}
 use Rattle.route_map.proofs.NumberedLemmas.{gives}
-use Rattle.route_map.proofs.by_number.push_keys_of_marked_six.Given as goal
+use Rattle.route_map.proofs.by_number.push_keys_of_identified_four.Given as goal
 
 -- a key is there or to come
 abbrev pub invariant-loop-pair : goal.invariant-loop-pair

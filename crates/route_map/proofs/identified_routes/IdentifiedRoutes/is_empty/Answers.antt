@@ -1,7 +1,7 @@
 use Rattle.std.proofs.Common.{arith, ◌∙◌}
 use Rattle.std.proofs.lemmas.Bool.Decides.{nat_tests}
 use Rattle.sorted_map.proofs.BlockLemmas.{first_is_empty}
-use Rattle.route_map.proofs.marked_routes.MarkedRoutes.is_empty.Goals as goal
+use Rattle.route_map.proofs.identified_routes.IdentifiedRoutes.is_empty.Goals as goal
 
 pub returns-else-len-eq0 : goal.returns-else-len-eq0
 returns-else-len-eq0 g c = (
