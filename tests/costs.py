@@ -35,9 +35,9 @@ def record(subtype, body):
     return struct.pack(">IHHI", 0, 13, subtype, len(body)) + body
 
 
-def peer_table(count):
-    """So many peers, each with an IPv4 address of its own and an AS of 4 bytes."""
-    peers = b"".join(struct.pack(">BIII", 2, 1 + i, 0x0A000000 + i, PEER) for i in range(count))
+def peer_table(count, first=PEER, step=0):
+    """So many peers, each with an IPv4 address of its own and an AS of 4 bytes: all with one AS, or with rising ones."""
+    peers = b"".join(struct.pack(">BIII", 2, 1 + i, 0x0A000000 + i, first + step * i) for i in range(count))
     return record(1, struct.pack(">IHH", 1, 0, count) + peers)
 
 
@@ -119,6 +119,14 @@ def roles(folder, size):
     return before, "role default customer\nrole default peer\n" * (size // 2)
 
 
+def own_roles(folder, size):
+    """The same, where each of these ASes is that of a peer with a route."""
+    routes = b"".join(route(i, i, [100_000 + i, 7]) for i in range(size))
+    dump = write(folder, "dump", peer_table(size, 100_000, 1) + routes)
+    before = f"open d {dump}\ntake d {ALL}\n" + "".join(f"role {100_000 + i} peer\n" for i in range(size))
+    return before, "role default customer\nrole default peer\n" * (size // 2)
+
+
 def summaries(folder, size):
     """Summaries, of a thousand times as many routes."""
     routes = b"".join(route(i, 0, [PEER, 7, 100_000 + i // 10]) for i in range(1_000 * size))
@@ -147,6 +155,7 @@ KINDS = (
     ("sources that attest one customer, the same provider", sources, (2_000, 4_000, 8_000), LINEAR),
     ("sources that attest one customer, one provider each", other_sources, (500, 1_000, 2_000), ROW),
     ("roles, and the default role turned as often", roles, (5_000, 10_000, 20_000), LINEAR),
+    ("the same, where these ASes have routes", own_roles, (5_000, 10_000, 20_000), LINEAR),
     ("summaries, of a thousand times as many routes", summaries, (50, 100, 200), LINEAR),
     ("filters that change nothing, of as many routes", filters, (20_000, 40_000, 80_000), LINEAR),
     ("customers with a hundred times as many providers", rows, (25, 50, 100), ROW),

@@ -16,7 +16,7 @@ use Rattle.path_model.specs.Trail.{Path}
 use Rattle.ramps.specs.Judgement.{Judgement}
 use Rattle.shared_cases.specs.declared.case.StoredCase.{StoredCase}
 use Rattle.shared_cases.specs.Cases.{Slots, at, Rewrites, IsStoredAs}
-use Rattle.shared_cases.specs.Grounds.{Grounds, IsRightJudgement}
+use Rattle.shared_cases.specs.Grounds.{Grounds, has_own, IsRightJudgement}
 use Rattle.shared_cases.specs.Taking.{raised, lowered, left, new_case, Takes}
 use Rattle.shared_cases.proofs.NumberLemmas.{decide_eq, nat_eq-other}
 use Rattle.rib_store.specs.Cased.{Numbered, one, users_of, IsCounted}
@@ -49,7 +49,7 @@ users_positive routes k n here =
 
 -- what holds of the case that is taken, and of the others
 pub taken_each : (g : Grounds) (asn : ℕ) (path : Path) (old new : Slots) (n : ℕ) (P : ℕ → Option StoredCase → Type 0) → Takes g asn path old new n
-    → (IsStoredAs (at old n) asn path → P n (raised (at old n))) → ((judgement : Judgement) → at old n ≡ None → IsRightJudgement g asn path judgement → P n (Some (new_case asn path judgement)))
+    → (IsStoredAs (at old n) asn path → P n (raised (at old n))) → ((judgement : Judgement) → at old n ≡ None → IsRightJudgement g asn path judgement → P n (Some (new_case asn path judgement (has_own g.roles asn))))
     → ((j : ℕ) → j ≢ n → P j (at old j)) → (j : ℕ) → P j (at new j)
 taken_each g asn path old new n P takes joined added others j = by takes (decide_eq j n) where
   written : (v : Option StoredCase) → Rewrites old new n v → P n v → (j ≡ n) ⊎ (j ≢ n) → P j (at new j)
@@ -58,7 +58,7 @@ taken_each g asn path old new n P takes joined added others j = by takes (decide
 
   by : Takes g asn path old new n → (j ≡ n) ⊎ (j ≢ n) → P j (at new j)
   by (inl joins) same = written (raised (at old n)) joins.raised (joined joins.stored) same
-  by (inr adds) same = written (Some (new_case asn path adds.judgement)) adds.added (added adds.judgement adds.vacant adds.right) same
+  by (inr adds) same = written (Some (new_case asn path adds.judgement (has_own g.roles asn))) adds.added (added adds.judgement adds.vacant adds.right) same
 
 raised_counted : (c : Option StoredCase) (asn : ℕ) (path : Path) (u v : ℕ) → IsStoredAs c asn path → IsCounted c u → v ≡ u + 1 → IsCounted (raised c) v
 raised_counted None asn path u v stored counted e = absurd stored

@@ -79,7 +79,7 @@ module _ (parts : Parts) (relations : Relations) (routes : Numbered) (cases : Sl
       (subst (λ (a : ℕ). IsPrinted (table_of parts) (role_of relations a) a one.trail.now one.verdict one.witness) of_as
       (subst (λ (p : Path). IsPrinted (table_of parts) (role_of relations c.asn) c.asn p one.verdict one.witness) path
       (subst (λ (v : Verdict). IsPrinted (table_of parts) (role_of relations c.asn) c.asn c.trail v one.witness) (sym (verdict ∙ ap (λ (j : Judgement). j.verdict) judged))
-      (subst (λ (w : Witness). IsPrinted (table_of parts) (role_of relations c.asn) c.asn c.trail c.judged.verdict w) (sym (witness ∙ ap (λ (j : Judgement). j.witness) judged)) right))))
+      (subst (λ (w : Witness). IsPrinted (table_of parts) (role_of relations c.asn) c.asn c.trail c.judged.verdict w) (sym (witness ∙ ap (λ (j : Judgement). j.witness) judged)) right.0))))
 
   pub stored_shown : (one : Shown) (case : Case) → IsCase (Some case) (at cases n)
       → one.trail.now ≡ case.trail.now → one.verdict ≡ case.judged.now.verdict → one.witness ≡ case.judged.now.witness → one.role ≡ role_of relations key.peer.asn → IsShown state_here key one

@@ -35,14 +35,14 @@ left_as c asn is = by (is_shared c) where
   by false = tt
 
 lowered_judged : (g : Grounds) (c : Option StoredCase) → IsJudged g c → IsJudged g (lowered c)
-lowered_judged g None right = tt
+lowered_judged g None right = (tt, tt)
 lowered_judged g (Some c) right = right
 
 left_judged : (g : Grounds) (c : Option StoredCase) → IsJudged g c → IsJudged g (left c)
 left_judged g c right = by (is_shared c) where
   by : (b : Bool) → IsJudged g (cond b (lowered c) None)
   by true = lowered_judged g c right
-  by false = tt
+  by false = (tt, tt)
 
 -- what a key was is left
 pub settled : (g : Grounds) (routes : Numbered) (old new : Slots) (before : Option ℕ) → ArePending g routes old before → Leaves old before new → AreStored g routes new
@@ -83,7 +83,7 @@ raised_as None asn is = tt
 raised_as (Some c) asn is = is
 
 raised_judged : (g : Grounds) (c : Option StoredCase) → IsJudged g c → IsJudged g (raised c)
-raised_judged g None right = tt
+raised_judged g None right = (tt, tt)
 raised_judged g (Some c) right = right
 
 stored_as : (c : Option StoredCase) (asn : ℕ) (path : Path) → IsStoredAs c asn path → IsOfAs (raised c) asn
@@ -124,7 +124,7 @@ module _ (g : Grounds) (before after : Numbered) (old new : Slots) (k : Key) (n 
         (sym (ap (λ (es : Numbered). users_of es j + ones j (lookup (is_at (key_cmp k)) before)) is ∙ users_inserted before k n j sorted))
         (counted_taken g k.peer.asn path old new n (users_of before) takes stored.counted j);
     of_peers = λ q j here. as_after q j (is_at (key_cmp k) q) refl (sym (updates q) ∙ here);
-    judged = taken_each g k.peer.asn path old new n (λ j c. IsJudged g c) takes (λ here. raised_judged g (at old n) (stored.judged n)) (λ judgement vacant right. right) (λ j other. stored.judged j);
+    judged = taken_each g k.peer.asn path old new n (λ j c. IsJudged g c) takes (λ here. raised_judged g (at old n) (stored.judged n)) (λ judgement vacant right. (right, λ own. own)) (λ j other. stored.judged j);
   }
 
   pub taken_path : path_or (at new n) ≡ path

@@ -1,5 +1,5 @@
 -- The touched cases are those of touched routes, and no more than there are.
-use Rattle.std.proofs.Common.{◌≡◌, ℕ, ◌<◌, ◌≤◌, Bool, true, false, cond, [], ◌∷◌, length, None, Some, refl, ap, sym, subst, ◌∙◌, arith, inl, inr}
+use Rattle.std.proofs.Common.{◌≡◌, ℕ, ◌<◌, ◌≤◌, Bool, true, false, cond, [], ◌∷◌, length, None, Some, is_some, refl, ap, sym, subst, ◌∙◌, arith, inl, inr}
 use Rattle.std.specs.declared.option.Option.{Option}
 use Rattle.std.specs.Prelude.{Contains}
 use Rattle.std.specs.BTreeMap.{is_at}
@@ -7,7 +7,7 @@ use Rattle.std.specs.FinMap as fin
 use Rattle.std.specs.List.Sorted.{IsStrictlySortedBy}
 use Rattle.std.specs.Map.{lookup, keys_of, values_of}
 use Rattle.std.specs.Option.{option_map, unwrap_or}
-use Rattle.std.specs.Cmp.{nat_cmp_total, unsigned_tied}
+use Rattle.std.specs.Cmp.{nat_cmp_total, nat_eq_equiv, unsigned_tied}
 use Rattle.std.proofs.lemmas.List.Elements.{All-weaker}
 use Rattle.std.proofs.lemmas.List.Sums.{sum_by-cons}
 use Rattle.std.proofs.lemmas.Map.Keys.{sorted_head, sorted_tail}
@@ -93,12 +93,18 @@ within_number old new ticks number within all =
     (All-weaker (IsTouchedRoute (grounds_of old) (grounds_of new) old.routes) (Contains all.pairs) all.all within.pairs within.each) in
     omega (arith, fewer, within.within, all.number_is)
 
--- setting the role of an AS leaves those of the others
+-- setting the role of an AS leaves those of the others, and each own one
+own_or : (b : Bool) (role : Role) (o : Option Role) → is_some o ≡ true → is_some (cond b (Some role) o) ≡ true
+own_or true role o own = refl
+own_or false role o own = own
+
 pub role_set : (asn : ℕ) (role before : Role) (relations : Relations) → before ≡ role_of relations asn → IsRoleMove asn before relations (set_role relations asn role)
 role_set asn role before relations is = record {
   here = sym is;
   others = λ other apart. sym (ap (λ (o : Option Role). unwrap_or o relations.default)
       (fin.get-insert nat_cmp_total relations.set asn role other ∙ ap (λ (b : Bool). cond b (Some role) (fin.get relations.set other)) (unsigned_tied other asn ∙ nat_eq-other other asn apart)));
+  own = ap is_some (fin.get-insert nat_cmp_total relations.set asn role asn ∙ ap (λ (b : Bool). cond b (Some role) (fin.get relations.set asn)) (unsigned_tied asn asn ∙ nat_eq_equiv.refl asn));
+  kept = λ other own. ap is_some (fin.get-insert nat_cmp_total relations.set asn role other) ∙ own_or _ role (fin.get relations.set other) own;
 }
 
 -- where another default is set, setting the one before gives the roles before

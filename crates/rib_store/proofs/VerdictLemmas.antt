@@ -33,7 +33,7 @@ module _ (parts : Parts) (relations : Relations) (routes : Numbered) (cases : Sl
       → verdict_or c ≡ current_verdict parts relations key (path_or c)
   verdict_by key None users counted used is right = absurd (omega (arith, counted, used))
   verdict_by key (Some c) users counted used is right = is_verdict_of (table_of parts) (role_of relations key.peer.asn) key.peer.asn c.trail c.judged.verdict
-      (subst (λ (a : ℕ). IsRight (table_of parts) (role_of relations a) a c.trail c.judged.verdict) is right.right)
+      (subst (λ (a : ℕ). IsRight (table_of parts) (role_of relations a) a c.trail c.judged.verdict) is right.0.right)
 
   -- the verdict of a key's case
   pub verdict_is : (key : Key) (n : ℕ) → lookup (is_at (key_cmp key)) routes ≡ Some n → verdict_or (at cases n) ≡ current_verdict parts relations key (path_or (at cases n))

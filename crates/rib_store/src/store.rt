@@ -140,8 +140,8 @@ impl RibStore {
         })
     }
 
-    /// Changes what attests. It visits only the customers that the change names and the hops of those whose row moved, and judges anew,
-    /// once each, the cases with a hop of which something else is attested.
+    /// Changes what attests. It visits only the customers that the change names and at most the hops of those whose row moved, and judges
+    /// anew, once each, the cases with a hop of which something else is attested.
     pub fn apply_table<L: Ledger>(
         self,
         change: TableChange,
@@ -212,7 +212,7 @@ impl RibStore {
     }
 
     /// Sets the role of each AS that has none of its own. Where they had another one, the cases of these ASes are judged anew, once each.
-    /// It takes the time of a look-up for each peer AS and of these cases, and where the default is the same as before, none.
+    /// It takes the time of two look-ups for each such AS that has routes and of these cases, and where the default is the same as before, none.
     pub fn set_default<L: Ledger>(
         self,
         role: Role,

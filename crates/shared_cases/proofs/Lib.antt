@@ -5,6 +5,7 @@ pub mod MoveLemmas
 pub mod NameLemmas
 pub mod NamingLemmas
 pub mod NumberLemmas
+pub mod OwnLemmas
 pub mod PeerLemmas
 pub mod RejudgingLemmas
 pub mod RoleLemmas

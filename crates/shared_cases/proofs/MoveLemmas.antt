@@ -21,7 +21,7 @@ use Rattle.vap_table.specs.declared.moves.RowMove.{RowMove}
 use Rattle.vap_table.specs.Moves.{customers_of, IsMove, AreMoves}
 use Rattle.shared_cases.specs.declared.case.StoredCase.{StoredCase}
 use Rattle.shared_cases.specs.Cases.{hops_of}
-use Rattle.shared_cases.specs.Grounds.{by_table, IsJudged}
+use Rattle.shared_cases.specs.Grounds.{by_table, IsRightCase}
 use Rattle.shared_cases.specs.Touching.{same_authority, differs, touches, AreAllOf, asks, IsTouchedAt, IsTouchedBy}
 use Rattle.shared_cases.proofs.TouchLemmas.{IsTouchedNumber}
 
@@ -155,7 +155,7 @@ module _ (old new : Table) (index : Entries) where
 
   module _ (roles : Relations) (moves : List RowMove) (are : AreMoves old new moves) (n : ℕ) where
     -- a case that isn't touched keeps its right judgement
-    pub still_judged : (c : Option StoredCase) → ((x y : ℕ) → hops.has index x y n ≡ hops_of c x y) → (IsTouchedBy index moves n → ⊥) → IsJudged (by_table old roles) c → IsJudged (by_table new roles) c
+    pub still_judged : (c : Option StoredCase) → ((x y : ℕ) → hops.has index x y n ≡ hops_of c x y) → (IsTouchedBy index moves n → ⊥) → IsRightCase (by_table old roles) c → IsRightCase (by_table new roles) c
     still_judged None indexed untouched right = tt
     still_judged (Some c) indexed untouched right =
         let chain : List ℕ = c.trail.chain in

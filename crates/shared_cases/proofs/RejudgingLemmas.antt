@@ -10,8 +10,9 @@ use Rattle.std.proofs.lemmas.Map.Keys.{sorted_head, sorted_tail}
 use Rattle.shared_cases.specs.declared.case.StoredCase.{StoredCase}
 use Rattle.shared_cases.specs.Cases.{Slots, at, differs, has_differed, IsSameCase}
 use Rattle.shared_cases.specs.Differed.{AreNewlyDiffering, HasDiffered}
-use Rattle.shared_cases.specs.Grounds.{Grounds, IsJudged}
+use Rattle.shared_cases.specs.Grounds.{Grounds, IsRightCase}
 use Rattle.shared_cases.specs.Numbers.{has}
+use Rattle.shared_cases.specs.Owning.{says_own, SayTheSame}
 use Rattle.shared_cases.proofs.CaseLemmas.{written_here}
 use Rattle.shared_cases.proofs.NumberLemmas.{decide_eq, has_cases, has_first, has_later, nat_eq-other}
 use Rattle.shared_cases.proofs.TouchLemmas.{not_below}
@@ -40,11 +41,12 @@ newly_differs before now = has_differed now && not (has_differed before)
 -- so far as the numbers that are left: those cases are as they were
 pub record IsRejudging (g : Grounds) (touched : ℕ → Bool) (first now : Slots) (rest newly : List ℕ) : Type 0 where
   pub rising : IsStrictlySortedBy nat_cmp rest
-  pub judged : (n : ℕ) → touched n ≡ true → (has rest n ≡ true) ⊎ (IsJudged g (at now n) × HasDiffered (at first n) (at now n))
+  pub judged : (n : ℕ) → touched n ≡ true → (has rest n ≡ true) ⊎ (IsRightCase g (at now n) × HasDiffered (at first n) (at now n))
   pub within : (n : ℕ) → has rest n ≡ true → touched n ≡ true
   pub others : (n : ℕ) → touched n ≡ false → at now n ≡ at first n
   pub left : (n : ℕ) → has rest n ≡ true → at now n ≡ at first n
   pub same : (n : ℕ) → IsSameCase (at first n) (at now n)
+  pub own : SayTheSame first now
   pub told : AreNewlyDiffering first now newly
 
 none_new : (b : Bool) → false ≡ (b && not b)
@@ -59,6 +61,7 @@ rejudging_first g first rest newly rising none = record {
   others = λ n isnt. refl;
   left = λ n is. refl;
   same = λ n. same_case-refl (at first n);
+  own = λ n. refl;
   told = λ n. ap (λ (numbers : List ℕ). has numbers n) none ∙ none_new (has_differed (at first n));
 }
 
@@ -71,27 +74,31 @@ not_again x n (y ∷ ys) below there = elim (has_cases n y ys there) [
 ]
 
 module _ (g : Grounds) (touched : ℕ → Bool) (first now next : Slots) (x : ℕ) (rest newly newly' : List ℕ) (so_far : IsRejudging g touched first now (x ∷ rest) newly)
-    (judged : IsJudged g (at next x)) (same : IsSameCase (at now x) (at next x)) (differed : HasDiffered (at now x) (at next x)) (others : (n : ℕ) → n ≢ x → at next n ≡ at now n)
+    (judged : IsRightCase g (at next x)) (same : IsSameCase (at now x) (at next x)) (own : says_own (at next x) ≡ says_own (at now x)) (differed : HasDiffered (at now x) (at next x)) (others : (n : ℕ) → n ≢ x → at next n ≡ at now n)
     (answer : Bool) (answered : answer ≡ newly_differs (at now x) (at next x)) (told : (n : ℕ) → has newly' n ≡ (has newly n || (nat_eq n x && answer))) where
   as_first : at now x ≡ at first x
   as_first = so_far.left x (has_first x x rest refl)
 
-  judged_here : (n : ℕ) → n ≡ x → IsJudged g (at next n) × HasDiffered (at first n) (at next n)
-  judged_here n e = subst (λ (k : ℕ). IsJudged g (at next k) × HasDiffered (at first k) (at next k)) (sym e)
+  judged_here : (n : ℕ) → n ≡ x → IsRightCase g (at next n) × HasDiffered (at first n) (at next n)
+  judged_here n e = subst (λ (k : ℕ). IsRightCase g (at next k) × HasDiffered (at first k) (at next k)) (sym e)
       (judged, subst (λ (o : Option StoredCase). HasDiffered o (at next x)) as_first differed)
 
-  judged_kept : (n : ℕ) → IsJudged g (at now n) × HasDiffered (at first n) (at now n) → (n ≡ x) ⊎ (n ≢ x) → IsJudged g (at next n) × HasDiffered (at first n) (at next n)
+  judged_kept : (n : ℕ) → IsRightCase g (at now n) × HasDiffered (at first n) (at now n) → (n ≡ x) ⊎ (n ≢ x) → IsRightCase g (at next n) × HasDiffered (at first n) (at next n)
   judged_kept n was (inl e) = judged_here n e
-  judged_kept n was (inr other) = subst (λ (o : Option StoredCase). IsJudged g o × HasDiffered (at first n) o) (sym (others n other)) was
+  judged_kept n was (inr other) = subst (λ (o : Option StoredCase). IsRightCase g o × HasDiffered (at first n) o) (sym (others n other)) was
 
-  judged_next : (n : ℕ) → (has (x ∷ rest) n ≡ true) ⊎ (IsJudged g (at now n) × HasDiffered (at first n) (at now n))
-      → (has rest n ≡ true) ⊎ (IsJudged g (at next n) × HasDiffered (at first n) (at next n))
+  judged_next : (n : ℕ) → (has (x ∷ rest) n ≡ true) ⊎ (IsRightCase g (at now n) × HasDiffered (at first n) (at now n))
+      → (has rest n ≡ true) ⊎ (IsRightCase g (at next n) × HasDiffered (at first n) (at next n))
   judged_next n (inl there) = elim (has_cases n x rest there) [ inl e ↦ inr (judged_here n e) | inr later ↦ inl later ]
   judged_next n (inr was) = inr (judged_kept n was (decide_eq n x))
 
   same_next : (n : ℕ) → (n ≡ x) ⊎ (n ≢ x) → IsSameCase (at now n) (at next n)
   same_next n (inl e) = subst (λ (k : ℕ). IsSameCase (at now k) (at next k)) (sym e) same
   same_next n (inr other) = subst (λ (o : Option StoredCase). IsSameCase (at now n) o) (sym (others n other)) (same_case-refl (at now n))
+
+  own_next : (n : ℕ) → (n ≡ x) ⊎ (n ≢ x) → says_own (at next n) ≡ says_own (at now n)
+  own_next n (inl e) = subst (λ (k : ℕ). says_own (at next k) ≡ says_own (at now k)) (sym e) own
+  own_next n (inr other) = ap says_own (others n other)
 
   newly_here : has newly' x ≡ newly_differs (at first x) (at next x)
   newly_here =
@@ -114,6 +121,7 @@ module _ (g : Grounds) (touched : ℕ → Bool) (first now next : Slots) (x : �
     others = λ n isnt. others n (λ e. true≢false (sym (so_far.within n (has_first n x rest e)) ∙ isnt)) ∙ so_far.others n isnt;
     left = λ n later. others n (not_again x n rest (sorted_head nat_cmp x rest so_far.rising) later) ∙ so_far.left n (has_later n x rest later);
     same = λ n. same_case-trans (at first n) (at now n) (at next n) (so_far.same n) (same_next n (decide_eq n x));
+    own = λ n. own_next n (decide_eq n x) ∙ so_far.own n;
     told = λ n. newly_next n (decide_eq n x);
   }
 
@@ -129,11 +137,11 @@ told_same before x b isnt n = sym (ap (λ (d : Bool). has before n || (nat_eq n 
   none false false = refl
 
 -- where none are left, all are judged
-judged_of : (g : Grounds) (first now : Slots) (n : ℕ) → (has [] n ≡ true) ⊎ (IsJudged g (at now n) × HasDiffered (at first n) (at now n)) → IsJudged g (at now n) × HasDiffered (at first n) (at now n)
+judged_of : (g : Grounds) (first now : Slots) (n : ℕ) → (has [] n ≡ true) ⊎ (IsRightCase g (at now n) × HasDiffered (at first n) (at now n)) → IsRightCase g (at now n) × HasDiffered (at first n) (at now n)
 judged_of g first now n (inl there) = absurd (true≢false (sym there))
 judged_of g first now n (inr was) = was
 
 pub all_rejudged : (g : Grounds) (touched : ℕ → Bool) (first now : Slots) (rest newly : List ℕ) → IsRejudging g touched first now rest newly → rest ≡ []
-    → (n : ℕ) → touched n ≡ true → IsJudged g (at now n) × HasDiffered (at first n) (at now n)
+    → (n : ℕ) → touched n ≡ true → IsRightCase g (at now n) × HasDiffered (at first n) (at now n)
 all_rejudged g touched first now rest newly so_far e n is =
-    judged_of g first now n (subst (λ (left : List ℕ). (has left n ≡ true) ⊎ (IsJudged g (at now n) × HasDiffered (at first n) (at now n))) e (so_far.judged n is))
+    judged_of g first now n (subst (λ (left : List ℕ). (has left n ≡ true) ⊎ (IsRightCase g (at now n) × HasDiffered (at first n) (at now n))) e (so_far.judged n is))

@@ -11,12 +11,12 @@ use Rattle.path_model.specs.PrintedWitness.{IsPrinted}
 use Rattle.path_model.specs.Roles.{Relations, role_of}
 use Rattle.shared_cases.specs.declared.case.StoredCase.{StoredCase}
 use Rattle.shared_cases.specs.Cases.{is_of_peer}
-use Rattle.shared_cases.specs.Grounds.{by_table, IsJudged}
+use Rattle.shared_cases.specs.Grounds.{by_table, IsRightCase}
 use Rattle.shared_cases.proofs.TouchLemmas.{IsTouchedNumber}
 
 module _ (table : Table) (old new : Relations) where
   -- a case of an AS with the same role keeps its right judgement
-  pub same_role_judged : (c : Option StoredCase) → ((asn : ℕ) → is_of_peer c asn ≡ true → role_of old asn ≡ role_of new asn) → IsJudged (by_table table old) c → IsJudged (by_table table new) c
+  pub same_role_judged : (c : Option StoredCase) → ((asn : ℕ) → is_of_peer c asn ≡ true → role_of old asn ≡ role_of new asn) → IsRightCase (by_table table old) c → IsRightCase (by_table table new) c
   same_role_judged None same right = tt
   same_role_judged (Some c) same right =
       subst (λ (role : Role). IsPrinted table role c.asn c.trail c.judged.verdict c.judged.witness) (same c.asn (nat_eq_equiv.refl c.asn)) right

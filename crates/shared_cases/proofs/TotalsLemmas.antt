@@ -10,6 +10,7 @@ use Rattle.ramps.specs.Judgement.{Judgement}
 use Rattle.shared_cases.specs.declared.case.StoredCase.{StoredCase}
 use Rattle.shared_cases.specs.declared.totals.Totals.{Totals}
 use Rattle.shared_cases.specs.Cases.{Slots, at, Rewrites, marked_now}
+use Rattle.shared_cases.specs.Owning.{owned_of}
 use Rattle.shared_cases.specs.Taking.{is_shared, lowered, new_case, raised}
 use Rattle.shared_cases.specs.Totals.{is_valid, is_unknown, is_invalid, users_if, users_with, totals_of, no_users, users_of, share_of, one_user, plus, minus}
 
@@ -150,10 +151,10 @@ module _ (old new : Slots) (n : ℕ) (t next s : Totals) (was : t ≡ totals_of 
   totals_gone c writes here all is =
       is ∙ totals_less old new n None writes t was s (ap share_of here ∙ alone c.judged.verdict c.users ∙ ap (plus no_users) (sym all))
 
-  pub totals_come : (asn : ℕ) (path : Path) (judgement : Judgement) → Rewrites old new n (Some (new_case asn path judgement)) → at old n ≡ None
+  pub totals_come : (asn : ℕ) (path : Path) (judgement : Judgement) (own : Bool) → Rewrites old new n (Some (new_case asn path judgement own)) → at old n ≡ None
       → s ≡ users_of judgement.verdict 1 → next ≡ plus t s → next ≡ totals_of new
-  totals_come asn path judgement writes vacant one is =
-      is ∙ totals_more old new n (Some (new_case asn path judgement)) writes t was s
+  totals_come asn path judgement own writes vacant one is =
+      is ∙ totals_more old new n (Some (new_case asn path judgement own)) writes t was s
       (alone judgement.verdict 1 ∙ ap (plus no_users) (sym one) ∙ ap (λ (o : Option StoredCase). plus (share_of o) s) (sym vacant))
 
 -- a case is judged anew
@@ -163,12 +164,23 @@ rejudged_totals old new n t more next before after others before_is after_is mor
     next_is ∙ ap (λ (u : Totals). minus u before) more_is ∙ ap (λ (u : Totals). minus (plus t u) before) after_is ∙ ap (minus (plus t (share_of (at new n)))) before_is
     ∙ totals_moved old new n (at new n) (record { here = refl; others = others }) t was
 
--- a mark changes no totals
+-- what changes neither verdicts nor users changes no totals
+module _ (done : Option StoredCase → Option StoredCase) (users : (is : Verdict → Bool) (c : Option StoredCase) → users_if is (done c) ≡ users_if is c) where
+  done_totals : (old new : Slots) → ((n : ℕ) → at new n ≡ done (at old n)) → totals_of old ≡ totals_of new
+  done_totals old new are = λ i. record { valid = same is_valid i; unknown = same is_unknown i; invalid = same is_invalid i } where
+    same : (is : Verdict → Bool) → users_with is old ≡ users_with is new
+    same is = same_sum (users_if is) refl old new (λ m. sym (users is (at old m)) ∙ ap (users_if is) (sym (are m)))
+
 marked_users : (is : Verdict → Bool) (c : Option StoredCase) → users_if is (marked_now c) ≡ users_if is c
 marked_users is None = refl
 marked_users is (Some c) = refl
 
 pub marked_totals : (old new : Slots) → ((n : ℕ) → at new n ≡ marked_now (at old n)) → totals_of old ≡ totals_of new
-marked_totals old new marked = λ i. record { valid = same is_valid i; unknown = same is_unknown i; invalid = same is_invalid i } where
-  same : (is : Verdict → Bool) → users_with is old ≡ users_with is new
-  same is = same_sum (users_if is) refl old new (λ m. sym (marked_users is (at old m)) ∙ ap (users_if is) (sym (marked m)))
+marked_totals = done_totals marked_now marked_users
+
+owned_users : (asn : ℕ) (is : Verdict → Bool) (c : Option StoredCase) → users_if is (owned_of asn c) ≡ users_if is c
+owned_users asn is None = refl
+owned_users asn is (Some c) = refl
+
+pub owned_totals : (asn : ℕ) (old new : Slots) → ((n : ℕ) → at new n ≡ owned_of asn (at old n)) → totals_of old ≡ totals_of new
+owned_totals asn = done_totals (owned_of asn) (owned_users asn)

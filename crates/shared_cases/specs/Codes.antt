@@ -1,5 +1,5 @@
 -- Codes of cases: what a Model that has them needs.
-use Rattle.std.specs.Prelude.{◌≡◌, ℕ, nat_eq, Bool, true, false, if◌then◌else◌, refl}
+use Rattle.std.specs.Prelude.{◌≡◌, ℕ, nat_eq, Bool, true, false, List, if◌then◌else◌, refl}
 use Rattle.std.specs.declared.option.Option.{Option}
 use Rattle.std.specs.declared.option.Option.TheVariants.{None}
 use Rattle.std.specs.Coded.{Coded, code_by, coded×, coded_ℕ, coded_bool, coded_list, coded_option}
@@ -12,6 +12,7 @@ use Rattle.path_model.specs.Trail.{Path}
 use Rattle.ramps.specs.Judgement.{Judgement}
 use Rattle.shared_cases.specs.declared.case.StoredCase.{StoredCase}
 use Rattle.shared_cases.specs.Cases.{Slots}
+use Rattle.shared_cases.specs.Peers.{ByPeer}
 
 -- a verdict as two truth values
 abbrev pub verdict_parts : Verdict → Bool × Bool
@@ -71,10 +72,22 @@ coded_judgement = code_by (Verdict × Witness) (coded× coded_verdict coded_witn
     (λ p. record { verdict = p.0; witness = p.1 }) (λ _. refl)
 
 abbrev pub coded_case : Coded StoredCase
-coded_case = code_by (Path × (ℕ × (Judgement × (ℕ × (Verdict × Bool)))))
-    (coded× coded_path (coded× coded_ℕ (coded× coded_judgement (coded× coded_ℕ (coded× coded_verdict coded_bool)))))
-    (λ c. (c.trail, (c.users, (c.judged, (c.asn, (c.marked, c.differed))))))
-    (λ p. record { trail = p.0; users = p.1.0; judged = p.1.1.0; asn = p.1.1.1.0; marked = p.1.1.1.1.0; differed = p.1.1.1.1.1 }) (λ _. refl)
+coded_case = code_by (Path × (ℕ × (Judgement × (ℕ × (Verdict × (Bool × Bool))))))
+    (coded× coded_path (coded× coded_ℕ (coded× coded_judgement (coded× coded_ℕ (coded× coded_verdict (coded× coded_bool coded_bool))))))
+    (λ c. (c.trail, (c.users, (c.judged, (c.asn, (c.marked, (c.differed, c.own)))))))
+    (λ p. record {
+      trail = p.0;
+      users = p.1.0;
+      judged = p.1.1.0;
+      asn = p.1.1.1.0;
+      marked = p.1.1.1.1.0;
+      differed = p.1.1.1.1.1.0;
+      own = p.1.1.1.1.1.1;
+    }) (λ _. refl)
 
 abbrev pub coded_slots : Coded Slots
 coded_slots = coded_list (coded_option coded_case)
+
+abbrev pub coded_peers : Coded ByPeer
+coded_peers = code_by (List (ℕ × List ℕ) × List ℕ) (coded× (coded_list (coded× coded_ℕ (coded_list coded_ℕ))) (coded_list coded_ℕ))
+    (λ p. (p.members, p.defaulted)) (λ p. record { members = p.0; defaulted = p.1 }) (λ _. refl)

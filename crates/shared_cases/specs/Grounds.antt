@@ -1,7 +1,8 @@
 -- What judgements rest on, and which are right.
-use Rattle.std.specs.Prelude.{⊤, ℕ}
+use Rattle.std.specs.Prelude.{◌≡◌, ⊤, ℕ, Bool, true, is_some}
 use Rattle.std.specs.declared.option.Option.{Option}
 use Rattle.std.specs.declared.option.Option.TheVariants.{Some, None}
+use Rattle.std.specs.FinMap as map
 use Rattle.path_model.specs.Authority.{Table}
 use Rattle.path_model.specs.ComputedTable.{table_of}
 use Rattle.path_model.specs.CurrentTable.{Parts}
@@ -27,7 +28,20 @@ grounds parts relations = by_table (table_of parts) relations
 abbrev pub IsRightJudgement : Grounds → ℕ → Path → Judgement → Type 0
 IsRightJudgement g asn path judgement = IsPrinted g.table (role_of g.roles asn) asn path judgement.verdict judgement.witness
 
+-- whether the AS has a role of its own
+abbrev pub has_own : Relations → ℕ → Bool
+has_own relations asn = is_some (map.get relations.set asn)
+
 -- a case with its right judgement
+abbrev pub IsRightCase : Grounds → Option StoredCase → Type 0
+IsRightCase g None = ⊤
+IsRightCase g (Some c) = IsRightJudgement g c.asn c.trail c.judged
+
+-- where the case says that its AS has a role of its own, it has
+abbrev pub HasOwnAsSaid : Relations → Option StoredCase → Type 0
+HasOwnAsSaid relations None = ⊤
+HasOwnAsSaid relations (Some c) = c.own ≡ true → has_own relations c.asn ≡ true
+
+-- a case with its right judgement, which says nothing wrong of its AS
 abbrev pub IsJudged : Grounds → Option StoredCase → Type 0
-IsJudged g None = ⊤
-IsJudged g (Some c) = IsRightJudgement g c.asn c.trail c.judged
+IsJudged g c = IsRightCase g c × HasOwnAsSaid g.roles c

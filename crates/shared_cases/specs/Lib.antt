@@ -6,6 +6,7 @@ pub mod Kept
 pub mod Names
 pub mod Naming
 pub mod Numbers
+pub mod Owning
 pub mod Peers
 pub mod Taking
 pub mod Totals

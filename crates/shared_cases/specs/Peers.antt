@@ -1,5 +1,5 @@
 -- The cases by their peer AS. Private contracts alone cite it.
-use Rattle.std.specs.Prelude.{◌≡◌, ◌≢◌, ℕ, nat_eq, Bool, true, false, ◌||◌, ◌&&◌, not, List, []}
+use Rattle.std.specs.Prelude.{◌≡◌, ◌≢◌, ℕ, nat_eq, Bool, true, false, ◌||◌, ◌&&◌, not, is_some, List, []}
 use Rattle.std.specs.declared.option.Option.{Option}
 use Rattle.std.specs.declared.option.Option.TheVariants.{Some, None}
 use Rattle.std.specs.BTreeMap.{is_at}
@@ -12,6 +12,11 @@ use Rattle.shared_cases.specs.Numbers.{has}
 -- each AS that has cases, in order, with their numbers
 abbrev pub Members : Type 0
 Members = List (ℕ × List ℕ)
+
+-- these, and those of the ASes that have a case which doesn't say that its AS has a role of its own
+pub record ByPeer : Type 0 where
+  pub members : Members
+  pub defaulted : List ℕ
 
 -- what is found of one AS
 abbrev pub found : Members → ℕ → Option (List ℕ)
@@ -42,6 +47,14 @@ RemovesMember before asn number after =
 -- no AS stands there without cases
 abbrev pub HaveMembers : Members → Type 0
 HaveMembers members = (asn : ℕ) → found members asn ≢ Some []
+
+-- whether the AS has cases
+abbrev pub has_cases : Members → ℕ → Bool
+has_cases members asn = is_some (found members asn)
+
+-- and each of these ASes has cases
+abbrev pub HaveCases : Members → List ℕ → Type 0
+HaveCases members ases = (asn : ℕ) → has ases asn ≡ true → has_cases members asn ≡ true
 
 -- the number is one of the AS, whose role is another one
 abbrev pub IsMovedMember : Members → ℕ → Role → Role → ℕ → Type 0

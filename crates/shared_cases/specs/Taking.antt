@@ -6,7 +6,7 @@ use Rattle.path_model.specs.Trail.{Path}
 use Rattle.ramps.specs.Judgement.{Judgement}
 use Rattle.shared_cases.specs.declared.case.StoredCase.{StoredCase}
 use Rattle.shared_cases.specs.Cases.{Slots, at, Rewrites, IsStoredAs, IsAbsent}
-use Rattle.shared_cases.specs.Grounds.{Grounds, IsRightJudgement}
+use Rattle.shared_cases.specs.Grounds.{Grounds, has_own, IsRightJudgement}
 
 -- a case with one user more
 abbrev pub raised : Option StoredCase → Option StoredCase
@@ -27,10 +27,10 @@ lowered (Some c) = Some (record c { users = c.users - 1 })
 abbrev pub left : Option StoredCase → Option StoredCase
 left c = if is_shared c then lowered c else None
 
--- a new case: it has one user, its verdict is the marked one, and it hasn't differed
-abbrev pub new_case : ℕ → Path → Judgement → StoredCase
-new_case asn path judgement =
-    record { trail = path; users = 1; judged = judgement; asn = asn; marked = judgement.verdict; differed = false }
+-- a new case: it has one user, its verdict is the marked one, and it hasn't differed; and whether its AS has a role of its own
+abbrev pub new_case : ℕ → Path → Judgement → Bool → StoredCase
+new_case asn path judgement own =
+    record { trail = path; users = 1; judged = judgement; asn = asn; marked = judgement.verdict; differed = false; own = own }
 
 -- the case of this AS and path is there under n, and has one user more
 pub record Joins (asn : ℕ) (path : Path) (before after : Slots) (n : ℕ) : Type 0 where
@@ -43,7 +43,7 @@ pub record Adds (g : Grounds) (asn : ℕ) (path : Path) (before after : Slots) (
   pub vacant : at before n ≡ None
   pub judgement : Judgement
   pub right : IsRightJudgement g asn path judgement
-  pub added : Rewrites before after n (Some (new_case asn path judgement))
+  pub added : Rewrites before after n (Some (new_case asn path judgement (has_own g.roles asn)))
 
 -- one user more of the case of this AS and path, which has the number n
 abbrev pub Takes : Grounds → ℕ → Path → Slots → Slots → ℕ → Type 0

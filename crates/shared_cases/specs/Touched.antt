@@ -1,12 +1,12 @@
 -- Which cases another table or other roles touch.
-use Rattle.std.specs.Prelude.{◌≡◌, ◌≢◌, ◌≤◌, ⊤, ℕ, List, [], ◌∷◌, length, All, ◌⊎◌}
+use Rattle.std.specs.Prelude.{◌≡◌, ◌≢◌, ◌≤◌, ⊤, ℕ, true, List, [], ◌∷◌, length, All, ◌⊎◌}
 use Rattle.path_model.specs.declared.role.Role.{Role}
 use Rattle.path_model.specs.Authority.{Table, authority_of}
 use Rattle.path_model.specs.Roles.{Relations, role_of}
 use Rattle.path_model.specs.Trail.{Path}
 use Rattle.hop_index.specs.Hops.{AreNeighbours}
 use Rattle.shared_cases.specs.Cases.{Slots, at, IsStoredAs}
-use Rattle.shared_cases.specs.Grounds.{Grounds}
+use Rattle.shared_cases.specs.Grounds.{Grounds, has_own}
 
 -- one of two neighbours in the chain attests another thing of the other one than before
 pub record IsTouchedChain (old new : Table) (chain : List ℕ) : Type 0 where
@@ -38,7 +38,9 @@ pub record AreWithinTouched (old new : Grounds) (cases : Slots) (ticks : ℕ) : 
   pub each : All (IsTouchedCase old new cases) pairs
   pub within : ticks ≤ length pairs
 
--- this AS had this role, and the role of no other AS is another one
+-- this AS had this role, and has one of its own; the role of no other AS is another one, and who had one of its own has it still
 pub record IsRoleMove (asn : ℕ) (before : Role) (old new : Relations) : Type 0 where
   pub here : role_of old asn ≡ before
   pub others : (other : ℕ) → other ≢ asn → role_of old other ≡ role_of new other
+  pub own : has_own new asn ≡ true
+  pub kept : (other : ℕ) → has_own old other ≡ true → has_own new other ≡ true

@@ -19,6 +19,8 @@ pub(crate) struct StoredCase {
     pub(crate) marked: Verdict,
     // whether its verdict was another one than that at some time since
     pub(crate) differed: bool,
+    // whether its AS is known to have a role of its own
+    pub(crate) own: bool,
 }
 
 /// A case as it stands: a path from a peer AS, with its judgement.
@@ -35,8 +37,8 @@ pub struct Case<'a> {
 }
 
 // What is stored of a new case.
-pub(crate) fn new_case(name: &CaseName, judged: Judged) -> Result<StoredCase, NoMemory>
-    ensures { IfOk result (λ case. case ≡ new_case name.now.asn name.now.trail judged) }
+pub(crate) fn new_case(name: &CaseName, judged: Judged, own: bool) -> Result<StoredCase, NoMemory>
+    ensures { IfOk result (λ case. case ≡ new_case name.now.asn name.now.trail judged own) }
 {
     Ok(StoredCase {
         trail: name.trail.copy()?,
@@ -45,5 +47,6 @@ pub(crate) fn new_case(name: &CaseName, judged: Judged) -> Result<StoredCase, No
         judged,
         asn: name.asn,
         differed: false,
+        own,
     })
 }

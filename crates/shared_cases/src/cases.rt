@@ -4,9 +4,10 @@ ghost use Rattle.std.specs.List.Sorted.{IsStrictlySortedBy};
 ghost use Rattle.std.specs.Ordering.{nat_cmp};
 ghost use Rattle.shared_cases.specs.Cases.{at, verdict_or, marked_or, marked_now, AreSameCases, Rewrites, IsAbsent, IsStoredAs, AreDistinct, IsIndexOf, IsShown};
 ghost use Rattle.shared_cases.specs.Differed.{AreNewlyDiffering, AreSettledOrDiffered, HaveDiffered};
-ghost use Rattle.shared_cases.specs.Grounds.{grounds, IsJudged};
+ghost use Rattle.shared_cases.specs.Grounds.{grounds, IsRightCase};
 ghost use Rattle.shared_cases.specs.Names.{name_of};
 ghost use Rattle.shared_cases.specs.Numbers.{has};
+ghost use Rattle.shared_cases.specs.Owning.{SayTheSame};
 ghost use Rattle.shared_cases.specs.Taking.{is_shared, left, lowered, raised, new_case, Takes};
 ghost use Rattle.shared_cases.specs.Totals.{totals_of};
 
@@ -31,7 +32,8 @@ use std::sync::ledger::Ledger;
 use vap_table::Vaps;
 
 /// The cases that routes share, each under a number below 2^32 for as long as some route has it. A case takes about 140 bytes, 4 for
-/// each AS of its path, and what its hops take in the index; one that got another verdict since the last mark, 8 to 18 bytes more.
+/// each AS of its path, and what its hops take in the index; one that got another verdict since the last mark, 8 to 18 bytes more; and an AS
+/// without a role of its own 4 to 9.
 pub struct SharedCases {
     pub(crate) alloc: Global,
     pub(crate) slab: Slab<StoredCase>,
@@ -182,7 +184,7 @@ impl SharedCases {
         }
         let judged = judge(table, roles.of(asn), asn, &name.trail, steps);
         let held = mem::replace(self, SharedCases::new(self.alloc));
-        let (cases, number) = held.add(name, judged)?;
+        let (cases, number) = held.add(name, judged, roles.has_own(asn))?;
         let _empty = mem::replace(self, cases);
         Ok(number)
     }
@@ -249,10 +251,11 @@ impl SharedCases {
         steps: &mut Steps<L>,
     ) -> Result<(SharedCases, CaseNumbers), NoMemory>
         ensures judged { IfOk result (λ r. (n : ℕ) → has touched.now n ≡ true
-            → IsJudged (grounds table.now roles.now) (at r.0 n)) }
+            → IsRightCase (grounds table.now roles.now) (at r.0 n)) }
         ensures others { IfOk result (λ r. (n : ℕ) → has touched.now n ≡ false
             → at r.0 n ≡ at self n) }
         ensures same { IfOk result (λ r. AreSameCases self r.0) }
+        ensures own { IfOk result (λ r. SayTheSame self r.0) }
         ensures differed { IfOk result (λ r. HaveDiffered self r.0) }
         ensures newly { IfOk result (λ r. AreNewlyDiffering self r.0 r.1) }
         ensures rising { IsStrictlySortedBy nat_cmp touched.now }
@@ -283,18 +286,6 @@ impl SharedCases {
         Ok((cases, newly))
     }
 
-    // The hint, if it is the number of the case of this name.
-    fn hinted(&self, name: &CaseName) -> Option<u32>
-        ensures { IfSome result (λ n. IsStoredAs (at self.now n) name.now.asn name.now.trail) }
-    {
-        let number = self.hints.of(name.word)?;
-        if slots::is_stored_as(&self.slab, number as usize, name.asn, &name.trail) {
-            Some(number)
-        } else {
-            None
-        }
-    }
-
     // The number of the case of this name.
     fn find(&self, name: &CaseName) -> Option<u32>
         requires { name.now ≡ name_of name.now.asn name.now.trail }
@@ -305,12 +296,12 @@ impl SharedCases {
     }
 
     // A new case.
-    fn add(self, name: CaseName, judged: Judged) -> Result<(SharedCases, u32), NoMemory>
+    fn add(self, name: CaseName, judged: Judged, own: bool) -> Result<(SharedCases, u32), NoMemory>
         requires named { name ≡ name_of name.asn name.trail }
         requires absent { IsAbsent self name.asn name.trail }
         ensures vacant { IfOk result (λ r. at self r.1 ≡ None) }
         ensures added { IfOk result (λ r.
-            Rewrites self r.0 r.1 (Some (new_case name.asn name.trail judged))) }
+            Rewrites self r.0 r.1 (Some (new_case name.asn name.trail judged own))) }
     {
         let SharedCases {
             alloc,
@@ -324,11 +315,11 @@ impl SharedCases {
         } = self;
         let asn = name.asn;
         let totals = totals.plus(Totals::of(judged.verdict(), 1))?;
-        let case = new_case(&name, judged)?;
+        let case = new_case(&name, judged, own)?;
         let number = slab.insert(case)?;
         let short = u32::try_from(number).ok().ok_or(NoMemory)?;
         let index = index.add(number, name.trail.chain())?;
-        let peers = peers.add(asn, number)?;
+        let peers = peers.add(asn, number, own)?;
         hints.fit(number)?;
         hints.keep(name.word, short);
         names.add(name, short)?;

@@ -1,4 +1,9 @@
 //! Where a case is looked for first.
+ghost use Rattle.std.specs.Prelude.{IfSome};
+ghost use Rattle.shared_cases.specs.Cases.{at, IsStoredAs};
+
+use crate::case_name::CaseName;
+use crate::{SharedCases, slots};
 use av_base::NoMemory;
 use std::alloc::Global;
 use std::vec::Vec;
@@ -61,4 +66,18 @@ fn larger(len: usize) -> usize {
 fn place(word: u64, len: usize) -> usize {
     let mixed = (word.wrapping_mul(FACTOR) >> 32) as usize;
     mixed & len.saturating_sub(1)
+}
+
+impl SharedCases {
+    // The hint, if it is the number of the case of this name.
+    pub(crate) fn hinted(&self, name: &CaseName) -> Option<u32>
+        ensures { IfSome result (λ n. IsStoredAs (at self.now n) name.now.asn name.now.trail) }
+    {
+        let number = self.hints.of(name.word)?;
+        if slots::is_stored_as(&self.slab, number as usize, name.asn, &name.trail) {
+            Some(number)
+        } else {
+            None
+        }
+    }
 }

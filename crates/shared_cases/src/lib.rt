@@ -6,8 +6,9 @@
 //! routes have which verdict. Begin reading in `specs/Cases.antt`, then in `specs/Taking.antt` and in `specs/Touched.antt`.
 //!
 //! A case has a number as long as some route has it. It is found by its name (`case_name`, `names`), by its hops (the crate `hop_index`)
-//! and by its AS (`peers`); each case that gets another verdict than the marked one is told once to the caller (`specs/Differed.antt`), and its
-//! number is kept until the next mark; `specs/Kept.antt` says what keeps these together.
+//! and by its AS (`peers`, which also keeps whose cases follow the default role, as `specs/Owning.antt` says); each case that gets another
+//! verdict than the marked one is told once to the caller (`specs/Differed.antt`), and its number is kept until the next mark;
+//! `specs/Kept.antt` says what keeps these together.
 #![tactic(auto)]
 
 mod case;

@@ -1,76 +1,121 @@
 //! The cases by their peer AS.
-ghost use Rattle.std.specs.Prelude.{◌≡◌, ◌≢◌, ◌↔◌, ℕ, [], Some, IfOk, IsTrue, OnOk};
+ghost use Rattle.std.specs.Prelude.{◌≡◌, ◌≢◌, ◌↔◌, ◌||◌, ◌&&◌, not, ℕ, nat_eq, [], Some, IfOk, IsTrue, OnOk};
 ghost use Rattle.std.specs.Option.{option_copied};
-ghost use Rattle.std.specs.Map.{keys_of};
-ghost use Rattle.shared_cases.specs.Peers.{found, AddsMember, RemovesMember, HaveMembers};
+ghost use Rattle.shared_cases.specs.Numbers.{has};
+ghost use Rattle.shared_cases.specs.Peers.{found, has_cases, AddsMember, RemovesMember, HaveMembers};
 
 use crate::numbers::CaseNumbers;
 use av_base::NoMemory;
 use std::alloc::Global;
-use std::collections::{BTreeMap, btree_map};
+use std::collections::{BTreeMap, BTreeSet, btree_set};
 use std::marker::Model;
 
-// The numbers of each AS's cases. An AS takes a map entry and 8 to 18 bytes for each of its cases, and none once its last case is removed.
+// The numbers of each AS's cases. An AS takes a map entry and 8 to 18 bytes for each of its cases, and 4 to 9 bytes while one of them
+// doesn't say that it has a role of its own; and none once its last case is removed.
 #[derive(Drop)]
 pub(crate) struct Peers {
     alloc: Global,
     // an AS without cases has no entry, as the invariant says
     members: BTreeMap<u32, CaseNumbers>,
+    // each AS with a case that doesn't say that the AS has a role of its own, and no AS without cases
+    defaulted: BTreeSet<u32>,
 }
 
 impl Model for Peers {
-    ghost use Rattle.shared_cases.specs.Peers.{Members, HaveMembers};
+    ghost use Rattle.shared_cases.specs.Codes.{coded_peers};
+    ghost use Rattle.shared_cases.specs.Peers.{ByPeer, HaveCases, HaveMembers};
 
-    ghost Value = { Members };
+    ghost Value = { ByPeer };
 
-    ghost view = { λ a. a.members.entries };
+    ghost coded = { coded_peers };
 
-    ghost invariant = { λ a. HaveMembers a.members.entries };
+    ghost view = { λ a. record { members = a.members.entries; defaulted = a.defaulted.keys } };
+
+    ghost invariant = { λ a. HaveMembers a.members.entries
+        × HaveCases a.members.entries a.defaulted.keys };
 }
 
 impl Peers {
     // No case of any AS. It takes no memory.
     pub(crate) fn new(alloc: Global) -> Peers
-        ensures { result ≡ [] }
+        ensures { result ≡ record { members = []; defaulted = [] } }
     {
         Peers {
             alloc,
             members: BTreeMap::new(alloc),
+            defaulted: BTreeSet::new(alloc),
         }
     }
 
-    // One case of an AS more.
-    pub(crate) fn add(self, asn: u32, number: usize) -> Result<Peers, NoMemory>
-        ensures { IfOk result (λ peers. AddsMember self asn number peers) }
+    // One case of an AS more, which says that the AS has a role of its own, or doesn't.
+    pub(crate) fn add(self, asn: u32, number: usize, own: bool) -> Result<Peers, NoMemory>
+        ensures members { IfOk result (λ peers. AddsMember self.members asn number peers.members) }
+        ensures defaulted { IfOk result (λ peers. (a : ℕ)
+            → has peers.defaulted a ≡ (has self.defaulted a || (nat_eq a asn && not own))) }
     {
-        let Peers { alloc, mut members } = self;
+        let Peers {
+            alloc,
+            mut members,
+            mut defaulted,
+        } = self;
         insert(&mut members, alloc, asn, number)?;
-        Ok(Peers { alloc, members })
+        insert_unless(&mut defaulted, asn, own)?;
+        Ok(Peers {
+            alloc,
+            members,
+            defaulted,
+        })
     }
 
     // One case of an AS less. It takes no memory.
     pub(crate) fn remove(self, asn: u32, number: usize) -> Peers
-        ensures { RemovesMember self asn number result }
+        ensures members { RemovesMember self.members asn number result.members }
+        ensures defaulted { (a : ℕ) → has result.defaulted a
+            ≡ (has self.defaulted a && has_cases result.members a) }
     {
-        let Peers { alloc, mut members } = self;
-        if take_out(&mut members, asn, number) {
-            members.remove(&asn);
+        let Peers {
+            alloc,
+            mut members,
+            mut defaulted,
+        } = self;
+        if !take_out(&mut members, asn, number) {
+            return Peers {
+                alloc,
+                members,
+                defaulted,
+            };
         }
-        Peers { alloc, members }
+        members.remove(&asn);
+        defaulted.remove(&asn);
+        Peers {
+            alloc,
+            members,
+            defaulted,
+        }
+    }
+
+    // Each case of the AS is to say that it has a role of its own. Answered is whether one didn't, so far as it is known. It takes no memory.
+    pub(crate) fn set_own(&mut self, asn: u32) -> bool
+        ensures members { self.new.members ≡ self.old.members }
+        ensures defaulted { (a : ℕ)
+            → has self.new.defaulted a ≡ (has self.old.defaulted a && not (nat_eq a asn)) }
+        ensures was { result ≡ has self.old.defaulted asn }
+    {
+        self.defaulted.remove(&asn)
     }
 
     // The cases of one AS.
     pub(crate) fn of(&self, asn: u32) -> Option<&CaseNumbers>
-        ensures { option_copied result ≡ found self.now asn }
+        ensures { option_copied result ≡ found self.now.members asn }
     {
         self.members.get(&asn)
     }
 
-    // The ASes that have cases, rising.
-    pub(crate) fn ases(&self) -> btree_map::Keys<'_, u32, CaseNumbers>
-        ensures { result ≡ keys_of self.now }
+    // Each AS with a case that doesn't say that the AS has a role of its own, and none without cases, rising.
+    pub(crate) fn defaulted(&self) -> btree_set::Iter<'_, u32>
+        ensures { result ≡ self.now.defaulted }
     {
-        self.members.keys()
+        self.defaulted.iter()
     }
 }
 
@@ -83,6 +128,8 @@ fn insert(
 ) -> Result<(), NoMemory>
     ensures added { OnOk result (AddsMember members.old.entries asn number members.new.entries) }
     ensures kept { OnOk result (HaveMembers members.old.entries → HaveMembers members.new.entries) }
+    ensures cases { OnOk result ((a : ℕ) → has_cases members.new.entries a
+        ≡ (has_cases members.old.entries a || nat_eq a asn)) }
 {
     if let Some(numbers) = members.get_mut(&asn) {
         return numbers.insert(number);
@@ -93,12 +140,25 @@ fn insert(
     Ok(())
 }
 
+// Adds an AS, unless it has a role of its own.
+fn insert_unless(ases: &mut BTreeSet<u32>, asn: u32, own: bool) -> Result<(), NoMemory>
+    ensures { OnOk result ((a : ℕ)
+        → has ases.new.keys a ≡ (has ases.old.keys a || (nat_eq a asn && not own))) }
+{
+    if own {
+        return Ok(());
+    }
+    ases.insert(asn)?;
+    Ok(())
+}
+
 // Takes a case of an AS out, and answers whether the AS stands there without cases.
 fn take_out(members: &mut BTreeMap<u32, CaseNumbers>, asn: u32, number: usize) -> bool
     ensures removed { RemovesMember members.old.entries asn number members.new.entries }
     ensures emptied { IsTrue result ↔ (found members.new.entries asn ≡ Some []) }
     ensures others { (a : ℕ) → a ≢ asn
         → found members.new.entries a ≡ found members.old.entries a }
+    ensures cases { has_cases members.new.entries asn ≡ has_cases members.old.entries asn }
 {
     match members.get_mut(&asn) {
         None => false,

@@ -8,15 +8,16 @@ ghost use Rattle.path_model.specs.Roles.{Relations};
 ghost use Rattle.vap_table.specs.Moves.{AreMoves};
 ghost use Rattle.shared_cases.specs.Cases.{at, AreSameCases};
 ghost use Rattle.shared_cases.specs.Differed.{HasDiffered, HaveDiffered, AreNewlyDiffering};
-ghost use Rattle.shared_cases.specs.Grounds.{by_table, grounds, IsJudged};
+ghost use Rattle.shared_cases.specs.Grounds.{by_table, grounds, IsJudged, IsRightCase};
 ghost use Rattle.shared_cases.specs.Numbers.{has};
+ghost use Rattle.shared_cases.specs.Owning.{owned_of, SayTheSame};
 ghost use Rattle.shared_cases.specs.Totals.{totals_of};
 ghost use Rattle.shared_cases.specs.Touched.{AreWithinTouched, IsRoleMove};
 
 use crate::SharedCases;
 use crate::case::StoredCase;
 use crate::numbers::CaseNumbers;
-use crate::slots::{judge_anew, share};
+use crate::slots::{judge_anew, set_all_own, share};
 use crate::totals::Totals;
 use crate::touched::{touched_by_default, touched_by_moves, touched_by_role};
 use av_base::{NoMemory, Steps};
@@ -55,8 +56,9 @@ impl SharedCases {
         Ok((cases, newly))
     }
 
-    /// The role of one AS, which was `before`, is that of `roles` from now on. Where these differ it judges anew, once each, the cases of
-    /// that AS. It takes the time of one look-up and of these cases, and answers as [`SharedCases::follow_table`] does.
+    /// The role of one AS, which was `before`, is that of `roles` from now on, and is its own. Where these differ it judges anew, once each,
+    /// the cases of that AS. It takes the time of two look-ups and of these cases, which it also goes over where the AS had no role of its
+    /// own, and answers as [`SharedCases::follow_table`] does.
     pub fn follow_role<L: Ledger>(
         self,
         asn: u32,
@@ -77,12 +79,14 @@ impl SharedCases {
             (steps.new - steps.old) }
     {
         let touched = touched_by_role(self.alloc, &self.peers, asn, before, roles.of(asn))?;
-        let (cases, newly) = self.rejudge(&touched, table, roles, steps)?;
+        let mut cases = self;
+        cases.set_own(asn);
+        let (cases, newly) = cases.rejudge(&touched, table, roles, steps)?;
         Ok((cases, newly))
     }
 
     /// The default role, which was `before`, is that of `roles` from now on. Where these differ it judges anew, once each, the cases of the
-    /// ASes without a role of their own. It takes the time of one look-up for each AS that has cases, and of the cases judged; where the
+    /// ASes without a role of their own. It takes the time of two look-ups for each such AS that has cases, and of the cases judged; where the
     /// default is the same, none. It answers as [`SharedCases::follow_table`] does.
     pub fn follow_default<L: Ledger>(
         self,
@@ -104,6 +108,20 @@ impl SharedCases {
         let (cases, newly) = self.rejudge(&touched, table, roles, steps)?;
         Ok((cases, newly))
     }
+
+    // The AS has a role of its own, and each of its cases says so from now on. It takes the time of a look-up, and that of these cases where
+    // some may not have said so.
+    fn set_own(&mut self, asn: u32)
+        ensures { (n : ℕ) → at self.new n ≡ owned_of asn (at self.old n) }
+    {
+        if !self.peers.set_own(asn) {
+            return;
+        }
+        match self.peers.of(asn) {
+            None => {}
+            Some(numbers) => set_all_own(&mut self.slab, numbers),
+        }
+    }
 }
 
 // These cases are judged anew, and the answer is which of them differ from now on and hadn't before. The totals go along.
@@ -117,10 +135,11 @@ pub(crate) fn rejudge_all<L: Ledger>(
     steps: &mut Steps<L>,
 ) -> Result<CaseNumbers, NoMemory>
     ensures judged { OnOk result ((n : ℕ) → has touched.now n ≡ true
-        → IsJudged (grounds table.now roles.now) (at slab.new.slots n)) }
+        → IsRightCase (grounds table.now roles.now) (at slab.new.slots n)) }
     ensures others { OnOk result ((n : ℕ) → has touched.now n ≡ false
         → at slab.new.slots n ≡ at slab.old.slots n) }
     ensures same { OnOk result (AreSameCases slab.old.slots slab.new.slots) }
+    ensures own { OnOk result (SayTheSame slab.old.slots slab.new.slots) }
     ensures differed { OnOk result ((n : ℕ) → has touched.now n ≡ true
         → HasDiffered (at slab.old.slots n) (at slab.new.slots n)) }
     ensures newly { IfOk result (λ newly.

@@ -2,8 +2,9 @@
 ghost use Rattle.std.specs.Prelude.{◌≡◌, ◌≢◌, ◌≤◌, ◌+◌, ◌↔◌, ◌&&◌, not, true, false, ℕ, IsTrue, OnOk, OnErr};
 ghost use Rattle.shared_cases.specs.Cases.{at, has_differed, marked_now, same_verdict, Rewrites, IsSameCase, IsStoredAs};
 ghost use Rattle.shared_cases.specs.Differed.{HasDiffered};
-ghost use Rattle.shared_cases.specs.Grounds.{grounds, IsJudged};
+ghost use Rattle.shared_cases.specs.Grounds.{grounds, IsRightCase};
 ghost use Rattle.shared_cases.specs.Numbers.{has};
+ghost use Rattle.shared_cases.specs.Owning.{owned, says_own};
 ghost use Rattle.shared_cases.specs.Taking.{is_shared, lowered, raised};
 ghost use Rattle.shared_cases.specs.Totals.{one_user, share_of};
 
@@ -110,6 +111,28 @@ pub(crate) fn mark_all(slab: &mut Slab<StoredCase>, differed: &CaseNumbers)
     }
 }
 
+// It says from now on that its AS has a role of its own.
+pub(crate) fn set_own(slab: &mut Slab<StoredCase>, number: usize)
+    ensures { Rewrites slab.old.slots slab.new.slots number (owned (at slab.old.slots number)) }
+{
+    let Some(case) = slab.get_mut(number) else {
+        return;
+    };
+    case.own = true;
+}
+
+// These cases say so from now on.
+pub(crate) fn set_all_own(slab: &mut Slab<StoredCase>, numbers: &CaseNumbers)
+    ensures owned { (n : ℕ) → has numbers.now n ≡ true
+        → at slab.new.slots n ≡ owned (at slab.old.slots n) }
+    ensures others { (n : ℕ) → has numbers.now n ≡ false
+        → at slab.new.slots n ≡ at slab.old.slots n }
+{
+    for number in numbers.iter() {
+        set_own(slab, *number);
+    }
+}
+
 // It is judged anew, and the answer is whether it differs from now on and hadn't before.
 pub(crate) fn judge_anew<L: Ledger>(
     slab: &mut Slab<StoredCase>,
@@ -118,8 +141,9 @@ pub(crate) fn judge_anew<L: Ledger>(
     roles: &Roles,
     steps: &mut Steps<L>,
 ) -> bool
-    ensures judged { IsJudged (grounds table.now roles.now) (at slab.new.slots number) }
+    ensures judged { IsRightCase (grounds table.now roles.now) (at slab.new.slots number) }
     ensures same { IsSameCase (at slab.old.slots number) (at slab.new.slots number) }
+    ensures own { says_own (at slab.new.slots number) ≡ says_own (at slab.old.slots number) }
     ensures differed { HasDiffered (at slab.old.slots number) (at slab.new.slots number) }
     ensures newly { result ≡ (has_differed (at slab.new.slots number)
         && not (has_differed (at slab.old.slots number))) }

@@ -33,25 +33,25 @@ pub(crate) fn touched_by_moves(
     Ok(touched)
 }
 
-// The cases of the ASes without a role of their own, where the default was `before` and is another one. It takes the time of a look-up for
-// each AS that has cases, and of what is found; where the default is the same, none.
+// The cases of the ASes without a role of their own, where the default was `before` and is another one. Only the ASes with a case that doesn't
+// say that they have one are gone over: it takes the time of two look-ups for each, and of what is found; where the default is the same, none.
 pub(crate) fn touched_by_default(
     alloc: Global,
     peers: &Peers,
     before: Role,
     roles: &Roles,
 ) -> Result<CaseNumbers, NoMemory>
-    ensures others { IfOk result (λ touched. (asn n : ℕ) → is_member peers.now asn n ≡ true
-        → has touched n ≡ false
+    ensures others { IfOk result (λ touched. (asn n : ℕ) → has peers.now.defaulted asn ≡ true
+        → is_member peers.now.members asn n ≡ true → has touched n ≡ false
         → role_of (record roles.now { default = before }) asn ≡ role_of roles.now asn) }
     ensures only { IfOk result (λ touched. (n : ℕ) → has touched n ≡ true
-        → HasMovedMember peers.now (record roles.now { default = before }) roles.now n) }
+        → HasMovedMember peers.now.members (record roles.now { default = before }) roles.now n) }
 {
     let mut touched = CaseNumbers::new(alloc);
     if is_same_role(before, roles.default()) {
         return Ok(touched);
     }
-    for asn in peers.ases() {
+    for asn in peers.defaulted() {
         if roles.has_own(*asn) {
             continue;
         }
@@ -68,10 +68,10 @@ pub(crate) fn touched_by_role(
     before: Role,
     after: Role,
 ) -> Result<CaseNumbers, NoMemory>
-    ensures others { IfOk result (λ touched. (n : ℕ) → is_member peers.now asn n ≡ true
+    ensures others { IfOk result (λ touched. (n : ℕ) → is_member peers.now.members asn n ≡ true
         → has touched n ≡ false → before ≡ after) }
     ensures only { IfOk result (λ touched. (n : ℕ) → has touched n ≡ true
-        → IsMovedMember peers.now asn before after n) }
+        → IsMovedMember peers.now.members asn before after n) }
 {
     let mut touched = CaseNumbers::new(alloc);
     if is_same_role(before, after) {
@@ -84,7 +84,7 @@ pub(crate) fn touched_by_role(
 // The cases of an AS come to the others.
 fn touch_members(peers: &Peers, asn: u32, touched: &mut CaseNumbers) -> Result<(), NoMemory>
     ensures { OnOk result ((n : ℕ)
-        → has touched.new n ≡ (has touched.old n || is_member peers.now asn n)) }
+        → has touched.new n ≡ (has touched.old n || is_member peers.now.members asn n)) }
 {
     match peers.of(asn) {
         None => Ok(()),

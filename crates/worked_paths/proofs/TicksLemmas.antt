@@ -143,8 +143,8 @@ as_written P old known event given from is holds = subst (λ (s : State). P s gi
 -- ---- each event of the row
 
 pub changes_are : (changes before : List Change) (prefix : Subnet) (path : Path) → before ≡ [] → prefix ≡ route_key.prefix → path ≡ route_path
-    → changes ≡ before ++ Announce (record { peer = route_key.peer; prefix = prefix }) path ∷ [] → changes ≡ Announce route_key route_path ∷ []
-changes_are changes before prefix path none at over are = are ∙ (λ i. none i ++ Announce (record { peer = route_key.peer; prefix = at i }) (over i) ∷ [])
+    → changes ≡ before ++ Announce (record { peer = route_key.peer; prefix = prefix; path = route_key.path }) path ∷ [] → changes ≡ Announce route_key route_path ∷ []
+changes_are changes before prefix path none at over are = are ∙ (λ i. none i ++ Announce (record { peer = route_key.peer; prefix = at i; path = route_key.path }) (over i) ∷ [])
 
 pub announced_is : (old next : State) (changes : List Change) → old ≡ no_state → changes ≡ Announce route_key route_path ∷ [] → Happens old (Routes changes) next → next ≡ announced_state
 announced_is old next changes from is happens =

@@ -14,7 +14,7 @@ loop-number-preserved-in-Continue-branch-2 g c =
       so_far = rejudging_next (grounds c.args.table.now c.args.roles.now) (has c.args.touched.now) c.args.slab.now.slots c.loop-number.slab.slots c.judge_anew-differs.new.slab.slots c.in-Some.number.now c.next.new.self
           c.loop-number.newly c.insert.new.self
           (subst (λ (rest : List ℕ). IsRejudging (grounds c.args.table.now c.args.roles.now) (has c.args.touched.now) c.args.slab.now.slots c.loop-number.slab.slots rest c.loop-number.newly) e c.loop-number.invariant.so_far)
-          c.judge_anew-differs.ensures.judged c.judge_anew-differs.ensures.same c.judge_anew-differs.ensures.differed c.judge_anew-differs.ensures.others
+          c.judge_anew-differs.ensures.judged c.judge_anew-differs.ensures.same c.judge_anew-differs.ensures.own c.judge_anew-differs.ensures.differed c.judge_anew-differs.ensures.others
           c.judge_anew-differs.result c.judge_anew-differs.ensures.newly (told_more c.loop-number.newly c.insert.new.self c.in-Some.number.now c.judge_anew-differs.result c.if-differs.true c.in_ok-insert.ensures.members);
       counted = λ start. rejudged_totals c.loop-number.slab.slots c.judge_anew-differs.new.slab.slots c.in-Some.number.now c.loop-number.totals c.in_ok-both.both c.minus.result
           c.share-before.result c.share-after.result c.judge_anew-differs.ensures.others c.share-before.ensures c.share-after.ensures c.in_ok-both.ensures c.minus.ensures
@@ -29,7 +29,7 @@ loop-number-preserved g c =
       so_far = rejudging_next (grounds c.args.table.now c.args.roles.now) (has c.args.touched.now) c.args.slab.now.slots c.loop-number.slab.slots c.judge_anew-differs.new.slab.slots c.in-Some.number.now c.next.new.self
           c.loop-number.newly c.loop-number.newly
           (subst (λ (rest : List ℕ). IsRejudging (grounds c.args.table.now c.args.roles.now) (has c.args.touched.now) c.args.slab.now.slots c.loop-number.slab.slots rest c.loop-number.newly) e c.loop-number.invariant.so_far)
-          c.judge_anew-differs.ensures.judged c.judge_anew-differs.ensures.same c.judge_anew-differs.ensures.differed c.judge_anew-differs.ensures.others
+          c.judge_anew-differs.ensures.judged c.judge_anew-differs.ensures.same c.judge_anew-differs.ensures.own c.judge_anew-differs.ensures.differed c.judge_anew-differs.ensures.others
           c.judge_anew-differs.result c.judge_anew-differs.ensures.newly (told_same c.loop-number.newly c.in-Some.number.now c.judge_anew-differs.result c.if-differs.false);
       counted = λ start. rejudged_totals c.loop-number.slab.slots c.judge_anew-differs.new.slab.slots c.in-Some.number.now c.loop-number.totals c.in_ok-both.both c.minus.result
           c.share-before.result c.share-after.result c.judge_anew-differs.ensures.others c.share-before.ensures c.share-after.ensures c.in_ok-both.ensures c.minus.ensures

@@ -2,32 +2,39 @@ use Rattle.std.proofs.Common.{◌-◌, subst, arith}
 use Rattle.path_model.specs.ComputedTable.{table_of}
 use Rattle.shared_cases.specs.Cases.{Slots}
 use Rattle.shared_cases.specs.Kept.{AreIndexed}
-use Rattle.shared_cases.proofs.FollowLemmas.{roles_followed, roles_touch, role_others, role_only}
+use Rattle.shared_cases.proofs.FollowLemmas.{role_followed, role_others, role_only, roles_touch}
+use Rattle.shared_cases.proofs.OwnLemmas.{differed_through, newly_through, same_through}
 use Rattle.shared_cases.proofs.cases.SharedCases.follow_role.Goals as goal
 
 pub returns-in_err-cases-clause-ticks : goal.returns-in_err-cases-clause-ticks
 returns-in_err-cases-clause-ticks g c = λ old move.
-    roles_touch c.args.self c.args.self c.self.inside.names c.self.inside.index c.self.inside.peers
-    (subst (λ (cases : Slots). AreIndexed cases c.self.inside.names c.self.inside.index c.self.inside.peers) c.self.view_is c.self.invariant.0.indexed)
+    roles_touch c.args.self c.args.self c.self.inside.names c.self.inside.index c.self.inside.peers.members
+    (subst (λ (cases : Slots). AreIndexed cases c.self.inside.names c.self.inside.index c.self.inside.peers.members) c.self.view_is c.self.invariant.0.indexed)
     c.in_ok-touched.touched (table_of c.args.table.now) old c.args.roles.now
-    (role_others c.self.inside.peers c.args.asn c.in_ok-touched.touched c.args.before c.of.result old c.args.roles.now move c.of.ensures c.in_ok-touched.ensures.others)
-    (role_only c.self.inside.peers c.args.asn c.in_ok-touched.touched c.args.before c.of.result old c.args.roles.now move c.of.ensures c.in_ok-touched.ensures.only)
+    (role_only c.self.inside.peers.members c.args.asn c.in_ok-touched.touched c.args.before c.of.result old c.args.roles.now move c.of.ensures c.in_ok-touched.ensures.only)
     (c.rejudge.new.steps - c.args.steps.now) c.rejudge.ensures.rising (omega (arith, c.rejudge.ensures.ticks))
+
+pub returns-clause-same : goal.returns-clause-same
+returns-clause-same g c = same_through c.args.asn c.args.self c.set_own.new.self c.in_ok-cases.cases c.set_own.ensures c.in_ok-cases.ensures.same
 
 pub returns-clause-judged : goal.returns-clause-judged
 returns-clause-judged g c = λ old move.
-    roles_followed c.args.self c.in_ok-cases.cases c.self.inside.names c.self.inside.index c.self.inside.peers
-    (subst (λ (cases : Slots). AreIndexed cases c.self.inside.names c.self.inside.index c.self.inside.peers) c.self.view_is c.self.invariant.0.indexed)
-    c.in_ok-touched.touched (table_of c.args.table.now) old c.args.roles.now
-    (role_others c.self.inside.peers c.args.asn c.in_ok-touched.touched c.args.before c.of.result old c.args.roles.now move c.of.ensures c.in_ok-touched.ensures.others)
-    (role_only c.self.inside.peers c.args.asn c.in_ok-touched.touched c.args.before c.of.result old c.args.roles.now move c.of.ensures c.in_ok-touched.ensures.only)
-    c.in_ok-cases.ensures.judged c.in_ok-cases.ensures.others
+    role_followed c.args.self c.in_ok-cases.cases c.self.inside.names c.self.inside.index c.self.inside.peers.members
+    (subst (λ (cases : Slots). AreIndexed cases c.self.inside.names c.self.inside.index c.self.inside.peers.members) c.self.view_is c.self.invariant.0.indexed)
+    c.in_ok-touched.touched (table_of c.args.table.now) c.args.asn c.args.before old c.args.roles.now move
+    (role_others c.self.inside.peers.members c.args.asn c.in_ok-touched.touched c.args.before c.of.result old c.args.roles.now move c.of.ensures c.in_ok-touched.ensures.others)
+    c.set_own.new.self c.set_own.ensures c.in_ok-cases.ensures.judged c.in_ok-cases.ensures.others c.in_ok-cases.ensures.same c.in_ok-cases.ensures.own
+
+pub returns-clause-differed : goal.returns-clause-differed
+returns-clause-differed g c = differed_through c.args.asn c.args.self c.set_own.new.self c.in_ok-cases.cases c.set_own.ensures c.in_ok-cases.ensures.differed
+
+pub returns-clause-newly : goal.returns-clause-newly
+returns-clause-newly g c = newly_through c.args.asn c.args.self c.set_own.new.self c.in_ok-cases.cases c.set_own.ensures c.in_ok-cases.newly c.in_ok-cases.ensures.newly
 
 pub returns-clause-ticks : goal.returns-clause-ticks
 returns-clause-ticks g c = λ old move.
-    roles_touch c.args.self c.args.self c.self.inside.names c.self.inside.index c.self.inside.peers
-    (subst (λ (cases : Slots). AreIndexed cases c.self.inside.names c.self.inside.index c.self.inside.peers) c.self.view_is c.self.invariant.0.indexed)
+    roles_touch c.args.self c.args.self c.self.inside.names c.self.inside.index c.self.inside.peers.members
+    (subst (λ (cases : Slots). AreIndexed cases c.self.inside.names c.self.inside.index c.self.inside.peers.members) c.self.view_is c.self.invariant.0.indexed)
     c.in_ok-touched.touched (table_of c.args.table.now) old c.args.roles.now
-    (role_others c.self.inside.peers c.args.asn c.in_ok-touched.touched c.args.before c.of.result old c.args.roles.now move c.of.ensures c.in_ok-touched.ensures.others)
-    (role_only c.self.inside.peers c.args.asn c.in_ok-touched.touched c.args.before c.of.result old c.args.roles.now move c.of.ensures c.in_ok-touched.ensures.only)
+    (role_only c.self.inside.peers.members c.args.asn c.in_ok-touched.touched c.args.before c.of.result old c.args.roles.now move c.of.ensures c.in_ok-touched.ensures.only)
     (c.rejudge.new.steps - c.args.steps.now) c.rejudge.ensures.rising (omega (arith, c.rejudge.ensures.ticks))

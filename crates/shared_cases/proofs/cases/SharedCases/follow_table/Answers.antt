@@ -7,20 +7,21 @@ use Rattle.shared_cases.proofs.cases.SharedCases.follow_table.Goals as goal
 
 pub returns-in_err-cases-clause-ticks : goal.returns-in_err-cases-clause-ticks
 returns-in_err-cases-clause-ticks g c = λ before are.
-    table_touches c.args.self c.args.self c.self.inside.names c.self.inside.index c.self.inside.peers
-    (subst (λ (cases : Slots). AreIndexed cases c.self.inside.names c.self.inside.index c.self.inside.peers) c.self.view_is c.self.invariant.0.indexed)
+    table_touches c.args.self c.args.self c.self.inside.names c.self.inside.index c.self.inside.peers.members
+    (subst (λ (cases : Slots). AreIndexed cases c.self.inside.names c.self.inside.index c.self.inside.peers.members) c.self.view_is c.self.invariant.0.indexed)
     c.in_ok-touched.touched before (table_of c.args.table.now) c.args.roles.now c.args.moves.now are c.in_ok-touched.ensures
     (c.rejudge.new.steps - c.args.steps.now) c.rejudge.ensures.rising (omega (arith, c.rejudge.ensures.ticks))
 
 pub returns-clause-judged : goal.returns-clause-judged
 returns-clause-judged g c = λ before are.
-    table_followed c.args.self c.in_ok-cases.cases c.self.inside.names c.self.inside.index c.self.inside.peers
-    (subst (λ (cases : Slots). AreIndexed cases c.self.inside.names c.self.inside.index c.self.inside.peers) c.self.view_is c.self.invariant.0.indexed)
+    table_followed c.args.self c.in_ok-cases.cases c.self.inside.names c.self.inside.index c.self.inside.peers.members
+    (subst (λ (cases : Slots). AreIndexed cases c.self.inside.names c.self.inside.index c.self.inside.peers.members) c.self.view_is c.self.invariant.0.indexed)
     c.in_ok-touched.touched before (table_of c.args.table.now) c.args.roles.now c.args.moves.now are c.in_ok-touched.ensures c.in_ok-cases.ensures.judged c.in_ok-cases.ensures.others
+    c.in_ok-cases.ensures.same c.in_ok-cases.ensures.own
 
 pub returns-clause-ticks : goal.returns-clause-ticks
 returns-clause-ticks g c = λ before are.
-    table_touches c.args.self c.args.self c.self.inside.names c.self.inside.index c.self.inside.peers
-    (subst (λ (cases : Slots). AreIndexed cases c.self.inside.names c.self.inside.index c.self.inside.peers) c.self.view_is c.self.invariant.0.indexed)
+    table_touches c.args.self c.args.self c.self.inside.names c.self.inside.index c.self.inside.peers.members
+    (subst (λ (cases : Slots). AreIndexed cases c.self.inside.names c.self.inside.index c.self.inside.peers.members) c.self.view_is c.self.invariant.0.indexed)
     c.in_ok-touched.touched before (table_of c.args.table.now) c.args.roles.now c.args.moves.now are c.in_ok-touched.ensures
     (c.rejudge.new.steps - c.args.steps.now) c.rejudge.ensures.rising (omega (arith, c.rejudge.ensures.ticks))

@@ -1,0 +1,14 @@
+use Rattle.std.proofs.Common.{◌≡◌, ℕ, List, ◌∷◌, subst}
+use Rattle.std.specs.Map.Iter.{deref}
+use Rattle.std.proofs.lemmas.Map.Iter.{rest_more}
+use Rattle.shared_cases.specs.Numbers.{has}
+use Rattle.shared_cases.specs.Owning.{owned}
+use Rattle.shared_cases.proofs.KeptLemmas.{IsDoing, doing_next}
+use Rattle.shared_cases.proofs.OwnLemmas.{owned_twice}
+use Rattle.shared_cases.proofs.slots.set_all_own.Goals as goal
+
+pub loop-number-preserved : goal.loop-number-preserved
+loop-number-preserved c =
+    let e : c.loop-number.number-iterator ≡ c.in-Some.number.now ∷ c.next.new.self = rest_more deref c.loop-number.number-iterator c.next.new.self c.next.result c.in-Some.number c.in-Some.is c.next.ensures.steps in
+    doing_next owned owned_twice (has c.args.numbers.now) c.args.slab.now.slots c.loop-number.slab.slots c.set_own.new.slab.slots c.in-Some.number.now c.next.new.self
+    (subst (λ (rest : List ℕ). IsDoing owned (has c.args.numbers.now) c.args.slab.now.slots c.loop-number.slab.slots rest) e c.loop-number.invariant) c.set_own.ensures
