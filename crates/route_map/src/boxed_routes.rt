@@ -91,7 +91,8 @@ impl<V: Copy> BoxedRoutes<V> {
         value: V,
     ) -> Result<Option<V>, NoMemory>
         ensures before { IfOk result (λ v. v ≡ value_of self.old (identified prefix.now path)) }
-        ensures put { OnOk result (self.new ≡ with_value self.old (identified prefix.now path) value) }
+        ensures put { OnOk result
+            (self.new ≡ with_value self.old (identified prefix.now path) value) }
         ensures same { OnErr result (self.new ≡ self.old) }
     {
         if let Some(routes) = &mut self.routes {

@@ -1,4 +1,5 @@
-//! A value for each route: a map by peer and then by prefix, laid out so that ten million IPv4 routes of a dump take some 100 MB.
+//! A value for each route: a map by peer, then by prefix and then by path identifier, laid out so that ten million IPv4 routes of a dump
+//! take some 100 MB.
 //!
 //! The layers above see the list of its entries in key order and use the words of std's maps: **[`RouteMap::insert`] makes
 //! `insert_entry key_cmp` of that list and [`RouteMap::remove`] `remove_entry`, [`RouteMap::get`] looks up in it, and [`RouteMap::iter`]

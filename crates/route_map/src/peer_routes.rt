@@ -64,7 +64,7 @@ impl<V> PeerRoutes<V> {
     }
 
     // One of them: `None` exactly where there are none. It takes no search.
-    pub(crate) fn last(&self) -> Option<Nlri>
+    pub(crate) fn one(&self) -> Option<Nlri>
         ensures none { IfNone result (self.now ≡ []) }
         ensures some { IfSome result (HasNlri self.now) }
     {

@@ -1,6 +1,6 @@
 use Rattle.route_map.proofs.LastLemmas.{has_plain, has_identified}
 use Rattle.route_map.proofs.MergeLemmas.{both_are_empty}
-use Rattle.route_map.proofs.peer_routes.PeerRoutes.last.Goals as goal
+use Rattle.route_map.proofs.peer_routes.PeerRoutes.one.Goals as goal
 
 pub returns-in-Some-clause-some : goal.returns-in-Some-clause-some
 returns-in-Some-clause-some g c =

@@ -4,21 +4,21 @@ use Rattle.path_model.specs.declared.key.Key.{Key}
 use Rattle.route_map.specs.Flat.{flat}
 use Rattle.route_map.specs.OfPeer.{IsRouteOf}
 use Rattle.route_map.proofs.PartLemmas.{none_of_peer, one_of_peer}
-use Rattle.route_map.proofs.route_map.RouteMap.last_of.Goals as goal
+use Rattle.route_map.proofs.route_map.RouteMap.one_of.Goals as goal
 
 pub returns-in-None-clause-none : goal.returns-in-None-clause-none
 returns-in-None-clause-none g c =
     rw (← c.self.view_is) (none_of_peer c.args.peer.now c.self.inside.peers.entries c.len-peers.ensures.ordered None (sym c.get.ensures.value ∙ ap option_copied c.in-None.is) refl)
 
-pub returns-in-None-last-clause-none : goal.returns-in-None-last-clause-none
-returns-in-None-last-clause-none g c =
+pub returns-in-None-one-clause-none : goal.returns-in-None-one-clause-none
+returns-in-None-one-clause-none g c =
     rw (← c.self.view_is)
     (none_of_peer c.args.peer.now c.self.inside.peers.entries c.len-peers.ensures.ordered (Some c.in-Some.routes.now) (sym c.get.ensures.value ∙ ap option_copied c.in-Some.is)
-    c.in-None-last.ensures.none)
+    c.in-None-one.ensures.none)
 
-pub returns-in-Some-last-clause-some : goal.returns-in-Some-last-clause-some
-returns-in-Some-last-clause-some g c =
+pub returns-in-Some-one-clause-some : goal.returns-in-Some-one-clause-some
+returns-in-Some-one-clause-some g c =
     rw (← c.self.view_is)
     (subst (λ (key : Key). IsRouteOf (flat c.self.inside.peers.entries) c.args.peer.now key) (sym c.new.ensures)
-    (one_of_peer c.args.peer.now c.self.inside.peers.entries c.len-peers.ensures.ordered c.in-Some.routes.now c.in-Some-last.nlri (sym c.get.ensures.value ∙ ap option_copied c.in-Some.is)
-    c.in-Some-last.ensures.some))
+    (one_of_peer c.args.peer.now c.self.inside.peers.entries c.len-peers.ensures.ordered c.in-Some.routes.now c.in-Some-one.nlri (sym c.get.ensures.value ∙ ap option_copied c.in-Some.is)
+    c.in-Some-one.ensures.some))

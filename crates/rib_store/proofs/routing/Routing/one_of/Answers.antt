@@ -3,7 +3,7 @@ use Rattle.std.specs.Option.{is_some, option_map}
 use Rattle.shared_cases.specs.Cases.{at}
 use Rattle.rib_store.specs.Cased.{path_or}
 use Rattle.rib_store.proofs.CasedLemmas.{get_through, is_some_map}
-use Rattle.rib_store.proofs.routing.Routing.last_of.Goals as goal
+use Rattle.rib_store.proofs.routing.Routing.one_of.Goals as goal
 
 pub returns-in-None-clause-none : goal.returns-in-None-clause-none
 returns-in-None-clause-none c = λ key of_peer. get_through path_or c.args.self.now.cases c.args.self.now.routes key
