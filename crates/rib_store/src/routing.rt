@@ -219,20 +219,20 @@ impl Routing {
                   (λ key. not (is_of_peer peer.now key));
             }) }
     {
-        while let Some(key) = self.last_of(peer) {
+        while let Some(key) = self.one_of(peer) {
             self.withdraw(&key, table, roles)?;
         }
         Ok(())
     }
 
-    // A key of the peer that has a route: the last one, since the last of all takes the least time to go.
-    fn last_of(&self, peer: &Peer) -> Option<Key>
+    // Some key of the peer that has a route.
+    fn one_of(&self, peer: &Peer) -> Option<Key>
         ensures none { IfNone result
             (HasNoRouteOf (routes_by self.now.cases self.now.routes) peer.now) }
         ensures some { IfSome result
             (IsRouteOf (routes_by self.now.cases self.now.routes) peer.now) }
     {
-        match self.routes.last_of(peer) {
+        match self.routes.one_of(peer) {
             None => None,
             Some(key) => Some(key),
         }
