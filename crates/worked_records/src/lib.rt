@@ -18,4 +18,6 @@ mod identifiers;
 #[cfg(test)]
 mod lists;
 #[cfg(test)]
+mod monitoring;
+#[cfg(test)]
 mod records;
