@@ -67,7 +67,7 @@ seen_tells up = record {
   received = capabilities_of up.received;
   has_sent = has_found up.sent;
   has_received = has_found up.received;
-  role = role_seen (capabilities_of up.received);
+  tells = role_seen (capabilities_of up.received);
   both = both_paths (capabilities_of up.sent) (capabilities_of up.received);
 }
 
@@ -75,10 +75,10 @@ tells_same : (up : Up) (one other : Option Role) (paths also : Bool) → Tells u
 tells_same up one other paths also p q =
     let sent : q.sent ≡ p.sent = found_only up.sent q.sent q.has_sent ∙ sym (found_only up.sent p.sent p.has_sent) in
     let received : q.received ≡ p.received = found_only up.received q.received q.has_received ∙ sym (found_only up.received p.received p.has_received) in
-    let role : TellsRole p.received other = subst (λ (ts : List Triple). TellsRole ts other) received q.role in
+    let role : TellsRole p.received other = subst (λ (ts : List Triple). TellsRole ts other) received q.tells in
     let both : IsTrue also ↔ (HasPaths p.sent × HasPaths p.received) =
     subst (λ (ts : List Triple). IsTrue also ↔ (HasPaths ts × HasPaths p.received)) sent (subst (λ (ts : List Triple). IsTrue also ↔ (HasPaths q.sent × HasPaths ts)) received q.both) in
-    (role_same p.received one other p.role role, truth_same paths also p.both both)
+    (role_same p.received one other p.tells role, truth_same paths also p.both both)
 
 opens_same : (up : Up) (one other : Result Body BmpFault) → OpensSay up one → OpensSay up other → one ≡ other
 opens_same up one other p q =

@@ -80,7 +80,7 @@ pub record Tells (up : Up) (role : Option Role) (paths : Bool) : Type 0 where
   pub received : List Triple
   pub has_sent : HasCapabilities up.sent sent
   pub has_received : HasCapabilities up.received received
-  pub role : TellsRole received role
+  pub tells : TellsRole received role
   pub both : IsTrue paths ↔ (HasPaths sent × HasPaths received)
 
 -- a Peer Up that counts: the peer, with what its OPENs tell

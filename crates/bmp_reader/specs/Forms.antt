@@ -11,7 +11,7 @@ IsRouteMonitoring body header message = Begins IsPeerHeader body header message
 
 -- a Peer Down: a header, a byte of reason, and data, which aren't read
 abbrev pub IsPeerDown : List ℕ → PeerHeader → Type 0
-IsPeerDown body header = (reason : ℕ) × (data : List ℕ) × Begins IsPeerHeader body header (reason ∷ data)
+IsPeerDown body header = (reason : ℕ) × (more : List ℕ) × Begins IsPeerHeader body header (reason ∷ more)
 
 -- what is read of a Peer Up: the OPEN that the router sent to the peer, and the one that it received from the peer
 pub record Up : Type 0 where
