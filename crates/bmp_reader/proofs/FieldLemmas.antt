@@ -11,7 +11,7 @@ use Rattle.bgp_attrs.specs.Blocks.{IsLength}
 use Rattle.bgp_attrs.specs.Prefixes.{addr_of}
 use Rattle.bgp_attrs.proofs.JoinedLemmas.{and_then_some}
 use Rattle.bmp_reader.specs.Fields.{SpellsFour, SpellsAddr, addr_size}
-use Rattle.bmp_reader.specs.Readers.{cut, two_at, four_at, addr_at}
+use Rattle.bmp_reader.specs.Readers.{cut, byte_at, two_at, four_at, addr_at}
 
 -- what was read is exactly what has the form
 pub record Reads {A : Type 0} (HasForm : A → Type 0) (found : Option A) : Type 0 where
@@ -44,6 +44,14 @@ cut_finds n bytes x e =
     subst (λ (y : List ℕ × List ℕ). (length y.0 ≡ n) × (bytes ≡ y.0 ++ y.1)) c.1 (omega (arith, length-take n bytes), sym (take-append-drop n bytes))
 
 -- ---- numbers
+
+pub byte_finds : (bytes : List ℕ) (n : ℕ) (rest : List ℕ) → byte_at bytes ≡ Some (n, rest) → bytes ≡ n ∷ rest
+byte_finds [] n rest e = absurd cc
+byte_finds (b ∷ bytes) n rest e = let p = some_pair_parts b n bytes rest e in λ i. p.0 i ∷ p.1 i
+
+pub byte_none : (bytes : List ℕ) → byte_at bytes ≡ None → bytes ≡ []
+byte_none [] e = refl
+byte_none (b ∷ bytes) e = absurd cc
 
 pub two_finds : (bytes : List ℕ) (n : ℕ) (rest : List ℕ) → two_at bytes ≡ Some (n, rest) → Front (λ part. IsLength true part n) bytes rest
 unfolding two_at

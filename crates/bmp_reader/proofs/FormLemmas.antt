@@ -14,9 +14,9 @@ use Rattle.bmp_reader.specs.Forms.{Up, IsRouteMonitoring, IsPeerDown, IsPeerUp}
 use Rattle.bmp_reader.specs.Gathering.{ByParts}
 use Rattle.bmp_reader.specs.Opens.{Open, IsOpen}
 use Rattle.bmp_reader.specs.Readers.{cut, byte_at, header_at, down_at, open_at, up_at}
-use Rattle.bmp_reader.proofs.FieldLemmas.{Reads, and_then_is, cut_at, cut_finds}
+use Rattle.bmp_reader.proofs.FieldLemmas.{Reads, and_then_is, cut_at, cut_finds, byte_finds}
 use Rattle.bmp_reader.proofs.HeaderLemmas.{header_reader}
-use Rattle.bmp_reader.proofs.OpenLemmas.{byte_finds, open_reader}
+use Rattle.bmp_reader.proofs.OpenLemmas.{open_reader}
 
 -- ---- the bodies
 

@@ -1,12 +1,19 @@
 -- Whole messages at the front of a stream.
-use Rattle.std.proofs.Common.{◌≡◌, ◌≢◌, inl, inr, ◌⊎◌, ℕ, ◌+◌, ◌-◌, ◌<◌, ◌≤◌, List, [], ◌∷◌, ◌++◌, length, take, drop, Some, None, refl, sym, ap, subst, ◌∙◌, append_assoc, arith}
+use Rattle.std.proofs.Common.{◌≡◌, ◌≢◌, inl, inr, ◌⊎◌, ℕ, ◌+◌, ◌-◌, ◌<◌, ◌≤◌, Bool, true, false, List, [], ◌∷◌, ◌++◌, length, take, drop, Some, None, Ok, Err, refl, sym, ap, subst, ◌∙◌, append_assoc, arith}
+use Rattle.std.specs.Prelude.{nat_lt}
+use Rattle.std.specs.declared.option.Option.{Option}
+use Rattle.std.specs.declared.result.Result.{Result}
 use Rattle.std.specs.Int.{w32, from_be_bytes}
 use Rattle.std.proofs.lemmas.Option.{some_pair_parts}
 use Rattle.std.proofs.lemmas.List.{take-append-drop, take_at, drop_at, length-take, length-append, drop-drop, drop-take}
+use Rattle.std.proofs.lemmas.Bool.Decides.{nat_tests}
 use Rattle.held_bytes.specs.Units.{Begins}
+use Rattle.bmp_reader.specs.declared.fault.BmpFrameFault.{BmpFrameFault}
+use Rattle.bmp_reader.specs.declared.fault.BmpFrameFault.TheVariants as faults
+use Rattle.bmp_reader.specs.declared.heading.Heading.{Heading}
 use Rattle.bmp_reader.specs.Coming.{IsOtherVersion, IsBadLength, IsPartial}
 use Rattle.bmp_reader.specs.Fields.{SpellsFour}
-use Rattle.bmp_reader.specs.Headed.{head_at}
+use Rattle.bmp_reader.specs.Headed.{head_at, IsSized, IsHeaded}
 use Rattle.bmp_reader.specs.Messages.{Sent, IsMessage, limit}
 
 -- ---- headers
@@ -165,6 +172,29 @@ partial_cut bytes behind count kind version e least most cut = record {
   no_bad = not_bad_by bytes behind count kind version e least most;
   short = omega arith;
 }
+
+-- ---- what the header says
+
+out_of_range : (count : ℕ) → (6 ≤ count → count ≤ limit → ⊥) → (count < 6) ⊎ (limit < count)
+out_of_range count apart = by_least (nat_lt count 6) refl
+  where
+    by_most : 6 ≤ count → (over : Bool) → nat_lt limit count ≡ over → (count < 6) ⊎ (limit < count)
+    by_most least true t = inr (grind (arith, nat_tests))
+    by_most least false t = absurd (apart least (grind (arith, nat_tests)))
+    by_least : (below : Bool) → nat_lt count 6 ≡ below → (count < 6) ⊎ (limit < count)
+    by_least true t = inl (grind (arith, nat_tests))
+    by_least false t = by_most (grind (arith, nat_tests)) (nat_lt limit count) refl
+
+pub headed_by : (bytes behind : List ℕ) (count kind : ℕ) (result : Result (Option Heading) BmpFrameFault) → bytes ≡ 3 ∷ behind → head_at behind ≡ Some (count, kind) → IsSized (length bytes) count kind result → IsHeaded bytes result
+headed_by bytes behind count kind (Ok None) version e s = partial_cut bytes behind count kind version e s.0 s.1 s.2
+headed_by bytes behind count kind (Ok (Some head)) version e s =
+    let sum = s.0 in
+    let most = s.2 in
+    let there = s.3 in
+    record { behind = behind; whole = version; says = e ∙ (λ i. Some (s.0 i, s.1 i)); allowed = omega arith; long = omega arith }
+headed_by bytes behind count kind (Err faults.BmpVersion) version e s = absurd s
+headed_by bytes behind count kind (Err faults.BmpLength) version e s = bad_made bytes behind count kind version e (out_of_range count s)
+headed_by bytes behind count kind (Err faults.CutShort) version e s = absurd s
 
 -- ---- what the framer takes off
 

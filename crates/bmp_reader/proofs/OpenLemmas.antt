@@ -12,7 +12,7 @@ use Rattle.bgp_attrs.proofs.JoinedLemmas.{and_then_some}
 use Rattle.bgp_update.specs.Frames.{marker, IsFramed}
 use Rattle.bmp_reader.specs.Opens.{Open, IsOpen}
 use Rattle.bmp_reader.specs.Readers.{cut, byte_at, two_at, behind_of, left_of, opening_at, open_at}
-use Rattle.bmp_reader.proofs.FieldLemmas.{and_then_is, cut_at, cut_finds, two_finds, two_only}
+use Rattle.bmp_reader.proofs.FieldLemmas.{and_then_is, cut_at, cut_finds, byte_finds, two_finds, two_only}
 
 -- ---- the bytes behind others
 
@@ -89,10 +89,6 @@ regrouped mark count fields n parameters rest = simp append_assoc
 front_long : (count fields : List ℕ) (n : ℕ) (parameters : List ℕ) → length count ≡ 2 → length fields ≡ 9 → length (marker ++ (count ++ (1 ∷ (fields ++ (n ∷ parameters))))) ≡ 29 + length parameters
 front_long count fields n parameters two nine =
     omega (arith, length-append marker (count ++ (1 ∷ (fields ++ (n ∷ parameters)))), length-append count (1 ∷ (fields ++ (n ∷ parameters))), length-append fields (n ∷ parameters))
-
-pub byte_finds : (bytes : List ℕ) (n : ℕ) (rest : List ℕ) → byte_at bytes ≡ Some (n, rest) → bytes ≡ n ∷ rest
-byte_finds [] n rest e = absurd cc
-byte_finds (b ∷ bytes) n rest e = let p = some_pair_parts b n bytes rest e in λ i. p.0 i ∷ p.1 i
 
 open_finds : (bytes : List ℕ) (it : Open) (rest : List ℕ) → open_at bytes ≡ Some (it, rest) → Begins IsOpen bytes it rest
 unfolding open_at

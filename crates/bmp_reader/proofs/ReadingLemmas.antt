@@ -1,7 +1,6 @@
 -- Each message has exactly one reading, and want of memory is none.
 use Rattle.std.proofs.Common.{◌≡◌, inl, inr, ℕ, Bool, true, false, List, [], ◌∷◌, Some, None, Ok, Err, refl, sym, ap, subst, ◌∙◌, true≢false}
-use Rattle.std.specs.Prelude.{◌↔◌, ◌||◌, ◌&&◌, not, IsTrue}
-use Rattle.std.specs.FinSet as set
+use Rattle.std.specs.Prelude.{◌↔◌, ◌&&◌, IsTrue}
 use Rattle.std.specs.declared.option.Option.{Option}
 use Rattle.std.specs.declared.result.Result.{Result}
 use Rattle.av_base.specs.One.{HasOne}
@@ -21,9 +20,9 @@ use Rattle.bmp_reader.specs.declared.header.PeerHeader.{PeerHeader}
 use Rattle.bmp_reader.specs.declared.kind.Kind.{Kind}
 use Rattle.bmp_reader.specs.declared.kind.Kind.TheVariants as kinds
 use Rattle.bmp_reader.specs.declared.view.View.{View}
-use Rattle.bmp_reader.specs.Bodies.{Identifying, Unless, is_elsewhere, is_of_other, raised, MessageSays, RoutesSay, DownSays, Tells, OpensSay, UpSays, KindSays, IsReading}
+use Rattle.bmp_reader.specs.Bodies.{Identifying, Unless, is_elsewhere, is_passed, raised, MessageSays, RoutesSay, DownSays, Tells, OpensSay, UpSays, KindSays, IsReading}
 use Rattle.bmp_reader.specs.Forms.{Up, IsRouteMonitoring, IsPeerDown, IsPeerUp}
-use Rattle.bmp_reader.specs.Headers.{is_narrow}
+use Rattle.bmp_reader.specs.Headers.{is_wide}
 use Rattle.bmp_reader.specs.Kinds.{kind_of}
 use Rattle.bmp_reader.specs.Learning.{TellsRole, HasPaths}
 use Rattle.bmp_reader.specs.Messages.{Sent}
@@ -93,18 +92,18 @@ opens_some up =
 
 -- ---- the kinds
 
-message_same : (it : PeerHeader × List ℕ) (one other : Result Body BmpFault) → MessageSays it one → MessageSays it other → one ≡ other
-message_same (header, message) one other p q = p.2 ∙ ap raised (messages.reading_same (not (is_narrow header.flags)) false header.peer message p.0 q.0 p.1 q.1) ∙ sym q.2
+message_same : (wide : Bool) (peer : Peer) (message : List ℕ) (one other : Result Body BmpFault) → MessageSays wide peer message one → MessageSays wide peer message other → one ≡ other
+message_same wide peer message one other p q = p.2 ∙ ap raised (messages.reading_same wide false peer message p.0 q.0 p.1 q.1) ∙ sym q.2
 
-message_some : (it : PeerHeader × List ℕ) → Says (MessageSays it)
-message_some (header, message) = let inner = messages.reading_some (not (is_narrow header.flags)) false header.peer message in (raised inner.0, (inner.0, inner.1, refl))
+message_some : (wide : Bool) (peer : Peer) (message : List ℕ) → Says (MessageSays wide peer message)
+message_some wide peer message = let inner = messages.reading_some wide false peer message in (raised inner.0, (inner.0, inner.1, refl))
 
 routes_same : (view : View) (peers : Identifying) (it : PeerHeader × List ℕ) (one other : Result Body BmpFault) → RoutesSay view peers it one → RoutesSay view peers it other → one ≡ other
 routes_same view peers (header, message) one other p q =
-    unless_same (is_elsewhere header || (is_of_other view header || set.contains peers header.peer)) (MessageSays (header, message)) one other (message_same (header, message) one other) p q
+    unless_same (is_passed view peers header) (MessageSays (is_wide header.flags) header.peer message) one other (message_same (is_wide header.flags) header.peer message one other) p q
 
 routes_some : (view : View) (peers : Identifying) (it : PeerHeader × List ℕ) → Says (RoutesSay view peers it)
-routes_some view peers (header, message) = unless_some (is_elsewhere header || (is_of_other view header || set.contains peers header.peer)) (MessageSays (header, message)) (message_some (header, message))
+routes_some view peers (header, message) = unless_some (is_passed view peers header) (MessageSays (is_wide header.flags) header.peer message) (message_some (is_wide header.flags) header.peer message)
 
 kind_same : (kind : Kind) (view : View) (peers : Identifying) (body : List ℕ) (one other : Result Body BmpFault) → KindSays kind view peers body one → KindSays kind view peers body other → one ≡ other
 kind_same kinds.RouteMonitoring view peers body one other p q =
@@ -134,19 +133,16 @@ one_reading it view peers =
 
 -- ---- want of memory
 
-raised_reads : (header : PeerHeader) (message : List ℕ) (inner : Result (List Change) UpdateFault) → updates.IsMessageReading (not (is_narrow header.flags)) false header.peer message inner → Err faults.NoMemory ≡ raised inner → ⊥
-raised_reads header message (Ok changes) reads is = cc
-raised_reads header message (Err update_faults.Message) reads is = cc
-raised_reads header message (Err update_faults.Attributes) reads is = cc
-raised_reads header message (Err update_faults.NoPath) reads is = cc
-raised_reads header message (Err update_faults.NoMemory) reads is = reads
-
-message_reads : (it : PeerHeader × List ℕ) → MessageSays it (Err faults.NoMemory) → ⊥
-message_reads (header, message) says = raised_reads header message says.0 says.1 says.2
+raised_reads : (wide : Bool) (peer : Peer) (message : List ℕ) (inner : Result (List Change) UpdateFault) → updates.IsMessageReading wide false peer message inner → Err faults.NoMemory ≡ raised inner → ⊥
+raised_reads wide peer message (Ok changes) reads is = cc
+raised_reads wide peer message (Err update_faults.Message) reads is = cc
+raised_reads wide peer message (Err update_faults.Attributes) reads is = cc
+raised_reads wide peer message (Err update_faults.NoPath) reads is = cc
+raised_reads wide peer message (Err update_faults.NoMemory) reads is = reads
 
 routes_reads : (view : View) (peers : Identifying) (it : PeerHeader × List ℕ) → RoutesSay view peers it (Err faults.NoMemory) → ⊥
 routes_reads view peers (header, message) says =
-    unless_reads (is_elsewhere header || (is_of_other view header || set.contains peers header.peer)) (MessageSays (header, message)) (message_reads (header, message)) says
+    unless_reads (is_passed view peers header) (MessageSays (is_wide header.flags) header.peer message) (λ inner. raised_reads (is_wide header.flags) header.peer message inner.0 inner.1 inner.2) says
 
 kind_reads : (kind : Kind) (view : View) (peers : Identifying) (body : List ℕ) → KindSays kind view peers body (Err faults.NoMemory) → ⊥
 kind_reads kinds.RouteMonitoring view peers body says = form_reads (λ (it : PeerHeader × List ℕ). IsRouteMonitoring body it.0 it.1) (RoutesSay view peers) (routes_reads view peers) says

@@ -1,18 +1,18 @@
 -- A walk over capabilities that sees each of them.
-use Rattle.std.proofs.Common.{◌≡◌, ◌≢◌, ℕ, ◌<◌, ◌≤◌, Bool, true, false, cond, List, [], ◌∷◌, ◌++◌, length, Some, None, refl, sym, ap, ◌∙◌, arith}
-use Rattle.std.specs.Prelude.{◌==◌, option_map, option_and_then}
+use Rattle.std.proofs.Common.{◌≡◌, ℕ, ◌<◌, ◌≤◌, List, [], ◌∷◌, ◌++◌, length, Some, None, refl, sym, ap, ◌∙◌, arith}
+use Rattle.std.specs.Prelude.{option_map, option_and_then}
 use Rattle.std.specs.declared.option.Option.{Option}
-use Rattle.std.proofs.lemmas.Bool.Decides.{nat_tests}
+use Rattle.std.proofs.lemmas.Option.{some_pair_parts}
 use Rattle.bgp_attrs.specs.Joined.{items_of}
-use Rattle.bgp_attrs.proofs.JoinedLemmas.{Shortens, shortens, items-nil, items-none, items-step, option_map_some}
+use Rattle.bgp_attrs.proofs.JoinedLemmas.{Shortens, shortens, items-nil, items-none, items-step, option_map_some, and_then_some}
 use Rattle.bmp_reader.specs.declared.seen.Seen.{Seen}
 use Rattle.bmp_reader.specs.Opens.{Triple}
 use Rattle.bmp_reader.specs.Readers.{triple_at, own_of, together, carried_in}
-use Rattle.bmp_reader.specs.Seen.{see, see_all}
+use Rattle.bmp_reader.specs.Seen.{see, see_all, seen_next, seen_first}
 use Rattle.bmp_reader.proofs.CapabilityLemmas.{triple_reader}
 use Rattle.bmp_reader.proofs.SeenLemmas.{see-append}
 
-pub triple_shortens : Shortens triple_at
+triple_shortens : Shortens triple_at
 triple_shortens = shortens triple_reader
 
 -- ---- capabilities
@@ -21,19 +21,39 @@ triple_shortens = shortens triple_reader
 abbrev pub seen_with : Seen → List ℕ → Option Seen
 seen_with seen bytes = option_map (see_all seen) (items_of triple_at bytes)
 
-pub seen-step : (seen : Seen) (bytes : List ℕ) (first : Triple) (rest : List ℕ) → triple_at bytes ≡ Some (first, rest) → seen_with (see seen first) rest ≡ seen_with seen bytes
+seen-step : (seen : Seen) (bytes : List ℕ) (first : Triple) (rest : List ℕ) → triple_at bytes ≡ Some (first, rest) → seen_with (see seen first) rest ≡ seen_with seen bytes
 seen-step seen bytes first rest e = mapped (items_of triple_at rest) ∙ sym (ap (option_map (see_all seen)) (items-step triple_at triple_shortens bytes first rest e))
   where
     mapped : (o : Option (List Triple)) → option_map (see_all (see seen first)) o ≡ option_map (see_all seen) (option_map (λ (ts : List Triple). first ∷ ts) o)
     mapped None = refl
     mapped (Some ts) = refl
 
+pub next-step : (seen after : Seen) (bytes rest : List ℕ) → seen_next seen bytes ≡ Some (after, rest) → seen_with after rest ≡ seen_with seen bytes
+next-step seen after bytes rest e =
+    let a = and_then_some (λ (x : Triple × List ℕ). Some (see seen x.0, x.1)) (triple_at bytes) (after, rest) e in
+    let made = some_pair_parts (see seen a.0.0) after a.0.1 rest a.2 in
+    (λ i. seen_with (sym made.0 i) (sym made.1 i)) ∙ seen-step seen bytes a.0.0 a.0.1 a.1
+
+pub next-shortens : (seen after : Seen) (bytes rest : List ℕ) → seen_next seen bytes ≡ Some (after, rest) → length rest < length bytes
+next-shortens seen after bytes rest e =
+    let a = and_then_some (λ (x : Triple × List ℕ). Some (see seen x.0, x.1)) (triple_at bytes) (after, rest) e in
+    let made = some_pair_parts (see seen a.0.0) after a.0.1 rest a.2 in
+    let less = triple_shortens bytes a.0.0 a.0.1 a.1 in
+    omega (arith, ap length made.1)
+
 pub seen-end : (seen : Seen) (rest : List ℕ) → length rest ≤ 0 → Some seen ≡ seen_with seen rest
 seen-end seen [] empty = sym (ap (option_map (see_all seen)) (items-nil triple_at))
 seen-end seen (b ∷ rest) empty = absurd (omega arith)
 
-pub seen-none : (seen : Seen) (rest : List ℕ) → 0 < length rest → triple_at rest ≡ None → None ≡ seen_with seen rest
-seen-none seen rest some none = sym (ap (option_map (see_all seen)) (items-none triple_at rest some none))
+seen-none : (seen : Seen) (bytes : List ℕ) → 0 < length bytes → triple_at bytes ≡ None → None ≡ seen_with seen bytes
+seen-none seen bytes some none = sym (ap (option_map (see_all seen)) (items-none triple_at bytes some none))
+
+pub next-none : (seen : Seen) (bytes : List ℕ) → 0 < length bytes → seen_next seen bytes ≡ None → None ≡ seen_with seen bytes
+next-none seen bytes some e = by_triple (triple_at bytes) refl e
+  where
+    by_triple : (first : Option (Triple × List ℕ)) → triple_at bytes ≡ first → option_and_then (λ (x : Triple × List ℕ). Some (see seen x.0, x.1)) first ≡ None → None ≡ seen_with seen bytes
+    by_triple None t f = seen-none seen bytes some t
+    by_triple (Some x) t f = absurd cc
 
 -- ---- parameters
 
@@ -69,38 +89,58 @@ over_step seen bytes first rest e = ap (option_map (see_all seen)) (carried-step
     by_own (Some xs) None = refl
     by_own (Some xs) (Some ys) = ap Some (see-append seen xs ys)
 
--- the own ones of a parameter, by its type
-own_two : (first : Triple) → first.code ≡ 2 → own_of first ≡ items_of triple_at first.value
-own_two first two = let test : (first.code == 2) ≡ true = grind (arith, nat_tests) in ap (λ (b : Bool). cond b (items_of triple_at first.value) (Some [])) test
-
-own_other : (first : Triple) → first.code ≢ 2 → own_of first ≡ Some []
-own_other first apart = let test : (first.code == 2) ≡ false = grind (arith, nat_tests) in ap (λ (b : Bool). cond b (items_of triple_at first.value) (Some [])) test
-
 -- the others behind these
 abbrev over_after : Seen → List ℕ → Option (List Triple) → Option Seen
 over_after seen rest own = option_and_then (λ (ts : List Triple). seen_over (see_all seen ts) rest) own
 
-pub over-own : (seen after : Seen) (bytes : List ℕ) (first : Triple) (rest : List ℕ) → triple_at bytes ≡ Some (first, rest) → first.code ≡ 2 → Some after ≡ seen_with seen first.value → seen_over after rest ≡ seen_over seen bytes
-over-own seen after bytes first rest e two has =
-    let m = option_map_some (see_all seen) (items_of triple_at first.value) after (sym has) in
-    sym (over_step seen bytes first rest e ∙ ap (over_after seen rest) (own_two first two ∙ m.1) ∙ ap (λ (s : Seen). seen_over s rest) m.2)
+over-own : (seen after : Seen) (bytes : List ℕ) (first : Triple) (rest : List ℕ) → triple_at bytes ≡ Some (first, rest) → option_map (see_all seen) (own_of first) ≡ Some after → seen_over after rest ≡ seen_over seen bytes
+over-own seen after bytes first rest e has =
+    let m = option_map_some (see_all seen) (own_of first) after has in
+    sym (over_step seen bytes first rest e ∙ ap (over_after seen rest) m.1 ∙ ap (λ (s : Seen). seen_over s rest) m.2)
 
-pub over-other : (seen : Seen) (bytes : List ℕ) (first : Triple) (rest : List ℕ) → triple_at bytes ≡ Some (first, rest) → first.code ≢ 2 → seen_over seen rest ≡ seen_over seen bytes
-over-other seen bytes first rest e apart = sym (over_step seen bytes first rest e ∙ ap (over_after seen rest) (own_other first apart))
-
-map_none : {A B : Type 0} (f : A → B) (o : Option A) → None ≡ option_map f o → o ≡ None
+map_none : {A B : Type 0} (f : A → B) (o : Option A) → option_map f o ≡ None → o ≡ None
 map_none f None e = refl
 map_none f (Some x) e = absurd cc
 
-pub over-broken : (seen : Seen) (bytes : List ℕ) (first : Triple) (rest : List ℕ) → triple_at bytes ≡ Some (first, rest) → first.code ≡ 2 → None ≡ seen_with seen first.value → None ≡ seen_over seen bytes
-over-broken seen bytes first rest e two none =
-    sym (over_step seen bytes first rest e ∙ ap (over_after seen rest) (own_two first two ∙ map_none (see_all seen) (items_of triple_at first.value) none))
+over-broken : (seen : Seen) (bytes : List ℕ) (first : Triple) (rest : List ℕ) → triple_at bytes ≡ Some (first, rest) → option_map (see_all seen) (own_of first) ≡ None → None ≡ seen_over seen bytes
+over-broken seen bytes first rest e none = sym (over_step seen bytes first rest e ∙ ap (over_after seen rest) (map_none (see_all seen) (own_of first) none))
 
 pub over-end : (seen : Seen) (rest : List ℕ) → length rest ≤ 0 → Some seen ≡ seen_over seen rest
 unfolding carried_in
 over-end seen [] empty = sym (ap (λ (o : Option (List Triple)). option_map (see_all seen) (option_and_then together o)) (items-nil triple_at))
 over-end seen (b ∷ rest) empty = absurd (omega arith)
 
-pub over-none : (seen : Seen) (rest : List ℕ) → 0 < length rest → triple_at rest ≡ None → None ≡ seen_over seen rest
+over-none : (seen : Seen) (rest : List ℕ) → 0 < length rest → triple_at rest ≡ None → None ≡ seen_over seen rest
 unfolding carried_in
 over-none seen rest some none = sym (ap (λ (o : Option (List Triple)). option_map (see_all seen) (option_and_then together o)) (items-none triple_at rest some none))
+
+-- a step of the walk
+pub first-step : (seen after : Seen) (bytes rest : List ℕ) → seen_first seen bytes ≡ Some (after, rest) → seen_over after rest ≡ seen_over seen bytes
+unfolding seen_first
+first-step seen after bytes rest e =
+    let a = and_then_some _ (triple_at bytes) (after, rest) e in
+    let b = and_then_some _ (option_map (see_all seen) (own_of a.0.0)) (after, rest) a.2 in
+    let made = some_pair_parts b.0 after a.0.1 rest b.2 in
+    (λ i. seen_over (sym made.0 i) (sym made.1 i)) ∙ over-own seen b.0 bytes a.0.0 a.0.1 a.1 b.1
+
+pub first-shortens : (seen after : Seen) (bytes rest : List ℕ) → seen_first seen bytes ≡ Some (after, rest) → length rest < length bytes
+unfolding seen_first
+first-shortens seen after bytes rest e =
+    let a = and_then_some _ (triple_at bytes) (after, rest) e in
+    let b = and_then_some _ (option_map (see_all seen) (own_of a.0.0)) (after, rest) a.2 in
+    let made = some_pair_parts b.0 after a.0.1 rest b.2 in
+    let less = triple_shortens bytes a.0.0 a.0.1 a.1 in
+    omega (arith, ap length made.1)
+
+pub first-none : (seen : Seen) (bytes : List ℕ) → 0 < length bytes → seen_first seen bytes ≡ None → None ≡ seen_over seen bytes
+unfolding seen_first
+first-none seen bytes some e = by_triple (triple_at bytes) refl e
+  where
+    by_own : (first : Triple) (rest : List ℕ) → triple_at bytes ≡ Some (first, rest) → (own : Option Seen) → option_map (see_all seen) (own_of first) ≡ own
+        → option_and_then (λ (after : Seen). Some (after, rest)) own ≡ None → None ≡ seen_over seen bytes
+    by_own first rest t None o f = over-broken seen bytes first rest t o
+    by_own first rest t (Some after) o f = absurd cc
+    by_triple : (first : Option (Triple × List ℕ)) → triple_at bytes ≡ first
+        → option_and_then (λ (x : Triple × List ℕ). option_and_then (λ (after : Seen). Some (after, x.1)) (option_map (see_all seen) (own_of x.0))) first ≡ None → None ≡ seen_over seen bytes
+    by_triple None t f = over-none seen bytes some t
+    by_triple (Some x) t f = by_own x.0 x.1 t (option_map (see_all seen) (own_of x.0)) refl f

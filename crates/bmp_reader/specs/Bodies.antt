@@ -5,6 +5,7 @@ use Rattle.std.specs.declared.option.Option.{Option}
 use Rattle.std.specs.declared.result.Result.{Result}
 use Rattle.path_model.specs.declared.change.Change.{Change}
 use Rattle.path_model.specs.declared.change.Change.TheVariants.{RemovePeer}
+use Rattle.path_model.specs.declared.peer.Peer.{Peer}
 use Rattle.path_model.specs.declared.role.Role.{Role}
 use Rattle.path_model.specs.Key.{peer_cmp}
 use Rattle.bgp_update.specs.declared.fault.UpdateFault.{UpdateFault}
@@ -20,7 +21,7 @@ use Rattle.bmp_reader.specs.declared.kind.Kind.TheVariants as kinds
 use Rattle.bmp_reader.specs.declared.view.View.{View}
 use Rattle.bmp_reader.specs.declared.view.View.TheVariants as views
 use Rattle.bmp_reader.specs.Forms.{Up, IsRouteMonitoring, IsPeerDown, IsPeerUp}
-use Rattle.bmp_reader.specs.Headers.{is_post, is_narrow}
+use Rattle.bmp_reader.specs.Headers.{is_post, is_wide}
 use Rattle.bmp_reader.specs.Kinds.{kind_of}
 use Rattle.bmp_reader.specs.Learning.{TellsRole, HasPaths}
 use Rattle.bmp_reader.specs.Messages.{Sent}
@@ -60,15 +61,17 @@ abbrev pub raised : Result (List Change) UpdateFault → Result Body BmpFault
 raised (Ok changes) = Ok (bodies.Routes changes)
 raised (Err fault) = Err (fault_of fault)
 
--- a Route Monitoring that counts: what its message says, without path identifiers
-abbrev pub MessageSays : PeerHeader × List ℕ → Result Body BmpFault → Type 0
-MessageSays (header, message) reading =
-    (inner : Result (List Change) UpdateFault) × updates.IsMessageReading (not (is_narrow header.flags)) false header.peer message inner × (reading ≡ raised inner)
+-- a BGP message from a peer, with ASes of so many bytes: what it says, without path identifiers
+abbrev pub MessageSays : Bool → Peer → List ℕ → Result Body BmpFault → Type 0
+MessageSays wide peer message reading = (inner : Result (List Change) UpdateFault) × updates.IsMessageReading wide false peer message inner × (reading ≡ raised inner)
 
--- a Route Monitoring, unless it is of a peer elsewhere, of the other view, or of a peer that identifies paths
+-- a Route Monitoring is passed over: it is of a peer elsewhere, of the other view, or of a peer that identifies paths
+abbrev pub is_passed : View → Identifying → PeerHeader → Bool
+is_passed view peers header = is_elsewhere header || (is_of_other view header || set.contains peers header.peer)
+
+-- a Route Monitoring: what its message says, unless it is passed over
 abbrev pub RoutesSay : View → Identifying → PeerHeader × List ℕ → Result Body BmpFault → Type 0
-RoutesSay view peers (header, message) reading =
-    Unless (is_elsewhere header || (is_of_other view header || set.contains peers header.peer)) (MessageSays (header, message)) reading
+RoutesSay view peers (header, message) reading = Unless (is_passed view peers header) (MessageSays (is_wide header.flags) header.peer message) reading
 
 -- a Peer Down: all routes of the peer are gone, unless it is elsewhere
 abbrev pub DownSays : PeerHeader → Result Body BmpFault → Type 0

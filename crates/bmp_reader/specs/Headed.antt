@@ -1,5 +1,5 @@
 -- The header of a whole message, or why there is none; only private contracts cite it.
-use Rattle.std.specs.Prelude.{◌≡◌, ℕ, ◌+◌, ◌≤◌, List, [], ◌∷◌, length, None, Some, Ok, Err}
+use Rattle.std.specs.Prelude.{◌≡◌, ℕ, ◌+◌, ◌<◌, ◌≤◌, List, [], ◌∷◌, length, None, Some, Ok, Err}
 use Rattle.std.specs.declared.option.Option.{Option}
 use Rattle.std.specs.declared.result.Result.{Result}
 use Rattle.std.specs.Int.{w32, from_be_bytes}
@@ -25,6 +25,14 @@ pub record IsWholeHead (bytes : List ℕ) (head : Heading) : Type 0 where
   pub says : head_at behind ≡ Some (6 + head.size, head.kind)
   pub allowed : 6 + head.size ≤ limit
   pub long : 6 + head.size ≤ length bytes
+
+-- by the length and the type that the header says
+abbrev pub IsSized : ℕ → ℕ → ℕ → Result (Option Heading) BmpFrameFault → Type 0
+IsSized long count kind (Ok None) = (6 ≤ count) × (count ≤ limit) × (long < count)
+IsSized long count kind (Ok (Some head)) = (count ≡ 6 + head.size) × (kind ≡ head.kind) × (count ≤ limit) × (count ≤ long)
+IsSized long count kind (Err faults.BmpVersion) = ⊥
+IsSized long count kind (Err faults.BmpLength) = 6 ≤ count → count ≤ limit → ⊥
+IsSized long count kind (Err faults.CutShort) = ⊥
 
 abbrev pub IsHeaded : List ℕ → Result (Option Heading) BmpFrameFault → Type 0
 IsHeaded bytes (Ok None) = IsPartial bytes

@@ -3,15 +3,16 @@ use Rattle.std.specs.Prelude.{◌≡◌, ℕ, ◌==◌, not, bit_and, Bool, List
 use Rattle.bmp_reader.specs.declared.header.PeerHeader.{PeerHeader}
 use Rattle.bmp_reader.specs.Fields.{SpellsFour, SpellsAddr, unread_size}
 
--- the flags of a peer: an address of IPv6; routes behind the inbound policy; an AS_PATH with ASes of two bytes; others aren't read
+-- the flags of a peer: an address of IPv6; routes behind the inbound policy; ASes of two bytes in AS_PATH, so that
+-- without the flag they have four; others aren't read
 abbrev pub is_six : ℕ → Bool
 is_six flags = not (bit_and flags 128 == 0)
 
 abbrev pub is_post : ℕ → Bool
 is_post flags = not (bit_and flags 64 == 0)
 
-abbrev pub is_narrow : ℕ → Bool
-is_narrow flags = not (bit_and flags 32 == 0)
+abbrev pub is_wide : ℕ → Bool
+is_wide flags = bit_and flags 32 == 0
 
 -- The bytes spell one header: the peer's type, its flags, eight bytes of distinguisher, its address in the last of sixteen bytes, its AS,
 -- four bytes of identifier and eight of time.

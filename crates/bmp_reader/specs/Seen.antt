@@ -1,5 +1,5 @@
 -- What has been seen of capabilities, one after another; only private contracts cite it.
-use Rattle.std.specs.Prelude.{◌≡◌, ℕ, ◌==◌, ◌||◌, Bool, true, false, if◌then◌else◌, List, [], ◌∷◌, Some, None}
+use Rattle.std.specs.Prelude.{◌≡◌, ℕ, ◌==◌, ◌||◌, Bool, true, false, if◌then◌else◌, List, [], ◌∷◌, Some, None, option_map}
 use Rattle.std.specs.declared.option.Option.{Option}
 use Rattle.path_model.specs.declared.role.Role.{Role}
 use Rattle.bmp_reader.specs.declared.seen.Seen.{Seen}
@@ -7,6 +7,7 @@ use Rattle.bmp_reader.specs.declared.seen.Told.{Told}
 use Rattle.bmp_reader.specs.declared.seen.Told.TheVariants.{Nothing, Value, Several}
 use Rattle.bmp_reader.specs.Learning.{role_of_value}
 use Rattle.bmp_reader.specs.Opens.{Triple}
+use Rattle.bmp_reader.specs.Readers.{◌>>=◌, triple_at, own_of}
 
 -- nothing
 abbrev pub unseen : Seen
@@ -34,6 +35,19 @@ see seen capability = record {
 abbrev pub see_all : Seen → List Triple → Seen
 see_all seen [] = seen
 see_all seen (capability ∷ capabilities) = see_all (see seen capability) capabilities
+
+-- what is seen with the first capability, and the bytes behind it
+abbrev pub seen_next : Seen → List ℕ → Option (Seen × List ℕ)
+seen_next seen bytes = do
+  first ← triple_at bytes
+  Some (see seen first.0, first.1)
+
+-- what is seen with the capabilities of the first parameter, and the bytes behind it
+unfoldable pub seen_first : Seen → List ℕ → Option (Seen × List ℕ)
+seen_first seen bytes = do
+  first ← triple_at bytes
+  after ← option_map (see_all seen) (own_of first.0)
+  Some (after, first.1)
 
 -- the role of what is told
 abbrev pub role_told : Told → Option Role

@@ -1,7 +1,7 @@
 //! Per-peer headers.
 ghost use Rattle.std.specs.Prelude.{◌≡◌, option_map};
-ghost use Rattle.bmp_reader.specs.Bodies.{is_elsewhere, is_of_other as is_of_other_view};
-ghost use Rattle.bmp_reader.specs.Headers.{is_narrow as has_narrow};
+ghost use Rattle.bmp_reader.specs.Bodies.{is_elsewhere as is_elsewhere_by, is_of_other as is_of_other_view};
+ghost use Rattle.bmp_reader.specs.Headers.{is_wide as is_wide_by};
 ghost use Rattle.bmp_reader.specs.Readers.{named_at, header_at, down_at};
 
 use crate::fields::{size_before_addr, take, take_addr, take_byte, take_four};
@@ -19,7 +19,7 @@ pub(crate) struct PeerHeader {
 impl PeerHeader {
     // Whether the peer isn't a Global Instance Peer.
     pub(crate) fn is_elsewhere(&self) -> bool
-        ensures { result ≡ is_elsewhere self.now }
+        ensures { result ≡ is_elsewhere_by self.now }
     {
         self.kind != 0
     }
@@ -35,11 +35,11 @@ impl PeerHeader {
         }
     }
 
-    // Whether the ASes in AS_PATH have two bytes.
-    pub(crate) fn is_narrow(&self) -> bool
-        ensures { result ≡ has_narrow self.now.flags }
+    // Whether the ASes in AS_PATH have four bytes.
+    pub(crate) fn is_wide(&self) -> bool
+        ensures { result ≡ is_wide_by self.now.flags }
     {
-        self.flags & 0x20 != 0
+        self.flags & 0x20 == 0
     }
 }
 

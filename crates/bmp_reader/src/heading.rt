@@ -1,8 +1,9 @@
 //! Headers of messages.
-ghost use Rattle.std.specs.Prelude.{◌≡◌};
-ghost use Rattle.bmp_reader.specs.Headed.{IsHeaded, head_at};
+ghost use Rattle.std.specs.Prelude.{◌≡◌, length};
+ghost use Rattle.bmp_reader.specs.Headed.{IsHeaded, IsSized, head_at};
 
 use crate::fault::BmpFrameFault;
+use crate::fields::take_byte;
 
 // The version that is read.
 const VERSION: u8 = 3;
@@ -24,28 +25,17 @@ pub(crate) struct Heading {
 pub(crate) fn whole_head(held: &[u8]) -> Result<Option<Heading>, BmpFrameFault>
     ensures { IsHeaded held.now result }
 {
-    match held {
-        [version, behind @ ..] => {
-            if *version != VERSION {
+    match take_byte(held) {
+        Some((version, behind)) => {
+            if version != VERSION {
                 return Err(BmpFrameFault::BmpVersion);
             }
             match take_head(behind) {
-                Some((size, kind)) => {
-                    if size < HEADER || size > LIMIT {
-                        return Err(BmpFrameFault::BmpLength);
-                    }
-                    if held.len() < size {
-                        return Ok(None);
-                    }
-                    Ok(Some(Heading {
-                        size: size - HEADER,
-                        kind,
-                    }))
-                }
+                Some((size, kind)) => sized_head(held, size, kind),
                 None => Ok(None),
             }
         }
-        [] => Ok(None),
+        None => Ok(None),
     }
 }
 
@@ -57,4 +47,23 @@ fn take_head(behind: &[u8]) -> Option<(usize, u8)>
         [a, b, c, d, kind, ..] => Some((u32::from_be_bytes([*a, *b, *c, *d]) as usize, *kind)),
         _ => None,
     }
+}
+
+// The header of a message of this length and type, if all of it is held.
+fn sized_head(held: &[u8], size: usize, kind: u8) -> Result<Option<Heading>, BmpFrameFault>
+    ensures { IsSized (length held.now) size kind result }
+{
+    if size < HEADER {
+        return Err(BmpFrameFault::BmpLength);
+    }
+    if size > LIMIT {
+        return Err(BmpFrameFault::BmpLength);
+    }
+    if held.len() < size {
+        return Ok(None);
+    }
+    Ok(Some(Heading {
+        size: size - HEADER,
+        kind,
+    }))
 }

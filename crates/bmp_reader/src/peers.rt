@@ -1,5 +1,5 @@
 //! The peers whose prefixes have path identifiers.
-ghost use Rattle.std.specs.Prelude.{◌≡◌, IfOk, if◌then◌else◌};
+ghost use Rattle.std.specs.Prelude.{◌≡◌, IfOk, OnOk, if◌then◌else◌};
 ghost use Rattle.std.specs.FinSet as set;
 
 use av_base::NoMemory;
@@ -42,11 +42,24 @@ impl PathPeers {
             ≡ (if paths then set.insert self peer else set.remove self peer)) }
     {
         if paths {
-            self.peers.insert(peer)?;
-        } else {
-            self.peers.remove(&peer);
+            self.insert(peer)?;
+            return Ok(self);
         }
+        self.remove(peer);
         Ok(self)
+    }
+
+    fn insert(&mut self, peer: Peer) -> Result<(), NoMemory>
+        ensures { OnOk result (self.new ≡ set.insert self.old peer) }
+    {
+        self.peers.insert(peer)?;
+        Ok(())
+    }
+
+    fn remove(&mut self, peer: Peer)
+        ensures { self.new ≡ set.remove self.old peer }
+    {
+        self.peers.remove(&peer);
     }
 
     /// Whether what was noted last of a peer was that its prefixes have path identifiers.

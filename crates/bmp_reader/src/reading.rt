@@ -1,6 +1,6 @@
 //! The body of a message.
 ghost use Rattle.std.specs.Prelude.{◌≡◌};
-ghost use Rattle.bmp_reader.specs.Bodies.{OrNoMemory, IsOutcome, MessageSays, RoutesSay, DownSays, OpensSay, UpSays, fault_of};
+ghost use Rattle.bmp_reader.specs.Bodies.{OrNoMemory, IsOutcome, MessageSays, is_passed as is_passed_by, RoutesSay, DownSays, OpensSay, UpSays, fault_of};
 ghost use Rattle.bmp_reader.specs.Coming.{sent};
 ghost use Rattle.bmp_reader.specs.Gathering.{ByParts};
 ghost use Rattle.bmp_reader.specs.Left.{up_of};
@@ -16,7 +16,7 @@ use crate::seen::seen_in;
 use crate::up::{UpParts, up_parts};
 use crate::view::View;
 use bgp_update::UpdateFault;
-use path_model::Changes;
+use path_model::{Changes, Peer};
 use std::alloc::Global;
 
 /// Reads the body of a message (RFC 7854, section 4), in a view, by the peers whose prefixes have path identifiers.
@@ -56,19 +56,27 @@ fn read_routes(
 {
     match take_header(body) {
         Some((header, message)) => {
-            if header.is_elsewhere() || header.is_of_other(view) || peers.has(&header.peer) {
+            if is_passed(view, peers, &header) {
                 return Ok(Body::Passed);
             }
-            changes_of(alloc, &header, message)
+            changes_of(alloc, message, header.is_wide(), header.peer)
         }
         None => Err(BmpFault::Body),
     }
 }
 
-fn changes_of(alloc: Global, header: &PeerHeader, message: &[u8]) -> Result<Body, BmpFault>
-    ensures { OrNoMemory (MessageSays (header.now, message.now)) result }
+// Whether a Route Monitoring is passed over.
+fn is_passed(view: View, peers: &PathPeers, header: &PeerHeader) -> bool
+    ensures { result ≡ is_passed_by view peers.now header.now }
 {
-    match bgp_update::read(alloc, message, !header.is_narrow(), false, header.peer) {
+    header.is_elsewhere() || header.is_of_other(view) || peers.has(&header.peer)
+}
+
+// The changes of a BGP message. `wide` says that its ASes have four bytes.
+fn changes_of(alloc: Global, message: &[u8], wide: bool, peer: Peer) -> Result<Body, BmpFault>
+    ensures { OrNoMemory (MessageSays wide peer message.now) result }
+{
+    match bgp_update::read(alloc, message, wide, false, peer) {
         Ok(changes) => Ok(Body::Routes(changes)),
         Err(UpdateFault::Message) => Err(BmpFault::Message),
         Err(UpdateFault::Attributes) => Err(BmpFault::Attributes),

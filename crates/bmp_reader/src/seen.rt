@@ -3,8 +3,8 @@ ghost use Rattle.std.specs.Prelude.{◌≡◌, option_map};
 ghost use Rattle.bgp_attrs.specs.Joined.{items_of};
 ghost use Rattle.bmp_reader.specs.Learning.{role_of_value as role_by_value};
 ghost use Rattle.bmp_reader.specs.Left.{open_of, triple_of};
-ghost use Rattle.bmp_reader.specs.Readers.{triple_at, carried_in, capabilities_of};
-ghost use Rattle.bmp_reader.specs.Seen.{unseen, told_by, see as seen_with, see_all as seen_with_all, role_told};
+ghost use Rattle.bmp_reader.specs.Readers.{triple_at, own_of, carried_in, capabilities_of};
+ghost use Rattle.bmp_reader.specs.Seen.{unseen, told_by, see as seen_with, see_all as seen_with_all, seen_next, seen_first, role_told};
 
 use crate::opening::{OpenParts, OpenTriple, take_triple};
 use path_model::Role;
@@ -87,27 +87,54 @@ fn see_parameters(bytes: &[u8]) -> Option<Seen>
     let mut seen = UNSEEN;
     let mut rest = bytes;
     while !rest.is_empty() {
-        let (parameter, more) = take_triple(rest)?;
-        if parameter.code == CAPABILITIES {
-            seen = see_capabilities(seen, parameter.value)?;
-        }
+        let (more_seen, more) = see_parameter(seen, rest)?;
+        seen = more_seen;
         rest = more;
     }
     Some(seen)
 }
 
-// What the capabilities that the bytes spell tell too.
-fn see_capabilities(seen: Seen, bytes: &[u8]) -> Option<Seen>
-    ensures { result ≡ option_map (seen_with_all seen) (items_of triple_at bytes.now) }
+// What the capabilities of the first parameter tell too, and the bytes behind it.
+#[tactic(auto, unfolding(crate::specs::Seen::seen_first))]
+fn see_parameter(seen: Seen, bytes: &[u8]) -> Option<(Seen, &[u8])>
+    ensures { option_map (λ x. (x.0, x.1.now)) result ≡ seen_first seen bytes.now }
 {
-    let mut seen = seen;
+    let (parameter, rest) = take_triple(bytes)?;
+    let after = see_own(seen, parameter)?;
+    Some((after, rest))
+}
+
+// What the capabilities of one parameter tell too.
+fn see_own(seen: Seen, parameter: OpenTriple<'_>) -> Option<Seen>
+    ensures { result ≡ option_map (seen_with_all seen) (own_of (triple_of parameter.entry)) }
+{
+    if parameter.code == CAPABILITIES {
+        see_capabilities(seen, parameter.value)
+    } else {
+        Some(seen)
+    }
+}
+
+// What the capabilities that the bytes spell tell too.
+fn see_capabilities(before: Seen, bytes: &[u8]) -> Option<Seen>
+    ensures { result ≡ option_map (seen_with_all before) (items_of triple_at bytes.now) }
+{
+    let mut seen = before;
     let mut rest = bytes;
     while !rest.is_empty() {
-        let (capability, more) = take_triple(rest)?;
-        seen = see(seen, capability);
+        let (more_seen, more) = see_capability(seen, rest)?;
+        seen = more_seen;
         rest = more;
     }
     Some(seen)
+}
+
+// What the first capability tells too, and the bytes behind it.
+fn see_capability(seen: Seen, bytes: &[u8]) -> Option<(Seen, &[u8])>
+    ensures { option_map (λ x. (x.0, x.1.now)) result ≡ seen_next seen bytes.now }
+{
+    let (capability, rest) = take_triple(bytes)?;
+    Some((see(seen, capability), rest))
 }
 
 fn see(seen: Seen, capability: OpenTriple<'_>) -> Seen
