@@ -181,6 +181,7 @@ out_of_range count apart = by_least (nat_lt count 6) refl
     by_most : 6 ≤ count → (over : Bool) → nat_lt limit count ≡ over → (count < 6) ⊎ (limit < count)
     by_most least true t = inr (grind (arith, nat_tests))
     by_most least false t = absurd (apart least (grind (arith, nat_tests)))
+
     by_least : (below : Bool) → nat_lt count 6 ≡ below → (count < 6) ⊎ (limit < count)
     by_least true t = inl (grind (arith, nat_tests))
     by_least false t = by_most (grind (arith, nat_tests)) (nat_lt limit count) refl

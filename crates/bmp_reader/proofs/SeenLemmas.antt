@@ -63,6 +63,7 @@ told_more front told last is = by_test (last.code == 9) refl
     by_value (value ∷ []) v c =
         (let same : role_capability value ≡ last = (λ i. record { code = sym c i; value = sym v i }) in
         subst (λ (t : Triple). IsTold (front ++ t ∷ []) (told_also told value)) same (added front told value is))
+
     by_test : (role : Bool) → (last.code == 9) ≡ role → IsTold (front ++ last ∷ []) (cond role (told_by told last.value) told)
     by_test true t = by_value last.value refl (grind (arith, nat_tests))
     by_test false t = kept front told last (λ value e. (let c : last.code ≡ 9 = ap (λ (t : Triple). t.code) e in grind (arith, nat_tests))) is
@@ -81,10 +82,13 @@ paths_more front false last says = by_test (last.code == 69) refl
         (let c : last.code ≡ 69 = grind (arith, nat_tests) in
         let same : last ≡ record { code = 69; value = last.value } = (λ i. record { code = c i; value = last.value }) in
         (λ on. (last.value, subst (λ (t : Triple). Contains (front ++ last ∷ []) t) same (Contains-push front last)), λ has. refl))
-    by_test false t = (λ on. absurd (true≢false (sym on)), λ has. elim (Contains-push_cases front last (record { code = 69; value = has.0 }) has.1) [
+    by_test false t = (
+      λ on. absurd (true≢false (sym on)),
+      λ has. elim (Contains-push_cases front last (record { code = 69; value = has.0 }) has.1) [
         | inl before ↦ says.1 (has.0, before)
         | inr e ↦ absurd (let c : last.code ≡ 69 = ap (λ (t : Triple). t.code) e in grind (arith, nat_tests))
-      ])
+      ],
+    )
 
 -- ---- all of them
 

@@ -72,6 +72,7 @@ carried-step bytes first rest e = ap (option_and_then together) (items-step trip
     by_rest None None e = refl
     by_rest None (Some own) e = refl
     by_rest (Some ts) own e = ap (option_and_then (λ (xs : List Triple). option_and_then (λ (others : List Triple). Some (xs ++ others)) (together ts))) e ∙ by_own own (together ts)
+
     by_own : (own others : Option (List Triple))
         → option_and_then (λ (xs : List Triple). option_and_then (λ (ys : List Triple). Some (xs ++ ys)) others) own ≡ option_and_then (λ (xs : List Triple). option_map (λ (ys : List Triple). xs ++ ys) others) own
     by_own None others = refl
@@ -140,6 +141,7 @@ first-none seen bytes some e = by_triple (triple_at bytes) refl e
         → option_and_then (λ (after : Seen). Some (after, rest)) own ≡ None → None ≡ seen_over seen bytes
     by_own first rest t None o f = over-broken seen bytes first rest t o
     by_own first rest t (Some after) o f = absurd cc
+
     by_triple : (first : Option (Triple × List ℕ)) → triple_at bytes ≡ first
         → option_and_then (λ (x : Triple × List ℕ). option_and_then (λ (after : Seen). Some (after, x.1)) (option_map (see_all seen) (own_of x.0))) first ≡ None → None ≡ seen_over seen bytes
     by_triple None t f = over-none seen bytes some t

@@ -46,12 +46,7 @@ pub fn read_message(
 }
 
 // The changes of a Route Monitoring.
-fn read_routes(
-    alloc: Global,
-    body: &[u8],
-    view: View,
-    peers: &PathPeers,
-) -> Result<Body, BmpFault>
+fn read_routes(alloc: Global, body: &[u8], view: View, peers: &PathPeers) -> Result<Body, BmpFault>
     ensures { OrNoMemory (ByParts (header_at body.now) (RoutesSay view peers.now)) result }
 {
     match take_header(body) {

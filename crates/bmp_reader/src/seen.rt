@@ -14,6 +14,7 @@ const CAPABILITIES: u8 = 2;
 
 // The capabilities BGP Role and ADD-PATH.
 const BGP_ROLE: u8 = 9;
+
 const ADD_PATH: u8 = 69;
 
 /// What the capabilities BGP Role say.
