@@ -12,7 +12,7 @@ use Rattle.bmp_reader.specs.declared.header.PeerHeader.{PeerHeader}
 use Rattle.bmp_reader.specs.Bodies.{ByForm, OrNoMemory}
 use Rattle.bmp_reader.specs.Forms.{Up, IsRouteMonitoring, IsPeerDown, IsPeerUp}
 use Rattle.bmp_reader.specs.Gathering.{ByParts}
-use Rattle.bmp_reader.specs.Opens.{Open, IsOpen}
+use Rattle.bmp_reader.specs.Headers.{IsPeerHeader}
 use Rattle.bmp_reader.specs.Readers.{cut, byte_at, header_at, down_at, open_at, up_at}
 use Rattle.bmp_reader.proofs.FieldLemmas.{Reads, and_then_is, cut_at, cut_finds, byte_finds}
 use Rattle.bmp_reader.proofs.HeaderLemmas.{header_reader}
@@ -34,9 +34,7 @@ down_finds body header e =
 
 down_only : (body : List ℕ) (header : PeerHeader) → IsPeerDown body header → down_at body ≡ Some header
 unfolding down_at
-down_only body header is =
-    and_then_is _ (header_at body) (header, is.0 ∷ is.1) (Some header) (header_reader.only body header (is.0 ∷ is.1) is.2)
-    (and_then_is _ (byte_at (is.0 ∷ is.1)) (is.0, is.1) (Some header) refl refl)
+down_only body header is = and_then_is _ (header_at body) (header, is.0 ∷ is.1) (Some header) (header_reader.only body header (is.0 ∷ is.1) is.2) refl
 
 pub down_reads : (body : List ℕ) → Reads (IsPeerDown body) (down_at body)
 down_reads body = record { finds = down_finds body; only = down_only body }

@@ -1,6 +1,6 @@
 -- OPENs are read exactly where they are.
 use Rattle.std.proofs.Common.{◌≡◌, ℕ, ◌+◌, ◌-◌, ◌≤◌, Bool, true, false, cond, List, [], ◌∷◌, ◌++◌, length, Some, None, refl, sym, ap, subst, ◌∙◌, append_assoc, arith}
-use Rattle.std.specs.Prelude.{◌==◌, nat_lt, IfSome, IfNone}
+use Rattle.std.specs.Prelude.{◌==◌, nat_lt, option_and_then}
 use Rattle.std.specs.declared.option.Option.{Option}
 use Rattle.std.proofs.lemmas.Option.{same_Some, some_pair_parts}
 use Rattle.std.proofs.lemmas.List.{length-append}
@@ -19,11 +19,11 @@ use Rattle.bmp_reader.proofs.FieldLemmas.{and_then_is, cut_at, cut_finds, byte_f
 behind_finds : (front bytes rest : List ℕ) → behind_of front bytes ≡ Some rest → bytes ≡ front ++ rest
 behind_finds [] bytes rest e = same_Some bytes rest e
 behind_finds (x ∷ front) [] rest e = absurd cc
-behind_finds (x ∷ front) (b ∷ bytes) rest e = by_test (b == x) refl e
+behind_finds (x ∷ front) (b ∷ bytes) rest e = by_test (b == x) refl e (behind_finds front bytes rest)
   where
-    by_test : (same : Bool) → (b == x) ≡ same → cond same (behind_of front bytes) None ≡ Some rest → b ∷ bytes ≡ x ∷ (front ++ rest)
-    by_test true t f = (let first : b ≡ x = grind (arith, nat_tests) in λ i. first i ∷ behind_finds front bytes rest f i)
-    by_test false t f = absurd cc
+    by_test : (same : Bool) → (b == x) ≡ same → cond same (behind_of front bytes) None ≡ Some rest → (behind_of front bytes ≡ Some rest → bytes ≡ front ++ rest) → b ∷ bytes ≡ x ∷ (front ++ rest)
+    by_test true t f others = (let first : b ≡ x = grind (arith, nat_tests) in λ i. first i ∷ others f i)
+    by_test false t f others = absurd cc
 
 behind_at : (front rest : List ℕ) → behind_of front (front ++ rest) ≡ Some rest
 behind_at [] rest = refl
@@ -74,12 +74,18 @@ opening_finds bytes x e =
       whole = p ∙ ap (λ (xs : List ℕ). marker ++ xs) (q.2 ∙ ap (λ (xs : List ℕ). q.0 ++ xs) (r ∙ ap (λ (xs : List ℕ). 1 ∷ xs) made.1));
     }
 
+-- what follows a size, and what follows the marker
+abbrev typed_of : ℕ × List ℕ → Option (ℕ × List ℕ)
+typed_of size = option_and_then (λ (typed : List ℕ). Some (size.0, typed)) (behind_of (1 ∷ []) size.1)
+
+abbrev sized_of : List ℕ → Option (ℕ × List ℕ)
+sized_of marked = option_and_then typed_of (two_at marked)
+
 opening_here : (count rest : List ℕ) (size : ℕ) → IsLength true count size → opening_at (marker ++ (count ++ (1 ∷ rest))) ≡ Some (size, rest)
 unfolding opening_at
 opening_here count rest size counts =
-    and_then_is _ (behind_of marker (marker ++ (count ++ (1 ∷ rest)))) (count ++ (1 ∷ rest)) (Some (size, rest)) (behind_at marker (count ++ (1 ∷ rest)))
-    (and_then_is _ (two_at (count ++ (1 ∷ rest))) (size, 1 ∷ rest) (Some (size, rest)) (two_only count size (1 ∷ rest) counts)
-    (and_then_is _ (behind_of (1 ∷ []) (1 ∷ rest)) rest (Some (size, rest)) (behind_at (1 ∷ []) rest) refl))
+    and_then_is sized_of (behind_of marker (marker ++ (count ++ (1 ∷ rest)))) (count ++ (1 ∷ rest)) (Some (size, rest)) (behind_at marker (count ++ (1 ∷ rest)))
+    (and_then_is typed_of (two_at (count ++ (1 ∷ rest))) (size, 1 ∷ rest) (Some (size, rest)) (two_only count size (1 ∷ rest) counts) refl)
 
 -- ---- the whole
 
@@ -123,8 +129,7 @@ open_here count fields rest it size counts nine long =
     let r1 = fields ++ r2 in
     and_then_is _ (opening_at (marker ++ (count ++ (1 ∷ r1)))) (size, r1) (Some (it, rest)) (opening_here count r1 size counts)
     (and_then_is _ (cut 9 r1) (fields, r2) (Some (it, rest)) (cut_at 9 fields r2 nine)
-    (and_then_is _ (byte_at r2) (it.count, r3) (Some (it, rest)) refl
-    (and_then_is _ (left_of 29 size r3) (it.parameters, rest) (Some (it, rest)) (left_at 29 it.parameters rest size long) refl)))
+    (and_then_is _ (left_of 29 size r3) (it.parameters, rest) (Some (it, rest)) (left_at 29 it.parameters rest size long) refl))
 
 open_only : (bytes : List ℕ) (it : Open) (rest : List ℕ) → Begins IsOpen bytes it rest → open_at bytes ≡ Some (it, rest)
 open_only bytes it rest b =

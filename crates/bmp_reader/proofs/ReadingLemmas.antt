@@ -19,6 +19,7 @@ use Rattle.bmp_reader.specs.declared.fault.BmpFault.TheVariants as faults
 use Rattle.bmp_reader.specs.declared.header.PeerHeader.{PeerHeader}
 use Rattle.bmp_reader.specs.declared.kind.Kind.{Kind}
 use Rattle.bmp_reader.specs.declared.kind.Kind.TheVariants as kinds
+use Rattle.bmp_reader.specs.declared.seen.Seen.{Seen}
 use Rattle.bmp_reader.specs.declared.view.View.{View}
 use Rattle.bmp_reader.specs.Bodies.{Identifying, Unless, is_elsewhere, is_passed, raised, MessageSays, RoutesSay, DownSays, Tells, OpensSay, UpSays, KindSays, IsReading}
 use Rattle.bmp_reader.specs.Forms.{Up, IsRouteMonitoring, IsPeerDown, IsPeerUp}
@@ -69,6 +70,14 @@ seen_tells up = record {
   tells = role_seen (capabilities_of up.received);
   both = both_paths (capabilities_of up.sent) (capabilities_of up.received);
 }
+
+-- what a Peer Up says, of what is seen of its OPENs
+pub opens_say : (up : Up) (role : Option Role) (sent received : Seen) (paths : Bool) → sent ≡ see_all unseen (capabilities_of up.sent) → received ≡ see_all unseen (capabilities_of up.received) → role ≡ role_told received.told
+    → paths ≡ (sent.paths && received.paths) → OpensSay up (Ok (bodies.Up up.header.peer role paths))
+opens_say up role sent received paths s r t b =
+    let both : paths ≡ ((see_all unseen (capabilities_of up.sent)).paths && (see_all unseen (capabilities_of up.received)).paths) = b ∙ (λ i. (s i).paths && (r i).paths) in
+    let told : role ≡ role_told (see_all unseen (capabilities_of up.received)).told = t ∙ ap (λ (x : Seen). role_told x.told) r in
+    (role, paths, subst (λ (x : Bool). Tells up role x) (sym both) (subst (λ (x : Option Role). Tells up x ((see_all unseen (capabilities_of up.sent)).paths && (see_all unseen (capabilities_of up.received)).paths)) (sym told) (seen_tells up)), refl)
 
 tells_same : (up : Up) (one other : Option Role) (paths also : Bool) → Tells up one paths → Tells up other also → (one ≡ other) × (paths ≡ also)
 tells_same up one other paths also p q =

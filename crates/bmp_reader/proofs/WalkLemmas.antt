@@ -51,7 +51,7 @@ seen-none seen bytes some none = sym (ap (option_map (see_all seen)) (items-none
 pub next-none : (seen : Seen) (bytes : List ℕ) → 0 < length bytes → seen_next seen bytes ≡ None → None ≡ seen_with seen bytes
 next-none seen bytes some e = by_triple (triple_at bytes) refl e
   where
-    by_triple : (first : Option (Triple × List ℕ)) → triple_at bytes ≡ first → option_and_then (λ (x : Triple × List ℕ). Some (see seen x.0, x.1)) first ≡ None → None ≡ seen_with seen bytes
+    by_triple : (first : Option (Triple × List ℕ)) → triple_at bytes ≡ first → option_and_then {U = Seen × List ℕ} (λ (x : Triple × List ℕ). Some (see seen x.0, x.1)) first ≡ None → None ≡ seen_with seen bytes
     by_triple None t f = seen-none seen bytes some t
     by_triple (Some x) t f = absurd cc
 
@@ -67,17 +67,17 @@ carried-step : (bytes : List ℕ) (first : Triple) (rest : List ℕ) → triple_
 unfolding carried_in
 carried-step bytes first rest e = ap (option_and_then together) (items-step triple_at triple_shortens bytes first rest e) ∙ by_rest (items_of triple_at rest) (own_of first) refl
   where
-    by_rest : (o : Option (List Triple)) (own : Option (List Triple)) → own_of first ≡ own
-        → option_and_then together (option_map (λ (ts : List Triple). first ∷ ts) o) ≡ option_and_then (λ (own : List Triple). option_map (λ (others : List Triple). own ++ others) (option_and_then together o)) own
-    by_rest None None e = refl
-    by_rest None (Some own) e = refl
-    by_rest (Some ts) own e = ap (option_and_then (λ (xs : List Triple). option_and_then (λ (others : List Triple). Some (xs ++ others)) (together ts))) e ∙ by_own own (together ts)
-
     by_own : (own others : Option (List Triple))
         → option_and_then (λ (xs : List Triple). option_and_then (λ (ys : List Triple). Some (xs ++ ys)) others) own ≡ option_and_then (λ (xs : List Triple). option_map (λ (ys : List Triple). xs ++ ys) others) own
     by_own None others = refl
     by_own (Some xs) None = refl
     by_own (Some xs) (Some ys) = refl
+
+    by_rest : (o : Option (List Triple)) (own : Option (List Triple)) → own_of first ≡ own
+        → option_and_then together (option_map (λ (ts : List Triple). first ∷ ts) o) ≡ option_and_then (λ (own : List Triple). option_map (λ (others : List Triple). own ++ others) (option_and_then together o)) own
+    by_rest None None e = refl
+    by_rest None (Some own) e = refl
+    by_rest (Some ts) own e = ap (option_and_then (λ (xs : List Triple). option_and_then (λ (others : List Triple). Some (xs ++ others)) (together ts))) e ∙ by_own own (together ts)
 
 -- what is seen of the own ones of the first parameter, and of the others
 over_step : (seen : Seen) (bytes : List ℕ) (first : Triple) (rest : List ℕ) → triple_at bytes ≡ Some (first, rest)
@@ -138,11 +138,11 @@ unfolding seen_first
 first-none seen bytes some e = by_triple (triple_at bytes) refl e
   where
     by_own : (first : Triple) (rest : List ℕ) → triple_at bytes ≡ Some (first, rest) → (own : Option Seen) → option_map (see_all seen) (own_of first) ≡ own
-        → option_and_then (λ (after : Seen). Some (after, rest)) own ≡ None → None ≡ seen_over seen bytes
+        → option_and_then {U = Seen × List ℕ} (λ (after : Seen). Some (after, rest)) own ≡ None → None ≡ seen_over seen bytes
     by_own first rest t None o f = over-broken seen bytes first rest t o
     by_own first rest t (Some after) o f = absurd cc
 
     by_triple : (first : Option (Triple × List ℕ)) → triple_at bytes ≡ first
-        → option_and_then (λ (x : Triple × List ℕ). option_and_then (λ (after : Seen). Some (after, x.1)) (option_map (see_all seen) (own_of x.0))) first ≡ None → None ≡ seen_over seen bytes
+        → option_and_then {U = Seen × List ℕ} (λ (x : Triple × List ℕ). option_and_then (λ (after : Seen). Some (after, x.1)) (option_map (see_all seen) (own_of x.0))) first ≡ None → None ≡ seen_over seen bytes
     by_triple None t f = over-none seen bytes some t
     by_triple (Some x) t f = by_own x.0 x.1 t (option_map (see_all seen) (own_of x.0)) refl f
