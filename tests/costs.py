@@ -6,6 +6,7 @@ is the factor 5, and 10,000 assertions take at most 2.5 s.
 Usage: costs.py PROGRAM. Runs scripts with lines of each kind and prints a table of the processor seconds that these lines take, beside a run
 of the same script without them. The last line is 'N passed, M failed', and the status is 0 where none failed.
 """
+import base64
 import os
 import struct
 import subprocess
@@ -141,6 +142,20 @@ def filters(folder, size):
     return f"open d {dump}\ntake d {ALL}\nfilter 7\n", "filter 7\nunfilter 8\n" * size
 
 
+def moments(folder, size):
+    """Attestations of so many customers, each with an end of its own, and the moments of all these ends, one after another."""
+    lines = b"".join(base64.b64encode(payload(1 + i, [100_000])) + b" %d\n" % (1 + i) for i in range(size))
+    file = write(folder, "lines", lines)
+    return f"aspa64 s {file}\n", "".join(f"at {1 + i}\n" for i in range(size))
+
+
+def attestations(folder, size):
+    """One customer with so many attestations, each with a provider and an end of its own, loaded by one line, and a moment past all ends."""
+    lines = b"".join(base64.b64encode(payload(7, [100_000 + i])) + b" %d\n" % (1 + i) for i in range(size))
+    file = write(folder, "lines", lines)
+    return "", f"aspa64 s {file}\nat {size}\n"
+
+
 def rows(folder, size):
     """Customers with a hundred times as many providers each, all with the same ones, loaded by one line: its bytes are four times as many."""
     file = write(folder, "payloads", b"".join(payload(1 + i, range(1_000, 1_000 + 100 * size)) for i in range(size)))
@@ -158,6 +173,8 @@ KINDS = (
     ("the same, where these ASes have routes", own_roles, (5_000, 10_000, 20_000), LINEAR),
     ("summaries, of a thousand times as many routes", summaries, (50, 100, 200), LINEAR),
     ("filters that change nothing, of as many routes", filters, (20_000, 40_000, 80_000), LINEAR),
+    ("moments, each the end of one of as many attestations", moments, (10_000, 20_000, 40_000), LINEAR),
+    ("attestations of one customer, one provider each", attestations, (25_000, 50_000, 100_000), LINEAR),
     ("customers with a hundred times as many providers", rows, (25, 50, 100), ROW),
 )
 

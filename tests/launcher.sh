@@ -457,11 +457,14 @@ is_busy() {
     done
 }
 own=$(least 2000 "$here/crates/aspaview/out/aspaview" run)
-took=$(($(least $((own + 20000)) "$here/aspaview" run) - own))
-if ((took >= 20000)) && is_busy; then
-    echo "skipped: that a call takes less than 20 ms ($took µs), since other work has all processors"
+# (each source is looked at, so on a slow machine a call may take what three such looks at all of them take)
+look=$(least 1000 find "$here/crates" -printf '%C@\n')
+limit=$((3 * look > 20000 ? 3 * look : 20000))
+took=$(($(least $((own + limit)) "$here/aspaview" run) - own))
+if ((took >= limit)) && is_busy; then
+    echo "skipped: that a call takes less than $limit µs ($took µs), since other work has all processors"
 else
-    check "a call takes less than 20 ms beside the program's own time ($took µs)" yes "$( ((took < 20000)) && echo yes || echo no)"
+    check "a call takes less than $limit µs beside the program's own time ($took µs)" yes "$( ((took < limit)) && echo yes || echo no)"
 fi
 
 # ---- what the launcher reads of the pages

@@ -62,11 +62,13 @@ def route(at, path):
 
 
 # How many inputs there are.
-COUNT = 16
+COUNT = 17
 
-def peers(count):
-    """A peer table of so many peers of one AS."""
-    return record(1, struct.pack(">IHH", 1, 0, count) + b"".join(struct.pack(">BIII", 2, 1, 1 + i, 64501) for i in range(count)))
+def peers(count, apart=0):
+    """A peer table of so many peers, each of the AS of the one before and so many more."""
+    return record(
+        1, struct.pack(">IHH", 1, 0, count) + b"".join(struct.pack(">BIII", 2, 1, 1 + i, 64501 + apart * i) for i in range(count))
+    )
 
 
 def from_all(count):
@@ -105,6 +107,7 @@ def inputs(size):
     yield "table: routes with one path", PEERS + fill(size, lambda at: route(at, [64501, 7])), DUMP
     yield "table: the same, in no order", PEERS + fill(size, lambda at: route(at * 2_654_435_761, [64501, 7])), DUMP
     yield "table: 65,535 peers with a route each", peers(65_535) + from_all(65_535), DUMP
+    yield "table: the same, each of another AS", peers(65_535, 1) + from_all(65_535), DUMP
     yield "table: records that are refused", fill(size, lambda at: record(2, b"")), DUMP
     yield "updates: withdrawals of what isn't there", fill(
         size, withdrawals

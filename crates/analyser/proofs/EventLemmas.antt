@@ -1,7 +1,7 @@
 -- Each event has one outcome from any state.
 use Rattle.std.proofs.Common.{◌≡◌, refl, sym, ap, subst, ◌∙◌}
 use Rattle.av_base.specs.One.{HasOne}
-use Rattle.path_model.specs.CurrentTable.{Parts}
+use Rattle.attestations.specs.CurrentTable.{Parts}
 use Rattle.path_model.specs.Roles.{set_role}
 use Rattle.path_model.specs.Routes.{performed}
 use Rattle.vap_table.proofs.ChangeLemmas as changes

@@ -1,6 +1,6 @@
 -- What each event makes of an analysis; all other parts of it stay as they were.
 use Rattle.std.specs.Prelude.{◌≡◌}
-use Rattle.path_model.specs.CurrentTable.{Parts}
+use Rattle.attestations.specs.CurrentTable.{Parts}
 use Rattle.path_model.specs.Roles.{set_role}
 use Rattle.path_model.specs.Routes.{performed}
 use Rattle.vap_table.specs.Change.{Alters}

@@ -1,5 +1,5 @@
 //! The analysis, from event to event.
-ghost use Rattle.std.specs.Prelude.{◌≡◌, IfOk};
+ghost use Rattle.std.specs.Prelude.{◌≡◌, IfOk, OnOk};
 ghost use Rattle.analyser.specs.Events.{Happens};
 ghost use Rattle.analyser.specs.Touched.{TicksWithin};
 ghost use Rattle.rib_store.specs.Changes.{IsMarked};
@@ -10,17 +10,23 @@ use av_base::{NoMemory, Steps};
 use rib_store::RibStore;
 use std::alloc::Global;
 use std::marker::Model;
+use std::mem;
 use std::sync::ledger::Ledger;
 
 /// What an analysis has come to, by all events so far.
 pub struct Analyser {
-    store: RibStore,
+    alloc: Global,
+    // in a box, so that who hands an analysis on moves no more than its place
+    store: Box<RibStore>,
 }
 
 /// A function of its own, so that what lets an analysis go needn't say how.
 impl Drop for Analyser {
     fn drop(self) {
-        let Analyser { store: _store } = self;
+        let Analyser {
+            alloc: _alloc,
+            store: _store,
+        } = self;
     }
 }
 
@@ -33,17 +39,16 @@ impl Model for Analyser {
 
     ghost coded = { coded_state };
 
-    ghost view = { λ a. a.store.state };
+    ghost view = { λ a. a.store.value.state };
 }
 
 impl Analyser {
-    /// Nothing has happened yet. It takes no memory.
-    pub fn new(alloc: Global) -> Analyser
-        ensures { result ≡ no_state }
+    /// Nothing has happened yet.
+    pub fn new(alloc: Global) -> Result<Analyser, NoMemory>
+        ensures { IfOk result (λ a. a ≡ no_state) }
     {
-        Analyser {
-            store: RibStore::new(alloc),
-        }
+        let store = Box::new(alloc, RibStore::new(alloc))?;
+        Ok(Analyser { alloc, store })
     }
 
     /// The analysis after one more event. It takes a step for each judgement, whether it ends well or not: at most one for each route that
@@ -52,24 +57,18 @@ impl Analyser {
         ensures state { IfOk result (λ next. Happens self event next) }
         ensures ticks { TicksWithin self event steps.old steps.new }
     {
-        let Analyser { store } = self;
-        let store = match event {
-            Event::Routes(changes) => store.apply_routes(changes, steps)?,
-            Event::Table(change) => store.apply_table(change, steps)?,
-            Event::Role(asn, role) => store.set_role(asn, role, steps)?,
-            Event::DefaultRole(role) => store.set_default(role, steps)?,
-        };
-        Ok(Analyser { store })
+        let Analyser { alloc, mut store } = self;
+        happen(alloc, &mut store, event, steps)?;
+        Ok(Analyser { alloc, store })
     }
 
     /// The analysis once all verdicts are marked as they stand. It takes no memory.
     pub fn mark(self) -> Analyser
         ensures { IsMarked self result }
     {
-        let Analyser { store } = self;
-        Analyser {
-            store: store.mark(),
-        }
+        let Analyser { alloc, mut store } = self;
+        *store = taken(alloc, &mut store).mark();
+        Analyser { alloc, store }
     }
 
     /// The analysis as it is, with what its store gathers so that a list of changes goes over the changed keys alone
@@ -77,9 +76,9 @@ impl Analyser {
     pub fn gather(self) -> Result<Analyser, NoMemory>
         ensures { IfOk result (λ a. a ≡ self) }
     {
-        let Analyser { store } = self;
-        let store = store.gather()?;
-        Ok(Analyser { store })
+        let Analyser { alloc, mut store } = self;
+        *store = taken(alloc, &mut store).gather()?;
+        Ok(Analyser { alloc, store })
     }
 
     /// The store, for what is read of it.
@@ -88,4 +87,38 @@ impl Analyser {
     {
         &self.store
     }
+}
+
+// An event happens to a store. Where memory is wanting nothing is promised of the store.
+fn happen<L: Ledger>(
+    alloc: Global,
+    store: &mut RibStore,
+    event: Event,
+    steps: &mut Steps<L>,
+) -> Result<(), NoMemory>
+    ensures state { OnOk result (Happens store.old.state event store.new.state) }
+    ensures ticks { TicksWithin store.old.state event steps.old steps.new }
+{
+    match event {
+        Event::Routes(changes) => store.apply_routes(changes, steps),
+        Event::Table(change) => {
+            *store = taken(alloc, store).apply_table(change, steps)?;
+            Ok(())
+        }
+        Event::Role(asn, role) => {
+            *store = taken(alloc, store).set_role(asn, role, steps)?;
+            Ok(())
+        }
+        Event::DefaultRole(role) => {
+            *store = taken(alloc, store).set_default(role, steps)?;
+            Ok(())
+        }
+    }
+}
+
+// The store, in whose place an empty one stands.
+fn taken(alloc: Global, store: &mut RibStore) -> RibStore
+    ensures { result ≡ store.old }
+{
+    mem::replace(store, RibStore::new(alloc))
 }

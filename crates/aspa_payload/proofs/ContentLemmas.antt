@@ -7,7 +7,7 @@ use Rattle.aspa_payload.specs.Answers.{Misses}
 use Rattle.aspa_payload.specs.Content.{TakesExplicit, TakesVersion, AreIntegers, IsContent}
 use Rattle.aspa_payload.specs.declared.content.Parts.{Parts}
 use Rattle.aspa_payload.specs.declared.fault.PayloadFault.{PayloadFault}
-use Rattle.aspa_payload.specs.declared.fault.PayloadFault.TheVariants.{NotDer, Version, NoProviders, Order, SelfProvider, Base64, NoMemory}
+use Rattle.aspa_payload.specs.declared.fault.PayloadFault.TheVariants.{NotDer, Version, NoProviders, Order, SelfProvider, Base64, Moment, NoMemory}
 
 -- what a part doesn't have, the whole doesn't have
 pub misses_by : {A B : Type 0} (cause : PayloadFault) (P : A → Type 0) (Q : B → Type 0) (fault : PayloadFault)
@@ -19,6 +19,7 @@ misses_by cause P Q NoProviders f h = (h.0, f h.1)
 misses_by cause P Q Order f h = (h.0, f h.1)
 misses_by cause P Q SelfProvider f h = (h.0, f h.1)
 misses_by cause P Q Base64 f h = (h.0, f h.1)
+misses_by cause P Q Moment f h = (h.0, f h.1)
 
 same_option : (v w : ℕ) → v ≡ w → ◌≡◌ {A = Option ℕ} (Some v) (Some w)
 same_option v w e = ap Some e

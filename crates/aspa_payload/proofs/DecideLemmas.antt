@@ -15,7 +15,7 @@ use Rattle.aspa_payload.specs.Content.{TakesVersion, AreIntegers, IsContent, Say
 use Rattle.aspa_payload.specs.Reading.{TakesPayload, IsContentRefused, IsRefused, IsWhole}
 use Rattle.aspa_payload.specs.declared.content.Parts.{Parts}
 use Rattle.aspa_payload.specs.declared.fault.PayloadFault.{PayloadFault}
-use Rattle.aspa_payload.specs.declared.fault.PayloadFault.TheVariants.{NotDer, Version, NoProviders, Order, SelfProvider, Base64, NoMemory}
+use Rattle.aspa_payload.specs.declared.fault.PayloadFault.TheVariants.{NotDer, Version, NoProviders, Order, SelfProvider, Base64, Moment, NoMemory}
 use Rattle.aspa_payload.proofs.ReadingLemmas.{refused_outer}
 use Rattle.aspa_payload.proofs.ContentLemmas.{no_explicit, no_inner, no_number, not_alone, no_customer, no_list, no_end, no_providers}
 
@@ -201,6 +201,7 @@ unfit_refused : (content : List ℕ) (a : Attestation) (f : PayloadFault) → Sa
 unfit_refused content a NotDer says h = absurd h
 unfit_refused content a Version says h = absurd h
 unfit_refused content a Base64 says h = absurd h
+unfit_refused content a Moment says h = absurd h
 unfit_refused content a NoMemory says h = absurd h
 unfit_refused content a NoProviders says h = (a, says, h)
 unfit_refused content a Order says h = (a, says, h)

@@ -1,9 +1,11 @@
 mod AnswerLemmas
+mod AttestedLemmas
 mod ContentLemmas
 mod DecideLemmas
 pub mod FileLawLemmas
 mod FileLemmas
 mod IntegersLemmas
+mod LineLawLemmas
 mod LineLemmas
 pub mod LinesLawLemmas
 mod LinesLemmas

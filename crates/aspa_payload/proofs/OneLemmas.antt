@@ -10,7 +10,7 @@ use Rattle.aspa_payload.specs.Reading.{TakesPayload, SaysUnfit, IsContentRefused
 use Rattle.aspa_payload.specs.Laws.{WrittenIsReadAgain, OnePayloadAtTheFront}
 use Rattle.aspa_payload.specs.declared.content.Parts.{Parts}
 use Rattle.aspa_payload.specs.declared.fault.PayloadFault.{PayloadFault}
-use Rattle.aspa_payload.specs.declared.fault.PayloadFault.TheVariants.{NotDer, Version, NoProviders, Order, SelfProvider, Base64, NoMemory}
+use Rattle.aspa_payload.specs.declared.fault.PayloadFault.TheVariants.{NotDer, Version, NoProviders, Order, SelfProvider, Base64, Moment, NoMemory}
 use Rattle.aspa_payload.proofs.ContentLemmas.{one_version_front}
 
 pub one_integers : (bytes : List ℕ) (ns ms : List ℕ) → AreIntegers bytes ns → AreIntegers bytes ms → ns ≡ ms
@@ -41,6 +41,7 @@ pub one_unfit : (a : Attestation) (f g : PayloadFault) → IsUnfit a f → IsUnf
 one_unfit a NotDer g h k = absurd h
 one_unfit a Version g h k = absurd h
 one_unfit a Base64 g h k = absurd h
+one_unfit a Moment g h k = absurd h
 one_unfit a NoMemory g h k = absurd h
 one_unfit a NoProviders NoProviders h k = refl
 one_unfit a NoProviders Order h k = absurd (k.0 h)
@@ -48,6 +49,7 @@ one_unfit a NoProviders SelfProvider h k = absurd (k.0 h)
 one_unfit a NoProviders NotDer h k = absurd k
 one_unfit a NoProviders Version h k = absurd k
 one_unfit a NoProviders Base64 h k = absurd k
+one_unfit a NoProviders Moment h k = absurd k
 one_unfit a NoProviders NoMemory h k = absurd k
 one_unfit a Order NoProviders h k = absurd (h.0 k)
 one_unfit a Order Order h k = refl
@@ -55,6 +57,7 @@ one_unfit a Order SelfProvider h k = absurd (h.1 k.1)
 one_unfit a Order NotDer h k = absurd k
 one_unfit a Order Version h k = absurd k
 one_unfit a Order Base64 h k = absurd k
+one_unfit a Order Moment h k = absurd k
 one_unfit a Order NoMemory h k = absurd k
 one_unfit a SelfProvider NoProviders h k = absurd (h.0 k)
 one_unfit a SelfProvider Order h k = absurd (k.1 h.1)
@@ -62,12 +65,14 @@ one_unfit a SelfProvider SelfProvider h k = refl
 one_unfit a SelfProvider NotDer h k = absurd k
 one_unfit a SelfProvider Version h k = absurd k
 one_unfit a SelfProvider Base64 h k = absurd k
+one_unfit a SelfProvider Moment h k = absurd k
 one_unfit a SelfProvider NoMemory h k = absurd k
 
 fit_or_unfit : (a : Attestation) (f : PayloadFault) → IsPayload a → IsUnfit a f → ⊥
 fit_or_unfit a NotDer p h = h
 fit_or_unfit a Version p h = h
 fit_or_unfit a Base64 p h = h
+fit_or_unfit a Moment p h = h
 fit_or_unfit a NoMemory p h = h
 fit_or_unfit a NoProviders p h = p.some h
 fit_or_unfit a Order p h = h.1 p.ascending
@@ -85,6 +90,7 @@ unfolding Ways
 ways content NotDer h = inl (refl, h)
 ways content Version h = inr (inl (refl, h))
 ways content Base64 h = absurd h
+ways content Moment h = absurd h
 ways content NoMemory h = absurd h
 ways content NoProviders h = inr (inr h)
 ways content Order h = inr (inr h)
@@ -134,6 +140,7 @@ unfolding OuterWays
 outer_ways Outer NotDer h = inl (refl, h)
 outer_ways Outer Version h = inr h
 outer_ways Outer Base64 h = inr h
+outer_ways Outer Moment h = inr h
 outer_ways Outer NoMemory h = inr h
 outer_ways Outer NoProviders h = inr h
 outer_ways Outer Order h = inr h

@@ -15,7 +15,7 @@ use Rattle.aspa_payload.specs.Answers.{Answers, IsContentReading, MemoryOr}
 use Rattle.aspa_payload.proofs.AnswerLemmas.{memory_or}
 use Rattle.aspa_payload.specs.declared.content.Parts.{Parts}
 use Rattle.aspa_payload.specs.declared.fault.PayloadFault.{PayloadFault}
-use Rattle.aspa_payload.specs.declared.fault.PayloadFault.TheVariants.{NotDer, Version, NoProviders, Order, SelfProvider, Base64, NoMemory}
+use Rattle.aspa_payload.specs.declared.fault.PayloadFault.TheVariants.{NotDer, Version, NoProviders, Order, SelfProvider, Base64, Moment, NoMemory}
 
 -- parts with the version 1 are what the content says
 pub says_parts : (content : List ℕ) (parts : Parts) → IsContent content parts → parts.version ≡ Some 1
@@ -30,6 +30,7 @@ made_answer content a says (Err NoMemory) is fit unfit = tt
 made_answer content a says (Err NotDer) is fit unfit = absurd unfit
 made_answer content a says (Err Version) is fit unfit = absurd unfit
 made_answer content a says (Err Base64) is fit unfit = absurd unfit
+made_answer content a says (Err Moment) is fit unfit = absurd unfit
 made_answer content a says (Err NoProviders) is fit unfit = (a, says, unfit)
 made_answer content a says (Err Order) is fit unfit = (a, says, unfit)
 made_answer content a says (Err SelfProvider) is fit unfit = (a, says, unfit)
@@ -43,6 +44,7 @@ refused_outer Outer one content rest outer NoProviders h = (content, (rest, oute
 refused_outer Outer one content rest outer Order h = (content, (rest, outer, h))
 refused_outer Outer one content rest outer SelfProvider h = (content, (rest, outer, h))
 refused_outer Outer one content rest outer Base64 h = (content, (rest, outer, h))
+refused_outer Outer one content rest outer Moment h = (content, (rest, outer, h))
 refused_outer Outer one content rest outer NoMemory h = (content, (rest, outer, h))
 
 pub whole_one : (bytes c d x y : List ℕ) → IsWhole bytes c x → IsWhole bytes d y → c ≡ d

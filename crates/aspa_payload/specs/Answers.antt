@@ -22,7 +22,7 @@ abbrev pub UnfitOrMemory : Attestation → PayloadFault → Type 0
 UnfitOrMemory a fault = MemoryOr fault (IsUnfit a fault)
 
 -- what was made is what is due, or the refusal is
-abbrev pub Answers : (Result Attestation PayloadFault → Type 0) → Result Attestation PayloadFault → Type 0
+abbrev pub Answers : {A : Type 0} → (Result A PayloadFault → Type 0) → Result A PayloadFault → Type 0
 Answers Due (Ok a) = Due (Ok a)
 Answers Due (Err fault) = MemoryOr fault (Due (Err fault))
 

@@ -39,8 +39,8 @@ IsFileReading bytes (Err (Bad unit cause)) = RefusedAt bytes unit cause
 IsFileReading bytes (Err OutOfMemory) = ⊥
 
 -- want of memory is free, and every other answer is the one that is due
-abbrev pub FileAnswers : (Result RowMap FileFault → Type 0) → Result RowMap FileFault → Type 0
-FileAnswers Due (Ok rows) = Due (Ok rows)
+abbrev pub FileAnswers : {A : Type 0} → (Result A FileFault → Type 0) → Result A FileFault → Type 0
+FileAnswers Due (Ok read) = Due (Ok read)
 FileAnswers Due (Err (Bad unit cause)) = Due (Err (Bad unit cause))
 FileAnswers Due (Err OutOfMemory) = Unit {0}
 

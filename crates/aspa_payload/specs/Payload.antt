@@ -4,7 +4,7 @@ use Rattle.std.specs.List.{Contains}
 use Rattle.std.specs.List.Sorted.{IsStrictlyIncreasing}
 use Rattle.path_model.specs.Union.{Attestation}
 use Rattle.aspa_payload.specs.declared.fault.PayloadFault.{PayloadFault}
-use Rattle.aspa_payload.specs.declared.fault.PayloadFault.TheVariants.{NotDer, Version, NoProviders, Order, SelfProvider, Base64, NoMemory}
+use Rattle.aspa_payload.specs.declared.fault.PayloadFault.TheVariants.{NotDer, Version, NoProviders, Order, SelfProvider, Base64, Moment, NoMemory}
 
 abbrev pub attestation : ℕ → List ℕ → Attestation
 attestation customer providers = record { customer = customer; providers = providers }
@@ -23,4 +23,5 @@ IsUnfit a SelfProvider = (a.providers ≢ []) × IsStrictlyIncreasing a.provider
 IsUnfit a NotDer = ⊥
 IsUnfit a Version = ⊥
 IsUnfit a Base64 = ⊥
+IsUnfit a Moment = ⊥
 IsUnfit a NoMemory = ⊥

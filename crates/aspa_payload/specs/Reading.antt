@@ -9,7 +9,7 @@ use Rattle.path_model.specs.Union.{Attestation}
 use Rattle.aspa_payload.specs.Payload.{IsPayload, IsUnfit}
 use Rattle.aspa_payload.specs.declared.content.Parts.{Parts}
 use Rattle.aspa_payload.specs.declared.fault.PayloadFault.{PayloadFault}
-use Rattle.aspa_payload.specs.declared.fault.PayloadFault.TheVariants.{NotDer, Version, Base64, NoMemory}
+use Rattle.aspa_payload.specs.declared.fault.PayloadFault.TheVariants.{NotDer, Version, Base64, Moment, NoMemory}
 
 -- the bytes begin with the payload of this attestation, a value of tag 30, and this is the rest
 pub record TakesPayload (bytes : List ℕ) (a : Attestation) (rest : List ℕ) : Type 0 where
@@ -28,6 +28,7 @@ IsContentRefused content NotDer = (parts : Parts) → IsContent content parts �
 IsContentRefused content Version = (parts : Parts) × IsContent content parts × (parts.version ≢ Some 1)
 IsContentRefused content NoMemory = ⊥
 IsContentRefused content Base64 = ⊥
+IsContentRefused content Moment = ⊥
 IsContentRefused content fault = SaysUnfit content fault
 
 -- The first rule that some bytes break. `Outer` says which content they have, and which rest.

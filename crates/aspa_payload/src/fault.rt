@@ -27,6 +27,9 @@ pub enum PayloadFault {
     /// The line isn't strict base64 with padding.
     #[error("no base64")]
     Base64,
+    /// What stands behind the line's first space isn't a moment, a number of 32 bits.
+    #[error("no moment")]
+    Moment,
     /// There was no memory.
     #[error("no memory")]
     NoMemory,

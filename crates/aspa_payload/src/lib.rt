@@ -1,13 +1,13 @@
 //! Attestation payloads of the RPKI (draft-ietf-sidrops-aspa-profile, section 3, without the CMS wrapping), and files of them: one
-//! after another, or one a line in base64.
+//! after another, or one a line in base64, alone or with the moment at which what it attests ends.
 //!
-//! The layer above uses one contract: **[`read_many`] and [`read_lines`] answer the reading of the file**, which is the union per
-//! customer of all its payloads, or the number of the first refused one with the first rule that it breaks. Each file has exactly one
-//! reading (`laws`). [`read`] reads exactly one payload, and [`Payload::write`] appends the one spelling, which is read again whatever
-//! follows it.
+//! The layer above uses one contract: **[`read_many`] and [`read_lines`] answer the reading of the file**. That is the union per
+//! customer of all its payloads, or the attestations that its lines make, each with its end; or else the number of the first refused
+//! unit with the first rule that it breaks. Each file has exactly one reading (`laws`). [`read`] reads exactly one payload, and
+//! [`Payload::write`] appends the one spelling, which is read again whatever follows it.
 //!
-//! Begin with `specs/Payload.antt` and `specs/Content.antt`, which say what a payload is; what a file is says `specs/File.antt`, and
-//! what a file of lines is `specs/Lines.antt`.
+//! Begin with `specs/Payload.antt` and `specs/Content.antt`, which say what a payload is; what a file is says `specs/File.antt`, what a
+//! line is `specs/Line.antt`, and what a file of lines is `specs/Lines.antt`.
 #![tactic(auto)]
 
 mod content;

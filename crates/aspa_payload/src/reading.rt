@@ -9,7 +9,7 @@ use crate::payload::Payload;
 use der_reader::take_value;
 use std::alloc::Global;
 
-/// Reads exactly one payload. A refusal is the first rule that the bytes break; the cause `Base64` never comes.
+/// Reads exactly one payload. A refusal is the first rule that the bytes break; the causes `Base64` and `Moment` never come.
 pub fn read(alloc: Global, bytes: &[u8]) -> Result<Payload, PayloadFault>
     ensures { Answers (IsReading bytes.now) result }
 {

@@ -10,7 +10,7 @@ use Rattle.feed_lines.specs.Feeds.{Feed}
 use Rattle.feed_lines.specs.Lines.{WorksBy}
 use Rattle.feed_lines.specs.Lines.{State as FeedState}
 use Rattle.script_lines.specs.declared.command.Command.{Command}
-use Rattle.script_lines.specs.declared.command.Command.TheVariants.{Idle, Aspa, Aspa64, Slurm, Filter, Unfilter, Assert, Unassert, Role as SetRole, RoleDefault, Open as OpenDump, Take as TakeUnits, Feed as FeedLine, Ask, Sync, Judge as JudgePath, Changes as ListChanges, Why as WhyRoute, Show as ShowAll}
+use Rattle.script_lines.specs.declared.command.Command.TheVariants.{Idle, Aspa, Aspa64, Slurm, At, Filter, Unfilter, Assert, Unassert, Role as SetRole, RoleDefault, Open as OpenDump, Take as TakeUnits, Feed as FeedLine, Ask, Sync, Judge as JudgePath, Changes as ListChanges, Why as WhyRoute, Show as ShowAll}
 use Rattle.script_lines.specs.declared.command.LineFault.{LineFault}
 use Rattle.script_lines.specs.declared.command.LineFault.TheVariants.{Long, Command as NoCommand, Words, Number, NoMemory}
 use Rattle.script_lines.specs.Grammar.{IsReading}
@@ -120,6 +120,7 @@ no_feed line (Ok Idle) reads other = tt
 no_feed line (Ok (Aspa name file)) reads other = tt
 no_feed line (Ok (Aspa64 name file)) reads other = tt
 no_feed line (Ok (Slurm file)) reads other = tt
+no_feed line (Ok (At moment)) reads other = tt
 no_feed line (Ok (Filter customer)) reads other = tt
 no_feed line (Ok (Unfilter customer)) reads other = tt
 no_feed line (Ok (Assert customer providers)) reads other = tt

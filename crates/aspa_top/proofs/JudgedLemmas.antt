@@ -6,10 +6,10 @@ use Rattle.path_model.specs.declared.verdict.Verdict.{Verdict}
 use Rattle.path_model.specs.Authority.{said_by}
 use Rattle.path_model.specs.Trail.{Path, path_of}
 use Rattle.path_model.specs.RightVerdict.{IsRight}
-use Rattle.path_model.specs.CurrentTable.{Parts}
-use Rattle.path_model.specs.ComputedTable.{table_of}
+use Rattle.attestations.specs.CurrentTable.{Parts}
+use Rattle.attestations.specs.ComputedTable.{table_of}
 use Rattle.path_model.proofs.LawLemmas.{IsRight-unique, hops_decide}
-use Rattle.path_model.proofs.PartsLemmas.{one_row, table_is_current}
+use Rattle.attestations.proofs.PartsLemmas.{one_row, table_is_current}
 use Rattle.av_text.specs.VerdictText.{verdict_text}
 use Rattle.aspa_top.specs.Tasks.{IsJudged}
 

@@ -7,6 +7,7 @@ use Rattle.av_base.specs.declared.fault.NoMemory.{NoMemory as NoMemoryFault}
 use Rattle.av_base.specs.Files.{Files, Opens, left_of}
 use Rattle.av_base.proofs.FilesLemmas.{left_of-opens}
 use Rattle.path_model.specs.Rows.{RowMap}
+use Rattle.attestations.specs.Terms.{TermMap, terms_of}
 use Rattle.vap_table.specs.declared.change.TableChange.TheVariants.{Replace}
 use Rattle.aspa_payload.specs.File.{FileAnswers, IsFileReading}
 use Rattle.aspa_payload.specs.Lines.{IsLinesReading}
@@ -23,7 +24,7 @@ use Rattle.aspa_top.specs.declared.loading.FileKind.TheVariants.{Payloads, Paylo
 use Rattle.aspa_top.specs.declared.loading.Outcome.{Outcome}
 use Rattle.aspa_top.specs.declared.loading.Outcome.TheVariants.{NoFile, Long, Flawed, Good}
 use Rattle.aspa_top.specs.Loading.{Makes, Fails, IsWithin, IsBeyond, payload_cause, slurm_cause}
-use Rattle.aspa_top.specs.LoadingSteps.{ComesTold, IsRowsOutcome, Understands}
+use Rattle.aspa_top.specs.LoadingSteps.{ComesTold, IsRefusedFor, IsRowsOutcome, IsTermsOutcome, Understands}
 
 -- ---- a file that was read whole
 
@@ -75,14 +76,20 @@ module _ (old mid new : Option Files) (before after : ℕ) (name : List ℕ) (fi
 
 -- ---- what its bytes are understood as
 
-rows_understood : (kind : FileKind) (name bytes : List ℕ) (Due : Result RowMap FileFault → Type 0)
-    → ((rows : RowMap) → Due (Ok rows) → Makes kind bytes (Replace name rows))
-    → ((unit : ℕ) (fault : PayloadFault) (cause : Cause) → Due (Err (Bad unit fault)) → payload_cause fault ≡ Some cause → Fails kind bytes (record { unit = unit; cause = cause }))
-    → (reading : Result RowMap FileFault) (outcome : Outcome) → FileAnswers Due reading → IsRowsOutcome name reading outcome
-    → Understands kind bytes outcome
-rows_understood kind name bytes Due makes fails (Ok rows) outcome answers is = subst (λ (o : Outcome). Understands kind bytes o) (sym is) (makes rows answers)
-rows_understood kind name bytes Due makes fails (Err (Bad unit fault)) outcome answers is = subst (λ (o : Outcome). Understands kind bytes o) (sym is.2) (fails unit fault is.0 answers is.1)
-rows_understood kind name bytes Due makes fails (Err NoMemory) outcome answers is = absurd is
+-- of a file that reads to terms, or to rows that never end
+module _ {A : Type 0} (terms : A → TermMap) (Comes : Result A FileFault → Outcome → Type 0) where
+  understood : (kind : FileKind) (name bytes : List ℕ) (Due : Result A FileFault → Type 0)
+      → ((read : A) (outcome : Outcome) → Comes (Ok read) outcome → outcome ≡ Good (Replace name (terms read)))
+      → ((fault : FileFault) (outcome : Outcome) → Comes (Err fault) outcome → IsRefusedFor fault outcome)
+      → ((read : A) → Due (Ok read) → Makes kind bytes (Replace name (terms read)))
+      → ((unit : ℕ) (fault : PayloadFault) (cause : Cause) → Due (Err (Bad unit fault)) → payload_cause fault ≡ Some cause → Fails kind bytes (record { unit = unit; cause = cause }))
+      → (reading : Result A FileFault) (outcome : Outcome) → FileAnswers Due reading → Comes reading outcome
+      → Understands kind bytes outcome
+  understood kind name bytes Due good bad makes fails (Ok read) outcome answers is = subst (λ (o : Outcome). Understands kind bytes o) (sym (good read outcome is)) (makes read answers)
+  understood kind name bytes Due good bad makes fails (Err (Bad unit fault)) outcome answers is =
+      let refused = bad (Bad unit fault) outcome is in
+      subst (λ (o : Outcome). Understands kind bytes o) (sym refused.2) (fails unit fault refused.0 answers refused.1)
+  understood kind name bytes Due good bad makes fails (Err NoMemory) outcome answers is = absurd (bad NoMemory outcome is)
 
 if_ok : {P Q : Outcome → Type 0} (result : Result Outcome NoMemoryFault) → ((outcome : Outcome) → P outcome → Q outcome) → IfOk result P → IfOk result Q
 if_ok {P} {Q} (Ok outcome) more holds = more outcome holds
@@ -91,12 +98,12 @@ if_ok {P} {Q} (Err fault) more holds = tt
 pub payloads_understood : (name bytes : List ℕ) (reading : Result RowMap FileFault) (result : Result Outcome NoMemoryFault)
     → FileAnswers (IsFileReading bytes) reading → IfOk result (IsRowsOutcome name reading) → IfOk result (Understands (Payloads name) bytes)
 payloads_understood name bytes reading result answers is =
-    if_ok result (λ outcome o. rows_understood (Payloads name) name bytes (IsFileReading bytes) (λ rows reads. (rows, reads, refl)) (λ unit fault cause reads caused. (fault, reads, caused)) reading outcome answers o) is
+    if_ok result (λ outcome o. understood terms_of (IsRowsOutcome name) (Payloads name) name bytes (IsFileReading bytes) (λ rows outcome is. is) (λ fault outcome is. is) (λ rows reads. (rows, reads, refl)) (λ unit fault cause reads caused. (fault, reads, caused)) reading outcome answers o) is
 
-pub lines_understood : (name bytes : List ℕ) (reading : Result RowMap FileFault) (result : Result Outcome NoMemoryFault)
-    → FileAnswers (IsLinesReading bytes) reading → IfOk result (IsRowsOutcome name reading) → IfOk result (Understands (PayloadLines name) bytes)
+pub lines_understood : (name bytes : List ℕ) (reading : Result TermMap FileFault) (result : Result Outcome NoMemoryFault)
+    → FileAnswers (IsLinesReading bytes) reading → IfOk result (IsTermsOutcome name reading) → IfOk result (Understands (PayloadLines name) bytes)
 lines_understood name bytes reading result answers is =
-    if_ok result (λ outcome o. rows_understood (PayloadLines name) name bytes (IsLinesReading bytes) (λ rows reads. (rows, reads, refl)) (λ unit fault cause reads caused. (fault, reads, caused)) reading outcome answers o) is
+    if_ok result (λ outcome o. understood (λ terms. terms) (IsTermsOutcome name) (PayloadLines name) name bytes (IsLinesReading bytes) (λ terms outcome is. is) (λ fault outcome is. is) (λ terms reads. (terms, reads, refl)) (λ unit fault cause reads caused. (fault, reads, caused)) reading outcome answers o) is
 
 pub slurm_fails : (bytes : List ℕ) (fault : SlurmFault) (cause : Cause) → MemoryOr fault (IsRefused bytes fault) → slurm_cause fault ≡ Some cause
     → Fails Slurm bytes (record { unit = 1; cause = cause })

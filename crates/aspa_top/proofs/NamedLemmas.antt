@@ -5,7 +5,7 @@ use Rattle.av_text.specs.Spellings.{IsInLine}
 use Rattle.av_text.proofs.AnySpellingLemmas.{names_in_line}
 use Rattle.report_text.proofs.RefusalLemmas.{slurm-in_line}
 use Rattle.script_lines.specs.declared.command.Command.{Command}
-use Rattle.script_lines.specs.declared.command.Command.TheVariants.{Idle, Aspa, Aspa64, Slurm, Filter, Unfilter, Assert, Unassert, Role as SetRole, RoleDefault, Open, Take, Feed, Ask, Sync, Judge, Changes, Why, Show}
+use Rattle.script_lines.specs.declared.command.Command.TheVariants.{Idle, Aspa, Aspa64, Slurm, At, Filter, Unfilter, Assert, Unassert, Role as SetRole, RoleDefault, Open, Take, Feed, Ask, Sync, Judge, Changes, Why, Show}
 use Rattle.script_lines.specs.declared.command.LineFault.{LineFault}
 use Rattle.script_lines.specs.Grammar.{IsReading}
 use Rattle.script_lines.proofs.SourceNameLemmas.{reading_named}
@@ -32,6 +32,7 @@ reading_in_line line (Ok Idle) reads = tt
 reading_in_line line (Ok (Aspa name file)) reads = names_in_line name (reading_named line (Aspa name file) reads)
 reading_in_line line (Ok (Aspa64 name file)) reads = names_in_line name (reading_named line (Aspa64 name file) reads)
 reading_in_line line (Ok (Slurm file)) reads = slurm-in_line
+reading_in_line line (Ok (At moment)) reads = tt
 reading_in_line line (Ok (Filter customer)) reads = tt
 reading_in_line line (Ok (Unfilter customer)) reads = tt
 reading_in_line line (Ok (Assert customer providers)) reads = tt

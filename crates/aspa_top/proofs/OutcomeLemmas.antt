@@ -5,15 +5,17 @@ use Rattle.std.specs.declared.result.Result.{Result}
 use Rattle.std.proofs.lemmas.Bool.Decides.{nat_tests}
 use Rattle.av_base.specs.One.{HasOne}
 use Rattle.path_model.specs.Rows.{RowMap}
+use Rattle.attestations.specs.Terms.{TermMap, terms_of}
 use Rattle.report_text.specs.declared.cause.Cause.{Cause}
 use Rattle.vap_table.specs.declared.change.TableChange.{TableChange}
 use Rattle.vap_table.specs.declared.change.TableChange.TheVariants.{Replace, Slurm as BySlurm}
 use Rattle.aspa_payload.specs.File.{IsFileReading, RefusedAt}
+use Rattle.aspa_payload.specs.Line.{HasBadText}
 use Rattle.aspa_payload.specs.Lines.{IsLinesReading, LineRefusedAt}
 use Rattle.aspa_payload.specs.declared.file.FileFault.{FileFault}
 use Rattle.aspa_payload.specs.declared.file.FileFault.TheVariants.{Bad, NoMemory}
 use Rattle.aspa_payload.specs.declared.fault.PayloadFault.{PayloadFault}
-use Rattle.aspa_payload.specs.declared.fault.PayloadFault.TheVariants.{NotDer, Version, NoProviders, Order, SelfProvider, Base64, NoMemory as PayloadMemory}
+use Rattle.aspa_payload.specs.declared.fault.PayloadFault.TheVariants.{NotDer, Version, NoProviders, Order, SelfProvider, Base64, Moment, NoMemory as PayloadMemory}
 use Rattle.aspa_payload.proofs.FileLawLemmas.{each_file}
 use Rattle.aspa_payload.proofs.LinesLawLemmas.{each_file_of_lines}
 use Rattle.slurm_rules.specs.Reading.{IsReading as IsSlurmReading}
@@ -39,15 +41,15 @@ same_fault {T} {E} one other the a b = let same = a ∙ sym b in cc
 no_both : {T E : Type 0} (value : T) (fault : E) (the : Result T E) → Ok value ≡ the → Err fault ≡ the → ⊥
 no_both {T} {E} value fault the a b = let same = a ∙ sym b in cc
 
--- ---- files of payloads; `Due` says how the file reads
+-- ---- files of payloads; `Due` says how the file reads, and `terms` what it attests then
 
-module _ (Due : Result RowMap FileFault → Type 0) (the : HasOne Due) where
+module _ {A : Type 0} (terms : A → TermMap) (Due : Result A FileFault → Type 0) (the : HasOne Due) where
   one_change : (name : List ℕ) (one other : TableChange)
-      → (rows : RowMap) × Due (Ok rows) × (one ≡ Replace name rows) → (rows : RowMap) × Due (Ok rows) × (other ≡ Replace name rows)
+      → (read : A) × Due (Ok read) × (one ≡ Replace name (terms read)) → (read : A) × Due (Ok read) × (other ≡ Replace name (terms read))
       → one ≡ other
   one_change name one other a b =
       let same = same_value a.0 b.0 the.one (the.only (Ok a.0) a.1) (the.only (Ok b.0) b.1) in
-      a.2 ∙ ap (λ (rows : RowMap). Replace name rows) same ∙ sym b.2
+      a.2 ∙ ap (λ (read : A). Replace name (terms read)) same ∙ sym b.2
 
   one_flaw : (one other : Flaw)
       → (fault : PayloadFault) × Due (Err (Bad one.unit fault)) × (payload_cause fault ≡ Some one.cause)
@@ -60,22 +62,22 @@ module _ (Due : Result RowMap FileFault → Type 0) (the : HasOne Due) where
       let cause : one.cause ≡ other.cause = cc in
       λ i. record { unit = unit i; cause = cause i }
 
-  no_change_and_flaw : (rows : RowMap) (unit : ℕ) (fault : PayloadFault) → Due (Ok rows) → Due (Err (Bad unit fault)) → ⊥
-  no_change_and_flaw rows unit fault a b = no_both rows (Bad unit fault) the.one (the.only (Ok rows) a) (the.only (Err (Bad unit fault)) b)
+  no_change_and_flaw : (read : A) (unit : ℕ) (fault : PayloadFault) → Due (Ok read) → Due (Err (Bad unit fault)) → ⊥
+  no_change_and_flaw read unit fault a b = no_both read (Bad unit fault) the.one (the.only (Ok read) a) (the.only (Err (Bad unit fault)) b)
 
 -- ---- each kind of file makes one change, or fails in one way
 
 makes_one : (kind : FileKind) (bytes : List ℕ) (one other : TableChange) → Makes kind bytes one → Makes kind bytes other → one ≡ other
-makes_one (Payloads name) bytes one other a b = one_change (IsFileReading bytes) (each_file bytes) name one other a b
-makes_one (PayloadLines name) bytes one other a b = one_change (IsLinesReading bytes) (each_file_of_lines bytes) name one other a b
+makes_one (Payloads name) bytes one other a b = one_change terms_of (IsFileReading bytes) (each_file bytes) name one other a b
+makes_one (PayloadLines name) bytes one other a b = one_change (λ terms. terms) (IsLinesReading bytes) (each_file_of_lines bytes) name one other a b
 makes_one Slurm bytes one other a b =
     let the = each_slurm_file bytes in
     let same = same_value a.0 b.0 the.one (the.only (Ok a.0) a.1) (the.only (Ok b.0) b.1) in
     a.2 ∙ ap (λ (s : SlurmContent). BySlurm s.filters s.assertions) same ∙ sym b.2
 
 fails_one : (kind : FileKind) (bytes : List ℕ) (one other : Flaw) → Fails kind bytes one → Fails kind bytes other → one ≡ other
-fails_one (Payloads name) bytes one other a b = one_flaw (IsFileReading bytes) (each_file bytes) one other a b
-fails_one (PayloadLines name) bytes one other a b = one_flaw (IsLinesReading bytes) (each_file_of_lines bytes) one other a b
+fails_one (Payloads name) bytes one other a b = one_flaw terms_of (IsFileReading bytes) (each_file bytes) one other a b
+fails_one (PayloadLines name) bytes one other a b = one_flaw (λ terms. terms) (IsLinesReading bytes) (each_file_of_lines bytes) one other a b
 fails_one Slurm bytes one other a b =
     let the = each_slurm_file bytes in
     let fault = same_fault a.0 b.0 the.one (the.only (Err a.0) a.1) (the.only (Err b.0) b.1) in
@@ -85,8 +87,8 @@ fails_one Slurm bytes one other a b =
     λ i. record { unit = unit i; cause = cause i }
 
 makes_or_fails : (kind : FileKind) (bytes : List ℕ) (change : TableChange) (flaw : Flaw) → Makes kind bytes change → Fails kind bytes flaw → ⊥
-makes_or_fails (Payloads name) bytes change flaw a b = no_change_and_flaw (IsFileReading bytes) (each_file bytes) a.0 flaw.unit b.0 a.1 b.1
-makes_or_fails (PayloadLines name) bytes change flaw a b = no_change_and_flaw (IsLinesReading bytes) (each_file_of_lines bytes) a.0 flaw.unit b.0 a.1 b.1
+makes_or_fails (Payloads name) bytes change flaw a b = no_change_and_flaw terms_of (IsFileReading bytes) (each_file bytes) a.0 flaw.unit b.0 a.1 b.1
+makes_or_fails (PayloadLines name) bytes change flaw a b = no_change_and_flaw (λ terms. terms) (IsLinesReading bytes) (each_file_of_lines bytes) a.0 flaw.unit b.0 a.1 b.1
 makes_or_fails Slurm bytes change flaw a b =
     let the = each_slurm_file bytes in
     no_both a.0 b.0 the.one (the.only (Ok a.0) a.1) (the.only (Err b.0) b.1)
@@ -142,6 +144,7 @@ payload_has_cause NoProviders other = (_, refl)
 payload_has_cause Order other = (_, refl)
 payload_has_cause SelfProvider other = (_, refl)
 payload_has_cause Base64 other = (_, refl)
+payload_has_cause Moment other = (_, refl)
 payload_has_cause PayloadMemory other = absurd (other refl)
 
 slurm_has_cause : (bytes : List ℕ) (fault : SlurmFault) → IsSlurmReading bytes (Err fault) → (cause : Cause) × (slurm_cause fault ≡ Some cause)
@@ -155,19 +158,22 @@ slurm_has_cause bytes SlurmMemory reads = absurd reads
 unit_remembers : (bytes : List ℕ) (unit : ℕ) (fault : PayloadFault) → RefusedAt bytes unit fault → fault ≢ PayloadMemory
 unit_remembers bytes unit fault found is = let refused = rw is at found.refused in refused.1.2
 
-line_remembers : (bytes : List ℕ) (unit : ℕ) (fault : PayloadFault) → LineRefusedAt bytes unit fault → fault ≢ PayloadMemory
-line_remembers bytes unit fault found is = let refused = rw is at found.refused in refused.2.1.2
+bad_remembers : (line : List ℕ) → HasBadText line PayloadMemory → ⊥
+bad_remembers line bad = bad.refused.2.1.2
 
-rows_within : (kind : FileKind) (name bytes : List ℕ) (Due : Result RowMap FileFault → Type 0) → length bytes ≤ 67108864
-    → ((rows : RowMap) → Due (Ok rows) → Makes kind bytes (Replace name rows))
+line_remembers : (bytes : List ℕ) (unit : ℕ) (fault : PayloadFault) → LineRefusedAt bytes unit fault → fault ≢ PayloadMemory
+line_remembers bytes unit fault found is = bad_remembers _ (rw is at found.refused)
+
+read_within : {A : Type 0} (terms : A → TermMap) (kind : FileKind) (name bytes : List ℕ) (Due : Result A FileFault → Type 0) → length bytes ≤ 67108864
+    → ((read : A) → Due (Ok read) → Makes kind bytes (Replace name (terms read)))
     → ((unit : ℕ) (fault : PayloadFault) (cause : Cause) → Due (Err (Bad unit fault)) → payload_cause fault ≡ Some cause → Fails kind bytes (record { unit = unit; cause = cause }))
     → ((unit : ℕ) (fault : PayloadFault) → Due (Err (Bad unit fault)) → fault ≢ PayloadMemory)
-    → (Due (Err NoMemory) → ⊥) → (reading : Result RowMap FileFault) → Due reading → (outcome : Outcome) × ComesOf kind (Some bytes) outcome
-rows_within kind name bytes Due within makes fails remembers none (Ok rows) reads = (Good (Replace name rows), record { bytes = bytes; is = refl; within = within; holds = makes rows reads })
-rows_within kind name bytes Due within makes fails remembers none (Err (Bad unit fault)) reads =
+    → (Due (Err NoMemory) → ⊥) → (reading : Result A FileFault) → Due reading → (outcome : Outcome) × ComesOf kind (Some bytes) outcome
+read_within {A} terms kind name bytes Due within makes fails remembers none (Ok read) reads = (Good (Replace name (terms read)), record { bytes = bytes; is = refl; within = within; holds = makes read reads })
+read_within {A} terms kind name bytes Due within makes fails remembers none (Err (Bad unit fault)) reads =
     let cause = payload_has_cause fault (remembers unit fault reads) in
     (Flawed (record { unit = unit; cause = cause.0 }), record { bytes = bytes; is = refl; within = within; holds = fails unit fault cause.0 reads cause.1 })
-rows_within kind name bytes Due within makes fails remembers none (Err NoMemory) reads = absurd (none reads)
+read_within {A} terms kind name bytes Due within makes fails remembers none (Err NoMemory) reads = absurd (none reads)
 
 slurm_within : (bytes : List ℕ) → length bytes ≤ 67108864 → (reading : Result SlurmContent SlurmFault) → IsSlurmReading bytes reading
     → (outcome : Outcome) × ComesOf Slurm (Some bytes) outcome
@@ -180,10 +186,10 @@ slurm_within bytes within (Err fault) reads =
 some_within : (kind : FileKind) (bytes : List ℕ) → length bytes ≤ 67108864 → (outcome : Outcome) × ComesOf kind (Some bytes) outcome
 some_within (Payloads name) bytes within =
     let the = each_file bytes in
-    rows_within (Payloads name) name bytes (IsFileReading bytes) within (λ rows reads. (rows, reads, refl)) (λ unit fault cause reads is. (fault, reads, is)) (λ unit fault reads. unit_remembers bytes unit fault reads) (λ none. none) the.one the.is
+    read_within terms_of (Payloads name) name bytes (IsFileReading bytes) within (λ rows reads. (rows, reads, refl)) (λ unit fault cause reads is. (fault, reads, is)) (λ unit fault reads. unit_remembers bytes unit fault reads) (λ none. none) the.one the.is
 some_within (PayloadLines name) bytes within =
     let the = each_file_of_lines bytes in
-    rows_within (PayloadLines name) name bytes (IsLinesReading bytes) within (λ rows reads. (rows, reads, refl)) (λ unit fault cause reads is. (fault, reads, is)) (λ unit fault reads. line_remembers bytes unit fault reads) (λ none. none) the.one the.is
+    read_within (λ terms. terms) (PayloadLines name) name bytes (IsLinesReading bytes) within (λ rows reads. (rows, reads, refl)) (λ unit fault cause reads is. (fault, reads, is)) (λ unit fault reads. line_remembers bytes unit fault reads) (λ none. none) the.one the.is
 some_within Slurm bytes within = let the = each_slurm_file bytes in slurm_within bytes within the.one the.is
 
 by_length : (kind : FileKind) (bytes : List ℕ) (fits : Bool) → nat_le (length bytes) 67108864 ≡ fits → (outcome : Outcome) × ComesOf kind (Some bytes) outcome

@@ -4,7 +4,7 @@ use Rattle.std.specs.declared.option.Option.{Option}
 use Rattle.report_text.specs.declared.cause.Cause.{Cause}
 use Rattle.report_text.specs.Refusals.{of_line, refusal_text}
 use Rattle.script_lines.specs.declared.command.Command.{Command}
-use Rattle.script_lines.specs.declared.command.Command.TheVariants.{Idle, Aspa, Aspa64, Slurm, Filter, Unfilter, Assert, Unassert, Role as SetRole, RoleDefault, Open, Take, Feed, Ask, Sync, Judge, Changes, Why, Show}
+use Rattle.script_lines.specs.declared.command.Command.TheVariants.{Idle, Aspa, Aspa64, Slurm, At, Filter, Unfilter, Assert, Unassert, Role as SetRole, RoleDefault, Open, Take, Feed, Ask, Sync, Judge, Changes, Why, Show}
 use Rattle.script_lines.specs.declared.command.LineFault.{LineFault}
 use Rattle.script_lines.specs.Grammar.{IsReading}
 use Rattle.script_lines.proofs.LengthLemmas.{judged_short}
@@ -24,6 +24,7 @@ IsWithinBounds-IsReading line Idle is = tt
 IsWithinBounds-IsReading line (Aspa name file) is = tt
 IsWithinBounds-IsReading line (Aspa64 name file) is = tt
 IsWithinBounds-IsReading line (Slurm file) is = tt
+IsWithinBounds-IsReading line (At moment) is = tt
 IsWithinBounds-IsReading line (Filter customer) is = tt
 IsWithinBounds-IsReading line (Unfilter customer) is = tt
 IsWithinBounds-IsReading line (Assert customer providers) is = tt

@@ -11,12 +11,12 @@ use Rattle.path_model.specs.declared.key.Key.{Key}
 use Rattle.path_model.specs.declared.verdict.Verdict.{Verdict}
 use Rattle.path_model.specs.declared.witness.Witness.{Witness}
 use Rattle.path_model.specs.Authority.{Table}
-use Rattle.path_model.specs.ComputedTable.{table_of}
+use Rattle.attestations.specs.ComputedTable.{table_of}
 use Rattle.path_model.specs.PrintedWitness.{IsPrinted}
 use Rattle.path_model.specs.Roles.{role_of}
 use Rattle.path_model.specs.Trail.{Path}
 use Rattle.path_model.proofs.LawLemmas.{one_printed}
-use Rattle.path_model.proofs.PartsLemmas.{table_is_current, parts_have_one_table}
+use Rattle.attestations.proofs.PartsLemmas.{table_is_current, parts_have_one_table}
 use Rattle.path_model.proofs.WitnessLemmas.{printed_facts}
 use Rattle.report_text.specs.declared.cause.Cause.{Cause}
 use Rattle.report_text.specs.Laws.{IsAnswerLine}

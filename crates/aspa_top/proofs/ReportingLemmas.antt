@@ -10,7 +10,7 @@ use Rattle.av_base.proofs.ToldLemmas.{append_known-nil}
 use Rattle.path_model.specs.declared.role.Role.{Role}
 use Rattle.path_model.specs.declared.verdict.Verdict.{Verdict}
 use Rattle.path_model.specs.declared.verdict.Verdict.TheVariants.{Valid, Unknown, Invalid}
-use Rattle.path_model.specs.CurrentTable.{Parts}
+use Rattle.attestations.specs.CurrentTable.{Parts}
 use Rattle.path_model.specs.Name.{IsName}
 use Rattle.av_text.specs.Spellings.{IsInLine}
 use Rattle.av_text.specs.VerdictText.{verdict_text}

@@ -6,7 +6,7 @@ use Rattle.av_base.specs.Connections.{Agrees}
 use Rattle.av_base.specs.Files.{Files}
 use Rattle.av_base.specs.Told.{AppendsFront, Grows, Rose}
 use Rattle.av_base.proofs.ToldLemmas.{append_known-nil, append_known-append}
-use Rattle.av_base.proofs.PouringLemmas.{written_front, written_part}
+use Rattle.av_base.proofs.PouringLemmas.{Grows-refl, written_front, written_part}
 use Rattle.feed_lines.specs.Holding.{HasMoved as FeedsMoved}
 use Rattle.feed_lines.specs.Lines.{World as Ends}
 use Rattle.stream_lines.specs.declared.stop.Stop.{Stop}
@@ -20,7 +20,7 @@ use Rattle.aspa_top.specs.Outside.{Keeps, Outside, all_of}
 use Rattle.aspa_top.specs.Performing.{DidLine, Performing}
 use Rattle.aspa_top.specs.Program.{AreTold, BeginsNext, WentSome, WentThrough, StopsAtFile, StopsWithin, WritesPart}
 use Rattle.aspa_top.specs.Standing.{StandsFor}
-use Rattle.aspa_top.specs.World.{ComesTo, GoesOn, Links, Meets, Tells, World, ending}
+use Rattle.aspa_top.specs.World.{BeginsAt, ComesTo, GoesOn, Links, Meets, Tells, World, ending}
 use Rattle.aspa_top.proofs.EvaluationLemmas.{begins_none, goes_on_behind}
 use Rattle.aspa_top.proofs.StandsLemmas.{counted_stands}
 use Rattle.aspa_top.proofs.BeginningLemmas.{begins_by, comes_here, earlier, moved_here, stands_moved}
@@ -201,6 +201,35 @@ module _ (world : World) (lines : List (List ℕ)) (begun : Outside) where
       rw behind.1 (written_part begun.written now.written now.held (reached.text ++ reached.part) behind.0 grows reached.added some)
 
   -- ---- where the lines end
+
+  -- no memory was to be had before the first line
+  reached_start : BeginsAt world begun.links → begun.held ≡ [] → Reached world lines begun begun
+  reached_start begins none = record {
+    done = [];
+    left = lines;
+    lines_are = refl;
+    text = [];
+    state = start world;
+    evaluates = λ ends comes. (refl, refl);
+    part = [];
+    ticks = 0;
+    moved = start world;
+    begins = λ ends comes. begins_none (ending world ends) (start world) lines;
+    sent = record { made = begins; sent = λ name feed is. let no_feed : ⊥ = cc in absurd no_feed };
+    added = ap (append_known begun.written) none;
+    ticked = omega arith;
+  }
+
+  pub starved_at_start : begun.held ≡ [] → Meets begun.files begun.links begun.links world → EvaluatedIn world lines begun begun (Err stops.NoMemory)
+  starved_at_start none meets =
+      let reached : Reached world lines begun begun = reached_start meets.begins none in
+      record {
+        went = reached_went begun.files begun.links begun meets reached (Grows-refl begun.written);
+        ended = tt;
+        stopped = λ is. let no : ⊥ = cc in absurd no;
+        cut = λ is told. let no : ⊥ = cc in absurd no;
+        starved = λ is fine. reached_all begun.files begun.links begun meets reached none;
+      }
 
   -- the sink failed when a piece was written between two lines
   pub ended_between : (files : Option Files) (before : Links) (left : List (List ℕ)) (working : Working) (now : Outside) → Meets files before now.links world

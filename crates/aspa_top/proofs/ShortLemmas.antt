@@ -3,7 +3,7 @@ use Rattle.std.proofs.Common.{◌≡◌, ℕ, ◌+◌, ◌≤◌, List, [], Ok, 
 use Rattle.std.specs.Io.KnownBytes.{append_known}
 use Rattle.av_base.proofs.ToldLemmas.{append_known-nil}
 use Rattle.path_model.specs.declared.role.Role.{Role}
-use Rattle.path_model.specs.CurrentTable.{Parts}
+use Rattle.attestations.specs.CurrentTable.{Parts}
 use Rattle.rib_store.specs.State.{State as Analysis}
 use Rattle.analyser.specs.declared.event.Event.{Event}
 use Rattle.analyser.specs.Events.{Happens}

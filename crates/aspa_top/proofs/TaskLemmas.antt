@@ -2,8 +2,8 @@
 use Rattle.std.proofs.Common.{◌≡◌, ℕ, ◌+◌, Bool, true, false, ◌||◌, is_some, List, [], ◌∷◌, ◌++◌, None, Some, refl, sym, ap, subst, ◌∙◌}
 use Rattle.std.specs.declared.option.Option.{Option}
 use Rattle.path_model.specs.Trail.{path_of}
-use Rattle.path_model.specs.ComputedTable.{table_of}
-use Rattle.path_model.proofs.PartsLemmas.{table_is_current}
+use Rattle.attestations.specs.ComputedTable.{table_of}
+use Rattle.attestations.proofs.PartsLemmas.{table_is_current}
 use Rattle.path_model.proofs.LawLemmas.{some_right}
 use Rattle.av_base.specs.Connections.{Attempt}
 use Rattle.av_text.specs.VerdictText.{verdict_text}

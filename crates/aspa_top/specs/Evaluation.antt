@@ -5,10 +5,10 @@ use Rattle.std.specs.declared.option.Option.TheVariants.{Some, None}
 use Rattle.std.specs.declared.result.Result.{Result}
 use Rattle.std.specs.declared.result.Result.TheVariants.{Ok, Err}
 use Rattle.vap_table.specs.declared.change.TableChange.{TableChange}
-use Rattle.vap_table.specs.declared.change.TableChange.TheVariants.{Filter as FilterByHand, Unfilter as UnfilterByHand, Assert as AssertByHand, Unassert as UnassertByHand}
+use Rattle.vap_table.specs.declared.change.TableChange.TheVariants.{At as SetMoment, Filter as FilterByHand, Unfilter as UnfilterByHand, Assert as AssertByHand, Unassert as UnassertByHand}
 use Rattle.analyser.specs.declared.event.Event.TheVariants.{Table as TableEvent, Role as RoleEvent, DefaultRole}
 use Rattle.script_lines.specs.declared.command.Command.{Command}
-use Rattle.script_lines.specs.declared.command.Command.TheVariants.{Idle, Aspa, Aspa64, Slurm, Filter, Unfilter, Assert, Unassert, Role as SetRole, RoleDefault, Open, Take, Feed, Ask, Sync, Judge, Changes, Why, Show}
+use Rattle.script_lines.specs.declared.command.Command.TheVariants.{Idle, Aspa, Aspa64, Slurm, At, Filter, Unfilter, Assert, Unassert, Role as SetRole, RoleDefault, Open, Take, Feed, Ask, Sync, Judge, Changes, Why, Show}
 use Rattle.script_lines.specs.declared.command.LineFault.{LineFault}
 use Rattle.script_lines.specs.declared.command.LineFault.TheVariants.{Long, Command as NoCommand, Words, Number, NoMemory}
 use Rattle.feed_lines.specs.declared.working.Work.TheVariants.{Ask as AskNow, Sync as SyncTo}
@@ -42,6 +42,7 @@ task_of Idle = Short Nothing
 task_of (Aspa name file) = Load (Payloads name) file
 task_of (Aspa64 name file) = Load (PayloadLines name) file
 task_of (Slurm file) = Load SlurmFile file
+task_of (At moment) = table_event (SetMoment moment)
 task_of (Filter customer) = table_event (FilterByHand customer)
 task_of (Unfilter customer) = table_event (UnfilterByHand customer)
 task_of (Assert customer providers) = table_event (AssertByHand customer providers)

@@ -4,6 +4,7 @@ use Rattle.std.specs.declared.option.Option.{Option}
 use Rattle.std.specs.declared.option.Option.TheVariants.{Some, None}
 use Rattle.std.specs.declared.result.Result.TheVariants.{Ok, Err}
 use Rattle.path_model.specs.Rows.{RowMap}
+use Rattle.attestations.specs.Terms.{TermMap, terms_of}
 use Rattle.vap_table.specs.declared.change.TableChange.{TableChange}
 use Rattle.vap_table.specs.declared.change.TableChange.TheVariants.{Replace, Slurm as BySlurm}
 use Rattle.report_text.specs.declared.cause.Cause.{Cause}
@@ -12,7 +13,7 @@ use Rattle.aspa_payload.specs.File.{IsFileReading}
 use Rattle.aspa_payload.specs.Lines.{IsLinesReading}
 use Rattle.aspa_payload.specs.declared.file.FileFault.TheVariants.{Bad}
 use Rattle.aspa_payload.specs.declared.fault.PayloadFault.{PayloadFault}
-use Rattle.aspa_payload.specs.declared.fault.PayloadFault.TheVariants.{NotDer, Version, NoProviders, Order, SelfProvider, Base64, NoMemory}
+use Rattle.aspa_payload.specs.declared.fault.PayloadFault.TheVariants.{NotDer, Version, NoProviders, Order, SelfProvider, Base64, Moment, NoMemory}
 use Rattle.slurm_rules.specs.Reading.{IsReading as IsSlurmReading}
 use Rattle.slurm_rules.specs.declared.slurm.Slurm.{Slurm as SlurmContent}
 use Rattle.slurm_rules.specs.declared.fault.SlurmFault.{SlurmFault}
@@ -37,6 +38,7 @@ payload_cause NoProviders = Some causes.NoProviders
 payload_cause Order = Some causes.Order
 payload_cause SelfProvider = Some causes.SelfProvider
 payload_cause Base64 = Some causes.Base64
+payload_cause Moment = Some causes.Moment
 payload_cause NoMemory = None
 
 -- the cause for which a SLURM file is refused; want of memory is none
@@ -47,11 +49,11 @@ slurm_cause Member = Some causes.Member
 slurm_cause Number = Some causes.SlurmNumber
 slurm_cause SlurmNoMemory = None
 
--- The file is good, and this is the change that it makes: the source of that name has its rows, or the filters and assertions of a SLURM
--- file are its own.
+-- The file is good, and this is the change that it makes: the source of that name has its rows, which never end, or its attestations, each with
+-- its end; or the filters and assertions of a SLURM file are its own.
 abbrev pub Makes : FileKind → List ℕ → TableChange → Type 0
-Makes (Payloads name) bytes change = (rows : RowMap) × IsFileReading bytes (Ok rows) × (change ≡ Replace name rows)
-Makes (PayloadLines name) bytes change = (rows : RowMap) × IsLinesReading bytes (Ok rows) × (change ≡ Replace name rows)
+Makes (Payloads name) bytes change = (rows : RowMap) × IsFileReading bytes (Ok rows) × (change ≡ Replace name (terms_of rows))
+Makes (PayloadLines name) bytes change = (terms : TermMap) × IsLinesReading bytes (Ok terms) × (change ≡ Replace name terms)
 Makes Slurm bytes change =
     (slurm : SlurmContent) × IsSlurmReading bytes (Ok slurm) × (change ≡ BySlurm slurm.filters slurm.assertions)
 

@@ -6,6 +6,7 @@ use Rattle.std.specs.declared.result.Result.{Result}
 use Rattle.std.specs.declared.result.Result.TheVariants.{Ok, Err}
 use Rattle.av_base.specs.Files.{Files}
 use Rattle.path_model.specs.Rows.{RowMap}
+use Rattle.attestations.specs.Terms.{TermMap, terms_of}
 use Rattle.report_text.specs.declared.cause.Cause.{Cause}
 use Rattle.vap_table.specs.declared.change.TableChange.TheVariants.{Replace}
 use Rattle.aspa_payload.specs.declared.file.FileFault.{FileFault}
@@ -26,9 +27,18 @@ Understands kind bytes Long = ⊥
 Understands kind bytes (Flawed flaw) = Fails kind bytes flaw
 Understands kind bytes (Good change) = Makes kind bytes change
 
--- what comes of a payload file that reads so
-abbrev pub IsRowsOutcome : List ℕ → Result RowMap FileFault → Outcome → Type 0
-IsRowsOutcome name (Ok rows) outcome = outcome ≡ Good (Replace name rows)
-IsRowsOutcome name (Err (Bad unit fault)) outcome =
+-- what comes of a payload file that is refused so
+abbrev pub IsRefusedFor : FileFault → Outcome → Type 0
+IsRefusedFor (Bad unit fault) outcome =
     (cause : Cause) × (payload_cause fault ≡ Some cause) × (outcome ≡ Flawed (record { unit = unit; cause = cause }))
-IsRowsOutcome name (Err NoMemory) outcome = ⊥
+IsRefusedFor NoMemory outcome = ⊥
+
+-- what comes of a payload file that reads so
+abbrev pub IsTermsOutcome : List ℕ → Result TermMap FileFault → Outcome → Type 0
+IsTermsOutcome name (Ok terms) outcome = outcome ≡ Good (Replace name terms)
+IsTermsOutcome name (Err fault) outcome = IsRefusedFor fault outcome
+
+-- the same of one whose rows never end
+abbrev pub IsRowsOutcome : List ℕ → Result RowMap FileFault → Outcome → Type 0
+IsRowsOutcome name (Ok rows) outcome = IsTermsOutcome name (Ok (terms_of rows)) outcome
+IsRowsOutcome name (Err fault) outcome = IsRefusedFor fault outcome

@@ -7,7 +7,7 @@ use Rattle.path_model.specs.declared.verdict.Verdict.{Verdict}
 use Rattle.path_model.specs.Trail.{path_of}
 use Rattle.path_model.specs.RightVerdict.{IsRight}
 use Rattle.path_model.specs.Authority.{Table}
-use Rattle.path_model.specs.CurrentTable.{Parts, IsCurrentTable}
+use Rattle.attestations.specs.CurrentTable.{Parts, IsCurrentTable}
 use Rattle.rib_store.specs.declared.journal.ChangedKey.{ChangedKey}
 use Rattle.rib_store.specs.Changes.{AreChanges, IsMarked}
 use Rattle.rib_store.specs.State.{State as Analysis}

@@ -8,7 +8,7 @@ use Rattle.std.specs.declared.option.Option.{Option}
 use Rattle.std.specs.declared.option.Option.TheVariants.{Some}
 use Rattle.feed_lines.specs.Holding.{feed_in}
 use Rattle.path_model.specs.declared.role.Role.{Role}
-use Rattle.path_model.specs.CurrentTable.{Parts}
+use Rattle.attestations.specs.CurrentTable.{Parts}
 use Rattle.vap_table.specs.declared.change.TableChange.{TableChange}
 use Rattle.rib_store.specs.Changes.{IsMarked}
 use Rattle.rib_store.specs.State.{State as Analysis}

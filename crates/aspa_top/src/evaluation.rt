@@ -12,6 +12,7 @@ use crate::working::Working;
 use av_base::{Fault, Links, Shelf, Sink, Steps, pour, pour_piece};
 use av_text::next_line;
 use std::alloc::Global;
+use std::mem;
 use std::sync::ledger::Ledger;
 use stream_lines::Stop;
 
@@ -43,7 +44,9 @@ pub(crate) fn evaluate<F: Shelf, K: Links, W: Sink, L: Ledger>(
     ensures adds { AddsFront (W.written out.old) (W.written out.new)
         (K.faults links.old) (K.faults links.new) }
 {
-    let mut working = Working::new(alloc);
+    let Ok(mut working) = Working::new(alloc) else {
+        return Err(Stop::NoMemory);
+    };
     let mut text = Vec::new(alloc);
     let mut left = script;
     while let Some((line, more)) = next_line(left, whole) {
@@ -55,7 +58,10 @@ pub(crate) fn evaluate<F: Shelf, K: Links, W: Sink, L: Ledger>(
         pour_before(left, out, &mut text)?;
     }
     pour(out, &mut text)?;
-    Ok(working.refused)
+    let refused = working.refused;
+    // (the program ends, so nothing is gained by taking apart what it keeps)
+    mem::forget(working);
+    Ok(refused)
 }
 
 // Writes what is held once that is a whole piece, and all of it where what is left begins with a line that may wait.

@@ -5,10 +5,11 @@ ghost use Rattle.av_base.specs.Files.{left_of};
 ghost use Rattle.av_base.specs.Told.{Rose};
 ghost use Rattle.av_text.specs.Spellings.{IsInLine};
 ghost use Rattle.aspa_top.specs.Loading.{unit_name, payload_cause as cause_of_payload, slurm_cause as cause_of_slurm};
-ghost use Rattle.aspa_top.specs.LoadingSteps.{ComesTold, IsRowsOutcome, Understands};
+ghost use Rattle.aspa_top.specs.LoadingSteps.{ComesTold, IsRefusedFor, IsRowsOutcome, IsTermsOutcome, Understands};
 ghost use Rattle.stream_lines.specs.Frames.{Leaves};
 
 use aspa_payload::{FileFault, PayloadFault, read_lines, read_many};
+use attestations::Terms;
 use av_base::{NoMemory, PIECE, Shelf};
 use path_model::{Name, Rows};
 use report_text::Cause;
@@ -25,7 +26,7 @@ pub(crate) const FILE_LIMIT: usize = 67_108_864;
 pub(crate) enum FileKind {
     /// Payloads one after another, of the source of this name.
     Payloads(Name),
-    /// One base64 payload a line, of the source of this name.
+    /// One base64 payload a line, alone or with its end, of the source of this name.
     PayloadLines(Name),
     /// A SLURM file.
     Slurm,
@@ -128,23 +129,46 @@ fn understand(alloc: Global, kind: &FileKind, bytes: &[u8]) -> Result<Outcome, N
     ensures comes { IfOk result (Understands kind.now bytes.now) }
 {
     match kind {
-        FileKind::Payloads(name) => rows_outcome(name, read_many(alloc, bytes)),
-        FileKind::PayloadLines(name) => rows_outcome(name, read_lines(alloc, bytes)),
+        FileKind::Payloads(name) => rows_outcome(alloc, name, read_many(alloc, bytes)),
+        FileKind::PayloadLines(name) => terms_outcome(name, read_lines(alloc, bytes)),
         FileKind::Slurm => slurm_outcome(alloc, bytes),
     }
 }
 
-// What comes of a payload file that was read so.
-fn rows_outcome(name: &Name, reading: Result<Rows, FileFault>) -> Result<Outcome, NoMemory>
+// What comes of a payload file that was read so; its rows never end.
+fn rows_outcome(
+    alloc: Global,
+    name: &Name,
+    reading: Result<Rows, FileFault>,
+) -> Result<Outcome, NoMemory>
     ensures comes { IfOk result (IsRowsOutcome name.now reading) }
 {
     match reading {
-        Ok(rows) => Ok(Outcome::Good(TableChange::Replace(name.copy()?, rows))),
-        Err(FileFault::Bad { unit, cause }) => Ok(Outcome::Flawed(Flaw {
+        Ok(rows) => terms_outcome(name, Ok(Terms::of(alloc, rows)?)),
+        Err(fault) => refused_for(fault),
+    }
+}
+
+// What comes of a payload file that was read so.
+fn terms_outcome(name: &Name, reading: Result<Terms, FileFault>) -> Result<Outcome, NoMemory>
+    ensures comes { IfOk result (IsTermsOutcome name.now reading) }
+{
+    match reading {
+        Ok(terms) => Ok(Outcome::Good(TableChange::Replace(name.copy()?, terms))),
+        Err(fault) => refused_for(fault),
+    }
+}
+
+// What comes of a payload file that was refused so.
+fn refused_for(fault: FileFault) -> Result<Outcome, NoMemory>
+    ensures comes { IfOk result (IsRefusedFor fault) }
+{
+    match fault {
+        FileFault::Bad { unit, cause } => Ok(Outcome::Flawed(Flaw {
             unit: u64::from(unit),
             cause: payload_cause(cause)?,
         })),
-        Err(FileFault::NoMemory) => Err(NoMemory),
+        FileFault::NoMemory => Err(NoMemory),
     }
 }
 
@@ -178,6 +202,7 @@ fn payload_cause(fault: PayloadFault) -> Result<Cause, NoMemory>
         PayloadFault::Order => Ok(Cause::Order),
         PayloadFault::SelfProvider => Ok(Cause::SelfProvider),
         PayloadFault::Base64 => Ok(Cause::Base64),
+        PayloadFault::Moment => Ok(Cause::Moment),
         PayloadFault::NoMemory => Err(NoMemory),
     }
 }

@@ -59,6 +59,7 @@ pub(crate) fn task_of(command: Command) -> Task
         Command::Aspa(name, file) => Task::Load(FileKind::Payloads(name), file),
         Command::Aspa64(name, file) => Task::Load(FileKind::PayloadLines(name), file),
         Command::Slurm(file) => Task::Load(FileKind::Slurm, file),
+        Command::At(moment) => table_event(TableChange::At(moment)),
         Command::Filter(customer) => table_event(TableChange::Filter(customer)),
         Command::Unfilter(customer) => table_event(TableChange::Unfilter(customer)),
         Command::Assert(customer, providers) => {

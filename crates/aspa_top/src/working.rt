@@ -1,8 +1,10 @@
 //! What the program keeps between two lines.
-ghost use Rattle.std.specs.Prelude.{◌≡◌};
+ghost use Rattle.std.specs.Prelude.{◌≡◌, IfOk};
+ghost use Rattle.rib_store.specs.State.{no_state};
 
 use crate::loading::FileKind;
 use analyser::Analyser;
+use av_base::NoMemory;
 use feed_lines::Feeds;
 use path_model::Name;
 use std::alloc::Global;
@@ -38,8 +40,22 @@ impl Working {
     ghost use Rattle.aspa_top.specs.Working.{IsTakenIn, dump_in, has_source, has_stream};
     ghost use Rattle.aspa_top.specs.World.{BeginsAt, Links, World};
 
-    /// Before the first line. It takes no memory.
-    pub(crate) fn new(alloc: Global) -> Working
+    /// Before the first line.
+    pub(crate) fn new(alloc: Global) -> Result<Working, NoMemory>
+        ensures stands { IfOk result (λ working. (files : Option Files) (links : Links) (world : World)
+            → BeginsAt world links → StandsFor files links working (start world)) }
+        ensures sound { IfOk result (λ working. (opened : ℕ) → IsSound opened 0 working) }
+        ensures feeds { IfOk result (λ working. (name : List ℕ)
+            → feed_in working.feeds name ≡ None) }
+        ensures lines { IfOk result (λ working. working.lines ≡ 0) }
+    {
+        let analyser = Analyser::new(alloc)?;
+        Ok(Working::with(alloc, analyser))
+    }
+
+    // The same, with an analysis in which nothing has happened.
+    fn with(alloc: Global, analyser: Analyser) -> Working
+        requires { analyser ≡ no_state }
         ensures stands { (files : Option Files) (links : Links) (world : World) → BeginsAt world links
             → StandsFor files links result (start world) }
         ensures sound { (opened : ℕ) → IsSound opened 0 result }
@@ -47,7 +63,7 @@ impl Working {
         ensures lines { result.lines ≡ 0 }
     {
         Working {
-            analyser: Analyser::new(alloc),
+            analyser,
             sources: BTreeSet::new(alloc),
             dumps: BTreeMap::new(alloc),
             feeds: Feeds::new(alloc),

@@ -1,6 +1,8 @@
 pub mod BlockLemmas
+pub mod ChainLemmas
 pub mod DecideLemmas
 pub mod FieldLemmas
+pub mod FirstLemmas
 pub mod JoinedLemmas
 pub mod LawLemmas
 pub mod MergedLawLemmas
@@ -8,3 +10,4 @@ pub mod MergingLemmas
 pub mod NlriLemmas
 pub mod PrefixLemmas
 pub mod SegmentLemmas
+pub mod SequenceLemmas

@@ -67,7 +67,7 @@ has_set_both [] others = refl
 has_set_both (As x ∷ items) others = has_set_both items others
 has_set_both (Set ∷ items) others = refl
 
-no_set : (xs : List ℕ) → has_set (map As xs) ≡ false
+pub no_set : (xs : List ℕ) → has_set (map As xs) ≡ false
 no_set [] = refl
 no_set (x ∷ xs) = no_set xs
 
@@ -79,7 +79,7 @@ set_of false false xs = refl
 has_set_front : (segment : Segment) (others : List Item) → has_set (segment_items segment ++ others) ≡ ((segment.0 == 1) || has_set others)
 has_set_front segment others = has_set_both (segment_items segment) others ∙ ap (λ (b : Bool). b || has_set others) (set_of (segment.0 == 1) (segment.0 == 2) segment.1)
 
-sequence_ases : (xs : List ℕ) → ases_in (map As xs) ≡ xs
+pub sequence_ases : (xs : List ℕ) → ases_in (map As xs) ≡ xs
 sequence_ases [] = refl
 sequence_ases (x ∷ xs) = ap (λ (ys : List ℕ). x ∷ ys) (sequence_ases xs)
 

@@ -1,11 +1,13 @@
 -- What single attributes give, found in the list of them; only private contracts cite it.
-use Rattle.std.specs.Prelude.{ℕ, ◌≤◌, Bool, List, length, IfSome}
+use Rattle.std.specs.Prelude.{◌≡◌, ℕ, ◌*◌, ◌≤◌, Bool, List, [], ◌∷◌, length, Some, None, IfSome, option_copied}
+use Rattle.std.specs.Option.{ForSome}
 use Rattle.std.specs.declared.option.Option.{Option}
 use Rattle.path_model.specs.declared.nlri.Nlri.{Nlri}
+use Rattle.bgp_attrs.specs.declared.finding.Firsts.{Firsts}
 use Rattle.bgp_attrs.specs.declared.form.Form.{Form}
 use Rattle.bgp_attrs.specs.declared.pieces.AttributeList.{AttributeList}
 use Rattle.bgp_attrs.specs.declared.pieces.Segments.{Segments}
-use Rattle.bgp_attrs.specs.Attributes.{contents_of, first_content}
+use Rattle.bgp_attrs.specs.Attributes.{Field, contents_of, first_content}
 use Rattle.bgp_attrs.specs.Left.{fields_left}
 use Rattle.bgp_attrs.specs.Reading.{Reads, IsPath, IsOnly, IsReach, IsUnreach}
 use Rattle.bgp_attrs.specs.Segments.{Segment}
@@ -17,6 +19,15 @@ contents_in kind list = contents_of kind (fields_left list)
 -- the content of the first one
 abbrev pub first_in : ℕ → AttributeList → Option (List ℕ)
 first_in kind list = first_content kind (fields_left list)
+
+-- The contents that were kept are those of the first attributes of their types, of the attributes that were gone through; that of AS_PATH
+-- has at most so many bytes as an attribute has.
+pub record HaveFirsts (firsts : Firsts) (fields : List Field) : Type 0 where
+  pub path : option_copied firsts.path ≡ first_content 2 fields
+  pub path4 : option_copied firsts.path4 ≡ first_content 17 fields
+  pub aggregator : option_copied firsts.aggregator ≡ first_content 7 fields
+  pub aggregator4 : option_copied firsts.aggregator4 ≡ first_content 18 fields
+  pub short : ForSome (option_copied firsts.path) (λ content. length content ≤ 65535)
 
 -- a path of at most so many bytes as an attribute has
 abbrev pub IsShort : Option Segments → Type 0
@@ -49,3 +60,12 @@ HasBadUnreach paths form list = (value : Option (List Nlri)) → IsWithdrawnIn p
 -- the content gives no such prefixes
 abbrev pub GivesNone : (List ℕ → Option (List Nlri) → Type 0) → List ℕ → Type 0
 GivesNone S content = (value : Option (List Nlri)) → S content value → ⊥
+
+-- the bytes are those of whole ASes of four bytes
+abbrev pub AreWhole : List ℕ → Type 0
+AreWhole bytes = (count : ℕ) × (length bytes ≡ 4 * count)
+
+-- the first number
+abbrev pub head_of : List ℕ → Option ℕ
+head_of [] = None
+head_of (x ∷ xs) = Some x

@@ -71,6 +71,7 @@ impl<'a> Attrs<'a> {
 
     /// The path as it is judged: that of AS_PATH, with AS4_PATH merged in where it is used. `None` exactly where there is no
     /// AS_PATH.
+    #[inline(always)]
     pub fn trail(&self, alloc: Global) -> Result<Option<Trail>, NoMemory>
         ensures { IfOk result (λ trail. trail ≡ trail_in self.now) }
     {
@@ -81,6 +82,7 @@ impl<'a> Attrs<'a> {
     }
 
     // The AS4_PATH, unless a speaker of two bytes aggregated behind it.
+    #[inline(always)]
     fn used_path4(&self) -> Option<Segments<'a>>
         ensures { option_map segments_left result ≡ used_in self.now }
     {

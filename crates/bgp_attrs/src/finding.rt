@@ -1,21 +1,89 @@
-//! The attributes of a type in a list of attributes.
-ghost use Rattle.std.specs.Prelude.{◌≡◌, ◌<◌, ◌≤◌, IfSome, length, IfOk, OnErr, option_copied, option_to_list};
-ghost use Rattle.bgp_attrs.specs.Parts.{contents_in, first_in};
+//! The attributes that count in a list of attributes.
+ghost use Rattle.std.specs.Prelude.{◌≡◌, ◌<◌, ◌≤◌, IfOk, IfSome, IfNone, OnErr, List, Some, [], ◌∷◌, ◌++◌, length, option_copied, option_to_list};
+ghost use Rattle.std.specs.Option.{option_or};
+ghost use Rattle.bgp_attrs.specs.Attributes.{Field, IsField};
+ghost use Rattle.bgp_attrs.specs.Joined.{IsJoined};
+ghost use Rattle.bgp_attrs.specs.Left.{field_of, fields_left};
+ghost use Rattle.bgp_attrs.specs.Parts.{contents_in, HaveFirsts};
 
 use crate::fault::Attributes;
-use crate::pieces::AttributeList;
+use crate::pieces::{Attribute, AttributeList};
+use crate::splitting::take_attribute;
 
-// The content of the first attribute of a type. Later ones are dropped unread.
-pub(crate) fn first_content<'a>(fields: AttributeList<'a>, kind: u8) -> Option<&'a [u8]>
-    ensures first { option_copied result ≡ first_in kind fields.entry }
-    ensures short { IfSome result (λ content. length content.now ≤ 65535) }
-{
-    for attribute in fields {
-        if attribute.kind == kind {
-            return Some(attribute.content);
+const AS_PATH: u8 = 2;
+
+const AGGREGATOR: u8 = 7;
+
+const AS4_PATH: u8 = 17;
+
+const AS4_AGGREGATOR: u8 = 18;
+
+// The contents of the first attributes of four types, as far as attributes were gone through. Later ones are dropped unread.
+#[derive(Clone, Copy, Debug)]
+pub(crate) struct Firsts<'a> {
+    pub(crate) path: Option<&'a [u8]>,
+    pub(crate) path4: Option<&'a [u8]>,
+    pub(crate) aggregator: Option<&'a [u8]>,
+    pub(crate) aggregator4: Option<&'a [u8]>,
+}
+
+// The attributes of a field, and the contents of the first ones of the four types.
+#[derive(Clone, Copy, Debug)]
+pub(crate) struct Found<'a> {
+    pub(crate) list: AttributeList<'a>,
+    pub(crate) firsts: Firsts<'a>,
+    ghost have: { HaveFirsts firsts (fields_left list) },
+}
+
+impl<'a> Firsts<'a> {
+    // Goes through one attribute more.
+    #[inline(always)]
+    fn note(&mut self, attribute: Attribute<'a>)
+        ensures { (fields : List Field) → HaveFirsts self.old fields
+            → HaveFirsts self.new (fields ++ field_of attribute.entry ∷ []) }
+    {
+        match attribute.kind {
+            AS_PATH => keep(&mut self.path, attribute.content),
+            AGGREGATOR => keep(&mut self.aggregator, attribute.content),
+            AS4_PATH => keep(&mut self.path4, attribute.content),
+            AS4_AGGREGATOR => keep(&mut self.aggregator4, attribute.content),
+            _ => {}
         }
     }
-    None
+}
+
+// Keeps a content, unless one was kept before.
+#[inline(always)]
+fn keep<'a>(first: &mut Option<&'a [u8]>, content: &'a [u8])
+    ensures { option_copied first.new ≡ option_or (option_copied first.old) (Some content.now) }
+{
+    if first.is_none() {
+        *first = Some(content);
+    }
+}
+
+// The attributes that the bytes spell, with the first contents of four types, in one pass.
+#[inline(always)]
+pub(crate) fn attributes(bytes: &[u8]) -> Option<Found<'_>>
+    ensures some { IfSome result (λ found. IsJoined IsField bytes.now (fields_left found.list)) }
+    ensures none { IfNone result ((list : List Field) → IsJoined IsField bytes.now list → ⊥) }
+{
+    let mut firsts = Firsts {
+        path: None,
+        path4: None,
+        aggregator: None,
+        aggregator4: None,
+    };
+    let mut rest = bytes;
+    while !rest.is_empty() {
+        let (attribute, more) = take_attribute(rest)?;
+        firsts.note(attribute);
+        rest = more;
+    }
+    Some(Found {
+        list: AttributeList { rest: bytes },
+        firsts,
+    })
 }
 
 // The content of the one attribute of a type, where there aren't more.

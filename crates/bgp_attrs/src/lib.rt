@@ -8,8 +8,9 @@
 //! Begin reading at `specs/Reading.antt`. All lists in these formats are *joined spellings* (`specs/Joined.antt`): a relation says
 //! which bytes spell one item, and a function that reads the first item is proved to be that relation, so that no spelling begins
 //! another one. The modules, from the bottom up: `taking` and `splitting` read first items, `pieces` has the iterators over them,
-//! `whole` checks that bytes are such items and nothing else, `finding` and `reaching` look into a list of attributes, `reading`
-//! reads all of it; `merging` makes items and trails; `laws` has the laws for the layers above.
+//! `whole` checks that bytes are such items and nothing else, `finding` does so for attributes and keeps the first ones that count,
+//! `reaching` reads the prefixes of an attribute, `reading` a whole field; `merging` makes items and trails; `laws` has the laws for
+//! the layers above.
 #![tactic(auto)]
 
 mod attrs;

@@ -6,24 +6,16 @@ ghost use Rattle.bgp_attrs.specs.Reading.{Reading, IsPath4, aggregator_of, has_l
 
 use crate::attrs::Attrs;
 use crate::fault::Attributes;
-use crate::finding::{first_content, only_content};
+use crate::finding::{Found, attributes, only_content};
 use crate::form::Form;
 use crate::pieces::{Ases, AttributeList, Prefixes, Segments};
 use crate::reaching::{reach, unreach};
 use crate::splitting::as_size;
-use crate::whole::{attributes, segments};
-
-const AS_PATH: u8 = 2;
-
-const AGGREGATOR: u8 = 7;
+use crate::whole::segments;
 
 const MP_REACH_NLRI: u8 = 14;
 
 const MP_UNREACH_NLRI: u8 = 15;
-
-const AS4_PATH: u8 = 17;
-
-const AS4_AGGREGATOR: u8 = 18;
 
 /// Reads an attribute field. It takes no memory; the answer keeps slices of the bytes.
 ///
@@ -31,31 +23,33 @@ const AS4_AGGREGATOR: u8 = 18;
 /// two, and AS4_PATH and AS4_AGGREGATOR count. `paths` says that each prefix of MP_REACH_NLRI and MP_UNREACH_NLRI has a path identifier
 /// before it (RFC 7911, section 3); in a table both are unread. A refusal comes exactly where the bytes have no reading: an attribute's
 /// header or content is cut, the first AS_PATH is malformed, or in a message MP_REACH_NLRI or MP_UNREACH_NLRI is repeated or malformed.
+#[inline(always)]
 pub fn read(bytes: &[u8], wide: bool, form: Form, paths: bool) -> Result<Attrs<'_>, Attributes>
     ensures ok { IfOk result (λ attrs. IsRead wide form paths bytes.now attrs) }
     ensures only { (value : Reading) → IsRead wide form paths bytes.now value → IsOk result }
 {
-    let fields = attributes(bytes).ok_or(Attributes)?;
-    let path = path_in(fields, wide)?;
-    let announced = announced_in(fields, form, paths)?;
-    let withdrawn = withdrawn_in(fields, form, paths)?;
+    let found = attributes(bytes).ok_or(Attributes)?;
+    let path = path_in(&found, wide)?;
+    let announced = announced_in(found.list, form, paths)?;
+    let withdrawn = withdrawn_in(found.list, form, paths)?;
     Ok(Attrs {
         path,
-        path4: path4_in(fields, wide),
-        aggregator: aggregator_in(fields, wide),
-        aggregator4: has_aggregator4(fields),
+        path4: path4_in(&found, wide),
+        aggregator: aggregator_in(&found, wide),
+        aggregator4: has_aggregator4(&found),
         announced,
         withdrawn,
     })
 }
 
-fn path_in<'a>(fields: AttributeList<'a>, wide: bool) -> Result<Option<Segments<'a>>, Attributes>
+#[inline(always)]
+fn path_in<'a>(found: &Found<'a>, wide: bool) -> Result<Option<Segments<'a>>, Attributes>
     ensures short { IfOk result IsShort }
-    ensures ok { IfOk result (λ found.
-        IsPathIn wide fields.entry (option_map segments_left found)) }
-    ensures err { OnErr result (HasBadPath wide fields.entry) }
+    ensures ok { IfOk result (λ path.
+        IsPathIn wide found.now.list (option_map segments_left path)) }
+    ensures err { OnErr result (HasBadPath wide found.now.list) }
 {
-    match first_content(fields, AS_PATH) {
+    match found.firsts.path {
         Some(content) => match segments(content, wide) {
             Some(path) => Ok(Some(path)),
             None => Err(Attributes),
@@ -64,22 +58,24 @@ fn path_in<'a>(fields: AttributeList<'a>, wide: bool) -> Result<Option<Segments<
     }
 }
 
-fn path4_in<'a>(fields: AttributeList<'a>, wide: bool) -> Option<Segments<'a>>
-    ensures { IsPath4 wide (first_in 17 fields.entry) (option_map segments_left result) }
+#[inline(always)]
+fn path4_in<'a>(found: &Found<'a>, wide: bool) -> Option<Segments<'a>>
+    ensures { IsPath4 wide (first_in 17 found.now.list) (option_map segments_left result) }
 {
     if wide {
         return None;
     }
-    match first_content(fields, AS4_PATH) {
+    match found.firsts.path4 {
         Some(content) => segments(content, true),
         None => None,
     }
 }
 
-fn aggregator_in(fields: AttributeList<'_>, wide: bool) -> Option<u32>
-    ensures { result ≡ aggregator_of wide (first_in 7 fields.entry) }
+#[inline(always)]
+fn aggregator_in(found: &Found<'_>, wide: bool) -> Option<u32>
+    ensures { result ≡ aggregator_of wide (first_in 7 found.now.list) }
 {
-    match first_content(fields, AGGREGATOR) {
+    match found.firsts.aggregator {
         Some(content) => {
             let size = as_size(wide);
             if content.len() != size + 4 {
@@ -92,15 +88,17 @@ fn aggregator_in(fields: AttributeList<'_>, wide: bool) -> Option<u32>
     }
 }
 
-fn has_aggregator4(fields: AttributeList<'_>) -> bool
-    ensures { result ≡ has_length 8 (first_in 18 fields.entry) }
+#[inline(always)]
+fn has_aggregator4(found: &Found<'_>) -> bool
+    ensures { result ≡ has_length 8 (first_in 18 found.now.list) }
 {
-    match first_content(fields, AS4_AGGREGATOR) {
+    match found.firsts.aggregator4 {
         Some(content) => content.len() == 8,
         None => false,
     }
 }
 
+#[inline(always)]
 fn announced_in<'a>(
     fields: AttributeList<'a>,
     form: Form,
@@ -119,6 +117,7 @@ fn announced_in<'a>(
     }
 }
 
+#[inline(always)]
 fn withdrawn_in<'a>(
     fields: AttributeList<'a>,
     form: Form,

@@ -58,6 +58,7 @@ pub(crate) fn take_segment(bytes: &[u8], wide: bool) -> Option<((u8, Ases<'_>), 
     }
 }
 
+#[inline(always)]
 fn take_length(bytes: &[u8], extended: bool) -> Option<(usize, &[u8])>
     ensures read { option_map (λ x. (x.0, x.1.now)) result ≡ length_at extended bytes.now }
     ensures short { IfSome result (λ x. x.0 ≤ 65535) }
@@ -79,6 +80,7 @@ fn take_length(bytes: &[u8], extended: bool) -> Option<(usize, &[u8])>
 
 // The first attribute.
 #[tactic(auto, unfolding(crate::specs::Attributes::field_at))]
+#[inline(always)]
 pub(crate) fn take_attribute(bytes: &[u8]) -> Option<(Attribute<'_>, &[u8])>
     ensures { option_map (λ x. (field_of x.0, x.1.now)) result ≡ field_at bytes.now }
 {

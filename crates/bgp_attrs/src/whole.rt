@@ -1,15 +1,14 @@
-//! Whether bytes are prefixes, segments or attributes, and nothing else.
+//! Whether bytes are prefixes or segments, and nothing else.
 ghost use Rattle.std.specs.Prelude.{◌≡◌, List, IfSome, IfNone};
 ghost use Rattle.path_model.specs.declared.nlri.Nlri.{Nlri as AnyNlri};
-ghost use Rattle.bgp_attrs.specs.Attributes.{Field, IsField};
 ghost use Rattle.bgp_attrs.specs.Joined.{IsJoined};
-ghost use Rattle.bgp_attrs.specs.Left.{segments_left, prefixes_left, fields_left};
+ghost use Rattle.bgp_attrs.specs.Left.{segments_left, prefixes_left};
 ghost use Rattle.bgp_attrs.specs.Prefixes.{IsNlri};
 ghost use Rattle.bgp_attrs.specs.Reading.{IsPath};
 ghost use Rattle.bgp_attrs.specs.Segments.{Segment};
 
-use crate::pieces::{AttributeList, Prefixes, Segments};
-use crate::splitting::{take_attribute, take_segment};
+use crate::pieces::{Prefixes, Segments};
+use crate::splitting::take_segment;
 use crate::taking::take_nlri;
 
 /// The prefixes that the bytes spell, of IPv6 or else of IPv4; `None` exactly where the bytes aren't whole prefixes of that family. It
@@ -49,17 +48,4 @@ pub(crate) fn segments(bytes: &[u8], wide: bool) -> Option<Segments<'_>>
         rest = more;
     }
     Some(Segments { rest: bytes, wide })
-}
-
-// The attributes that the bytes spell.
-pub(crate) fn attributes(bytes: &[u8]) -> Option<AttributeList<'_>>
-    ensures some { IfSome result (λ found. IsJoined IsField bytes.now (fields_left found)) }
-    ensures none { IfNone result ((list : List Field) → IsJoined IsField bytes.now list → ⊥) }
-{
-    let mut rest = bytes;
-    while !rest.is_empty() {
-        let (_, more) = take_attribute(rest)?;
-        rest = more;
-    }
-    Some(AttributeList { rest: bytes })
 }

@@ -23,6 +23,7 @@ use Rattle.rtr_session.specs.declared.act.Act.{Act}
 use Rattle.rtr_session.specs.declared.act.Act.TheVariants.{Nothing, Send, Apply, End}
 use Rattle.rtr_session.specs.State.{State as Session}
 use Rattle.rtr_session.specs.Client.{Asks, Client, code_on_end}
+use Rattle.attestations.specs.Terms.{terms_of}
 use Rattle.vap_table.specs.declared.change.TableChange.{TableChange}
 use Rattle.vap_table.specs.declared.change.TableChange.TheVariants.{Replace, Patch}
 use Rattle.rib_store.specs.State.{State as Analysis}
@@ -121,9 +122,9 @@ IsComing t used NoMore = ((left : List ℕ) × (t.received ≡ used ++ left) × 
 abbrev pub after_pdu : Feed → List ℕ → Session → Feed
 after_pdu feed bytes session = record feed { used = feed.used ++ bytes; taken = feed.taken + 1; session = session }
 
--- what an End of Data makes of the source of the feed's name
+-- What an End of Data makes of the source of the feed's name. What a cache says never ends.
 abbrev pub change_by : List ℕ → Delta → TableChange
-change_by name (Whole rows) = Replace name rows
+change_by name (Whole rows) = Replace name (terms_of rows)
 change_by name (Part patch) = Patch name patch
 
 -- what becomes of that source: at a changed session it has no rows any more

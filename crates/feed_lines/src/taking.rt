@@ -15,8 +15,9 @@ use crate::feed::OpenFeed;
 use crate::sending::{finish, send_query, spell_query, spell_report};
 use crate::telling::{Telling, cause_of_end};
 use analyser::{Analyser, Event};
+use attestations::Terms;
 use av_base::{Links, NoMemory, Steps};
-use path_model::{Name, Rows};
+use path_model::Name;
 use report_text::FeedEnd;
 use rtr_session::{Act, Delta, Ending, Phase};
 use std::alloc::Global;
@@ -219,7 +220,7 @@ fn perform<K: Links>(
     match act {
         Act::Nothing => Ok((Outcome::Open(feed), None)),
         Act::Apply(delta) => {
-            let change = change_of(name, delta)?;
+            let change = change_of(alloc, name, delta)?;
             Ok((Outcome::Open(feed), Some(change)))
         }
         Act::Send(query) => {
@@ -243,11 +244,11 @@ fn perform<K: Links>(
 }
 
 // An End of Data replaces or patches the source of the feed's name.
-fn change_of(name: &Name, delta: Delta) -> Result<TableChange, NoMemory>
+fn change_of(alloc: Global, name: &Name, delta: Delta) -> Result<TableChange, NoMemory>
     ensures { IfOk result (λ change. change ≡ change_by name.now delta) }
 {
     match delta {
-        Delta::Whole(rows) => Ok(TableChange::Replace(name.copy()?, rows)),
+        Delta::Whole(rows) => Ok(TableChange::Replace(name.copy()?, Terms::of(alloc, rows)?)),
         Delta::Part(patch) => Ok(TableChange::Patch(name.copy()?, patch)),
     }
 }
@@ -259,7 +260,7 @@ fn clearing(alloc: Global, name: &Name, ending: Ending) -> Result<Option<TableCh
     match ending {
         Ending::SessionChanged => {
             let name = name.copy()?;
-            Ok(Some(TableChange::Replace(name, Rows::new(alloc))))
+            Ok(Some(TableChange::Replace(name, Terms::new(alloc))))
         }
         Ending::Unexpected => Ok(None),
         Ending::UnknownWithdrawal => Ok(None),

@@ -1,4 +1,4 @@
-//! How a set of numbers is held: a few of them by themselves, and more in a tree.
+//! How a set of numbers is held: a few of them by themselves, some in a list, and many in chunks.
 ghost use Rattle.std.specs.Prelude.{◌≡◌, ◌∷◌, [], OnOk, OnErr, IfOk};
 ghost use Rattle.std.specs.BTreeMap.{is_at};
 ghost use Rattle.std.specs.BTreeSet.{insert_key};
@@ -7,20 +7,26 @@ ghost use Rattle.std.specs.Ordering.{nat_cmp};
 ghost use Rattle.std.specs.Set.{remove_key};
 ghost use Rattle.hop_index.specs.Held.{numbers_held};
 
+use crate::{chunked, listed};
 use av_base::NoMemory;
+use sorted_map::Sorted;
 use std::alloc::Global;
 use std::cmp::Ordering;
-use std::collections::BTreeSet;
 
-// The numbers of a set, rising. It takes 16 bytes. A set that once had four numbers has a tree from then on, which takes 112 bytes for up to
-// 15 numbers, and 4 to 9 a number with its share of tree nodes where they are more.
+// The most numbers of a list. More would move more bytes where one comes between others. It is the length of a full chunk.
+const MOST_LISTED: usize = 512;
+
+// The numbers of a set, rising. It takes 16 bytes. A set that once had four numbers has a list from then on, which takes 24 bytes, and
+// 4 to 8 for each of the most numbers that it had. One that once had more than 512 has chunks from then on, which take 4 bytes a number
+// where they came in order and up to 16 else, and some 2300 more.
 #[derive(Drop)]
 pub(crate) enum Held {
     Empty,
     One(u32),
     Two(u32, u32),
     Three(u32, u32, u32),
-    Many(Box<BTreeSet<u32>>),
+    Listed(Box<Vec<u32>>),
+    Many(Box<Sorted<u32, ()>>),
 }
 
 // One number more, where it isn't there yet.
@@ -35,10 +41,13 @@ pub(crate) fn insert(held: &mut Held, alloc: Global, number: u32) -> Result<(), 
         Held::One(a) => one_and(*a, number),
         Held::Two(a, b) => two_and(*a, *b, number),
         Held::Three(a, b, c) => three_and(alloc, *a, *b, *c, number)?,
-        Held::Many(numbers) => {
-            numbers.insert(number)?;
-            return Ok(());
+        Held::Listed(numbers) => {
+            if numbers.len() < MOST_LISTED {
+                return listed::insert(numbers, number);
+            }
+            many_and(alloc, numbers, number)?
         }
+        Held::Many(numbers) => return chunked::insert(numbers, number),
     };
     *held = more;
     Ok(())
@@ -46,6 +55,7 @@ pub(crate) fn insert(held: &mut Held, alloc: Global, number: u32) -> Result<(), 
 
 // One number less, if it is there. It takes no memory.
 pub(crate) fn remove(held: &mut Held, number: u32)
+    requires rising { IsStrictlySortedBy nat_cmp (numbers_held held.old) }
     ensures { numbers_held held.new
         ≡ remove_key (is_at (nat_cmp number)) (numbers_held held.old) }
 {
@@ -54,8 +64,12 @@ pub(crate) fn remove(held: &mut Held, number: u32)
         Held::One(a) => one_without(*a, number),
         Held::Two(a, b) => two_without(*a, *b, number),
         Held::Three(a, b, c) => three_without(*a, *b, *c, number),
+        Held::Listed(numbers) => {
+            listed::remove(numbers, number);
+            return;
+        }
         Held::Many(numbers) => {
-            numbers.remove(&number);
+            chunked::remove(numbers, number);
             return;
         }
     };
@@ -97,12 +111,22 @@ fn three_and(alloc: Global, a: u32, b: u32, c: u32, number: u32) -> Result<Held,
     if number == a || number == b || number == c {
         return Ok(Held::Three(a, b, c));
     }
-    let mut numbers = BTreeSet::new(alloc);
-    numbers.insert(a)?;
-    numbers.insert(b)?;
-    numbers.insert(c)?;
-    numbers.insert(number)?;
-    Ok(Held::Many(Box::new(alloc, numbers)?))
+    let mut numbers = Vec::with_capacity(alloc, 4)?;
+    numbers.push(a)?;
+    numbers.push(b)?;
+    numbers.push(c)?;
+    listed::insert(&mut numbers, number)?;
+    Ok(Held::Listed(Box::new(alloc, numbers)?))
+}
+
+// Many numbers, which rise, and another one where it is none of them.
+fn many_and(alloc: Global, numbers: &[u32], number: u32) -> Result<Held, NoMemory>
+    requires rising { IsStrictlySortedBy nat_cmp numbers.now }
+    ensures { IfOk result (λ held. numbers_held held ≡ insert_key nat_cmp numbers.now number) }
+{
+    let mut many = chunked::of(alloc, numbers)?;
+    chunked::insert(&mut many, number)?;
+    Ok(Held::Many(Box::new(alloc, many)?))
 }
 
 // One number, unless it is this one.

@@ -4,14 +4,16 @@
 //! x and some y, by rising y and then by rising case**; [`HopIndex::between`] gives those of one y. `specs/Hops.antt` says what the hops of
 //! a chain are, and `specs/Index.antt` what it is that an index has a hop: begin there. A hop is the same from either of its two ASes, since
 //! what a change of x does to a hop doesn't depend on which of the two is nearer to the origin: the cases of a hop are held once, under both,
-//! and beside them the neighbours of each AS.
+//! and beside them the neighbours of each AS. Both are sets of numbers ([`Numbers`]), which the layer above uses too.
 #![tactic(auto)]
 
 mod between;
 mod cases_of_hops;
+mod chunked;
 mod held;
 mod index;
 mod laws;
+mod listed;
 mod neighbours;
 mod number_iter;
 mod numbers;
@@ -21,4 +23,6 @@ mod through;
 pub use between::Between;
 pub use index::HopIndex;
 pub use laws::{ends_reach_cases, hops_join_neighbours, removal_undoes_addition};
+pub use number_iter::NumberIter;
+pub use numbers::Numbers;
 pub use through::Through;

@@ -1,8 +1,8 @@
 //! The numbers of a set, one after another.
 ghost use Rattle.std.specs.Iterator.{YieldsFirst, item_count};
 
-use std::collections::btree_set;
 use std::marker::Model;
+use std::slice;
 
 // What is still to come of a set.
 #[derive(Drop)]
@@ -11,12 +11,13 @@ pub(crate) enum Left<'a> {
     Last(u32),
     LastTwo(u32, u32),
     LastThree(u32, u32, u32),
-    OfMany(btree_set::Iter<'a, u32>),
+    OfListed(slice::Iter<'a, u32>),
+    OfMany(sorted_map::Iter<'a, u32, ()>),
 }
 
-// The numbers of a set that are still to come, rising.
+/// The numbers of a set that are still to come, rising.
 #[derive(Drop)]
-pub(crate) struct NumberIter<'a> {
+pub struct NumberIter<'a> {
     pub(crate) left: Left<'a>,
 }
 
@@ -42,7 +43,11 @@ impl<'a> Iterator for NumberIter<'a> {
             Left::Last(a) => (*a, Left::End),
             Left::LastTwo(a, b) => (*a, Left::Last(*b)),
             Left::LastThree(a, b, c) => (*a, Left::LastTwo(*b, *c)),
-            Left::OfMany(numbers) => return numbers.next().copied(),
+            Left::OfListed(numbers) => return numbers.next().copied(),
+            Left::OfMany(numbers) => match numbers.next() {
+                None => return None,
+                Some((number, _)) => return Some(*number),
+            },
         };
         self.left = left;
         Some(first)

@@ -10,9 +10,10 @@ use av_base::NoMemory;
 use std::alloc::Global;
 use std::marker::Model;
 
-// A set of numbers, which a contract sees as a rising list. It takes 16 bytes, and up to three numbers take no more.
+/// A set of numbers below 2^32, which a contract sees as a rising list. It takes 16 bytes, and up to three numbers take no more; from the
+/// fourth on they take 4 to 8 bytes each and some 24 together, and beyond 512 numbers up to 16 each where they come in no order.
 #[derive(Drop)]
-pub(crate) struct Numbers {
+pub struct Numbers {
     alloc: Global,
     held: Held,
 }
@@ -31,8 +32,8 @@ impl Model for Numbers {
 }
 
 impl Numbers {
-    // None. It takes no memory.
-    pub(crate) fn new(alloc: Global) -> Numbers
+    /// None. It takes no memory.
+    pub fn new(alloc: Global) -> Numbers
         ensures { result ≡ [] }
     {
         Numbers {
@@ -41,8 +42,8 @@ impl Numbers {
         }
     }
 
-    // One more.
-    pub(crate) fn insert(&mut self, number: u32) -> Result<(), NoMemory>
+    /// One more.
+    pub fn insert(&mut self, number: u32) -> Result<(), NoMemory>
         ensures added { OnOk result ((n : ℕ)
             → has_number self.new n ≡ (has_number self.old n || nat_eq n number)) }
         ensures some { OnOk result (self.new ≢ []) }
@@ -52,8 +53,8 @@ impl Numbers {
         Ok(())
     }
 
-    // One less. It takes no memory.
-    pub(crate) fn remove(&mut self, number: u32)
+    /// One less. It takes no memory.
+    pub fn remove(&mut self, number: u32)
         ensures removed { (n : ℕ)
             → has_number self.new n ≡ (has_number self.old n && not (nat_eq n number)) }
         ensures rising { IsStrictlySortedBy nat_cmp self.new }
@@ -61,19 +62,20 @@ impl Numbers {
         held::remove(&mut self.held, number);
     }
 
-    // Whether there are none.
-    pub(crate) fn is_empty(&self) -> bool
+    /// Whether there are none.
+    pub fn is_empty(&self) -> bool
         ensures { IsTrue result ↔ (self.now ≡ []) }
     {
         match &self.held {
             Held::Empty => true,
-            Held::Many(numbers) => numbers.is_empty(),
+            Held::Listed(numbers) => numbers.is_empty(),
+            Held::Many(numbers) => numbers.len() == 0,
             _ => false,
         }
     }
 
-    // The numbers, rising.
-    pub(crate) fn iter(&self) -> NumberIter<'_>
+    /// The numbers, rising.
+    pub fn iter(&self) -> NumberIter<'_>
         ensures whole { result ≡ self.now }
         ensures rising { IsStrictlySortedBy nat_cmp self.now }
     {
@@ -82,6 +84,7 @@ impl Numbers {
             Held::One(a) => Left::Last(*a),
             Held::Two(a, b) => Left::LastTwo(*a, *b),
             Held::Three(a, b, c) => Left::LastThree(*a, *b, *c),
+            Held::Listed(numbers) => Left::OfListed(numbers.iter()),
             Held::Many(numbers) => Left::OfMany(numbers.iter()),
         };
         NumberIter { left }

@@ -66,6 +66,7 @@ fn are_within(peers: &PeerTable, entries: Entries<'_>) -> bool
 
 // Announces the key, if the attributes have a path. `wide` says that their ASes have four bytes. A table's attributes are read without
 // path identifiers, since the prefixes in them are unread.
+#[inline(always)]
 pub(crate) fn put_route(
     alloc: Global,
     changes: &mut Changes,

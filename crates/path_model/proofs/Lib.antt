@@ -9,7 +9,6 @@ pub mod MemberLemmas
 pub mod NameLemmas
 pub mod OrderLemmas
 pub mod PackedLemmas
-pub mod PartsLemmas
 pub mod PrintedLemmas
 pub mod RampLemmas
 pub mod RowLemmas

@@ -13,7 +13,7 @@ use Rattle.std.proofs.lemmas.Map.Lookups.{exact_unsigned}
 use Rattle.path_model.specs.Authority.{has}
 use Rattle.path_model.specs.Sets.{IsSetOf}
 use Rattle.path_model.specs.Rows.{RowMap, row_or_empty}
-use Rattle.path_model.specs.ComputedTable.{ascending_of}
+use Rattle.path_model.specs.Ascending.{ascending_of}
 use Rattle.path_model.proofs.AscendingLemmas.{ascending_sorted, has_ascending, same_members}
 use Rattle.path_model.specs.Union.{Attestation}
 use Rattle.path_model.specs.Union.{Names, IsUnionOf, IsUnitedRow, AreUnited}

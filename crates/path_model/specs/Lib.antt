@@ -1,10 +1,10 @@
+pub mod Ascending
 pub mod Authority
 pub mod Batches
 pub mod Codes
-pub mod ComputedTable
-pub mod CurrentTable
 pub mod Entries
 pub mod Halves
+pub mod Kept
 pub mod Key
 pub mod Labelling
 pub mod Laws

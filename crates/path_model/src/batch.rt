@@ -5,7 +5,7 @@ use crate::{Change, NlriList, Peer, Trail};
 use std::alloc::AllocError;
 
 /// Changes that are made together, and what they share only once: so an announcement of many prefixes has one path (RFC 4271, section 4.3).
-/// It takes 144 bytes, beside the ASes of its path and its prefixes.
+/// It takes 160 bytes, beside the ASes of a path of more than seven, and its prefixes.
 #[derive(Debug, Drop)]
 pub enum Batch {
     /// This change alone.

@@ -6,7 +6,7 @@ use crate::{Key, Peer, Trail};
 use std::alloc::AllocError;
 
 /// A change of the routes (RFC 4271, section 3.1): a route is withdrawn, or announced in place of the one that its key had.
-/// It takes 128 bytes, beside the ASes of its path.
+/// It takes 144 bytes, beside the ASes of a path of more than seven.
 #[derive(Debug, Drop)]
 pub enum Change {
     /// The route of the key is withdrawn, if there is one.

@@ -1,6 +1,4 @@
-//! Laws of verdicts, witnesses, ramps and the current table: the contract of each function is the law, and its body does nothing.
-ghost use Rattle.path_model.specs.CurrentTable.{PartsHaveOneTable};
-ghost use Rattle.path_model.specs.ComputedTable.{ComputedIsCurrent};
+//! Laws of verdicts, witnesses and ramps: the contract of each function is the law, and its body does nothing.
 ghost use Rattle.path_model.specs.Laws.{EachCaseHasOneRightVerdict, FullestCompletionDecides, HopsDecide, HopsDecideWitnesses, EachCaseHasOneWitness, FactsDecide, PrintedWitnessHasFacts, RightVerdictHasWitness, RampsDecide};
 
 /// Every case has exactly one right verdict.
@@ -46,14 +44,4 @@ pub fn right_verdict_has_witness()
 /// Each chain that isn't empty has its four ramps, and their comparison with its number of ASes says of it what labellings and completions do.
 pub fn ramps_decide()
     ensures { RampsDecide }
-{}
-
-/// All that attests, with its filters, has exactly one current table.
-pub fn parts_have_one_table()
-    ensures { PartsHaveOneTable }
-{}
-
-/// What a kept table's rows are computed as is the current table.
-pub fn computed_is_current()
-    ensures { ComputedIsCurrent }
 {}

@@ -11,6 +11,7 @@ mod authority;
 mod batch;
 mod change;
 mod changes;
+mod few_ases;
 mod gathered;
 mod key;
 mod laws;
@@ -38,9 +39,9 @@ pub use changes::Changes;
 pub use gathered::Gathered;
 pub use key::Key;
 pub use laws::{
-    computed_is_current, each_case_has_one_right_verdict, each_case_has_one_witness, facts_decide,
-    fullest_completion_decides, hops_decide, hops_decide_witnesses, parts_have_one_table,
-    printed_witness_has_facts, ramps_decide, right_verdict_has_witness,
+    each_case_has_one_right_verdict, each_case_has_one_witness, facts_decide,
+    fullest_completion_decides, hops_decide, hops_decide_witnesses, printed_witness_has_facts,
+    ramps_decide, right_verdict_has_witness,
 };
 pub use name::{MOST_NAME_BYTES, Name};
 pub use nlri::Nlri;

@@ -1,3 +1,4 @@
 pub mod Judgement
 pub mod Judging
+pub mod Small
 pub mod Walk

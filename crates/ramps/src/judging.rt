@@ -5,8 +5,10 @@ ghost use Rattle.path_model.specs.Witness.{shown_by};
 ghost use Rattle.path_model.specs.PrintedWitness.{IsPrinted};
 ghost use Rattle.path_model.specs.WitnessByRamps.{climb_of, valid_by, unsettled_by};
 ghost use Rattle.ramps.specs.Judging.{IsDownstream, IsPrintedByEach, IsUpstream};
+ghost use Rattle.ramps.specs.Small.{AreSmall, IsSmall};
 ghost use Rattle.ramps.specs.Walk.{AreOrdered};
 
+use crate::small_witness::SmallWitness;
 use crate::walk::{Ramps, down_ramps, up_ramps};
 use av_base::Steps;
 use path_model::{Direction, Role, Table, Trail, Verdict, Witness};
@@ -16,16 +18,17 @@ use std::sync::ledger::Ledger;
 /// The verdict of a path, and why it has it.
 #[derive(Debug, Drop)]
 pub struct Judged {
-    witness: Witness,
+    witness: SmallWitness,
 }
 
 /// A contract sees the verdict and the witness.
 impl Model for Judged {
     ghost use Rattle.ramps.specs.Judgement.{Judgement, judgement};
+    ghost use Rattle.ramps.specs.Small.{wide};
 
     ghost Value = { Judgement };
 
-    ghost view = { λ j. judgement j.witness };
+    ghost view = { λ j. judgement (wide j.witness) };
 }
 
 impl Judged {
@@ -40,7 +43,7 @@ impl Judged {
     pub fn witness(&self) -> Witness
         ensures { result ≡ self.now.witness }
     {
-        self.witness
+        self.witness.witness()
     }
 }
 
@@ -57,14 +60,17 @@ pub fn judge<T: Table, L: Ledger>(
     ensures one_step { steps.new ≡ steps.old + 1 }
 {
     steps.tick();
+    let witness = explain(table, role, neighbour, trail);
     Judged {
-        witness: explain(table, role, neighbour, trail),
+        witness: SmallWitness::of(witness),
     }
 }
 
 // The printed witness of a path that came from a neighbour of this role.
 fn explain<T: Table>(table: &T, role: Role, neighbour: u32, trail: &Trail) -> Witness
-    ensures { IsPrinted (T.rows table.now) role neighbour trail.now (shown_by result) result }
+    ensures printed { IsPrinted (T.rows table.now) role neighbour trail.now
+        (shown_by result) result }
+    ensures small { AreSmall result }
 {
     if let Some(witness) = at_once(role, neighbour, trail) {
         return witness;
@@ -81,6 +87,7 @@ fn explain<T: Table>(table: &T, role: Role, neighbour: u32, trail: &Trail) -> Wi
 fn at_once(role: Role, neighbour: u32, trail: &Trail) -> Option<Witness>
     ensures none { IfNone result (IsInvalidAtOnce role neighbour trail.now → ⊥) }
     ensures some { IfSome result (IsPrintedByEach role neighbour trail.now) }
+    ensures small { IfSome result AreSmall }
 {
     let Some(last) = trail.chain().as_slice().last() else {
         return Some(Witness::Empty);
@@ -96,8 +103,10 @@ fn at_once(role: Role, neighbour: u32, trail: &Trail) -> Option<Witness>
 
 // The witness of an upstream path of so many ASes.
 fn upstream(count: u32, up: Ramps) -> Witness
-    requires { AreOrdered count up }
-    ensures { IsUpstream count up result }
+    requires short { count ≤ 65535 }
+    requires up { AreOrdered count up }
+    ensures witness { IsUpstream count up result }
+    ensures small { AreSmall result }
 {
     if up.maximal < count {
         Witness::Blocked {
@@ -116,7 +125,8 @@ fn downstream(count: u32, up: Ramps, down: Ramps) -> Witness
     requires short { count ≤ 65535 }
     requires up { AreOrdered count up }
     requires down { AreOrdered count down }
-    ensures { IsDownstream count up down result }
+    ensures witness { IsDownstream count up down result }
+    ensures small { AreSmall result }
 {
     if up.maximal + down.maximal < count {
         Witness::Blocked {
@@ -132,9 +142,13 @@ fn downstream(count: u32, up: Ramps, down: Ramps) -> Witness
 
 // Hops that don't settle the verdict, and the climb as far as this ramp.
 fn unsettled(first: u32, last: Option<u32>, count: u32, ramp: u32) -> Witness
+    requires short { count ≤ 65535 }
     requires some { 1 ≤ ramp }
     requires within { ramp ≤ count }
-    ensures { result ≡ unsettled_by first last (climb_of count ramp) }
+    requires first { first ≤ count }
+    requires last { IsSmall last }
+    ensures witness { result ≡ unsettled_by first last (climb_of count ramp) }
+    ensures small { AreSmall result }
 {
     let (climbs, free, descents) = longest_climb(count, ramp);
     Witness::Unsettled {
@@ -148,9 +162,11 @@ fn unsettled(first: u32, last: Option<u32>, count: u32, ramp: u32) -> Witness
 
 // The climb as far as this ramp.
 fn valid(count: u32, ramp: u32) -> Witness
+    requires short { count ≤ 65535 }
     requires some { 1 ≤ ramp }
     requires within { ramp ≤ count }
-    ensures { result ≡ valid_by (climb_of count ramp) }
+    ensures witness { result ≡ valid_by (climb_of count ramp) }
+    ensures small { AreSmall result }
 {
     let (climbs, free, descents) = longest_climb(count, ramp);
     Witness::Valid {
@@ -167,6 +183,7 @@ fn longest_climb(count: u32, ramp: u32) -> (u32, u32, u32)
     ensures climbs { result.0 ≡ (climb_of count ramp).climbs }
     ensures free { result.1 ≡ (climb_of count ramp).free }
     ensures descents { result.2 ≡ (climb_of count ramp).descents }
+    ensures within { result.0 + result.1 + result.2 ≤ count }
 {
     let left = count - ramp;
     let free = left.min(1);

@@ -8,6 +8,7 @@
 #![tactic(auto)]
 
 mod judging;
+mod small_witness;
 mod walk;
 
 pub use judging::{Judged, judge};

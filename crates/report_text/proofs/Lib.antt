@@ -1,5 +1,7 @@
 pub mod AnswerLemmas
 mod CauseLemmas
+mod DigitLemmas
+mod FrontLemmas
 mod InLineLemmas
 pub mod RefusalLemmas
 pub mod ReportedLemmas

@@ -1,7 +1,7 @@
 -- The causes for which input is refused, with the number and the word of each, which are part of what is printed.
 use Rattle.std.specs.Prelude.{ℕ, List, codes}
 use Rattle.report_text.specs.declared.cause.Cause.{Cause}
-use Rattle.report_text.specs.declared.cause.Cause.TheVariants.{NotDer, PayloadVersion, NoProviders, Order, SelfProvider, Base64, Json, SlurmVersion, Member, SlurmNumber, PduVersion, PduLength, PduType, PduNoProviders, Unexpected, UnknownWithdrawal, SessionChanged, PeerReported, Attributes, Message, NoPath, TooLong, CutShort, Body, NoPeerTable, PeerIndex, LongLine, NoCommand, Words, Number, NameTaken, NoName, NoFile, StreamOver, NoRoute, FileLong}
+use Rattle.report_text.specs.declared.cause.Cause.TheVariants.{NotDer, PayloadVersion, NoProviders, Order, SelfProvider, Base64, Json, SlurmVersion, Member, SlurmNumber, PduVersion, PduLength, PduType, PduNoProviders, Unexpected, UnknownWithdrawal, SessionChanged, PeerReported, Attributes, Message, NoPath, TooLong, CutShort, Body, NoPeerTable, PeerIndex, LongLine, NoCommand, Words, Number, NameTaken, NoName, NoFile, StreamOver, NoRoute, FileLong, Moment}
 
 abbrev pub listed : Cause → ℕ × List ℕ
 -- of files of payloads (draft-ietf-sidrops-aspa-profile)
@@ -45,6 +45,8 @@ listed NoFile = (37, codes "NoFile")
 listed StreamOver = (38, codes "StreamOver")
 listed NoRoute = (39, codes "NoRoute")
 listed FileLong = (40, codes "FileLong")
+-- of files of base64 lines
+listed Moment = (41, codes "Moment")
 
 -- the number of a cause
 abbrev pub number_of : Cause → ℕ

@@ -1,6 +1,7 @@
 pub mod Causes
 pub mod Change
 pub mod Feeds
+pub mod Fronts
 pub mod Keys
 pub mod Laws
 pub mod Places
@@ -9,3 +10,4 @@ pub mod Reported
 pub mod Rows
 pub mod Summary
 pub mod Why
+pub mod Writes

@@ -82,10 +82,13 @@ pub enum Cause {
     NoRoute,
     /// 40: the file has more than 64 MiB.
     FileLong,
+    // of files of base64 lines
+    /// 41: what stands behind the space of a line is no moment.
+    Moment,
 }
 
 impl Cause {
-    /// Its number, from 5 to 40.
+    /// Its number, from 5 to 41.
     pub fn number(self) -> u16
         ensures { result ≡ number_of self }
     {
@@ -141,6 +144,7 @@ impl Cause {
             Cause::StreamOver => (38, "StreamOver"),
             Cause::NoRoute => (39, "NoRoute"),
             Cause::FileLong => (40, "FileLong"),
+            Cause::Moment => (41, "Moment"),
         }
     }
 }

@@ -5,17 +5,21 @@
 //! changed, [`put_changed`] how many changed, [`put_why`] why a path has its verdict, and [`put_summary`] how many there are of each.
 //! `refusal_text` of `specs/Refusals.antt` and the `.._text` of `Feeds`, `Rows`, `Change`, `Why` and `Summary` are those lines: begin
 //! there, and at `specs/Causes.antt`, the table of causes with their numbers and words. Rows and changes begin with the route's key
-//! (`specs/Keys.antt`), its path identifier included. Whatever is refused and however a feed ends, the line is one line that begins with
-//! `! `, and no row, change, summary or reason begins so (`laws`): who reads the program's output finds each of them by its first two
-//! bytes.
+//! (`specs/Keys.antt`), its path identifier included; [`PeerLines`] writes them one after another, and a peer's text once for all of its
+//! lines that follow one another (`line` and `digits` write into its room). Whatever is refused and however a feed ends, the line is one
+//! line that begins with `! `, and no row, change, summary or reason begins so (`laws`): who reads the program's output finds each of
+//! them by its first two bytes.
 #![tactic(auto)]
 
 mod cause;
 mod change;
 mod count;
+mod digits;
 mod feed;
 mod key;
 mod laws;
+mod line;
+mod peer_lines;
 mod place;
 mod refusal;
 mod row;
@@ -26,6 +30,7 @@ pub use cause::Cause;
 pub use change::{put_change, put_changed};
 pub use feed::{FeedEnd, put_feed};
 pub use laws::{each_feed_end_is_one_line, each_refusal_is_one_line, no_answer_reads_as_a_refusal};
+pub use peer_lines::PeerLines;
 pub use place::Place;
 pub use refusal::put_refusal;
 pub use row::put_row;

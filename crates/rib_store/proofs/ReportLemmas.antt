@@ -12,7 +12,7 @@ use Rattle.path_model.specs.RightVerdict.{IsRight}
 use Rattle.path_model.specs.Roles.{role_of}
 use Rattle.path_model.specs.Trail.{Path}
 use Rattle.path_model.proofs.LawLemmas.{IsRight-unique}
-use Rattle.path_model.proofs.PartsLemmas.{parts_have_one_table}
+use Rattle.attestations.proofs.PartsLemmas.{parts_have_one_table}
 use Rattle.rib_store.specs.declared.counts.Counts.{Counts}
 use Rattle.rib_store.specs.Counts.{AreCounts, counted}
 use Rattle.rib_store.specs.Rows.{rows_of, current_verdict}

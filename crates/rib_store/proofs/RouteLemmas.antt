@@ -6,7 +6,7 @@ use Rattle.std.specs.FinMap as fin
 use Rattle.std.specs.List.Sorted.{IsStrictlySortedBy}
 use Rattle.std.specs.Map.{lookup, keys_of, remove_entry}
 use Rattle.path_model.specs.declared.key.Key.{Key}
-use Rattle.path_model.specs.CurrentTable.{Parts}
+use Rattle.attestations.specs.CurrentTable.{Parts}
 use Rattle.path_model.specs.Key.{key_cmp}
 use Rattle.path_model.specs.Roles.{Relations}
 use Rattle.path_model.specs.Trail.{Path}

@@ -7,13 +7,13 @@ use Rattle.path_model.specs.declared.key.Key.{Key}
 use Rattle.path_model.specs.declared.role.Role.{Role}
 use Rattle.path_model.specs.declared.verdict.Verdict.{Verdict}
 use Rattle.path_model.specs.Authority.{Table}
-use Rattle.path_model.specs.ComputedTable.{table_of}
-use Rattle.path_model.specs.CurrentTable.{Parts}
+use Rattle.attestations.specs.ComputedTable.{table_of}
+use Rattle.attestations.specs.CurrentTable.{Parts}
 use Rattle.path_model.specs.RightVerdict.{IsRight}
 use Rattle.path_model.specs.Roles.{Relations, role_of}
 use Rattle.path_model.specs.Trail.{Path}
 use Rattle.path_model.proofs.LawLemmas.{one_right}
-use Rattle.path_model.proofs.PartsLemmas.{table_is_current}
+use Rattle.attestations.proofs.PartsLemmas.{table_is_current}
 use Rattle.rib_store.specs.Rows.{verdict_of, current_verdict, rows_of}
 use Rattle.rib_store.specs.State.{State, IsCurrent, AreRows}
 use Rattle.rib_store.proofs.KeyLemmas.{AllFound, all_found}

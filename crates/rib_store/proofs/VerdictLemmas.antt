@@ -7,8 +7,8 @@ use Rattle.std.specs.List.Sorted.{IsStrictlySortedBy}
 use Rattle.std.specs.Map.{lookup, keys_of}
 use Rattle.path_model.specs.declared.key.Key.{Key}
 use Rattle.path_model.specs.declared.verdict.Verdict.{Verdict}
-use Rattle.path_model.specs.ComputedTable.{table_of}
-use Rattle.path_model.specs.CurrentTable.{Parts}
+use Rattle.attestations.specs.ComputedTable.{table_of}
+use Rattle.attestations.specs.CurrentTable.{Parts}
 use Rattle.path_model.specs.Key.{key_cmp}
 use Rattle.path_model.specs.RightVerdict.{IsRight}
 use Rattle.path_model.specs.Roles.{Relations, role_of}

@@ -1,6 +1,6 @@
 -- What a change of what attests makes of a state.
 use Rattle.std.specs.Prelude.{◌≡◌}
-use Rattle.path_model.specs.CurrentTable.{Parts}
+use Rattle.attestations.specs.CurrentTable.{Parts}
 use Rattle.vap_table.specs.declared.change.TableChange.{TableChange}
 use Rattle.vap_table.specs.Change.{Alters}
 use Rattle.rib_store.specs.State.{State}

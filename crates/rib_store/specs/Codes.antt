@@ -3,7 +3,7 @@ use Rattle.std.specs.Prelude.{refl}
 use Rattle.std.specs.FinMap as fin
 use Rattle.std.specs.Coded.{Coded, code_by, coded×}
 use Rattle.path_model.specs.Codes.{coded_key, coded_path}
-use Rattle.path_model.specs.CurrentTable.{Parts}
+use Rattle.attestations.specs.CurrentTable.{Parts}
 use Rattle.path_model.specs.Roles.{Relations, coded_relations}
 use Rattle.path_model.specs.Routes.{Routes}
 use Rattle.vap_table.specs.Codes.{coded_parts}

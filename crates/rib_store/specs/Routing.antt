@@ -1,6 +1,6 @@
 -- The routes with their cases and marks, by a table and roles. Private contracts alone cite it.
 use Rattle.std.specs.Prelude.{ℕ, ⊤}
-use Rattle.path_model.specs.CurrentTable.{Parts}
+use Rattle.attestations.specs.CurrentTable.{Parts}
 use Rattle.path_model.specs.Roles.{Relations}
 use Rattle.path_model.specs.Trail.{Path as AnyPath}
 use Rattle.shared_cases.specs.Cases.{Slots, at, IsStoredAs}
@@ -27,10 +27,10 @@ AreRouted parts relations r = AreSound (grounds parts relations) r.routes r.case
 
 -- the path of a case that is found so
 abbrev pub path_by : Slots → CaseBy → AnyPath
-path_by cases (Path trail) = trail
+path_by cases (Path trail hint) = trail
 path_by cases (Number n) = path_or (at cases n)
 
 -- where it is found by its number, it is there, and of this AS
 abbrev pub IsFound : Slots → ℕ → CaseBy → Type 0
-IsFound cases asn (Path trail) = ⊤
+IsFound cases asn (Path trail hint) = ⊤
 IsFound cases asn (Number n) = IsStoredAs (at cases n) asn (path_or (at cases n))

@@ -5,7 +5,7 @@ use Rattle.path_model.specs.declared.key.Key.{Key}
 use Rattle.path_model.specs.declared.verdict.Verdict.{Verdict}
 use Rattle.path_model.specs.declared.witness.Witness.{Witness}
 use Rattle.path_model.specs.Authority.{Table}
-use Rattle.path_model.specs.CurrentTable.{IsCurrentTable}
+use Rattle.attestations.specs.CurrentTable.{IsCurrentTable}
 use Rattle.path_model.specs.PrintedWitness.{IsPrinted}
 use Rattle.path_model.specs.Roles.{role_of}
 use Rattle.path_model.specs.Trail.{Path}

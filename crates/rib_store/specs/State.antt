@@ -4,7 +4,7 @@ use Rattle.std.specs.FinMap as fin
 use Rattle.path_model.specs.declared.key.Key.{Key}
 use Rattle.path_model.specs.declared.verdict.Verdict.{Verdict}
 use Rattle.path_model.specs.Authority.{Table}
-use Rattle.path_model.specs.CurrentTable.{Parts, no_parts, IsCurrentTable}
+use Rattle.attestations.specs.CurrentTable.{Parts, no_parts, IsCurrentTable}
 use Rattle.path_model.specs.Key.{key_cmp}
 use Rattle.path_model.specs.RightVerdict.{IsRight}
 use Rattle.path_model.specs.Roles.{Relations, role_of, no_roles}

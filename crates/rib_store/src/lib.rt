@@ -11,6 +11,7 @@
 //! (`counts`) the cases keep.
 #![tactic(auto)]
 
+mod cases;
 mod counts;
 mod journal;
 mod laws;

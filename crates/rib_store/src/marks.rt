@@ -119,7 +119,7 @@ fn insert_all(pending: &mut BTreeSet<usize>, numbers: &CaseNumbers) -> Result<()
     ensures { OnOk result (Defers true pending.old.keys numbers.now pending.new.keys) }
 {
     for number in numbers.iter() {
-        insert(pending, *number)?;
+        insert(pending, number)?;
     }
     Ok(())
 }

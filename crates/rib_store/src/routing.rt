@@ -1,6 +1,8 @@
 //! Changes of the routes, one by one.
-ghost use Rattle.std.specs.Prelude.{◌≡◌, ◌≤◌, ◌+◌, not, IfNone, IfOk, IfSome, OnOk};
+ghost use Rattle.std.specs.Prelude.{◌≡◌, ◌≤◌, ◌+◌, [], not, IfNone, IfOk, IfSome, OnOk};
 ghost use Rattle.std.specs.FinMap as fin;
+ghost use Rattle.attestations.specs.CurrentTable.{Parts};
+ghost use Rattle.path_model.specs.Roles.{Relations};
 ghost use Rattle.path_model.specs.Batches.{announcements, changes_in, removals};
 ghost use Rattle.path_model.specs.Routes.{changed, performed, is_of_peer};
 ghost use Rattle.shared_cases.specs.Cases.{at, IsStoredAs};
@@ -17,8 +19,12 @@ use av_base::{NoMemory, Steps};
 use path_model::{Batch, Change, Changes, Key, NlriList, Peer, Roles, Trail};
 use route_map::RouteMap;
 use shared_cases::SharedCases;
+use std::alloc::Global;
 use std::sync::ledger::Ledger;
 use vap_table::Vaps;
+
+// For how many batches of one event the cases are looked up ahead of their use.
+const MOST_HINTS: usize = 64;
 
 // What changes where routes change: of a store everything but the table and the roles.
 #[derive(Drop)]
@@ -31,13 +37,27 @@ pub(crate) struct Routing {
 // How the case of an announcement is found.
 #[derive(Drop)]
 pub(crate) enum CaseBy {
-    // by its path
-    Path(Trail),
+    // by its path, with a hint
+    Path(Trail, Option<u32>),
     // it is the one that has this number
     Number(u32),
 }
 
 impl Routing {
+    // No routes. It takes no memory.
+    pub(crate) fn new(alloc: Global) -> Routing
+        ensures routes { result.routes ≡ [] }
+        ensures cases { result.cases ≡ [] }
+        ensures routed { (parts : Parts) (relations : Relations)
+            → AreRouted parts relations result }
+    {
+        Routing {
+            routes: RouteMap::new(alloc),
+            cases: SharedCases::new(alloc),
+            marks: Marks::new(alloc),
+        }
+    }
+
     // Performs changes of the routes, from the first to the last.
     #[tactic(auto, using(crate::proofs::BatchLemmas::performed_append, crate::proofs::BatchLemmas::announced_append))]
     pub(crate) fn perform_all<L: Ledger>(
@@ -55,8 +75,13 @@ impl Routing {
             }) }
         ensures ticks { steps.new ≤ steps.old + announced changes }
     {
+        let mut hints = [None; MOST_HINTS];
+        look_ahead(&self.cases, changes.batches(), &mut hints);
+        let mut place: usize = 0;
         for batch in changes.into_batches() {
-            self.perform_batch(batch, table, roles, steps)?;
+            let hint = hint_at(&hints, place);
+            place = place.wrapping_add(1);
+            self.perform_batch(batch, hint, table, roles, steps)?;
         }
         Ok(())
     }
@@ -65,6 +90,7 @@ impl Routing {
     fn perform_batch<L: Ledger>(
         &mut self,
         batch: Batch,
+        hint: Option<u32>,
         table: &Vaps,
         roles: &Roles,
         steps: &mut Steps<L>,
@@ -79,10 +105,10 @@ impl Routing {
         ensures ticks { steps.new ≤ steps.old + announced (changes_in batch) }
     {
         match batch {
-            Batch::One(change) => self.perform(change, table, roles, steps),
+            Batch::One(change) => self.perform(change, hint, table, roles, steps),
             Batch::RemoveAll(peer, nlris) => self.withdraw_all(peer, nlris, table, roles),
             Batch::AnnounceAll(peer, trail, nlris) => {
-                self.announce_all(peer, trail, nlris, table, roles, steps)
+                self.announce_all(peer, trail, hint, nlris, table, roles, steps)
             }
         }
     }
@@ -91,6 +117,7 @@ impl Routing {
     fn perform<L: Ledger>(
         &mut self,
         change: Change,
+        hint: Option<u32>,
         table: &Vaps,
         roles: &Roles,
         steps: &mut Steps<L>,
@@ -106,7 +133,7 @@ impl Routing {
         match change {
             Change::Remove(key) => self.withdraw(&key, table, roles)?,
             Change::Announce(key, trail) => {
-                self.announce(key, CaseBy::Path(trail), table, roles, steps)?;
+                self.announce(key, CaseBy::Path(trail, hint), table, roles, steps)?;
             }
             Change::RemovePeer(peer) => self.withdraw_peer(&peer, table, roles)?,
         }
@@ -118,6 +145,7 @@ impl Routing {
         &mut self,
         peer: Peer,
         trail: Trail,
+        hint: Option<u32>,
         nlris: NlriList,
         table: &Vaps,
         roles: &Roles,
@@ -132,7 +160,7 @@ impl Routing {
             }) }
         ensures ticks { steps.new ≤ steps.old + announced (announcements peer trail nlris) }
     {
-        let mut by = CaseBy::Path(trail);
+        let mut by = CaseBy::Path(trail, hint);
         for nlri in nlris.iter() {
             let number = self.announce(Key::new(peer, nlri), by, table, roles, steps)?;
             by = CaseBy::Number(number);
@@ -219,23 +247,56 @@ impl Routing {
                   (λ key. not (is_of_peer peer.now key));
             }) }
     {
-        while let Some(key) = self.last_of(peer) {
+        while let Some(key) = self.one_of(peer) {
             self.withdraw(&key, table, roles)?;
         }
         Ok(())
     }
 
-    // A key of the peer that has a route: the last one, since the last of all takes the least time to go.
-    fn last_of(&self, peer: &Peer) -> Option<Key>
+    // Some key of the peer that has a route.
+    fn one_of(&self, peer: &Peer) -> Option<Key>
         ensures none { IfNone result
             (HasNoRouteOf (routes_by self.now.cases self.now.routes) peer.now) }
         ensures some { IfSome result
             (IsRouteOf (routes_by self.now.cases self.now.routes) peer.now) }
     {
-        match self.routes.last_of(peer) {
+        match self.routes.one_of(peer) {
             None => None,
             Some(key) => Some(key),
         }
+    }
+}
+
+// Gets hints for the first batches, all before the first is used.
+fn look_ahead(cases: &SharedCases, batches: &[Batch], hints: &mut [Option<u32>]) {
+    // one alone would be looked up twice
+    if batches.len() < 2 {
+        return;
+    }
+    for (hint, batch) in hints.iter_mut().zip(batches.iter()) {
+        *hint = hint_of(cases, batch);
+    }
+    for (hint, _) in hints.iter_mut().zip(batches.iter()) {
+        *hint = cases.fetched(*hint);
+    }
+}
+
+// Under which number the case of a batch is likely to stand.
+#[inline(always)]
+fn hint_of(cases: &SharedCases, batch: &Batch) -> Option<u32> {
+    match batch {
+        Batch::One(Change::Announce(key, trail)) => cases.hint(key.peer.asn, trail),
+        Batch::AnnounceAll(peer, trail, _) => cases.hint(peer.asn, trail),
+        _ => None,
+    }
+}
+
+// The hint at a place, if there is one.
+#[inline(always)]
+fn hint_at(hints: &[Option<u32>], place: usize) -> Option<u32> {
+    match hints.get(place) {
+        None => None,
+        Some(hint) => *hint,
     }
 }
 
@@ -254,7 +315,7 @@ fn take<L: Ledger>(
     ensures ticks { steps.new ≤ steps.old + 1 }
 {
     match by {
-        CaseBy::Path(trail) => cases.take(asn, trail, table, roles, steps),
+        CaseBy::Path(trail, hint) => cases.take(asn, trail, hint, table, roles, steps),
         CaseBy::Number(number) => {
             cases.take_again(number)?;
             Ok(number)

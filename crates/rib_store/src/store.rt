@@ -1,17 +1,15 @@
 //! The store.
-ghost use Rattle.std.specs.Prelude.{◌≡◌, ◌<◌, ◌≤◌, ◌^◌, ◌+◌, ◌-◌, [], length, IfNone, IfSome, IfOk, None};
+ghost use Rattle.std.specs.Prelude.{◌≡◌, ◌<◌, ◌≤◌, ◌^◌, ◌+◌, ◌-◌, [], length, IfNone, IfSome, IfOk, OnOk, None};
 ghost use Rattle.std.specs.FinMap as fin;
-ghost use Rattle.path_model.specs.CurrentTable.{Parts};
+ghost use Rattle.attestations.specs.CurrentTable.{Parts};
 ghost use Rattle.path_model.specs.Roles.{set_role};
 ghost use Rattle.path_model.specs.Routes.{performed};
-ghost use Rattle.shared_cases.specs.Cases.{at, IsIndexOf, IsShown as IsCase};
 ghost use Rattle.vap_table.specs.Change.{Alters};
 ghost use Rattle.rib_store.specs.State.{no_state, AreRows};
 ghost use Rattle.rib_store.specs.Altered.{IsAltered};
 ghost use Rattle.rib_store.specs.Changes.{AreChanges, IsMarked};
 ghost use Rattle.rib_store.specs.ChangesLeft.{changes_left};
 ghost use Rattle.rib_store.specs.Rows.{rows_left};
-ghost use Rattle.rib_store.specs.Sharing.{AreCasesOf};
 ghost use Rattle.rib_store.specs.Shown.{IsShown};
 ghost use Rattle.rib_store.specs.Counts.{AreCounts};
 ghost use Rattle.rib_store.specs.Touched.{announced, IsWithinTouched};
@@ -23,10 +21,9 @@ use crate::merged::Merged;
 use crate::rib::{Rib, Shown};
 use crate::routing::Routing;
 use av_base::{NoMemory, Steps};
-use hop_index::HopIndex;
 use path_model::{Changes, Key, Role, Roles};
 use route_map::RouteMap;
-use shared_cases::{Case, SharedCases};
+use shared_cases::SharedCases;
 use std::alloc::Global;
 use std::collections::BTreeSet;
 use std::marker::Model;
@@ -39,10 +36,8 @@ pub struct RibStore {
     pub(crate) alloc: Global,
     pub(crate) table: Vaps,
     pub(crate) roles: Roles,
-    // the number of each route's case; a call of `len` brings the order of the keys into a proof
-    pub(crate) routes: RouteMap<u32>,
-    pub(crate) cases: SharedCases,
-    pub(crate) marks: Marks,
+    // the routes with their cases and marks; a call of `len` of the routes brings the order of the keys into a proof
+    pub(crate) routing: Routing,
 }
 
 /// A function of its own, so that what lets a store go needn't say how.
@@ -52,19 +47,16 @@ impl Drop for RibStore {
             alloc: _alloc,
             table: _table,
             roles: _roles,
-            routes: _routes,
-            cases: _cases,
-            marks: _marks,
+            routing: _routing,
         } = self;
     }
 }
 
 /// A contract sees the state of the analysis, and the cases.
 impl Model for RibStore {
-    ghost use Rattle.shared_cases.specs.Grounds.{grounds};
     ghost use Rattle.rib_store.specs.Cased.{routes_by, marked_by};
     ghost use Rattle.rib_store.specs.Codes.{coded_stored};
-    ghost use Rattle.rib_store.specs.Marks.{AreSound};
+    ghost use Rattle.rib_store.specs.Routing.{AreRouted};
     ghost use Rattle.rib_store.specs.Stored.{Stored};
 
     ghost Value = { Stored };
@@ -75,13 +67,14 @@ impl Model for RibStore {
       state = record {
         parts = s.table;
         roles = s.roles;
-        routes = routes_by s.cases s.routes;
-        marked = marked_by s.marks.is_marked s.cases s.routes s.marks.notes;
+        routes = routes_by s.routing.cases s.routing.routes;
+        marked = marked_by s.routing.marks.is_marked s.routing.cases s.routing.routes
+            s.routing.marks.notes;
       };
-      cases = s.cases;
+      cases = s.routing.cases;
     } };
 
-    ghost invariant = { λ s. AreSound (grounds s.table s.roles) s.routes s.cases s.marks };
+    ghost invariant = { λ s. AreRouted s.table s.roles s.routing };
 }
 
 impl RibStore {
@@ -94,50 +87,36 @@ impl RibStore {
             alloc,
             table: Vaps::new(alloc),
             roles: Roles::new(alloc),
-            routes: RouteMap::new(alloc),
-            cases: SharedCases::new(alloc),
-            marks: Marks::new(alloc),
+            routing: Routing {
+                routes: RouteMap::new(alloc),
+                cases: SharedCases::new(alloc),
+                marks: Marks::new(alloc),
+            },
         }
     }
 
     /// Performs changes of the routes, from the first to the last. The end of a peer's session costs what the peer's routes cost. It judges
-    /// at most once for each announcement, and not where another route has the case already.
+    /// at most once for each announcement, and not where another route has the case already. Where there is no memory, the routes are given
+    /// up, and nothing is promised of the state.
     pub fn apply_routes<L: Ledger>(
-        self,
+        &mut self,
         changes: Changes,
         steps: &mut Steps<L>,
-    ) -> Result<RibStore, NoMemory>
-        ensures state { IfOk result (λ s.
-            s.state ≡ record self.state { routes = performed changes self.state.routes }) }
+    ) -> Result<(), NoMemory>
+        ensures state { OnOk result (self.new.state
+            ≡ record self.old.state { routes = performed changes self.old.state.routes }) }
         ensures ticks { steps.new ≤ steps.old + announced changes }
     {
-        let RibStore {
-            alloc,
-            table,
-            roles,
-            routes,
-            cases,
-            marks,
-        } = self;
-        let mut routing = Routing {
-            routes,
-            cases,
-            marks,
-        };
-        routing.perform_all(changes, &table, &roles, steps)?;
-        let Routing {
-            routes,
-            cases,
-            marks,
-        } = routing;
-        Ok(RibStore {
-            alloc,
-            table,
-            roles,
-            routes,
-            cases,
-            marks,
-        })
+        match self
+            .routing
+            .perform_all(changes, &self.table, &self.roles, steps)
+        {
+            Ok(()) => Ok(()),
+            Err(none) => {
+                self.routing = Routing::new(self.alloc);
+                Err(none)
+            }
+        }
     }
 
     /// Changes what attests. It visits only the customers that the change names and at most the hops of those whose row moved, and judges
@@ -156,10 +135,13 @@ impl RibStore {
             alloc,
             table,
             roles,
+            routing,
+        } = self;
+        let Routing {
             routes,
             cases,
             mut marks,
-        } = self;
+        } = routing;
         let _length = routes.len();
         cases.are_distinct();
         let (table, moves) = table.change(change)?;
@@ -169,9 +151,11 @@ impl RibStore {
             alloc,
             table,
             roles,
-            routes,
-            cases,
-            marks,
+            routing: Routing {
+                routes,
+                cases,
+                marks,
+            },
         })
     }
 
@@ -192,10 +176,13 @@ impl RibStore {
             alloc,
             table,
             mut roles,
+            routing,
+        } = self;
+        let Routing {
             routes,
             cases,
             mut marks,
-        } = self;
+        } = routing;
         let _length = routes.len();
         let before = roles.of(asn);
         roles.set(asn, role)?;
@@ -205,9 +192,11 @@ impl RibStore {
             alloc,
             table,
             roles,
-            routes,
-            cases,
-            marks,
+            routing: Routing {
+                routes,
+                cases,
+                marks,
+            },
         })
     }
 
@@ -228,10 +217,13 @@ impl RibStore {
             alloc,
             table,
             mut roles,
+            routing,
+        } = self;
+        let Routing {
             routes,
             cases,
             mut marks,
-        } = self;
+        } = routing;
         let _length = routes.len();
         let before = roles.default();
         roles.set_default(role);
@@ -241,9 +233,11 @@ impl RibStore {
             alloc,
             table,
             roles,
-            routes,
-            cases,
-            marks,
+            routing: Routing {
+                routes,
+                cases,
+                marks,
+            },
         })
     }
 
@@ -253,8 +247,8 @@ impl RibStore {
         ensures few { length (rows_left result) < 2 ^ 63 }
     {
         Rib {
-            rest: self.routes.iter(),
-            cases: &self.cases,
+            rest: self.routing.routes.iter(),
+            cases: &self.routing.cases,
         }
     }
 
@@ -263,8 +257,8 @@ impl RibStore {
         ensures none { IfNone result (fin.get self.now.state.routes key.now ≡ None) }
         ensures some { IfSome result (IsShown self.now.state key.now) }
     {
-        let number = self.routes.get(key)?;
-        let case = self.cases.get(*number as usize)?;
+        let number = self.routing.routes.get(key)?;
+        let case = self.routing.cases.get(*number as usize)?;
         Some(Shown {
             verdict: case.judged.verdict(),
             witness: case.judged.witness(),
@@ -277,7 +271,7 @@ impl RibStore {
     pub fn counts(&self) -> Counts
         ensures { AreCounts self.now.state result }
     {
-        Counts::of(self.routes.len(), self.cases.totals())
+        Counts::of(self.routing.routes.len(), self.routing.cases.totals())
     }
 
     /// Each key whose verdict or presence differs from the marked one, in key order. At the start nothing is marked. It takes no
@@ -287,21 +281,24 @@ impl RibStore {
         ensures changes { AreChanges self.now.state (changes_left result) }
         ensures few { length (changes_left result) < 2 ^ 64 }
     {
-        let _length = self.routes.len();
-        if self.marks.is_marked && self.marks.pending.is_empty() {
-            self.cases.are_settled();
+        let _length = self.routing.routes.len();
+        if self.routing.marks.is_marked && self.routing.marks.pending.is_empty() {
+            self.routing.cases.are_settled();
             return Journal {
-                left: Left::OfNotes(self.marks.notes.iter()),
-                routes: &self.routes,
-                cases: &self.cases,
-                is_marked: self.marks.is_marked,
+                left: Left::OfNotes(self.routing.marks.notes.iter()),
+                routes: &self.routing.routes,
+                cases: &self.routing.cases,
+                is_marked: self.routing.marks.is_marked,
             };
         }
         Journal {
-            left: Left::OfAll(Merged::new(self.marks.notes.iter(), self.routes.iter())),
-            routes: &self.routes,
-            cases: &self.cases,
-            is_marked: self.marks.is_marked,
+            left: Left::OfAll(Merged::new(
+                self.routing.marks.notes.iter(),
+                self.routing.routes.iter(),
+            )),
+            routes: &self.routing.routes,
+            cases: &self.routing.cases,
+            is_marked: self.routing.marks.is_marked,
         }
     }
 
@@ -315,18 +312,23 @@ impl RibStore {
             alloc,
             table,
             roles,
+            routing,
+        } = self;
+        let Routing {
             routes,
             cases,
             mut marks,
-        } = self;
+        } = routing;
         marks.gather(alloc, &routes, &cases)?;
         Ok(RibStore {
             alloc,
             table,
             roles,
-            routes,
-            cases,
-            marks,
+            routing: Routing {
+                routes,
+                cases,
+                marks,
+            },
         })
     }
 
@@ -339,10 +341,13 @@ impl RibStore {
             alloc,
             table,
             roles,
+            routing,
+        } = self;
+        let Routing {
             routes,
             cases,
             marks,
-        } = self;
+        } = routing;
         let _length = routes.len();
         let cases = cases.mark();
         let marks = Marks {
@@ -355,9 +360,11 @@ impl RibStore {
             alloc,
             table,
             roles,
-            routes,
-            cases,
-            marks,
+            routing: Routing {
+                routes,
+                cases,
+                marks,
+            },
         }
     }
 
@@ -373,28 +380,5 @@ impl RibStore {
         ensures { result.now ≡ self.now.state.roles }
     {
         &self.roles
-    }
-
-    /// The hops of the cases, each under its case's number.
-    pub fn index(&self) -> &HopIndex
-        ensures { IsIndexOf self.now.cases result.now }
-    {
-        self.cases.index()
-    }
-
-    /// The stored cases are exactly the distinct pairs of a peer AS and a path of the routes, each under one number with its right
-    /// judgement: a law, and the body does nothing.
-    pub fn cases_are_those_of_the_routes(&self)
-        ensures { AreCasesOf self.now.state self.now.cases }
-    {
-        let _length = self.routes.len();
-        self.cases.are_distinct();
-    }
-
-    /// The case under a number; `None` exactly where no route has a case of this number.
-    pub fn case(&self, number: usize) -> Option<Case<'_>>
-        ensures { IsCase result (at self.now.cases number) }
-    {
-        self.cases.get(number)
     }
 }

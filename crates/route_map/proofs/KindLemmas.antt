@@ -33,8 +33,8 @@ not_there kind pairs pair of_kind differ = false_from_ne_true (has_pair pairs pa
 not_in_either : (first rest : List (ℕ × Nlri)) (pair : ℕ × Nlri) → has_pair first pair ≡ false → has_pair rest pair ≡ false → has_pair (first ++ rest) pair ≡ false
 not_in_either first rest pair one other = list_any-append (is_at (pair_cmp pair)) first rest ∙ ap (λ (t : Bool). t || has_pair rest pair) one ∙ other
 
-pub kind_is : (q : Nlri) (six mark : Bool) → is_six q.prefix.addr ≡ six → is_some q.path ≡ mark → kind_of q ≡ (six, mark)
-kind_is q six mark family marked = λ i. (family i, marked i)
+pub kind_is : (q : Nlri) (six with_path : Bool) → is_six q.prefix.addr ≡ six → is_some q.path ≡ with_path → kind_of q ≡ (six, with_path)
+kind_is q six with_path family identified = λ i. (family i, identified i)
 
 -- ---- one of two lists changes
 module _ (first rest : List (ℕ × Nlri)) (pair : ℕ × Nlri) (held : Bool) where
@@ -58,58 +58,58 @@ module _ (first rest : List (ℕ × Nlri)) (pair : ℕ × Nlri) (held : Bool) wh
 by_family : (k : Bool × Bool) (a b c d : Bool) → k ≡ (a, b) → k ≡ (c, d) → a ≡ c
 by_family k a b c d one other = ap (λ (kind : Bool × Bool). kind.0) (sym one ∙ other)
 
-by_mark : (k : Bool × Bool) (a b c d : Bool) → k ≡ (a, b) → k ≡ (c, d) → b ≡ d
-by_mark k a b c d one other = ap (λ (kind : Bool × Bool). kind.1) (sym one ∙ other)
+by_path : (k : Bool × Bool) (a b c d : Bool) → k ≡ (a, b) → k ≡ (c, d) → b ≡ d
+by_path k a b c d one other = ap (λ (kind : Bool × Bool). kind.1) (sym one ∙ other)
 
 module _ (v4 v6 m4 m6 : List (ℕ × Nlri)) (apart : AreApart v4 v6 m4 m6) (n : ℕ) (s q : Nlri) (same : s ≡ q) (held : Bool) where
-  no_four : (six mark : Bool) → kind_of q ≡ (six, mark) → (six ≡ false → mark ≡ false → ⊥) → has_pair v4 (n, q) ≡ false
-  no_four six mark here differ = not_there (false, false) v4 (n, q) apart.four (λ e. differ (by_family (kind_of q) six mark false false here e) (by_mark (kind_of q) six mark false false here e))
+  no_four : (six with_path : Bool) → kind_of q ≡ (six, with_path) → (six ≡ false → with_path ≡ false → ⊥) → has_pair v4 (n, q) ≡ false
+  no_four six with_path here differ = not_there (false, false) v4 (n, q) apart.four (λ e. differ (by_family (kind_of q) six with_path false false here e) (by_path (kind_of q) six with_path false false here e))
 
-  no_six : (six mark : Bool) → kind_of q ≡ (six, mark) → (six ≡ true → mark ≡ false → ⊥) → has_pair v6 (n, q) ≡ false
-  no_six six mark here differ = not_there (true, false) v6 (n, q) apart.six (λ e. differ (by_family (kind_of q) six mark true false here e) (by_mark (kind_of q) six mark true false here e))
+  no_six : (six with_path : Bool) → kind_of q ≡ (six, with_path) → (six ≡ true → with_path ≡ false → ⊥) → has_pair v6 (n, q) ≡ false
+  no_six six with_path here differ = not_there (true, false) v6 (n, q) apart.six (λ e. differ (by_family (kind_of q) six with_path true false here e) (by_path (kind_of q) six with_path true false here e))
 
-  no_marked_four : (six mark : Bool) → kind_of q ≡ (six, mark) → (six ≡ false → mark ≡ true → ⊥) → has_pair m4 (n, q) ≡ false
-  no_marked_four six mark here differ = not_there (false, true) m4 (n, q) apart.marked_four (λ e. differ (by_family (kind_of q) six mark false true here e) (by_mark (kind_of q) six mark false true here e))
+  no_identified_four : (six with_path : Bool) → kind_of q ≡ (six, with_path) → (six ≡ false → with_path ≡ true → ⊥) → has_pair m4 (n, q) ≡ false
+  no_identified_four six with_path here differ = not_there (false, true) m4 (n, q) apart.identified_four (λ e. differ (by_family (kind_of q) six with_path false true here e) (by_path (kind_of q) six with_path false true here e))
 
-  no_marked_six : (six mark : Bool) → kind_of q ≡ (six, mark) → (six ≡ true → mark ≡ true → ⊥) → has_pair m6 (n, q) ≡ false
-  no_marked_six six mark here differ = not_there (true, true) m6 (n, q) apart.marked_six (λ e. differ (by_family (kind_of q) six mark true true here e) (by_mark (kind_of q) six mark true true here e))
+  no_identified_six : (six with_path : Bool) → kind_of q ≡ (six, with_path) → (six ≡ true → with_path ≡ true → ⊥) → has_pair m6 (n, q) ≡ false
+  no_identified_six six with_path here differ = not_there (true, true) m6 (n, q) apart.identified_six (λ e. differ (by_family (kind_of q) six with_path true true here e) (by_path (kind_of q) six with_path true true here e))
 
   as_given : (before after : List (ℕ × Nlri)) → SetsPair before (n, s) held after → SetsPair before (n, q) held after
   as_given before after = subst (λ (x : Nlri). SetsPair before (n, x) held after) same
 
   pub four_put : (v4' : List (ℕ × Nlri)) → kind_of q ≡ (false, false) → SetsPair v4 (n, s) held v4' → AreApart v4' v6 m4 m6 × SetsPair (v4 ++ (v6 ++ (m4 ++ m6))) (n, q) held (v4' ++ (v6 ++ (m4 ++ m6)))
   four_put v4' here sets = (
-    record { four = kind_kept (false, false) v4 (n, q) held v4' apart.four here (as_given v4 v4' sets); six = apart.six; marked_four = apart.marked_four; marked_six = apart.marked_six },
+    record { four = kind_kept (false, false) v4 (n, q) held v4' apart.four here (as_given v4 v4' sets); six = apart.six; identified_four = apart.identified_four; identified_six = apart.identified_six },
     first_set v4 (v6 ++ (m4 ++ m6)) (n, q) held v4' (as_given v4 v4' sets)
         (not_in_either v6 (m4 ++ m6) (n, q) (no_six false false here (λ e f. true≢false (sym e)))
-        (not_in_either m4 m6 (n, q) (no_marked_four false false here (λ e f. true≢false (sym f))) (no_marked_six false false here (λ e f. true≢false (sym e))))),
+        (not_in_either m4 m6 (n, q) (no_identified_four false false here (λ e f. true≢false (sym f))) (no_identified_six false false here (λ e f. true≢false (sym e))))),
   )
 
   pub six_put : (v6' : List (ℕ × Nlri)) → kind_of q ≡ (true, false) → SetsPair v6 (n, s) held v6' → AreApart v4 v6' m4 m6 × SetsPair (v4 ++ (v6 ++ (m4 ++ m6))) (n, q) held (v4 ++ (v6' ++ (m4 ++ m6)))
   six_put v6' here sets = (
-    record { four = apart.four; six = kind_kept (true, false) v6 (n, q) held v6' apart.six here (as_given v6 v6' sets); marked_four = apart.marked_four; marked_six = apart.marked_six },
+    record { four = apart.four; six = kind_kept (true, false) v6 (n, q) held v6' apart.six here (as_given v6 v6' sets); identified_four = apart.identified_four; identified_six = apart.identified_six },
     rest_set v4 (v6 ++ (m4 ++ m6)) (n, q) held (v6' ++ (m4 ++ m6))
         (first_set v6 (m4 ++ m6) (n, q) held v6' (as_given v6 v6' sets)
-        (not_in_either m4 m6 (n, q) (no_marked_four true false here (λ e f. true≢false e)) (no_marked_six true false here (λ e f. true≢false (sym f)))))
+        (not_in_either m4 m6 (n, q) (no_identified_four true false here (λ e f. true≢false e)) (no_identified_six true false here (λ e f. true≢false (sym f)))))
         (no_four true false here (λ e f. true≢false e)),
   )
 
-  pub marked_four_put : (m4' : List (ℕ × Nlri)) → kind_of q ≡ (false, true) → SetsPair m4 (n, s) held m4' → AreApart v4 v6 m4' m6 × SetsPair (v4 ++ (v6 ++ (m4 ++ m6))) (n, q) held (v4 ++ (v6 ++ (m4' ++ m6)))
-  marked_four_put m4' here sets = (
-    record { four = apart.four; six = apart.six; marked_four = kind_kept (false, true) m4 (n, q) held m4' apart.marked_four here (as_given m4 m4' sets); marked_six = apart.marked_six },
+  pub identified_four_put : (m4' : List (ℕ × Nlri)) → kind_of q ≡ (false, true) → SetsPair m4 (n, s) held m4' → AreApart v4 v6 m4' m6 × SetsPair (v4 ++ (v6 ++ (m4 ++ m6))) (n, q) held (v4 ++ (v6 ++ (m4' ++ m6)))
+  identified_four_put m4' here sets = (
+    record { four = apart.four; six = apart.six; identified_four = kind_kept (false, true) m4 (n, q) held m4' apart.identified_four here (as_given m4 m4' sets); identified_six = apart.identified_six },
     rest_set v4 (v6 ++ (m4 ++ m6)) (n, q) held (v6 ++ (m4' ++ m6))
         (rest_set v6 (m4 ++ m6) (n, q) held (m4' ++ m6)
-        (first_set m4 m6 (n, q) held m4' (as_given m4 m4' sets) (no_marked_six false true here (λ e f. true≢false (sym e))))
+        (first_set m4 m6 (n, q) held m4' (as_given m4 m4' sets) (no_identified_six false true here (λ e f. true≢false (sym e))))
         (no_six false true here (λ e f. true≢false f)))
         (no_four false true here (λ e f. true≢false f)),
   )
 
-  pub marked_six_put : (m6' : List (ℕ × Nlri)) → kind_of q ≡ (true, true) → SetsPair m6 (n, s) held m6' → AreApart v4 v6 m4 m6' × SetsPair (v4 ++ (v6 ++ (m4 ++ m6))) (n, q) held (v4 ++ (v6 ++ (m4 ++ m6')))
-  marked_six_put m6' here sets = (
-    record { four = apart.four; six = apart.six; marked_four = apart.marked_four; marked_six = kind_kept (true, true) m6 (n, q) held m6' apart.marked_six here (as_given m6 m6' sets) },
+  pub identified_six_put : (m6' : List (ℕ × Nlri)) → kind_of q ≡ (true, true) → SetsPair m6 (n, s) held m6' → AreApart v4 v6 m4 m6' × SetsPair (v4 ++ (v6 ++ (m4 ++ m6))) (n, q) held (v4 ++ (v6 ++ (m4 ++ m6')))
+  identified_six_put m6' here sets = (
+    record { four = apart.four; six = apart.six; identified_four = apart.identified_four; identified_six = kind_kept (true, true) m6 (n, q) held m6' apart.identified_six here (as_given m6 m6' sets) },
     rest_set v4 (v6 ++ (m4 ++ m6)) (n, q) held (v6 ++ (m4 ++ m6'))
         (rest_set v6 (m4 ++ m6) (n, q) held (m4 ++ m6')
-        (rest_set m4 m6 (n, q) held m6' (as_given m6 m6' sets) (no_marked_four true true here (λ e f. true≢false e)))
+        (rest_set m4 m6 (n, q) held m6' (as_given m6 m6' sets) (no_identified_four true true here (λ e f. true≢false e)))
         (no_six true true here (λ e f. true≢false f)))
         (no_four true true here (λ e f. true≢false f)),
   )
@@ -130,5 +130,5 @@ rest_is_empty (x ∷ xs) ys none = absurd cc
 pub each_is_empty : (v4 v6 m4 m6 : List (ℕ × Nlri)) → v4 ++ (v6 ++ (m4 ++ m6)) ≡ [] → (length v4 ≡ 0) × (length v6 ≡ 0) × (length m4 ≡ 0) × (length m6 ≡ 0)
 each_is_empty v4 v6 m4 m6 none =
     let behind : v6 ++ (m4 ++ m6) ≡ [] = rest_is_empty v4 (v6 ++ (m4 ++ m6)) none in
-    let marked : m4 ++ m6 ≡ [] = rest_is_empty v6 (m4 ++ m6) behind in
-    (first_is_empty v4 (v6 ++ (m4 ++ m6)) none, first_is_empty v6 (m4 ++ m6) behind, first_is_empty m4 m6 marked, ap length (rest_is_empty m4 m6 marked))
+    let identified : m4 ++ m6 ≡ [] = rest_is_empty v6 (m4 ++ m6) behind in
+    (first_is_empty v4 (v6 ++ (m4 ++ m6)) none, first_is_empty v6 (m4 ++ m6) behind, first_is_empty m4 m6 identified, ap length (rest_is_empty m4 m6 identified))

@@ -61,5 +61,5 @@ module _ {V : Type 0} where
   pub has_plain : (n : Nlri) (es fs : List (Nlri × V)) → HasNlri es n → HasNlri (merged es fs) n
   has_plain n es fs there = subst IsSome (sym (lookup_merged n es fs)) (some_either (lookup (is_at (nlri_cmp n)) es) (lookup (is_at (nlri_cmp n)) fs) there)
 
-  pub has_marked : (n : Nlri) (es fs : List (Nlri × V)) → HasNlri fs n → HasNlri (merged es fs) n
-  has_marked n es fs there = subst IsSome (sym (lookup_merged n es fs)) (either_some (lookup (is_at (nlri_cmp n)) es) (lookup (is_at (nlri_cmp n)) fs) there)
+  pub has_identified : (n : Nlri) (es fs : List (Nlri × V)) → HasNlri fs n → HasNlri (merged es fs) n
+  has_identified n es fs there = subst IsSome (sym (lookup_merged n es fs)) (either_some (lookup (is_at (nlri_cmp n)) es) (lookup (is_at (nlri_cmp n)) fs) there)

@@ -19,7 +19,7 @@ use Rattle.path_model.specs.Key.{nlri_cmp}
 use Rattle.path_model.specs.Order.{nlri_total}
 use Rattle.path_model.proofs.MapLemmas.{get_entries}
 use Rattle.path_model.proofs.OrderLemmas.{nlri_exact}
-use Rattle.route_map.specs.Merged.{marked, merged, plain, AreMarked, AreTwo}
+use Rattle.route_map.specs.Merged.{identified, merged, plain, AreIdentified, AreTwo}
 use Rattle.sorted_map.proofs.BlockLemmas.{all_more, all_inserted, all_removed, lookup_inserted, lookup_removed, sorted_inserted, sorted_removed}
 
 both_of : (a b : Bool) → T a → T b → T (a && b)
@@ -35,8 +35,8 @@ either (Some v) o = Some v
 pub plain_is : (n : Nlri) → n.path ≡ None → plain n.prefix ≡ n
 plain_is n is = λ i. record { prefix = n.prefix; path = sym is i }
 
-pub marked_is : (n : Nlri) (path : ℕ) → n.path ≡ Some path → marked n.prefix path ≡ n
-marked_is n path is = λ i. record { prefix = n.prefix; path = sym is i }
+pub identified_is : (n : Nlri) (path : ℕ) → n.path ≡ Some path → identified n.prefix path ≡ n
+identified_is n path is = λ i. record { prefix = n.prefix; path = sym is i }
 
 module _ {V : Type 0} where
   -- ---- two lists in order that have the same at each key are one
@@ -78,33 +78,33 @@ module _ {V : Type 0} where
   all_merged P (e ∷ es) fs first second = all_inserted (λ e. P e.0) nlri_cmp e.0 e.1 first.0 (λ f p. p) (merged es fs) (all_merged P es fs first.1 second)
 
   -- ---- a key belongs to one of them
-  none_marked : (q : Nlri) (b d : Bool) → is_some q.path ≡ b → (b ≡ d → ⊥) → (es : List (Nlri × V)) → AreMarked d es → lookup (is_at (nlri_cmp q)) es ≡ None
-  none_marked q b d is differ es marks = lookup-none (is_at (nlri_cmp q)) es
-      (all_more (λ e. is_some e.0.path ≡ d) (λ e. is_at (nlri_cmp q) e.0 ≡ false) (λ e mark. by_case e.0 mark (is_at (nlri_cmp q) e.0) refl) es marks) where
+  none_identified : (q : Nlri) (b d : Bool) → is_some q.path ≡ b → (b ≡ d → ⊥) → (es : List (Nlri × V)) → AreIdentified d es → lookup (is_at (nlri_cmp q)) es ≡ None
+  none_identified q b d is differ es others = lookup-none (is_at (nlri_cmp q)) es
+      (all_more (λ e. is_some e.0.path ≡ d) (λ e. is_at (nlri_cmp q) e.0 ≡ false) (λ e has. by_case e.0 has (is_at (nlri_cmp q) e.0) refl) es others) where
         by_case : (n : Nlri) → is_some n.path ≡ d → (t : Bool) → is_at (nlri_cmp q) n ≡ t → is_at (nlri_cmp q) n ≡ false
-        by_case n mark false t = t
-        by_case n mark true t = absurd (differ (sym is ∙ ap (λ (x : Nlri). is_some x.path) (nlri_exact q n ((Equal-is (nlri_cmp q n)).0 t)) ∙ mark))
+        by_case n has false t = t
+        by_case n has true t = absurd (differ (sym is ∙ ap (λ (x : Nlri). is_some x.path) (nlri_exact q n ((Equal-is (nlri_cmp q n)).0 t)) ∙ has))
 
   or_none : (o p : Option V) → p ≡ None → either o p ≡ o
   or_none None p none = none
   or_none (Some v) p none = refl
 
   module _ (es fs : List (Nlri × V)) (two : AreTwo es fs) where
-    no_mark : (q : Nlri) → is_some q.path ≡ false → lookup (is_at (nlri_cmp q)) fs ≡ None
-    no_mark q is = none_marked q false true is (λ e. true≢false (sym e)) fs two.marked
+    no_identified : (q : Nlri) → is_some q.path ≡ false → lookup (is_at (nlri_cmp q)) fs ≡ None
+    no_identified q is = none_identified q false true is (λ e. true≢false (sym e)) fs two.identified
 
     no_plain : (q : Nlri) → is_some q.path ≡ true → lookup (is_at (nlri_cmp q)) es ≡ None
-    no_plain q is = none_marked q true false is true≢false es two.plain
+    no_plain q is = none_identified q true false is true≢false es two.plain
 
     all_sorted : IsStrictlySortedBy nlri_cmp (keys_of (merged es fs))
-    all_sorted = sorted_merged es fs two.marked_in_order
+    all_sorted = sorted_merged es fs two.identified_in_order
 
     -- ---- look-ups
     lookup_plain : (q : Nlri) → is_some q.path ≡ false → lookup (is_at (nlri_cmp q)) es ≡ lookup (is_at (nlri_cmp q)) (merged es fs)
-    lookup_plain q is = sym (lookup_merged q es fs ∙ or_none (lookup (is_at (nlri_cmp q)) es) (lookup (is_at (nlri_cmp q)) fs) (no_mark q is))
+    lookup_plain q is = sym (lookup_merged q es fs ∙ or_none (lookup (is_at (nlri_cmp q)) es) (lookup (is_at (nlri_cmp q)) fs) (no_identified q is))
 
-    lookup_marked : (q : Nlri) → is_some q.path ≡ true → lookup (is_at (nlri_cmp q)) fs ≡ lookup (is_at (nlri_cmp q)) (merged es fs)
-    lookup_marked q is = sym (lookup_merged q es fs ∙ ap (λ (o : Option V). either o (lookup (is_at (nlri_cmp q)) fs)) (no_plain q is))
+    lookup_identified : (q : Nlri) → is_some q.path ≡ true → lookup (is_at (nlri_cmp q)) fs ≡ lookup (is_at (nlri_cmp q)) (merged es fs)
+    lookup_identified q is = sym (lookup_merged q es fs ∙ ap (λ (o : Option V). either o (lookup (is_at (nlri_cmp q)) fs)) (no_plain q is))
 
     -- a key that is equal to another is of its kind
     same_kind : (k q : Nlri) (b : Bool) → is_some k.path ≡ b → is_at (nlri_cmp k) q ≡ true → is_some q.path ≡ b
@@ -115,7 +115,7 @@ module _ {V : Type 0} where
         → either (cond (is_at (nlri_cmp k) q) now (lookup (is_at (nlri_cmp q)) es)) (lookup (is_at (nlri_cmp q)) fs) ≡ cond (is_at (nlri_cmp k) q) now (lookup (is_at (nlri_cmp q)) (merged es fs))
     first_changed k q now is = by_case (is_at (nlri_cmp k) q) refl where
       by_case : (b : Bool) → is_at (nlri_cmp k) q ≡ b → either (cond b now (lookup (is_at (nlri_cmp q)) es)) (lookup (is_at (nlri_cmp q)) fs) ≡ cond b now (lookup (is_at (nlri_cmp q)) (merged es fs))
-      by_case true same = or_none now (lookup (is_at (nlri_cmp q)) fs) (no_mark q (same_kind k q false is same))
+      by_case true same = or_none now (lookup (is_at (nlri_cmp q)) fs) (no_identified q (same_kind k q false is same))
       by_case false other = sym (lookup_merged q es fs)
 
     second_changed : (k q : Nlri) (now : Option V) → is_some k.path ≡ true
@@ -133,15 +133,15 @@ module _ {V : Type 0} where
       pub two_with_plain : (v : V) → AreTwo (insert_entry nlri_cmp es s v) fs
       two_with_plain v = record {
         plain = all_inserted (λ e. is_some e.0.path ≡ false) nlri_cmp s v (ap (λ (x : Nlri). is_some x.path) same ∙ is) (λ e p. p) es two.plain;
-        marked = two.marked;
+        identified = two.identified;
         plain_in_order = sorted_inserted nlri_total s v es two.plain_in_order;
-        marked_in_order = two.marked_in_order;
+        identified_in_order = two.identified_in_order;
       }
 
       pub insert_plain : (v : V) → merged (insert_entry nlri_cmp es s v) fs ≡ insert_entry nlri_cmp (merged es fs) k v
       insert_plain v = ap (λ (x : Nlri). merged (insert_entry nlri_cmp es x v) fs) same
           ∙ one_list (merged (insert_entry nlri_cmp es k v) fs) (insert_entry nlri_cmp (merged es fs) k v)
-          (sorted_merged (insert_entry nlri_cmp es k v) fs two.marked_in_order) (sorted_inserted nlri_total k v (merged es fs) all_sorted)
+          (sorted_merged (insert_entry nlri_cmp es k v) fs two.identified_in_order) (sorted_inserted nlri_total k v (merged es fs) all_sorted)
           (λ q. lookup_merged q (insert_entry nlri_cmp es k v) fs
           ∙ ap (λ (o : Option V). either o (lookup (is_at (nlri_cmp q)) fs)) (lookup_inserted nlri_total k v q es)
           ∙ first_changed k q (Some v) is
@@ -150,15 +150,15 @@ module _ {V : Type 0} where
       pub two_without_plain : AreTwo (remove_entry (is_at (nlri_cmp s)) es) fs
       two_without_plain = record {
         plain = all_removed (λ e. is_some e.0.path ≡ false) (is_at (nlri_cmp s)) es two.plain;
-        marked = two.marked;
+        identified = two.identified;
         plain_in_order = sorted_removed nlri_cmp (is_at (nlri_cmp s)) es two.plain_in_order;
-        marked_in_order = two.marked_in_order;
+        identified_in_order = two.identified_in_order;
       }
 
       pub remove_plain : merged (remove_entry (is_at (nlri_cmp s)) es) fs ≡ remove_entry (is_at (nlri_cmp k)) (merged es fs)
       remove_plain = ap (λ (x : Nlri). merged (remove_entry (is_at (nlri_cmp x)) es) fs) same
           ∙ one_list (merged (remove_entry (is_at (nlri_cmp k)) es) fs) (remove_entry (is_at (nlri_cmp k)) (merged es fs))
-          (sorted_merged (remove_entry (is_at (nlri_cmp k)) es) fs two.marked_in_order) (sorted_removed nlri_cmp (is_at (nlri_cmp k)) (merged es fs) all_sorted)
+          (sorted_merged (remove_entry (is_at (nlri_cmp k)) es) fs two.identified_in_order) (sorted_removed nlri_cmp (is_at (nlri_cmp k)) (merged es fs) all_sorted)
           (λ q. lookup_merged q (remove_entry (is_at (nlri_cmp k)) es) fs
           ∙ ap (λ (o : Option V). either o (lookup (is_at (nlri_cmp q)) fs)) (lookup_removed nlri_total k q es two.plain_in_order)
           ∙ first_changed k q None is
@@ -166,47 +166,47 @@ module _ {V : Type 0} where
 
     -- ---- a route with one
     module _ (s k : Nlri) (same : s ≡ k) (is : is_some k.path ≡ true) where
-      pub found_marked : lookup (is_at (nlri_cmp s)) fs ≡ lookup (is_at (nlri_cmp k)) (merged es fs)
-      found_marked = ap (λ (x : Nlri). lookup (is_at (nlri_cmp x)) fs) same ∙ lookup_marked k is
+      pub found_identified : lookup (is_at (nlri_cmp s)) fs ≡ lookup (is_at (nlri_cmp k)) (merged es fs)
+      found_identified = ap (λ (x : Nlri). lookup (is_at (nlri_cmp x)) fs) same ∙ lookup_identified k is
 
-      pub two_with_marked : (v : V) → AreTwo es (insert_entry nlri_cmp fs s v)
-      two_with_marked v = record {
+      pub two_with_identified : (v : V) → AreTwo es (insert_entry nlri_cmp fs s v)
+      two_with_identified v = record {
         plain = two.plain;
-        marked = all_inserted (λ e. is_some e.0.path ≡ true) nlri_cmp s v (ap (λ (x : Nlri). is_some x.path) same ∙ is) (λ e p. p) fs two.marked;
+        identified = all_inserted (λ e. is_some e.0.path ≡ true) nlri_cmp s v (ap (λ (x : Nlri). is_some x.path) same ∙ is) (λ e p. p) fs two.identified;
         plain_in_order = two.plain_in_order;
-        marked_in_order = sorted_inserted nlri_total s v fs two.marked_in_order;
+        identified_in_order = sorted_inserted nlri_total s v fs two.identified_in_order;
       }
 
-      pub insert_marked : (v : V) → merged es (insert_entry nlri_cmp fs s v) ≡ insert_entry nlri_cmp (merged es fs) k v
-      insert_marked v = ap (λ (x : Nlri). merged es (insert_entry nlri_cmp fs x v)) same
+      pub insert_identified : (v : V) → merged es (insert_entry nlri_cmp fs s v) ≡ insert_entry nlri_cmp (merged es fs) k v
+      insert_identified v = ap (λ (x : Nlri). merged es (insert_entry nlri_cmp fs x v)) same
           ∙ one_list (merged es (insert_entry nlri_cmp fs k v)) (insert_entry nlri_cmp (merged es fs) k v)
-          (sorted_merged es (insert_entry nlri_cmp fs k v) (sorted_inserted nlri_total k v fs two.marked_in_order)) (sorted_inserted nlri_total k v (merged es fs) all_sorted)
+          (sorted_merged es (insert_entry nlri_cmp fs k v) (sorted_inserted nlri_total k v fs two.identified_in_order)) (sorted_inserted nlri_total k v (merged es fs) all_sorted)
           (λ q. lookup_merged q es (insert_entry nlri_cmp fs k v)
           ∙ ap (either (lookup (is_at (nlri_cmp q)) es)) (lookup_inserted nlri_total k v q fs)
           ∙ second_changed k q (Some v) is
           ∙ sym (lookup_inserted nlri_total k v q (merged es fs)))
 
-      pub two_without_marked : AreTwo es (remove_entry (is_at (nlri_cmp s)) fs)
-      two_without_marked = record {
+      pub two_without_identified : AreTwo es (remove_entry (is_at (nlri_cmp s)) fs)
+      two_without_identified = record {
         plain = two.plain;
-        marked = all_removed (λ e. is_some e.0.path ≡ true) (is_at (nlri_cmp s)) fs two.marked;
+        identified = all_removed (λ e. is_some e.0.path ≡ true) (is_at (nlri_cmp s)) fs two.identified;
         plain_in_order = two.plain_in_order;
-        marked_in_order = sorted_removed nlri_cmp (is_at (nlri_cmp s)) fs two.marked_in_order;
+        identified_in_order = sorted_removed nlri_cmp (is_at (nlri_cmp s)) fs two.identified_in_order;
       }
 
-      pub remove_marked : merged es (remove_entry (is_at (nlri_cmp s)) fs) ≡ remove_entry (is_at (nlri_cmp k)) (merged es fs)
-      remove_marked = ap (λ (x : Nlri). merged es (remove_entry (is_at (nlri_cmp x)) fs)) same
+      pub remove_identified : merged es (remove_entry (is_at (nlri_cmp s)) fs) ≡ remove_entry (is_at (nlri_cmp k)) (merged es fs)
+      remove_identified = ap (λ (x : Nlri). merged es (remove_entry (is_at (nlri_cmp x)) fs)) same
           ∙ one_list (merged es (remove_entry (is_at (nlri_cmp k)) fs)) (remove_entry (is_at (nlri_cmp k)) (merged es fs))
-          (sorted_merged es (remove_entry (is_at (nlri_cmp k)) fs) (sorted_removed nlri_cmp (is_at (nlri_cmp k)) fs two.marked_in_order)) (sorted_removed nlri_cmp (is_at (nlri_cmp k)) (merged es fs) all_sorted)
+          (sorted_merged es (remove_entry (is_at (nlri_cmp k)) fs) (sorted_removed nlri_cmp (is_at (nlri_cmp k)) fs two.identified_in_order)) (sorted_removed nlri_cmp (is_at (nlri_cmp k)) (merged es fs) all_sorted)
           (λ q. lookup_merged q es (remove_entry (is_at (nlri_cmp k)) fs)
-          ∙ ap (either (lookup (is_at (nlri_cmp q)) es)) (lookup_removed nlri_total k q fs two.marked_in_order)
+          ∙ ap (either (lookup (is_at (nlri_cmp q)) es)) (lookup_removed nlri_total k q fs two.identified_in_order)
           ∙ second_changed k q None is
           ∙ sym (lookup_removed nlri_total k q (merged es fs) all_sorted))
 
   -- ---- whether there are any
   pub two_nothing : AreTwo {V = V} [] []
   unfolding IsStrictlySortedBy
-  two_nothing = record { plain = tt; marked = tt; plain_in_order = tt; marked_in_order = tt }
+  two_nothing = record { plain = tt; identified = tt; plain_in_order = tt; identified_in_order = tt }
 
   inserted_some : (k : Nlri) (v : V) (es : List (Nlri × V)) → insert_entry nlri_cmp es k v ≢ []
   inserted_some k v [] e = cc
@@ -223,5 +223,5 @@ module _ {V : Type 0} where
   pub both_are_empty : (es fs : List (Nlri × V)) → es ≡ [] → fs ≡ [] → merged es fs ≡ []
   both_are_empty es fs first second = ap (λ (xs : List (Nlri × V)). merged xs fs) first ∙ second
 
-  pub marked_is_empty : (es fs : List (Nlri × V)) → es ≡ [] → merged es fs ≡ [] → fs ≡ []
-  marked_is_empty es fs first none = ap (λ (xs : List (Nlri × V)). merged xs fs) (sym first) ∙ none
+  pub identified_is_empty : (es fs : List (Nlri × V)) → es ≡ [] → merged es fs ≡ [] → fs ≡ []
+  identified_is_empty es fs first none = ap (λ (xs : List (Nlri × V)). merged xs fs) (sym first) ∙ none

@@ -40,38 +40,38 @@ module _ {V : Type 0} where
       (all_merged (λ y. nlri_cmp e.0 y ≡ Less) es fs (of_keys (λ y. nlri_cmp e.0 y ≡ Less) es (sorted_head nlri_cmp e.0 (keys_of es) sorted)) below)
 
   -- one with an identifier that is
-  mark_next : (f : Nlri × V) (es fs : List (Nlri × V)) → AllByRecursion (λ e. nlri_cmp f.0 e.0 ≡ Less) es → merged es (f ∷ fs) ≡ f ∷ merged es fs
-  mark_next f [] fs below = refl
-  mark_next f (e ∷ es) fs below = ap (λ (gs : List (Nlri × V)). insert_entry nlri_cmp gs e.0 e.1) (mark_next f es fs below.1)
+  identified_next : (f : Nlri × V) (es fs : List (Nlri × V)) → AllByRecursion (λ e. nlri_cmp f.0 e.0 ≡ Less) es → merged es (f ∷ fs) ≡ f ∷ merged es fs
+  identified_next f [] fs below = refl
+  identified_next f (e ∷ es) fs below = ap (λ (gs : List (Nlri × V)). insert_entry nlri_cmp gs e.0 e.1) (identified_next f es fs below.1)
       ∙ insert_second nlri_cmp e.0 e.1 (f ∷ []) (merged es fs) (nlri_total.antisymm e.0 f.0 ∙ ap ordering_reverse below.0, tt)
 
   plain_alone : (e : Nlri × V) (es : List (Nlri × V)) → AreTwo (e ∷ es) [] → merged (e ∷ es) [] ≡ e ∷ merged es []
   plain_alone e es two = plain_next e es [] two.plain_in_order tt
 
   plain_first : (e f : Nlri × V) (es fs : List (Nlri × V)) → AreTwo (e ∷ es) (f ∷ fs) → nlri_cmp e.0 f.0 ≡ Less → merged (e ∷ es) (f ∷ fs) ≡ e ∷ merged es (f ∷ fs)
-  plain_first e f es fs two less = plain_next e es (f ∷ fs) two.plain_in_order (below_sorted e.0 f fs less two.marked_in_order)
+  plain_first e f es fs two less = plain_next e es (f ∷ fs) two.plain_in_order (below_sorted e.0 f fs less two.identified_in_order)
 
-  mark_first : (e f : Nlri × V) (es fs : List (Nlri × V)) → AreTwo (e ∷ es) (f ∷ fs) → (nlri_cmp e.0 f.0 ≡ Less → ⊥) → merged (e ∷ es) (f ∷ fs) ≡ f ∷ merged (e ∷ es) fs
-  mark_first e f es fs two behind = mark_next f (e ∷ es) fs (below_sorted f.0 e es (by_order (nlri_cmp e.0 f.0) refl) two.plain_in_order) where
+  identified_first : (e f : Nlri × V) (es fs : List (Nlri × V)) → AreTwo (e ∷ es) (f ∷ fs) → (nlri_cmp e.0 f.0 ≡ Less → ⊥) → merged (e ∷ es) (f ∷ fs) ≡ f ∷ merged (e ∷ es) fs
+  identified_first e f es fs two behind = identified_next f (e ∷ es) fs (below_sorted f.0 e es (by_order (nlri_cmp e.0 f.0) refl) two.plain_in_order) where
     by_order : (o : Ordering) → nlri_cmp e.0 f.0 ≡ o → nlri_cmp f.0 e.0 ≡ Less
     by_order Less is = absurd (behind is)
-    by_order Equal is = absurd (true≢false (sym two.marked.0 ∙ ap (λ (n : Nlri). is_some n.path) (sym (nlri_exact e.0 f.0 is)) ∙ two.plain.0))
+    by_order Equal is = absurd (true≢false (sym two.identified.0 ∙ ap (λ (n : Nlri). is_some n.path) (sym (nlri_exact e.0 f.0 is)) ∙ two.plain.0))
     by_order Greater is = nlri_total.antisymm f.0 e.0 ∙ ap ordering_reverse is
 
   two_after_plain : (e : Nlri × V) (es fs : List (Nlri × V)) → AreTwo (e ∷ es) fs → AreTwo es fs
   two_after_plain e es fs two = record {
     plain = two.plain.1;
-    marked = two.marked;
+    identified = two.identified;
     plain_in_order = sorted_tail nlri_cmp e.0 (keys_of es) two.plain_in_order;
-    marked_in_order = two.marked_in_order;
+    identified_in_order = two.identified_in_order;
   }
 
-  two_after_mark : (f : Nlri × V) (es fs : List (Nlri × V)) → AreTwo es (f ∷ fs) → AreTwo es fs
-  two_after_mark f es fs two = record {
+  two_after_identified : (f : Nlri × V) (es fs : List (Nlri × V)) → AreTwo es (f ∷ fs) → AreTwo es fs
+  two_after_identified f es fs two = record {
     plain = two.plain;
-    marked = two.marked.1;
+    identified = two.identified.1;
     plain_in_order = two.plain_in_order;
-    marked_in_order = sorted_tail nlri_cmp f.0 (keys_of fs) two.marked_in_order;
+    identified_in_order = sorted_tail nlri_cmp f.0 (keys_of fs) two.identified_in_order;
   }
 
   -- ---- as iterators give them
@@ -91,32 +91,32 @@ module _ {V : Type 0} where
       by_case (g ∷ gs) two none r gives = absurd cc
 
     -- where one is, and the next without one is below it,
-    pub below : (mark : Nlri) → first_nlri fs ≡ Some mark → (x : Nlri × Bor V) (es' : List (Nlri × V)) → GivesBelow es mark es' x
+    pub below : (nlri : Nlri) → first_nlri fs ≡ Some nlri → (x : Nlri × Bor V) (es' : List (Nlri × V)) → GivesBelow es nlri es' x
         → AreTwo es' fs × (merged es fs ≡ (x.0, x.1.now) ∷ merged es' fs)
-    below mark some x es' gives = by_case fs all some where
+    below nlri some x es' gives = by_case fs all some where
       all : AreTwo ((x.0, x.1.now) ∷ es') fs
       all = subst (λ (xs : List (Nlri × V)). AreTwo xs fs) gives.first two
 
-      by_case : (gs : List (Nlri × V)) → AreTwo ((x.0, x.1.now) ∷ es') gs → first_nlri gs ≡ Some mark → AreTwo es' gs × (merged es gs ≡ (x.0, x.1.now) ∷ merged es' gs)
+      by_case : (gs : List (Nlri × V)) → AreTwo ((x.0, x.1.now) ∷ es') gs → first_nlri gs ≡ Some nlri → AreTwo es' gs × (merged es gs ≡ (x.0, x.1.now) ∷ merged es' gs)
       by_case [] all some = absurd cc
       by_case (g ∷ gs) all some =
-          let same : mark ≡ g.0 = cc in (
+          let same : nlri ≡ g.0 = cc in (
             two_after_plain (x.0, x.1.now) es' (g ∷ gs) all,
             ap (λ (xs : List (Nlri × V)). merged xs (g ∷ gs)) gives.first
                 ∙ plain_first (x.0, x.1.now) g es' gs all (ap (nlri_cmp x.0) (sym same) ∙ gives.below),
           )
 
     -- and where it isn't
-    pub behind : (mark : Nlri) → first_nlri fs ≡ Some mark → (es' : List (Nlri × V)) → IsNotBelow es mark es' → (r : Option (Nlri × Bor V)) (fs' : List (Nlri × V)) → Gives fs r fs'
+    pub behind : (nlri : Nlri) → first_nlri fs ≡ Some nlri → (es' : List (Nlri × V)) → IsNotBelow es nlri es' → (r : Option (Nlri × Bor V)) (fs' : List (Nlri × V)) → Gives fs r fs'
         → AreTwo es' fs' × Gives (merged es fs) r (merged es' fs')
-    behind mark some es' left None fs' gives = let none : None ≡ Some mark = sym (ap (λ (xs : List (Nlri × V)). first_nlri xs) gives.0) ∙ some in absurd cc
-    behind mark some es' left (Some x) fs' gives =
+    behind nlri some es' left None fs' gives = let none : None ≡ Some nlri = sym (ap (λ (xs : List (Nlri × V)). first_nlri xs) gives.0) ∙ some in absurd cc
+    behind nlri some es' left (Some x) fs' gives =
         let all : AreTwo es ((x.0, x.1.now) ∷ fs') = subst (AreTwo es) gives two in
-        let first : Some x.0 ≡ Some mark = sym (ap (λ (xs : List (Nlri × V)). first_nlri xs) gives) ∙ some in
-        let same : mark ≡ x.0 = cc in (
-          subst (λ (xs : List (Nlri × V)). AreTwo xs fs') (sym left.same) (two_after_mark (x.0, x.1.now) es fs' all),
+        let first : Some x.0 ≡ Some nlri = sym (ap (λ (xs : List (Nlri × V)). first_nlri xs) gives) ∙ some in
+        let same : nlri ≡ x.0 = cc in (
+          subst (λ (xs : List (Nlri × V)). AreTwo xs fs') (sym left.same) (two_after_identified (x.0, x.1.now) es fs' all),
           ap (merged es) gives ∙ by_case es all (subst (FirstIsNotBelow es) same left.behind) ∙ ap (λ (xs : List (Nlri × V)). (x.0, x.1.now) ∷ merged xs fs') (sym left.same),
         ) where
           by_case : (ds : List (Nlri × V)) → AreTwo ds ((x.0, x.1.now) ∷ fs') → FirstIsNotBelow ds x.0 → merged ds ((x.0, x.1.now) ∷ fs') ≡ (x.0, x.1.now) ∷ merged ds fs'
           by_case [] all none = refl
-          by_case (d ∷ ds) all not_below = mark_first d (x.0, x.1.now) ds fs' all not_below
+          by_case (d ∷ ds) all not_below = identified_first d (x.0, x.1.now) ds fs' all not_below

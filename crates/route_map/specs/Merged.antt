@@ -1,13 +1,14 @@
 -- The routes of one peer, those without a path identifier apart from those with one. Private contracts alone cite it.
 use Rattle.std.specs.Prelude.{◌≡◌, ◌≢◌, ℕ, Bool, true, false, List, [], ◌∷◌, option_map, is_some}
 use Rattle.std.specs.Borrow.{Bor}
+use Rattle.std.specs.Global.{Box}
 use Rattle.std.specs.declared.cmp.Ordering.TheVariants.{Less}
 use Rattle.std.specs.declared.option.Option.{Option}
 use Rattle.std.specs.declared.option.Option.TheVariants.{Some, None}
 use Rattle.std.specs.BTreeMap.{insert_entry, is_at}
 use Rattle.std.specs.List.{AllByRecursion}
 use Rattle.std.specs.List.Sorted.{IsStrictlySortedBy}
-use Rattle.std.specs.Map.{keys_of, lookup}
+use Rattle.std.specs.Map.{keys_of, lookup, remove_entry}
 use Rattle.std.specs.Option.{IsSome}
 use Rattle.path_model.specs.declared.nlri.Nlri.{Nlri}
 use Rattle.path_model.specs.Key.{nlri_cmp}
@@ -17,12 +18,28 @@ use Rattle.path_model.specs.Prefix.{Subnet}
 abbrev pub plain : Subnet → Nlri
 plain prefix = record { prefix = prefix; path = None }
 
-abbrev pub marked : Subnet → ℕ → Nlri
-marked prefix path = record { prefix = prefix; path = Some path }
+abbrev pub identified : Subnet → ℕ → Nlri
+identified prefix path = record { prefix = prefix; path = Some path }
+
+-- the value of an announced prefix, if it has one
+abbrev pub value_of : {V : Type 0} → List (Nlri × V) → Nlri → Option V
+value_of es nlri = lookup (is_at (nlri_cmp nlri)) es
+
+-- the list with this value at an announced prefix, and without one there
+abbrev pub with_value : {V : Type 0} → List (Nlri × V) → Nlri → V → List (Nlri × V)
+with_value es nlri value = insert_entry nlri_cmp es nlri value
+
+abbrev pub without_nlri : {V : Type 0} → List (Nlri × V) → Nlri → List (Nlri × V)
+without_nlri es nlri = remove_entry (is_at (nlri_cmp nlri)) es
+
+-- what is in a box, and none where there is no box
+abbrev pub boxed_or : {V : Type 0} → Option (Box (List (Nlri × V))) → List (Nlri × V)
+boxed_or None = []
+boxed_or (Some b) = b.value
 
 -- each has a path identifier, or none has
-abbrev pub AreMarked : {V : Type 0} → Bool → List (Nlri × V) → Type 0
-AreMarked b es = AllByRecursion (λ e. is_some e.0.path ≡ b) es
+abbrev pub AreIdentified : {V : Type 0} → Bool → List (Nlri × V) → Type 0
+AreIdentified b es = AllByRecursion (λ e. is_some e.0.path ≡ b) es
 
 -- all of them in order: each of the first has its place among the others
 abbrev pub merged : {V : Type 0} → List (Nlri × V) → List (Nlri × V) → List (Nlri × V)
@@ -30,11 +47,11 @@ merged [] fs = fs
 merged (e ∷ es) fs = insert_entry nlri_cmp (merged es fs) e.0 e.1
 
 -- the first have no path identifier, the others have one, and both are in order
-pub record AreTwo {V : Type 0} (plains marks : List (Nlri × V)) : Type 0 where
-  pub plain : AreMarked false plains
-  pub marked : AreMarked true marks
+pub record AreTwo {V : Type 0} (plains others : List (Nlri × V)) : Type 0 where
+  pub plain : AreIdentified false plains
+  pub identified : AreIdentified true others
   pub plain_in_order : IsStrictlySortedBy nlri_cmp (keys_of plains)
-  pub marked_in_order : IsStrictlySortedBy nlri_cmp (keys_of marks)
+  pub identified_in_order : IsStrictlySortedBy nlri_cmp (keys_of others)
 
 -- an entry before the others, if there is one
 abbrev pub before : {V : Type 0} → Option (Nlri × V) → List (Nlri × V) → List (Nlri × V)
@@ -47,7 +64,7 @@ seen o = option_map (λ e. (e.0, e.1.now)) o
 
 -- there is one that leads there
 abbrev pub HasNlri : {V : Type 0} → List (Nlri × V) → Nlri → Type 0
-HasNlri es nlri = IsSome (lookup (is_at (nlri_cmp nlri)) es)
+HasNlri es nlri = IsSome (value_of es nlri)
 
 -- what the first leads to, if there is one
 abbrev pub first_nlri : {V : Type 0} → List (Nlri × V) → Option Nlri

@@ -5,8 +5,8 @@ ghost use Rattle.std.specs.Cmp.{eq_by_cmp_equiv, partial_equiv_from_equiv, parti
 ghost use Rattle.path_model.specs.Key.{nlri_cmp};
 ghost use Rattle.path_model.specs.Order.{nlri_total};
 ghost use Rattle.route_map.specs.Families.{four_of};
-ghost use Rattle.route_map.specs.Merged.{marked};
-ghost use Rattle.route_map.specs.Numbered.{least_marked};
+ghost use Rattle.route_map.specs.Merged.{identified};
+ghost use Rattle.route_map.specs.Numbered.{least_identified};
 
 use crate::ipv4_subnet::Ipv4Subnet;
 use path_model::{Nlri, Prefix};
@@ -23,12 +23,12 @@ pub(crate) struct Ipv4Nlri {
 impl Model for Ipv4Nlri {
     ghost use Rattle.std.specs.Option.{unwrap_or};
     ghost use Rattle.path_model.specs.declared.nlri.Nlri.{Nlri};
-    ghost use Rattle.route_map.specs.Merged.{marked};
-    ghost use Rattle.route_map.specs.Numbered.{least_marked};
+    ghost use Rattle.route_map.specs.Merged.{identified};
+    ghost use Rattle.route_map.specs.Numbered.{least_identified};
 
     ghost Value = { Nlri };
 
-    ghost view = { λ s. marked s.subnet s.path };
+    ghost view = { λ s. identified s.subnet s.path };
 
     ghost inverse = { λ n. record { subnet = n.prefix; path = unwrap_or n.path 0 } };
 }
@@ -36,7 +36,7 @@ impl Model for Ipv4Nlri {
 impl Ipv4Nlri {
     // The least of all with an identifier.
     pub(crate) fn least() -> Ipv4Nlri
-        ensures { result ≡ least_marked }
+        ensures { result ≡ least_identified }
     {
         Ipv4Nlri {
             subnet: Ipv4Subnet::least(),
@@ -46,7 +46,7 @@ impl Ipv4Nlri {
 
     // The prefix with this identifier, if it is one of IPv4.
     pub(crate) fn of(prefix: &Prefix, path: u32) -> Option<Ipv4Nlri>
-        ensures { result ≡ option_map (λ s. marked s path) (four_of prefix.now) }
+        ensures { result ≡ option_map (λ s. identified s path) (four_of prefix.now) }
     {
         match Ipv4Subnet::of(prefix) {
             None => None,

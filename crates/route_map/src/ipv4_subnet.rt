@@ -34,7 +34,8 @@ impl Model for Ipv4Subnet {
 
     ghost inverse = { λ s. record { bits = to_be_bytes w32 (number_of s.addr); len = s.len } };
 
-    ghost inverse_ok = { λ a packed. ap (λ (b : List ℕ). record { bits = b; len = a.len }) (be_bytes_4 a.bits (from_be_bytes w32 a.bits) packed.four packed.small refl) };
+    ghost inverse_ok = { λ a packed. ap (λ (b : List ℕ). record { bits = b; len = a.len })
+        (be_bytes_4 a.bits (from_be_bytes w32 a.bits) packed.four packed.small refl) };
 
     ghost invariant = { λ s. IsPacked s.bits s.len };
 }

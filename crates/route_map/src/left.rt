@@ -3,7 +3,7 @@ ghost use Rattle.std.specs.Prelude.{◌≡◌, IfNone, IfSome};
 ghost use Rattle.std.specs.Iterator.{YieldsFirstBy, item_count};
 ghost use Rattle.route_map.specs.Merged.{first_nlri, GivesBelow, IsNotBelow};
 
-use crate::marked_iter::MarkedIter;
+use crate::boxed_iter::BoxedIter;
 use crate::plain_iter::PlainIter;
 use path_model::Nlri;
 use std::cmp::Ordering;
@@ -79,13 +79,13 @@ impl<'a, V> Iterator for PlainLeft<'a, V> {
 
 // Those with one.
 #[derive(Drop)]
-pub(crate) struct MarkedLeft<'a, V> {
+pub(crate) struct IdentifiedLeft<'a, V> {
     // the next one, if there is one
     next: Option<(Nlri, &'a V)>,
-    rest: MarkedIter<'a, V>,
+    rest: BoxedIter<'a, V>,
 }
 
-impl<'a, V> Model for MarkedLeft<'a, V> {
+impl<'a, V> Model for IdentifiedLeft<'a, V> {
     ghost use Rattle.std.specs.Prelude.{List, ◌≡◌, [], None};
     ghost use Rattle.path_model.specs.declared.nlri.Nlri.{Nlri};
     ghost use Rattle.route_map.specs.Merged.{before, seen};
@@ -97,13 +97,13 @@ impl<'a, V> Model for MarkedLeft<'a, V> {
     ghost invariant = { λ i. seen i.next ≡ None → i.rest ≡ [] };
 }
 
-impl<'a, V> MarkedLeft<'a, V> {
+impl<'a, V> IdentifiedLeft<'a, V> {
     // All these.
-    pub(crate) fn of(mut rest: MarkedIter<'a, V>) -> MarkedLeft<'a, V>
+    pub(crate) fn of(mut rest: BoxedIter<'a, V>) -> IdentifiedLeft<'a, V>
         ensures { result ≡ rest.entry }
     {
         let next = rest.next();
-        MarkedLeft { next, rest }
+        IdentifiedLeft { next, rest }
     }
 
     // What the next one leads to, if there is one.
@@ -117,7 +117,7 @@ impl<'a, V> MarkedLeft<'a, V> {
     }
 }
 
-impl<'a, V> Iterator for MarkedLeft<'a, V> {
+impl<'a, V> Iterator for IdentifiedLeft<'a, V> {
     type Item = (Nlri, &'a V);
 
     ghost next_gives = { YieldsFirstBy (λ e. (e.0, e.1.now)) (λ left. left) };

@@ -1,4 +1,5 @@
-//! A value for each route: a map by peer and then by prefix, laid out so that ten million IPv4 routes of a dump take some 100 MB.
+//! A value for each route: a map by peer, then by prefix and then by path identifier, laid out so that ten million IPv4 routes of a dump
+//! take some 100 MB.
 //!
 //! The layers above see the list of its entries in key order and use the words of std's maps: **[`RouteMap::insert`] makes
 //! `insert_entry key_cmp` of that list and [`RouteMap::remove`] `remove_entry`, [`RouteMap::get`] looks up in it, and [`RouteMap::iter`]
@@ -9,7 +10,11 @@
 //! above keeps it in step by [`KeysByNumber::follow`], and `specs/Keys.antt` says what it is that a key has a number.
 #![tactic(auto)]
 
+mod boxed_iter;
+mod boxed_routes;
 mod by_number;
+mod identified_iter;
+mod identified_routes;
 mod ipv4_nlri;
 mod ipv4_plain;
 mod ipv4_subnet;
@@ -17,8 +22,6 @@ mod ipv6_plain;
 mod iter;
 mod keys_by_number;
 mod left;
-mod marked_iter;
-mod marked_routes;
 mod nlri_iter;
 mod peer_iter;
 mod peer_routes;

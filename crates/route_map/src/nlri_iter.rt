@@ -3,8 +3,8 @@ ghost use Rattle.std.specs.Prelude.{◌≡◌};
 ghost use Rattle.std.specs.Iterator.{YieldsFirstBy, item_count};
 ghost use Rattle.route_map.specs.Merged.{merged, AreTwo};
 
-use crate::left::{MarkedLeft, PlainLeft};
-use crate::marked_iter::MarkedIter;
+use crate::boxed_iter::BoxedIter;
+use crate::left::{IdentifiedLeft, PlainLeft};
 use crate::plain_iter::PlainIter;
 use path_model::Nlri;
 use std::marker::Model;
@@ -13,7 +13,7 @@ use std::marker::Model;
 #[derive(Drop)]
 pub(crate) struct NlriIter<'a, V> {
     plain: PlainLeft<'a, V>,
-    marked: MarkedLeft<'a, V>,
+    identified: IdentifiedLeft<'a, V>,
 }
 
 impl<'a, V> Model for NlriIter<'a, V> {
@@ -23,20 +23,20 @@ impl<'a, V> Model for NlriIter<'a, V> {
 
     ghost Value = { List (Nlri × V) };
 
-    ghost view = { λ i. merged i.plain i.marked };
+    ghost view = { λ i. merged i.plain i.identified };
 
-    ghost invariant = { λ i. AreTwo i.plain i.marked };
+    ghost invariant = { λ i. AreTwo i.plain i.identified };
 }
 
 impl<'a, V> NlriIter<'a, V> {
     // All these.
-    pub(crate) fn of(plain: PlainIter<'a, V>, marked: MarkedIter<'a, V>) -> NlriIter<'a, V>
-        requires { AreTwo plain marked }
-        ensures { result ≡ merged plain.entry marked.entry }
+    pub(crate) fn of(plain: PlainIter<'a, V>, identified: BoxedIter<'a, V>) -> NlriIter<'a, V>
+        requires { AreTwo plain identified }
+        ensures { result ≡ merged plain.entry identified.entry }
     {
         NlriIter {
             plain: PlainLeft::of(plain),
-            marked: MarkedLeft::of(marked),
+            identified: IdentifiedLeft::of(identified),
         }
     }
 }
@@ -49,11 +49,11 @@ impl<'a, V> Iterator for NlriIter<'a, V> {
     ghost remaining = { item_count (λ left. left) };
 
     fn next(&mut self) -> Option<(Nlri, &'a V)> {
-        match self.marked.first() {
+        match self.identified.first() {
             None => self.plain.next(),
-            Some(mark) => match self.plain.next_below(&mark) {
+            Some(nlri) => match self.plain.next_below(&nlri) {
                 Some(plain) => Some(plain),
-                None => self.marked.next(),
+                None => self.identified.next(),
             },
         }
     }

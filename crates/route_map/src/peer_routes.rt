@@ -6,7 +6,7 @@ ghost use Rattle.path_model.specs.Key.{nlri_cmp};
 ghost use Rattle.route_map.specs.Flat.{of_peer};
 ghost use Rattle.route_map.specs.Merged.{HasNlri};
 
-use crate::marked_routes::MarkedRoutes;
+use crate::boxed_routes::BoxedRoutes;
 use crate::nlri_iter::NlriIter;
 use crate::peer_iter::PeerIter;
 use crate::plain_routes::PlainRoutes;
@@ -20,7 +20,7 @@ use std::marker::Model;
 pub(crate) struct PeerRoutes<V> {
     // those without a path identifier, and those with one
     plain: PlainRoutes<V>,
-    marked: MarkedRoutes<V>,
+    identified: BoxedRoutes<V>,
 }
 
 impl<V> Model for PeerRoutes<V> {
@@ -30,9 +30,9 @@ impl<V> Model for PeerRoutes<V> {
 
     ghost Value = { List (Nlri × V) };
 
-    ghost view = { λ r. merged r.plain r.marked };
+    ghost view = { λ r. merged r.plain r.identified };
 
-    ghost invariant = { λ r. AreTwo r.plain r.marked };
+    ghost invariant = { λ r. AreTwo r.plain r.identified };
 }
 
 impl<V> PeerRoutes<V> {
@@ -42,7 +42,7 @@ impl<V> PeerRoutes<V> {
     {
         PeerRoutes {
             plain: PlainRoutes::new(alloc),
-            marked: MarkedRoutes::new(alloc),
+            identified: BoxedRoutes::new(alloc),
         }
     }
 
@@ -50,7 +50,7 @@ impl<V> PeerRoutes<V> {
     pub(crate) fn is_empty(&self) -> bool
         ensures { IsTrue result ↔ (self.now ≡ []) }
     {
-        self.plain.is_empty() && self.marked.is_empty()
+        self.plain.is_empty() && self.identified.is_empty()
     }
 
     // The value of a prefix with its path identifier, if it has one.
@@ -59,19 +59,19 @@ impl<V> PeerRoutes<V> {
     {
         match nlri.path {
             None => self.plain.get(&nlri.prefix),
-            Some(path) => self.marked.get(&nlri.prefix, path),
+            Some(path) => self.identified.get(&nlri.prefix, path),
         }
     }
 
     // One of them: `None` exactly where there are none. It takes no search.
-    pub(crate) fn last(&self) -> Option<Nlri>
+    pub(crate) fn one(&self) -> Option<Nlri>
         ensures none { IfNone result (self.now ≡ []) }
         ensures some { IfSome result (HasNlri self.now) }
     {
         if let Some(nlri) = self.plain.last() {
             return Some(nlri);
         }
-        match self.marked.last() {
+        match self.identified.last() {
             None => None,
             Some(nlri) => Some(nlri),
         }
@@ -83,7 +83,7 @@ impl<V> PeerRoutes<V> {
     {
         PeerIter {
             peer,
-            routes: Some(NlriIter::of(self.plain.iter(), self.marked.iter())),
+            routes: Some(NlriIter::of(self.plain.iter(), self.identified.iter())),
         }
     }
 }
@@ -98,7 +98,7 @@ impl<V: Copy> PeerRoutes<V> {
     {
         match nlri.path {
             None => Ok(self.plain.insert(&nlri.prefix, value)?),
-            Some(path) => Ok(self.marked.insert(&nlri.prefix, path, value)?),
+            Some(path) => Ok(self.identified.insert(&nlri.prefix, path, value)?),
         }
     }
 }
@@ -111,7 +111,7 @@ impl<V: Drop> PeerRoutes<V> {
     {
         match nlri.path {
             None => self.plain.remove(&nlri.prefix),
-            Some(path) => self.marked.remove(&nlri.prefix, path),
+            Some(path) => self.identified.remove(&nlri.prefix, path),
         }
     }
 }

@@ -1,9 +1,6 @@
 //! The values of one peer's routes without a path identifier.
 ghost use Rattle.std.specs.Prelude.{◌≡◌, ◌↔◌, [], IfNone, IfOk, IfSome, OnOk, OnErr, IsTrue, option_copied};
-ghost use Rattle.std.specs.BTreeMap.{insert_entry, is_at};
-ghost use Rattle.std.specs.Map.{lookup, remove_entry};
-ghost use Rattle.path_model.specs.Key.{nlri_cmp};
-ghost use Rattle.route_map.specs.Merged.{plain, HasNlri};
+ghost use Rattle.route_map.specs.Merged.{plain, value_of, with_value, without_nlri, HasNlri};
 
 use crate::ipv4_plain::Ipv4Plain;
 use crate::ipv6_plain::Ipv6Plain;
@@ -54,7 +51,7 @@ impl<V> PlainRoutes<V> {
 
     // The value of a prefix.
     pub(crate) fn get(&self, prefix: &Prefix) -> Option<&V>
-        ensures { option_copied result ≡ lookup (is_at (nlri_cmp (plain prefix.now))) self.now }
+        ensures { option_copied result ≡ value_of self.now (plain prefix.now) }
     {
         match Ipv4Plain::of(prefix) {
             Some(subnet) => self.v4.get(&subnet),
@@ -90,8 +87,8 @@ impl<V> PlainRoutes<V> {
 impl<V: Copy> PlainRoutes<V> {
     // Gives a prefix a value, and answers the one that it had. Where there was no memory nothing changed.
     pub(crate) fn insert(&mut self, prefix: &Prefix, value: V) -> Result<Option<V>, NoMemory>
-        ensures before { IfOk result (λ v. v ≡ lookup (is_at (nlri_cmp (plain prefix.now))) self.old) }
-        ensures put { OnOk result (self.new ≡ insert_entry nlri_cmp self.old (plain prefix.now) value) }
+        ensures before { IfOk result (λ v. v ≡ value_of self.old (plain prefix.now)) }
+        ensures put { OnOk result (self.new ≡ with_value self.old (plain prefix.now) value) }
         ensures same { OnErr result (self.new ≡ self.old) }
     {
         match Ipv4Plain::of(prefix) {
@@ -104,8 +101,8 @@ impl<V: Copy> PlainRoutes<V> {
 impl<V: Drop> PlainRoutes<V> {
     // Takes the value of a prefix out, where it has one. It takes no memory.
     pub(crate) fn remove(&mut self, prefix: &Prefix) -> Option<V>
-        ensures before { result ≡ lookup (is_at (nlri_cmp (plain prefix.now))) self.old }
-        ensures removed { self.new ≡ remove_entry (is_at (nlri_cmp (plain prefix.now))) self.old }
+        ensures before { result ≡ value_of self.old (plain prefix.now) }
+        ensures removed { self.new ≡ without_nlri self.old (plain prefix.now) }
     {
         match Ipv4Plain::of(prefix) {
             Some(subnet) => self.v4.remove(&subnet),

@@ -7,7 +7,7 @@ use Rattle.std.specs.List.{Contains}
 use Rattle.std.proofs.lemmas.Bool.Decides.{eqb_tells, nat_tests}
 use Rattle.std.proofs.lemmas.Map.Keys.{IsStrictlyIncreasing-from_sorted, sorted_from_strictly_increasing}
 use Rattle.path_model.specs.Authority.{has}
-use Rattle.path_model.specs.ComputedTable.{ascending_of}
+use Rattle.path_model.specs.Ascending.{ascending_of}
 use Rattle.path_model.specs.Rows.{IsRowOf}
 use Rattle.path_model.specs.Sets.{IsSetOf}
 use Rattle.path_model.proofs.AscendingLemmas.{ascending_sorted, has_ascending, same_members}

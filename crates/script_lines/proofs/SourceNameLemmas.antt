@@ -3,9 +3,9 @@ use Rattle.std.proofs.Common.{inl, inr, ℕ, ◌≤◌, List, [], ◌∷◌, Opt
 use Rattle.path_model.specs.declared.role.Role.{Role as RoleOf}
 use Rattle.path_model.specs.Name.{IsName}
 use Rattle.script_lines.specs.declared.command.Command.{Command}
-use Rattle.script_lines.specs.declared.command.Command.TheVariants.{Idle, Aspa, Aspa64, Slurm, Filter, Unfilter, Assert, Unassert, Role, RoleDefault, Open, Take, Feed, Ask, Sync, Judge, Changes, Why, Show}
+use Rattle.script_lines.specs.declared.command.Command.TheVariants.{Idle, Aspa, Aspa64, Slurm, Filter, Unfilter, Assert, Unassert, At, Role, RoleDefault, Open, Take, Feed, Ask, Sync, Judge, Changes, Why, Show}
 use Rattle.script_lines.specs.declared.command.CommandName.{CommandName}
-use Rattle.script_lines.specs.declared.command.CommandName.TheVariants.{Aspa as AspaName, Aspa64 as Aspa64Name, Slurm as SlurmName, Filter as FilterName, Unfilter as UnfilterName, Assert as AssertName, Unassert as UnassertName, Role as RoleName, Open as OpenName, Take as TakeName, Feed as FeedName, Ask as AskName, Sync as SyncName, Judge as JudgeName, Changes as ChangesName, Why as WhyName, Show as ShowName}
+use Rattle.script_lines.specs.declared.command.CommandName.TheVariants.{Aspa as AspaName, Aspa64 as Aspa64Name, Slurm as SlurmName, Filter as FilterName, Unfilter as UnfilterName, Assert as AssertName, Unassert as UnassertName, At as AtName, Role as RoleName, Open as OpenName, Take as TakeName, Feed as FeedName, Ask as AskName, Sync as SyncName, Judge as JudgeName, Changes as ChangesName, Why as WhyName, Show as ShowName}
 use Rattle.script_lines.specs.Kinds.{WordKind, NAME, TEXT, ROLE, ADDRESS, PREFIX, NUMBER, WHOM, ValueOf, Spells}
 use Rattle.script_lines.specs.Forms.{Form, end, ases, optional, ◌then◌, Builds, IsSpelled}
 use Rattle.script_lines.specs.Commands.{form_of, sets_role, made_by}
@@ -21,6 +21,7 @@ IsNamed (Filter customer) = Unit {0}
 IsNamed (Unfilter customer) = Unit {0}
 IsNamed (Assert customer providers) = Unit {0}
 IsNamed (Unassert customer) = Unit {0}
+IsNamed (At moment) = Unit {0}
 IsNamed (Role asn role) = Unit {0}
 IsNamed (RoleDefault role) = Unit {0}
 IsNamed (Open name file) = IsName name
@@ -72,6 +73,7 @@ makes_named FilterName = λ customer any. tt
 makes_named UnfilterName = λ customer any. tt
 makes_named AssertName = λ customer any providers. tt
 makes_named UnassertName = λ customer any. tt
+makes_named AtName = λ moment within. tt
 makes_named RoleName = λ whom any role other. sets_unnamed whom role
 makes_named OpenName = λ name is file any. is
 makes_named TakeName = λ name is count within. (is, within)

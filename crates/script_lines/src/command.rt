@@ -26,6 +26,8 @@ pub enum Command {
     Assert(u32, AsList),
     /// `unassert AS`: the script's assertions of the customer are taken back.
     Unassert(u32),
+    /// `at SECONDS`: the analysis is made for this moment, in seconds since 1970-01-01 00:00 UTC.
+    At(u32),
     /// `role AS ROLE`: routes of peers in the AS are judged as learned from a neighbour in this role.
     Role(u32, Role),
     /// `role default ROLE`: so are those of peers in any AS without a role of its own.
@@ -70,6 +72,7 @@ pub(crate) enum CommandName {
     Unfilter,
     Assert,
     Unassert,
+    At,
     Role,
     Open,
     Take,

@@ -8,8 +8,8 @@ ghost use Rattle.script_lines.specs.Grammar.{IsCommandName, IsComment, IsPrintab
 use crate::command::{Command, CommandName, LineFault, Show};
 use crate::fields::{Ases, End, Fields, Optional, Then};
 use crate::kinds::{
-    AddressWord, AsWord, CountWord, IdentifierWord, NameWord, PrefixWord, RoleWord, TextWord,
-    WhomWord,
+    AddressWord, AsWord, CountWord, IdentifierWord, MomentWord, NameWord, PrefixWord, RoleWord,
+    TextWord, WhomWord,
 };
 use av_text::{Words, words};
 use path_model::Role;
@@ -71,6 +71,7 @@ fn command_name(word: &[u8]) -> Option<CommandName>
         b"unfilter" => Some(CommandName::Unfilter),
         b"assert" => Some(CommandName::Assert),
         b"unassert" => Some(CommandName::Unassert),
+        b"at" => Some(CommandName::At),
         b"role" => Some(CommandName::Role),
         b"open" => Some(CommandName::Open),
         b"take" => Some(CommandName::Take),
@@ -119,6 +120,10 @@ fn read_fields(alloc: Global, name: CommandName, words: Words<'_>) -> Result<Com
         CommandName::Unassert => {
             let (customer, ()) = <Then<AsWord, End>>::read(alloc, words)?;
             Ok(Command::Unassert(customer))
+        }
+        CommandName::At => {
+            let (moment, ()) = <Then<MomentWord, End>>::read(alloc, words)?;
+            Ok(Command::At(moment))
         }
         CommandName::Role => {
             let (whom, (role, ())) = <Then<WhomWord, Then<RoleWord, End>>>::read(alloc, words)?;

@@ -130,6 +130,9 @@ pub(crate) struct NumberWord<const LEAST: u32, const MOST: u32>;
 /// An AS.
 pub(crate) type AsWord = NumberWord<0, 4_294_967_295>;
 
+/// A moment, in seconds.
+pub(crate) type MomentWord = NumberWord<0, 4_294_967_295>;
+
 /// A path identifier (RFC 7911, section 3).
 pub(crate) type IdentifierWord = NumberWord<0, 4_294_967_295>;
 

@@ -1,15 +1,16 @@
 -- What is kept of the cases when one of them changes.
-use Rattle.std.proofs.Common.{◌≡◌, ◌≢◌, ℕ, nat_eq, Bool, not, ◌||◌, ◌&&◌, true, false, List, ◌∷◌, None, Some, refl, ap, sym, subst, ◌∙◌, ◌⊎◌, inl, inr, true≢false}
+use Rattle.std.proofs.Common.{◌≡◌, ◌≢◌, ℕ, nat_eq, Bool, not, ◌||◌, ◌&&◌, true, false, List, [], ◌∷◌, None, Some, refl, ap, sym, subst, ◌∙◌, ◌⊎◌, inl, inr, true≢false}
 use Rattle.std.specs.declared.option.Option.{Option}
 use Rattle.std.proofs.lemmas.Bool.{false_from_ne_true, or_left, or_right, or_parts}
 use Rattle.path_model.specs.declared.verdict.Verdict.{Verdict}
 use Rattle.path_model.specs.declared.verdict.Verdict.TheVariants.{Valid, Unknown, Invalid}
-use Rattle.hop_index.specs.Index.{Entries}
+use Rattle.hop_index.specs.Index.{Entries, HasNothing}
 use Rattle.shared_cases.specs.declared.case.StoredCase.{StoredCase}
 use Rattle.shared_cases.specs.declared.names.Names.{Names}
 use Rattle.shared_cases.specs.Cases.{Slots, at, differs, has_differed, same_verdict, Rewrites, IsSettled, IsSameCase, AreSameCases, marked_now}
 use Rattle.shared_cases.specs.Differed.{AreNewlyDiffering, AreSettledOrDiffered, HasDiffered, HaveDiffered}
 use Rattle.shared_cases.specs.Kept.{AreIndexed, AreKept}
+use Rattle.shared_cases.specs.Naming.{AreNamed}
 use Rattle.shared_cases.specs.Numbers.{has}
 use Rattle.shared_cases.specs.Owning.{owned_of, IsOwnOrAmong, SayTheSame}
 use Rattle.shared_cases.specs.Peers.{ByPeer, Members}
@@ -32,6 +33,15 @@ IsListed differed ases n c = (has_differed c ≡ false → IsSettled c) × (has_
 each_listed : (old new : Slots) (n : ℕ) (v : Option StoredCase) (differed ases : List ℕ) → Rewrites old new n v → ((m : ℕ) → m ≢ n → IsListed differed ases m (at old m))
     → IsListed differed ases n v → (m : ℕ) → IsListed differed ases m (at new m)
 each_listed old new n v differed ases writes were here m = each_at (IsListed differed ases) old new n m v writes here (were m) (decide_eq m n)
+
+-- no cases
+pub none_kept : (names : Names) (index : Entries) (differed : List ℕ) → AreNamed [] names → HasNothing index → AreKept [] names index (record { members = []; defaulted = [] }) differed
+none_kept names index differed named nothing = record {
+  indexed = record { named = named; indexed = nothing; members = λ asn n. refl };
+  settled = λ n hasnt. tt;
+  listed = λ n has_it. absurd (true≢false (sym has_it));
+  defaulted = λ n. tt;
+}
 
 -- a case that is settled and hasn't differed comes or goes
 pub rewritten_kept : (old new : Slots) (n : ℕ) (v : Option StoredCase) (names names' : Names) (index index' : Entries) (peers peers' : ByPeer) (differed : List ℕ) → AreKept old names index peers differed

@@ -173,3 +173,23 @@ module _ (old new : Table) (index : Entries) where
     moves_touch (Some c) indexed touched =
         let h = moved_by moves n are.each touched in
         inr (record { x = h.0; y = h.1; neighbours = (hops_are_told c.trail.chain h.0 h.1).0 (sym (indexed h.0 h.1) ∙ h.2); changed = h.3 })
+
+-- ---- one move more
+pub touched_next : (index : Entries) (moves rest : List RowMove) (m : RowMove) (n : ℕ) (before after : Bool) → (after ≡ true) ↔ ((before ≡ true) ⊎ IsTouchedAt index m n)
+    → ((before ≡ true) ⊎ IsTouchedBy index (m ∷ rest) n) ↔ IsTouchedBy index moves n → ((after ≡ true) ⊎ IsTouchedBy index rest n) ↔ IsTouchedBy index moves n
+touched_next index moves rest m n before after adds so_far = (forth, back) where
+  come : (before ≡ true) ⊎ IsTouchedAt index m n → (before ≡ true) ⊎ IsTouchedBy index (m ∷ rest) n
+  come (inl was) = inl was
+  come (inr here) = inr (inl here)
+
+  forth : (after ≡ true) ⊎ IsTouchedBy index rest n → IsTouchedBy index moves n
+  forth (inl told) = so_far.0 (come (adds.0 told))
+  forth (inr later) = so_far.0 (inr (inr later))
+
+  gone : (before ≡ true) ⊎ IsTouchedBy index (m ∷ rest) n → (after ≡ true) ⊎ IsTouchedBy index rest n
+  gone (inl was) = inl (adds.1 (inl was))
+  gone (inr (inl here)) = inl (adds.1 (inr here))
+  gone (inr (inr later)) = inr later
+
+  back : IsTouchedBy index moves n → (after ≡ true) ⊎ IsTouchedBy index rest n
+  back touched = gone (so_far.1 touched)

@@ -1,19 +1,20 @@
 -- How the names keep to the cases.
-use Rattle.std.proofs.Common.{◌≡◌, ◌≢◌, ℕ, Bool, true, false, cond, List, None, Some, refl, ap, sym, subst, ◌∙◌, ◌⊎◌, inl, inr}
+use Rattle.std.proofs.Common.{◌≡◌, ◌≢◌, ℕ, Bool, true, false, cond, List, [], None, Some, refl, ap, sym, subst, ◌∙◌, ◌⊎◌, inl, inr}
 use Rattle.std.specs.BTreeMap.{is_at}
+use Rattle.std.specs.Cmp.{nat_cmp_total, nat_eq_equiv}
+use Rattle.std.specs.FinMap.{FinMap, empty, get, get-empty, insert, remove, get-insert, get-remove}
 use Rattle.std.specs.Map.{lookup}
 use Rattle.std.specs.Ordering.{nat_cmp}
 use Rattle.std.specs.declared.option.Option.{Option}
-use Rattle.std.proofs.lemmas.Map.Views.{exact_unsigned_eq}
 use Rattle.path_model.specs.Trail.{Path}
 use Rattle.shared_cases.specs.declared.case.StoredCase.{StoredCase}
 use Rattle.shared_cases.specs.declared.case_name.CaseName.{CaseName}
 use Rattle.shared_cases.specs.declared.names.Names.{Names}
 use Rattle.shared_cases.specs.Cases.{Slots, at, Rewrites, IsStoredAs, IsAbsent}
 use Rattle.shared_cases.specs.Names.{name_of, name_cmp, word_of}
-use Rattle.shared_cases.specs.Naming.{worded, twinned, AddsFirst, AddsName, AddsTwin, AreNamed, HasWord, IsNamed, RemovesFirst, RemovesName, RemovesTwin, SetsTwin}
+use Rattle.shared_cases.specs.Naming.{worded, twinned, AddsFirst, AddsName, AddsTwin, AreNamed, HasWord, IsNamed, RemovesFirst, RemovesName, RemovesTwin, SetsTwin, SetsWord}
 use Rattle.shared_cases.proofs.NameLemmas.{apart_names, at_itself, decide_name, equal_names}
-use Rattle.shared_cases.proofs.NumberLemmas.{decide_eq, some_inj, this_at}
+use Rattle.shared_cases.proofs.NumberLemmas.{decide_eq, nat_eq-other, some_inj, this_at}
 
 -- the same AS and path, or both nothing
 abbrev pub IsSameName : Option StoredCase → Option StoredCase → Type 0
@@ -58,13 +59,25 @@ twin_set before after name value is updates = record {
   others = λ a p other. updates (name_of a p) ∙ ap (λ (b : Bool). cond b value (twinned before a p)) (apart_names name (name_of a p) (λ e. other (sym e ∙ is)));
 }
 
--- a word that gets another number and its own again has what it had
-pub put_back : (words between after : List (ℕ × ℕ)) (word number first : ℕ) → worded words word ≡ Some first → ((w : ℕ) → worded between w ≡ cond (is_at (nat_cmp word) w) (Some number) (worded words w))
-    → ((w : ℕ) → worded after w ≡ cond (is_at (nat_cmp word) w) (Some first) (worded between w)) → (w : ℕ) → worded after w ≡ worded words w
-put_back words between after word number first held one two w = by_test (is_at (nat_cmp word) w) refl where
-  by_test : (b : Bool) → is_at (nat_cmp word) w ≡ b → worded after w ≡ worded words w
-  by_test true e = two w ∙ ap (λ (b : Bool). cond b (Some first) (worded between w)) e ∙ sym held ∙ ap (worded words) (sym (exact_unsigned_eq w word (sym (this_at word w) ∙ e)))
-  by_test false e = two w ∙ ap (λ (b : Bool). cond b (Some first) (worded between w)) e ∙ one w ∙ ap (λ (b : Bool). cond b (Some number) (worded words w)) e
+-- a word is found at itself alone
+same_at_word : (word : ℕ) → is_at (nat_cmp word) word ≡ true
+same_at_word word = this_at word word ∙ nat_eq_equiv.refl word
+
+other_at_word : (w word : ℕ) → w ≢ word → is_at (nat_cmp w) word ≡ false
+other_at_word w word other = this_at w word ∙ nat_eq-other word w (λ e. other (sym e))
+
+-- a word that gets a number, and one that has none from now on
+pub word_set : (words : FinMap nat_cmp ℕ) (word number : ℕ) → SetsWord words (insert words word number) word (Some number)
+word_set words word number = record {
+  here = get-insert nat_cmp_total words word number word ∙ ap (λ (b : Bool). cond b (Some number) (get words word)) (same_at_word word);
+  others = λ w other. get-insert nat_cmp_total words word number w ∙ ap (λ (b : Bool). cond b (Some number) (get words w)) (other_at_word w word other);
+}
+
+pub word_freed : (words : FinMap nat_cmp ℕ) (word : ℕ) → SetsWord words (remove words word) word None
+word_freed words word = record {
+  here = get-remove nat_cmp_total words word word ∙ ap (λ (b : Bool). cond b None (get words word)) (same_at_word word);
+  others = λ w other. get-remove nat_cmp_total words word w ∙ ap (λ (b : Bool). cond b None (get words w)) (other_at_word w word other);
+}
 
 -- ---- names that stay
 
@@ -99,6 +112,16 @@ none_some n o is_none is_some = absurd (cc)
 stored_word : (c : Option StoredCase) (asn : ℕ) (path : Path) → IsStoredAs c asn path → HasWord c (word_of asn path)
 stored_word None asn path stored = stored
 stored_word (Some c) asn path stored = word_as c.asn asn c.trail path (equal_names c.asn asn c.trail path stored.0 stored.1)
+
+-- no names of no cases
+pub none_named : (names : Names) → names.words ≡ empty → names.twins.entries ≡ [] → AreNamed [] names
+none_named names no_words no_twins = record {
+  named = λ n asn path stored. absurd stored;
+  by_word = λ n word got. none_some n (worded names.words word) (ap (λ (words : FinMap nat_cmp ℕ). worded words word) no_words ∙ get-empty nat_cmp word) got;
+  by_twin = λ n asn path got. none_some n (twinned names.twins.entries asn path) (ap (λ (twins : List (CaseName × ℕ)). twinned twins asn path) no_twins) got;
+  apart = λ n asn path got. none_some n (twinned names.twins.entries asn path) (ap (λ (twins : List (CaseName × ℕ)). twinned twins asn path) no_twins) got;
+  distinct = λ m n asn path one other. absurd one;
+}
 
 module _ (old new : Slots) (names names' : Names) (n : ℕ) (c : StoredCase) (kept : AreNamed old names) where
   abbrev w : ℕ
@@ -140,12 +163,12 @@ module _ (old new : Slots) (names names' : Names) (n : ℕ) (c : StoredCase) (ke
 
     -- its word was free
     module _ (adds : AddsFirst names c.asn c.trail n names') where
-      first_word : (m word : ℕ) → worded names'.words.entries word ≡ Some m → (word ≡ w) ⊎ (word ≢ w) → ((word ≡ w) × (m ≡ n)) ⊎ (worded names.words.entries word ≡ Some m)
-      first_word m word got (inl e) = inl (e, some_inj m n (sym got ∙ ap (worded names'.words.entries) e ∙ adds.sets.here))
+      first_word : (m word : ℕ) → worded names'.words word ≡ Some m → (word ≡ w) ⊎ (word ≢ w) → ((word ≡ w) × (m ≡ n)) ⊎ (worded names.words word ≡ Some m)
+      first_word m word got (inl e) = inl (e, some_inj m n (sym got ∙ ap (worded names'.words) e ∙ adds.sets.here))
       first_word m word got (inr other) = inr (sym (adds.sets.others word other) ∙ got)
 
       first_stays : (m asn : ℕ) (path : Path) → IsNamed names asn path m → (word_of asn path ≡ w) ⊎ (word_of asn path ≢ w) → IsNamed names' asn path m
-      first_stays m asn path (inl got) (inl e) = none_some m (worded names.words.entries w) adds.free (ap (worded names.words.entries) (sym e) ∙ got)
+      first_stays m asn path (inl got) (inl e) = none_some m (worded names.words w) adds.free (ap (worded names.words) (sym e) ∙ got)
       first_stays m asn path (inl got) (inr other) = inl (adds.sets.others (word_of asn path) other ∙ got)
       first_stays m asn path (inr got) same = inr (adds.twins asn path ∙ got)
 
@@ -154,11 +177,11 @@ module _ (old new : Slots) (names names' : Names) (n : ℕ) (c : StoredCase) (ke
           (named_as names' c.asn asn c.trail path n (here_name m asn path e stored) (inl adds.sets.here))
       first_named m asn path stored (inr other) = first_stays m asn path (kept.named m asn path (was_stored m asn path other stored)) (decide_eq (word_of asn path) w)
 
-      first_by_word : (m word : ℕ) → ((word ≡ w) × (m ≡ n)) ⊎ (worded names.words.entries word ≡ Some m) → HasWord (at new m) word
+      first_by_word : (m word : ℕ) → ((word ≡ w) × (m ≡ n)) ⊎ (worded names.words word ≡ Some m) → HasWord (at new m) word
       first_by_word m word (inl here) = subst (λ (k : ℕ). HasWord (at new k) word) (sym here.1) (subst (λ (o : Option StoredCase). HasWord o word) (sym writes.here) (sym here.0))
       first_by_word m word (inr was) = word_stands m word (kept.by_word m word was)
 
-      first_apart : (m asn : ℕ) (path : Path) → twinned names.twins.entries asn path ≡ Some m → ((word_of asn path ≡ w) × (m ≡ n)) ⊎ (worded names.words.entries (word_of asn path) ≡ Some m) → ⊥
+      first_apart : (m asn : ℕ) (path : Path) → twinned names.twins.entries asn path ≡ Some m → ((word_of asn path ≡ w) × (m ≡ n)) ⊎ (worded names.words (word_of asn path) ≡ Some m) → ⊥
       first_apart m asn path got (inl here) = old_other m asn path (kept.by_twin m asn path got) here.1
       first_apart m asn path got (inr was) = kept.apart m asn path got was
 
@@ -193,7 +216,7 @@ module _ (old new : Slots) (names names' : Names) (n : ℕ) (c : StoredCase) (ke
       twin_by_twin m asn path (inr was) = old_stands m asn path (kept.by_twin m asn path was)
 
       twin_apart : (m asn : ℕ) (path : Path) → ((name_of asn path ≡ name_of c.asn c.trail) × (m ≡ n)) ⊎ (twinned names.twins.entries asn path ≡ Some m)
-          → worded names.words.entries (word_of asn path) ≡ Some m → ⊥
+          → worded names.words (word_of asn path) ≡ Some m → ⊥
       twin_apart m asn path (inl here) at_word = word_other m (word_of asn path) (kept.by_word m (word_of asn path) at_word) here.1
       twin_apart m asn path (inr was) at_word = kept.apart m asn path was at_word
 
@@ -243,12 +266,12 @@ module _ (old new : Slots) (names names' : Names) (n : ℕ) (c : StoredCase) (ke
 
     -- it had its word
     module _ (removes : RemovesFirst names c.asn c.trail n names') where
-      was_word : (m word : ℕ) → worded names'.words.entries word ≡ Some m → (word ≡ w) ⊎ (word ≢ w) → (worded names.words.entries word ≡ Some m) × (word ≢ w)
-      was_word m word got (inl e) = none_some m (worded names'.words.entries w) removes.sets.here (ap (worded names'.words.entries) (sym e) ∙ got)
+      was_word : (m word : ℕ) → worded names'.words word ≡ Some m → (word ≡ w) ⊎ (word ≢ w) → (worded names.words word ≡ Some m) × (word ≢ w)
+      was_word m word got (inl e) = none_some m (worded names'.words w) removes.sets.here (ap (worded names'.words) (sym e) ∙ got)
       was_word m word got (inr other) = (sym (removes.sets.others word other) ∙ got, other)
 
       left_named : (m asn : ℕ) (path : Path) → m ≢ n → IsNamed names asn path m → (word_of asn path ≡ w) ⊎ (word_of asn path ≢ w) → IsNamed names' asn path m
-      left_named m asn path other (inl got) (inl e) = absurd (other (some_inj m n (sym got ∙ ap (worded names.words.entries) e ∙ removes.held)))
+      left_named m asn path other (inl got) (inl e) = absurd (other (some_inj m n (sym got ∙ ap (worded names.words) e ∙ removes.held)))
       left_named m asn path other (inl got) (inr apart) = inl (removes.sets.others (word_of asn path) apart ∙ got)
       left_named m asn path other (inr got) same = inr (removes.twins asn path ∙ got)
 
@@ -281,14 +304,14 @@ module _ (old new : Slots) (names names' : Names) (n : ℕ) (c : StoredCase) (ke
       still_named m asn path other (inl got) = inl (removes.words (word_of asn path) ∙ got)
       still_named m asn path other (inr got) = inr (removes.sets.others asn path (λ e. other (same_gone m asn path (kept.by_twin m asn path got) e)) ∙ got)
 
-      word_kept : (m word : ℕ) → worded names.words.entries word ≡ Some m → m ≢ n
-      word_kept m word got e = removes.other (ap (worded names.words.entries) (sym (gone_word m word (kept.by_word m word got) e)) ∙ got ∙ ap Some e)
+      word_kept : (m word : ℕ) → worded names.words word ≡ Some m → m ≢ n
+      word_kept m word got e = removes.other (ap (worded names.words) (sym (gone_word m word (kept.by_word m word got) e)) ∙ got ∙ ap Some e)
 
       twin_gone : AreNamed new names'
       twin_gone = record {
         named = λ m asn path stored. still_named m asn path (left_other m asn path stored) (kept.named m asn path (was_there m asn path stored));
         by_word = λ m word got.
-            let was : worded names.words.entries word ≡ Some m = sym (removes.words word) ∙ got in
+            let was : worded names.words word ≡ Some m = sym (removes.words word) ∙ got in
             word_left m word (kept.by_word m word was) (word_kept m word was);
         by_twin = λ m asn path got.
             let was = was_twin m asn path got (decide_name (name_of asn path) (name_of c.asn c.trail)) in

@@ -4,8 +4,8 @@ use Rattle.std.specs.declared.option.Option.{Option}
 use Rattle.std.specs.declared.option.Option.TheVariants.{Some, None}
 use Rattle.std.specs.FinMap as map
 use Rattle.path_model.specs.Authority.{Table}
-use Rattle.path_model.specs.ComputedTable.{table_of}
-use Rattle.path_model.specs.CurrentTable.{Parts}
+use Rattle.attestations.specs.ComputedTable.{table_of}
+use Rattle.attestations.specs.CurrentTable.{Parts}
 use Rattle.path_model.specs.PrintedWitness.{IsPrinted}
 use Rattle.path_model.specs.Roles.{Relations, role_of}
 use Rattle.path_model.specs.Trail.{Path}

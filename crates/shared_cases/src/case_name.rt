@@ -29,7 +29,9 @@ impl CaseName {
     }
 }
 
-fn mixed(asn: u32, trail: &Trail) -> u64
+// The word of an AS and a path.
+#[inline(always)]
+pub(crate) fn mixed(asn: u32, trail: &Trail) -> u64
     ensures { result ≡ word_of asn trail.now }
 {
     let mut word = u64::from(asn) * 2 + u64::from(trail.is_set());

@@ -13,7 +13,6 @@ ghost use Rattle.shared_cases.specs.Totals.{totals_of};
 
 use crate::case::{Case, StoredCase, new_case};
 use crate::case_name::CaseName;
-use crate::hints::Hints;
 use crate::names::Names;
 use crate::numbers::CaseNumbers;
 use crate::peers::Peers;
@@ -31,9 +30,9 @@ use std::mem;
 use std::sync::ledger::Ledger;
 use vap_table::Vaps;
 
-/// The cases that routes share, each under a number below 2^32 for as long as some route has it. A case takes about 140 bytes, 4 for
-/// each AS of its path, and what its hops take in the index; one that got another verdict since the last mark, 8 to 18 bytes more; and an AS
-/// without a role of its own 4 to 9.
+/// The cases that routes share, each under a number below 2^32 for as long as some route has it. A case takes 110 to 150 bytes, 4 more for
+/// each AS of its path where that has more than seven, and what its hops take in the index; one that got another verdict since the last
+/// mark, 4 to 16 bytes more; and an AS some 60, and 4 to 9 more where it has no role of its own. Room for names stays once it was taken.
 pub struct SharedCases {
     pub(crate) alloc: Global,
     pub(crate) slab: Slab<StoredCase>,
@@ -44,8 +43,6 @@ pub struct SharedCases {
     pub(crate) totals: Totals,
     // those that got another verdict since the last mark; some may be gone
     pub(crate) differed: CaseNumbers,
-    // where a case is looked for first
-    pub(crate) hints: Hints,
 }
 
 /// A function of its own, so that what lets the cases go needn't say how.
@@ -59,7 +56,6 @@ impl Drop for SharedCases {
             peers: _peers,
             totals: _totals,
             differed: _differed,
-            hints: _hints,
         } = self;
     }
 }
@@ -91,7 +87,6 @@ impl SharedCases {
             peers: Peers::new(alloc),
             totals: Totals::none(),
             differed: CaseNumbers::new(alloc),
-            hints: Hints::new(alloc),
         }
     }
 
@@ -157,13 +152,15 @@ impl SharedCases {
         let _differed = &self.differed;
     }
 
-    /// One route more has the case of this AS and path, and the number of the case, which stays until its last route leaves it. A new
-    /// case is judged, for one step, and its verdict is the marked one. For 2^32 routes of one case there is no memory. Where there was none,
-    /// nothing is promised of the cases but that they fit together.
+    /// One route more has the case of this AS and path, and the number of the case, which stays until its last route leaves it. It is looked
+    /// for under the hint first, which may be any number ([`SharedCases::hint`]). A new case is judged, for one step, and its verdict is the
+    /// marked one. For 2^32 routes of one case there is no memory. Where there was none, nothing is promised of the cases but that they fit
+    /// together.
     pub fn take<L: Ledger>(
         &mut self,
         asn: u32,
         trail: Trail,
+        hint: Option<u32>,
         table: &Vaps,
         roles: &Roles,
         steps: &mut Steps<L>,
@@ -172,21 +169,16 @@ impl SharedCases {
             Takes (grounds table.now roles.now) asn trail self.old self.new n) }
         ensures ticks { steps.new ≤ steps.old + 1 }
     {
-        let name = CaseName::new(asn, trail);
-        if let Some(number) = self.hinted(&name) {
+        if let Some(number) = self.hinted(hint, asn, &trail) {
             self.take_again(number)?;
             return Ok(number);
         }
+        let name = CaseName::new(asn, trail);
         if let Some(number) = self.find(&name) {
             self.take_again(number)?;
-            self.hints.keep(name.word, number);
             return Ok(number);
         }
-        let judged = judge(table, roles.of(asn), asn, &name.trail, steps);
-        let held = mem::replace(self, SharedCases::new(self.alloc));
-        let (cases, number) = held.add(name, judged, roles.has_own(asn))?;
-        let _empty = mem::replace(self, cases);
-        Ok(number)
+        self.take_new(name, table, roles, steps)
     }
 
     /// One route more has the case under a number that some route has already, as where [`SharedCases::take`] has just given it: no path is
@@ -227,7 +219,6 @@ impl SharedCases {
             peers,
             totals,
             differed,
-            hints,
         } = self;
         slots::mark_all(&mut slab, &differed);
         SharedCases {
@@ -238,7 +229,6 @@ impl SharedCases {
             peers,
             totals,
             differed: CaseNumbers::new(alloc),
-            hints,
         }
     }
 
@@ -269,7 +259,6 @@ impl SharedCases {
             peers,
             mut totals,
             mut differed,
-            hints,
         } = self;
         let newly = rejudge_all(alloc, &mut slab, &mut totals, touched, table, roles, steps)?;
         differed.insert_all(&newly)?;
@@ -281,7 +270,6 @@ impl SharedCases {
             peers,
             totals,
             differed,
-            hints,
         };
         Ok((cases, newly))
     }
@@ -293,6 +281,30 @@ impl SharedCases {
         ensures none { IfNone result (IsAbsent self.now name.now.asn name.now.trail) }
     {
         self.names.find(&self.slab, name)
+    }
+
+    // One route has a new case, of this name. It isn't inlined, so that where the case is there the stack slots of the whole state aren't
+    // cleared.
+    #[inline(never)]
+    fn take_new<L: Ledger>(
+        &mut self,
+        name: CaseName,
+        table: &Vaps,
+        roles: &Roles,
+        steps: &mut Steps<L>,
+    ) -> Result<u32, NoMemory>
+        requires named { name ≡ name_of name.asn name.trail }
+        requires absent { IsAbsent self.old name.asn name.trail }
+        ensures taken { IfOk result (λ n.
+            Takes (grounds table.now roles.now) name.asn name.trail self.old self.new n) }
+        ensures ticks { steps.new ≤ steps.old + 1 }
+    {
+        let asn = name.asn;
+        let judged = judge(table, roles.of(asn), asn, &name.trail, steps);
+        let held = mem::replace(self, SharedCases::new(self.alloc));
+        let (cases, number) = held.add(name, judged, roles.has_own(asn))?;
+        let _empty = mem::replace(self, cases);
+        Ok(number)
     }
 
     // A new case.
@@ -311,7 +323,6 @@ impl SharedCases {
             peers,
             totals,
             differed,
-            mut hints,
         } = self;
         let asn = name.asn;
         let totals = totals.plus(Totals::of(judged.verdict(), 1))?;
@@ -320,8 +331,6 @@ impl SharedCases {
         let short = u32::try_from(number).ok().ok_or(NoMemory)?;
         let index = index.add(number, name.trail.chain())?;
         let peers = peers.add(asn, number, own)?;
-        hints.fit(number)?;
-        hints.keep(name.word, short);
         names.add(name, short)?;
         let cases = SharedCases {
             alloc,
@@ -331,7 +340,6 @@ impl SharedCases {
             peers,
             totals,
             differed,
-            hints,
         };
         Ok((cases, short))
     }
@@ -358,7 +366,6 @@ impl SharedCases {
             peers,
             totals,
             differed,
-            hints,
         } = self;
         let Some(case) = slab.try_remove(number as usize) else {
             return SharedCases {
@@ -369,12 +376,11 @@ impl SharedCases {
                 peers,
                 totals,
                 differed,
-                hints,
             };
         };
         let totals = totals.minus(Totals::of(case.judged.verdict(), case.users));
         let index = index.remove(number as usize, case.trail.chain());
-        let peers = peers.remove(case.asn, number as usize);
+        let peers = peers.remove(case.asn, number);
         names.remove(&CaseName::new(case.asn, case.trail), number);
         SharedCases {
             alloc,
@@ -384,7 +390,6 @@ impl SharedCases {
             peers,
             totals,
             differed,
-            hints,
         }
     }
 }

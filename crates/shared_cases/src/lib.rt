@@ -5,8 +5,8 @@
 //! table or other roles touch, so that **every case that had its right judgement has it again**. [`SharedCases::totals`] says how many
 //! routes have which verdict. Begin reading in `specs/Cases.antt`, then in `specs/Taking.antt` and in `specs/Touched.antt`.
 //!
-//! A case has a number as long as some route has it. It is found by its name (`case_name`, `names`), by its hops (the crate `hop_index`)
-//! and by its AS (`peers`, which also keeps whose cases follow the default role, as `specs/Owning.antt` says); each case that gets another
+//! A case has a number as long as some route has it. It is found by its name (`case_name`, `names`; `hints` looks for the cases of many names
+//! ahead of their use), by its hops (the crate `hop_index`) and by its AS (`peers`, which also keeps whose cases follow the default role, as `specs/Owning.antt` says); each case that gets another
 //! verdict than the marked one is told once to the caller (`specs/Differed.antt`), and its number is kept until the next mark;
 //! `specs/Kept.antt` says what keeps these together.
 #![tactic(auto)]
@@ -17,6 +17,7 @@ mod cases;
 mod hints;
 mod moved_rows;
 mod names;
+mod number_iter;
 mod numbers;
 mod peers;
 mod rejudging;
@@ -27,5 +28,6 @@ mod unmatched;
 
 pub use case::Case;
 pub use cases::SharedCases;
+pub use number_iter::NumberIter;
 pub use numbers::CaseNumbers;
 pub use totals::Totals;

@@ -1,5 +1,6 @@
 //! The cases by their names.
 ghost use Rattle.std.specs.Prelude.{◌≡◌, ◌↔◌, ℕ, [], Some, IfNone, IfSome, IsTrue, OnOk};
+ghost use Rattle.std.specs.FinMap as map;
 ghost use Rattle.shared_cases.specs.Cases.{at, IsAbsent, IsStoredAs};
 ghost use Rattle.shared_cases.specs.Names.{name_of};
 ghost use Rattle.shared_cases.specs.Naming.{worded, AddsName, AreNamed, IsNoFirst, RemovesName};
@@ -11,12 +12,13 @@ use av_base::NoMemory;
 use slab::Slab;
 use std::alloc::Global;
 use std::collections::BTreeMap;
+use word_map::WordMap;
 
 // The number of each case, under its word or, where another case has that, under its whole name.
 #[derive(Drop)]
 pub(crate) struct Names {
     // of each word a case that has it: the one that came while no other stood under it
-    pub(crate) words: BTreeMap<u64, u32>,
+    pub(crate) words: WordMap,
     // those that came while another had their word
     pub(crate) twins: BTreeMap<CaseName, u32>,
 }
@@ -24,11 +26,11 @@ pub(crate) struct Names {
 impl Names {
     // No names. It takes no memory.
     pub(crate) fn new(alloc: Global) -> Names
-        ensures words { result.words.entries ≡ [] }
+        ensures words { result.words ≡ map.empty }
         ensures twins { result.twins.entries ≡ [] }
     {
         Names {
-            words: BTreeMap::new(alloc),
+            words: WordMap::new(alloc),
             twins: BTreeMap::new(alloc),
         }
     }
@@ -51,7 +53,7 @@ impl Names {
         ensures some { IfSome result (λ n. IsStoredAs (at slab.now.slots n) name.now.asn name.now.trail) }
         ensures none { IfNone result (IsNoFirst slab.now.slots self.now name.now) }
     {
-        let number = *self.words.get(&name.word)?;
+        let number = self.words.get(name.word)?;
         if slots::is_stored_as(slab, number as usize, name.asn, &name.trail) {
             Some(number)
         } else {
@@ -59,16 +61,21 @@ impl Names {
         }
     }
 
+    // The number under a word, of whichever case has it.
+    #[inline(always)]
+    pub(crate) fn hint(&self, word: u64) -> Option<u32> {
+        self.words.get(word)
+    }
+
     // One name more. It takes no memory for the path unless another case has its word.
     pub(crate) fn add(&mut self, name: CaseName, number: u32) -> Result<(), NoMemory>
         requires { name ≡ name_of name.asn name.trail }
         ensures { OnOk result (AddsName self.old name.asn name.trail number self.new) }
     {
-        let word = name.word;
-        if let Some(first) = self.words.insert(word, number)? {
-            self.words.insert(word, first)?;
-            self.twins.insert(name, number)?;
-        }
+        match self.words.get(name.word) {
+            Some(_) => self.twins.insert(name, number)?,
+            None => self.words.set(name.word, number)?,
+        };
         Ok(())
     }
 
@@ -78,7 +85,7 @@ impl Names {
         ensures { RemovesName self.old name.now.asn name.now.trail number self.new }
     {
         if self.has_word(name.word, number) {
-            self.words.remove(&name.word);
+            self.words.remove(name.word);
         } else {
             self.twins.remove(name);
         }
@@ -86,11 +93,11 @@ impl Names {
 
     // Whether the word has this number.
     fn has_word(&self, word: u64, number: u32) -> bool
-        ensures { IsTrue result ↔ (worded self.now.words.entries word ≡ Some number) }
+        ensures { IsTrue result ↔ (worded self.now.words word ≡ Some number) }
     {
-        match self.words.get(&word) {
+        match self.words.get(word) {
             None => false,
-            Some(held) => *held == number,
+            Some(held) => held == number,
         }
     }
 }

@@ -4,15 +4,17 @@ ghost use Rattle.std.specs.Ordering.{nat_cmp};
 ghost use Rattle.std.specs.List.Sorted.{IsStrictlySortedBy};
 ghost use Rattle.shared_cases.specs.Numbers.{has};
 
+use crate::number_iter::NumberIter;
 use av_base::NoMemory;
+use hop_index::Numbers;
 use std::alloc::Global;
-use std::collections::{BTreeSet, btree_set};
 use std::marker::Model;
 
-/// A set of case numbers, of 8 to 18 bytes each; a contract sees it as a rising list.
+/// A set of case numbers, each below 2^32; a contract sees it as a rising list. It takes 16 bytes, and up to three numbers take no more; from
+/// the fourth on they take 4 to 8 bytes each, and beyond 512 numbers up to 16 where they come in no order.
 #[derive(Drop)]
 pub struct CaseNumbers {
-    numbers: BTreeSet<usize>,
+    numbers: Numbers,
 }
 
 impl Model for CaseNumbers {
@@ -20,7 +22,7 @@ impl Model for CaseNumbers {
 
     ghost Value = { List ℕ };
 
-    ghost view = { λ a. a.numbers.keys };
+    ghost view = { λ a. a.numbers };
 }
 
 impl CaseNumbers {
@@ -29,18 +31,20 @@ impl CaseNumbers {
         ensures { result ≡ [] }
     {
         CaseNumbers {
-            numbers: BTreeSet::new(alloc),
+            numbers: Numbers::new(alloc),
         }
     }
 
-    // One more.
+    // One more. For a number of 2^32 or above there is no memory.
     pub(crate) fn insert(&mut self, number: usize) -> Result<(), NoMemory>
         ensures members { OnOk result ((n : ℕ)
             → has self.new n ≡ (has self.old n || nat_eq n number)) }
         ensures some { OnOk result (self.new ≢ []) }
     {
-        self.numbers.insert(number)?;
-        Ok(())
+        let Ok(short) = u32::try_from(number) else {
+            return Err(NoMemory);
+        };
+        self.numbers.insert(short)
     }
 
     // Those of another set more.
@@ -50,16 +54,16 @@ impl CaseNumbers {
         ensures rising { IsStrictlySortedBy nat_cmp other.now }
     {
         for number in other.iter() {
-            self.insert(*number)?;
+            self.insert(number)?;
         }
         Ok(())
     }
 
     // One less. It takes no memory.
-    pub(crate) fn remove(&mut self, number: usize)
+    pub(crate) fn remove(&mut self, number: u32)
         ensures { (n : ℕ) → has self.new n ≡ (has self.old n && not (nat_eq n number)) }
     {
-        self.numbers.remove(&number);
+        self.numbers.remove(number);
     }
 
     /// Whether there are none.
@@ -70,10 +74,12 @@ impl CaseNumbers {
     }
 
     /// The numbers, rising.
-    pub fn iter(&self) -> btree_set::Iter<'_, usize>
+    pub fn iter(&self) -> NumberIter<'_>
         ensures whole { result ≡ self.now }
         ensures rising { IsStrictlySortedBy nat_cmp self.now }
     {
-        self.numbers.iter()
+        NumberIter {
+            numbers: self.numbers.iter(),
+        }
     }
 }

@@ -10,7 +10,7 @@ use std::alloc::Global;
 use std::collections::{BTreeMap, BTreeSet, btree_set};
 use std::marker::Model;
 
-// The numbers of each AS's cases. An AS takes a map entry and 8 to 18 bytes for each of its cases, and 4 to 9 bytes while one of them
+// The numbers of each AS's cases. An AS takes a map entry and 4 to 16 bytes for each of its cases, and 4 to 9 bytes while one of them
 // doesn't say that it has a role of its own; and none once its last case is removed.
 #[derive(Drop)]
 pub(crate) struct Peers {
@@ -68,7 +68,7 @@ impl Peers {
     }
 
     // One case of an AS less. It takes no memory.
-    pub(crate) fn remove(self, asn: u32, number: usize) -> Peers
+    pub(crate) fn remove(self, asn: u32, number: u32) -> Peers
         ensures members { RemovesMember self.members asn number result.members }
         ensures defaulted { (a : ℕ) → has result.defaulted a
             ≡ (has self.defaulted a && has_cases result.members a) }
@@ -153,7 +153,7 @@ fn insert_unless(ases: &mut BTreeSet<u32>, asn: u32, own: bool) -> Result<(), No
 }
 
 // Takes a case of an AS out, and answers whether the AS stands there without cases.
-fn take_out(members: &mut BTreeMap<u32, CaseNumbers>, asn: u32, number: usize) -> bool
+fn take_out(members: &mut BTreeMap<u32, CaseNumbers>, asn: u32, number: u32) -> bool
     ensures removed { RemovesMember members.old.entries asn number members.new.entries }
     ensures emptied { IsTrue result ↔ (found members.new.entries asn ≡ Some []) }
     ensures others { (a : ℕ) → a ≢ asn

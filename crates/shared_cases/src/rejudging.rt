@@ -3,7 +3,7 @@ ghost use Rattle.std.specs.Prelude.{◌≡◌, ◌≤◌, ◌+◌, ◌-◌, ℕ,
 ghost use Rattle.std.specs.List.Sorted.{IsStrictlySortedBy};
 ghost use Rattle.std.specs.Ordering.{nat_cmp};
 ghost use Rattle.path_model.specs.Authority.{Table};
-ghost use Rattle.path_model.specs.ComputedTable.{table_of};
+ghost use Rattle.attestations.specs.ComputedTable.{table_of};
 ghost use Rattle.path_model.specs.Roles.{Relations};
 ghost use Rattle.vap_table.specs.Moves.{AreMoves};
 ghost use Rattle.shared_cases.specs.Cases.{at, AreSameCases};
@@ -151,13 +151,13 @@ pub(crate) fn rejudge_all<L: Ledger>(
 {
     let mut newly = CaseNumbers::new(alloc);
     for number in touched.iter() {
-        let before = share(slab, *number);
-        let differs = judge_anew(slab, *number, table, roles, steps);
-        let after = share(slab, *number);
+        let before = share(slab, number);
+        let differs = judge_anew(slab, number, table, roles, steps);
+        let after = share(slab, number);
         let both = totals.plus(after)?;
         *totals = both.minus(before);
         if differs {
-            newly.insert(*number)?;
+            newly.insert(number)?;
         }
     }
     Ok(newly)

@@ -107,7 +107,7 @@ pub(crate) fn mark_all(slab: &mut Slab<StoredCase>, differed: &CaseNumbers)
         → at slab.new.slots n ≡ at slab.old.slots n }
 {
     for number in differed.iter() {
-        mark(slab, *number);
+        mark(slab, number);
     }
 }
 
@@ -129,7 +129,7 @@ pub(crate) fn set_all_own(slab: &mut Slab<StoredCase>, numbers: &CaseNumbers)
         → at slab.new.slots n ≡ at slab.old.slots n }
 {
     for number in numbers.iter() {
-        set_own(slab, *number);
+        set_own(slab, number);
     }
 }
 

@@ -4,7 +4,7 @@ use Rattle.std.proofs.lemmas.Bool.{ltb-true, ltb-false, eqb-true, eqb-false}
 use Rattle.std.proofs.Common.{arith}
 use Rattle.serde_json.specs.Data.{Num, unsigned, negative, float, Data}
 use Rattle.serde_json.specs.Find.{get, as_number}
-use Rattle.path_model.specs.ComputedTable.{ascending_of}
+use Rattle.path_model.specs.Ascending.{ascending_of}
 use Rattle.path_model.proofs.UnionLawLemmas.{some_set, some_union}
 use Rattle.slurm_rules.specs.Each.{Each}
 use Rattle.slurm_rules.specs.Object.{number_at, array_at, may_have_text, has_only, are_arrays}

@@ -8,7 +8,7 @@ use Rattle.std.proofs.lemmas.Bool.Decides.{nat_tests}
 use Rattle.rand_pcg.specs.Lcg.{Lcg}
 use Rattle.rand_pcg.specs.Pcg.{pcg32}
 use Rattle.path_model.specs.Rows.{RowMap, SetsRow, IsRowOf}
-use Rattle.path_model.specs.ComputedTable.{ascending_of}
+use Rattle.path_model.specs.Ascending.{ascending_of}
 use Rattle.path_model.proofs.UnionLawLemmas.{some_set, one_set}
 use Rattle.stated_workload.specs.Draws.{Draws, DrawsAs, Adds}
 use Rattle.stated_workload.specs.Rows.{DrawsProviders, DrawsRows, Keeps, KeepsRow, if_some, given_in}

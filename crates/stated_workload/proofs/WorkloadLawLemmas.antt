@@ -4,6 +4,7 @@ use Rattle.rand_pcg.specs.Lcg.{Lcg}
 use Rattle.rand_pcg.specs.Pcg.{pcg32}
 use Rattle.path_model.specs.declared.change.Change.TheVariants.{Announce}
 use Rattle.path_model.specs.Rows.{RowMap}
+use Rattle.attestations.specs.Terms.{terms_of}
 use Rattle.path_model.specs.Trail.{path_of}
 use Rattle.vap_table.specs.declared.change.TableChange.{TableChange}
 use Rattle.vap_table.specs.declared.change.TableChange.TheVariants.{Replace, Filter, Unfilter, Assert, Unassert}
@@ -80,7 +81,7 @@ some_amendment k g =
 -- ---- the whole
 
 abbrev loaded : RowMap → List Event → List Event
-loaded rows announcements = Table (Replace source_name rows) ∷ role_events 20 ++ announcements
+loaded rows announcements = Table (Replace source_name (terms_of rows)) ∷ role_events 20 ++ announcements
 
 one_loading : (g s t : Lcg) (a b : List Event) → DrawsLoading g a s → DrawsLoading g b t → Same a b s t
 one_loading g s t a b d f =

@@ -4,6 +4,7 @@ use Rattle.analyser.specs.declared.event.Event.{Event}
 use Rattle.analyser.specs.declared.event.Event.TheVariants.{Table, Role}
 use Rattle.rand_pcg.specs.Lcg.{Lcg}
 use Rattle.path_model.specs.Rows.{RowMap}
+use Rattle.attestations.specs.Terms.{TermMap, terms_of}
 use Rattle.vap_table.specs.declared.change.TableChange.TheVariants.{Replace, Filter, Unfilter, Assert, Unassert}
 use Rattle.stated_workload.specs.Draws.{DrawsAs, Adds}
 use Rattle.stated_workload.specs.Rows.{DrawsRows}
@@ -46,13 +47,14 @@ pub ruleset amendment_steps = (amended_filter, amended_unfilter, amended_assert,
 
 -- ---- what loads
 
-pub loading_is : (old mid new : Lcg) (rows : RowMap) (name : List ℕ) (first second all : List Event) → DrawsRows 2000 old rows mid → name ≡ source_name
-    → first ≡ Table (Replace name rows) ∷ [] → second ≡ first ++ role_events 20 → Adds DrawsAnnouncement 20000 mid second all new → DrawsLoading old all new
-loading_is old mid new rows name first second all draws named one two adds = record {
+pub loading_is : (old mid new : Lcg) (rows : RowMap) (terms : TermMap) (name : List ℕ) (none first second all : List Event) → DrawsRows 2000 old rows mid
+    → terms ≡ terms_of rows → name ≡ source_name → none ≡ [] → first ≡ none ++ Table (Replace name terms) ∷ [] → second ≡ first ++ role_events 20
+    → Adds DrawsAnnouncement 20000 mid second all new → DrawsLoading old all new
+loading_is old mid new rows terms name none first second all draws of named empty one two adds = record {
   rows = rows;
   announcements = adds.added;
   after_rows = mid;
   rows_drawn = draws;
   announcements_drawn = adds.drawn;
-  are = adds.is ∙ ap (λ (l : List Event). l ++ adds.added) (two ∙ ap (λ (l : List Event). l ++ role_events 20) (one ∙ ap (λ (n : List ℕ). Table (Replace n rows) ∷ []) named));
+  are = adds.is ∙ ap (λ (l : List Event). l ++ adds.added) (two ∙ ap (λ (l : List Event). l ++ role_events 20) (one ∙ (λ i. empty i ++ Table (Replace (named i) (of i)) ∷ [])));
 }

@@ -10,6 +10,7 @@ use Rattle.path_model.specs.declared.role.Role.{Role as AnyRole}
 use Rattle.path_model.specs.declared.role.Role.TheVariants.{Provider, Customer, Peer, Rs, RsClient, Mutual}
 use Rattle.path_model.specs.Rows.{RowMap}
 use Rattle.path_model.specs.Trail.{path_of}
+use Rattle.attestations.specs.Terms.{terms_of}
 use Rattle.vap_table.specs.declared.change.TableChange.{TableChange}
 use Rattle.vap_table.specs.declared.change.TableChange.TheVariants.{Replace, Filter, Unfilter, Assert, Unassert}
 use Rattle.analyser.specs.declared.event.Event.{Event}
@@ -71,14 +72,14 @@ pub record DrawsAmendment (old : Lcg) (event : Event) (new : Lcg) : Type 0 where
 abbrev pub source_name : List ℕ
 source_name = codes "demo"
 
--- what loads: the rows of 2,000 customers, the roles of 20 ASes, and 20,000 announcements
+-- what loads: the rows of 2,000 customers, which never end, the roles of 20 ASes, and 20,000 announcements
 pub record DrawsLoading (old : Lcg) (events : List Event) (new : Lcg) : Type 0 where
   pub rows : RowMap
   pub announcements : List Event
   pub after_rows : Lcg
   pub rows_drawn : DrawsRows 2000 old rows after_rows
   pub announcements_drawn : DrawsAll DrawsAnnouncement 20000 after_rows announcements new
-  pub are : events ≡ Table (Replace source_name rows) ∷ role_events 20 ++ announcements
+  pub are : events ≡ Table (Replace source_name (terms_of rows)) ∷ role_events 20 ++ announcements
 
 -- the events that load, and then the 1,000 that amend
 pub record IsWorkload (seed : ℕ) (loading amending : List Event) : Type 0 where

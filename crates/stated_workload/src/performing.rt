@@ -44,7 +44,8 @@ fn text_of<L: Ledger>(alloc: Global, seed: u64, blank: Blank) -> Result<Vec<u8>,
     let mut steps = Steps::<L>::new(blank);
     let workload = workload_of(alloc, seed)?;
     let mut text = Vec::new(alloc);
-    let loaded = happen_all(Analyser::new(alloc), workload.loading, &mut steps)?;
+    let begun = Analyser::new(alloc)?;
+    let loaded = happen_all(begun, workload.loading, &mut steps)?;
     put_summary(&mut text, summary_of(loaded.store(), 0, 0))?;
     let amended = happen_all(loaded.mark(), workload.amending, &mut steps)?;
     put_summary(&mut text, summary_of(amended.store(), 0, 0))?;

@@ -7,6 +7,7 @@ use crate::announcements::add_announcements;
 use crate::roles::add_roles;
 use crate::rows::draw_rows;
 use analyser::Event;
+use attestations::Terms;
 use av_base::NoMemory;
 use path_model::Name;
 use rand_pcg::Lcg64Xsh32;
@@ -35,13 +36,14 @@ pub fn workload_of(alloc: Global, seed: u64) -> Result<Workload, NoMemory>
 }
 
 // The events that load.
-#[tactic(auto, using(crate::proofs::WorkloadLemmas::loading_is))]
 fn draw_loading(alloc: Global, rng: &mut Lcg64Xsh32) -> Result<Vec<Event>, NoMemory>
     ensures { IfOk result (λ events. DrawsLoading rng.old events.items rng.new) }
 {
     let rows = draw_rows(alloc, rng)?;
+    let terms = Terms::of(alloc, rows)?;
+    let name = name_of_source(alloc)?;
     let mut events = Vec::new(alloc);
-    events.push(Event::Table(TableChange::Replace(name_of_source(alloc)?, rows)))?;
+    events.push(Event::Table(TableChange::Replace(name, terms)))?;
     add_roles(&mut events)?;
     add_announcements(alloc, rng, &mut events)?;
     Ok(events)

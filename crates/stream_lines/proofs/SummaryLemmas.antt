@@ -4,16 +4,19 @@ use Rattle.std.specs.Prelude.{filter}
 use Rattle.std.specs.declared.option.Option.{Option}
 use Rattle.std.specs.declared.option.Option.TheVariants.{Some, None}
 use Rattle.std.specs.FinMap as map
+use Rattle.std.specs.Ordering.{nat_cmp}
 use Rattle.std.proofs.lemmas.List.Kept.{IsStrictlyIncreasing-filter}
 use Rattle.std.proofs.lemmas.Map.Keys.{IsStrictlyIncreasing-from_sorted, sorted_from_strictly_increasing}
 use Rattle.std.proofs.lemmas.Map.Views.{any-filter_same, exact_unsigned_eq}
+use Rattle.path_model.specs.Ascending.{ascending_of}
 use Rattle.path_model.specs.Authority.{Table, has}
-use Rattle.path_model.specs.ComputedTable.{onto, attested, unfiltered, sourced, given, row_made, ascending_of, table_of}
-use Rattle.path_model.specs.CurrentTable.{Parts}
-use Rattle.path_model.specs.Rows.{RowMap}
+use Rattle.attestations.specs.ComputedTable.{onto, attested, unfiltered, sourced, given, row_made, table_of}
+use Rattle.attestations.specs.CurrentTable.{Parts}
+use Rattle.attestations.specs.Terms.{SetOfTerms, TermMap, alive_among, alive_of}
 use Rattle.path_model.proofs.AscendingLemmas.{ascending_sorted, has_ascending, same_members}
 use Rattle.path_model.proofs.MemberLemmas.{has-append}
-use Rattle.path_model.proofs.PartsLemmas.{parts_have_one_table, table_is_current}
+use Rattle.attestations.proofs.PartsLemmas.{parts_have_one_table, table_is_current}
+use Rattle.attestations.proofs.TermLemmas.{members_empty}
 use Rattle.vap_table.specs.Vaps.{IsNumberOfRows}
 use Rattle.vap_table.proofs.MemberLemmas.{has_key}
 use Rattle.report_text.specs.declared.summary.Summary.{Summary}
@@ -24,8 +27,8 @@ use Rattle.stream_lines.specs.Summary.{IsSummary}
 
 -- ---- the customers of a current table
 
--- all customers that some source has a row of
-abbrev attesting : List (List ℕ × RowMap) → List ℕ
+-- all customers that some source has an attestation of
+abbrev attesting : List (List ℕ × TermMap) → List ℕ
 attesting [] = []
 attesting (source ∷ more) = map.keys source.1 ++ attesting more
 
@@ -33,7 +36,7 @@ attesting (source ∷ more) = map.keys source.1 ++ attesting more
 abbrev named : Parts → List ℕ
 named parts = map.keys parts.slurm_assertions ++ (map.keys parts.assertions ++ attesting parts.sources)
 
-has_named : (rows : RowMap) (x : ℕ) → has (map.keys rows) x ≡ is_some (map.get rows x)
+has_named : {X : Type 0} (rows : map.FinMap nat_cmp X) (x : ℕ) → has (map.keys rows) x ≡ is_some (map.get rows x)
 has_named rows x = sym (has_key (map.keys rows) x) ∙ sym (map.contains_key-keys rows x)
 
 neither_left : (a b : Bool) → (a || b) ≡ false → a ≡ false
@@ -48,11 +51,19 @@ none_onto : (row : Option (List ℕ)) (rows : List (List ℕ)) → is_some row �
 none_onto None rows none no_more = no_more
 none_onto (Some row) rows none no_more = absurd cc
 
-none_attested : (sources : List (List ℕ × RowMap)) (x : ℕ) → has (attesting sources) x ≡ false → attested sources x ≡ []
-none_attested [] x none = refl
-none_attested (source ∷ more) x none =
+none_alive : (moment : ℕ) (terms : Option SetOfTerms) → is_some terms ≡ false → alive_of moment terms ≡ []
+none_alive moment None none = ap (alive_among moment) members_empty
+none_alive moment (Some terms) none = absurd cc
+
+neither : (rows more : List (List ℕ)) → rows ≡ [] → more ≡ [] → rows ++ more ≡ []
+neither rows more none no_more = λ i. none i ++ no_more i
+
+none_attested : (moment : ℕ) (sources : List (List ℕ × TermMap)) (x : ℕ) → has (attesting sources) x ≡ false → attested moment sources x ≡ []
+none_attested moment [] x none = refl
+none_attested moment (source ∷ more) x none =
     let each = sym (has-append (map.keys source.1) (attesting more) x) ∙ none in
-    none_onto (map.get source.1 x) (attested more x) (sym (has_named source.1 x) ∙ neither_left _ _ each) (none_attested more x (neither_right _ _ each))
+    neither (alive_of moment (map.get source.1 x)) (attested moment more x)
+    (none_alive moment (map.get source.1 x) (sym (has_named source.1 x) ∙ neither_left _ _ each)) (none_attested moment more x (neither_right _ _ each))
 
 none_unfiltered : (one other : Bool) (rows : List (List ℕ)) → rows ≡ [] → unfiltered one other rows ≡ []
 none_unfiltered true other rows none = refl
@@ -66,7 +77,7 @@ none_given parts x none =
     let rest = sym (has-append (map.keys parts.assertions) (attesting parts.sources) x) ∙ neither_right _ _ each in
     none_onto (map.get parts.slurm_assertions x) _ (sym (has_named parts.slurm_assertions x) ∙ neither_left _ _ each)
     (none_onto (map.get parts.assertions x) (sourced parts x) (sym (has_named parts.assertions x) ∙ neither_left _ _ rest)
-    (none_unfiltered (has parts.slurm_filters x) (has parts.filters x) (attested parts.sources x) (none_attested parts.sources x (neither_right _ _ rest))))
+    (none_unfiltered (has parts.slurm_filters x) (has parts.filters x) (attested parts.moment parts.sources x) (none_attested parts.moment parts.sources x (neither_right _ _ rest))))
 
 no_row : (parts : Parts) (x : ℕ) → has (named parts) x ≡ false → is_some (table_of parts x) ≡ false
 no_row parts x none = ap (λ (rows : List (List ℕ)). is_some (row_made rows)) (none_given parts x none)

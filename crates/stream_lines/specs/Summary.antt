@@ -1,7 +1,7 @@
 -- What the summary of an analysis says.
 use Rattle.std.specs.Prelude.{◌≡◌, ℕ}
 use Rattle.path_model.specs.Authority.{Table}
-use Rattle.path_model.specs.CurrentTable.{IsCurrentTable}
+use Rattle.attestations.specs.CurrentTable.{IsCurrentTable}
 use Rattle.vap_table.specs.Vaps.{IsNumberOfRows}
 use Rattle.report_text.specs.declared.summary.Summary.{Summary}
 use Rattle.rib_store.specs.declared.counts.Counts.{Counts}

@@ -7,7 +7,7 @@ ghost use Rattle.stream_lines.specs.Changes.{Lists, ListsFront, changes_text};
 
 use crate::stop::Stop;
 use av_base::{Sink, pour_piece};
-use report_text::put_change;
+use report_text::PeerLines;
 use rib_store::{Journal, RibStore};
 
 /// Reports each key that stands otherwise than it was marked on a line, in key order. The text is held, and written in pieces.
@@ -42,8 +42,9 @@ fn put_each<W: Sink>(journal: Journal<'_>, out: &mut W, text: &mut Vec<u8>) -> R
     ensures grows { Grows (W.written out.old) (W.written out.new) }
     ensures no_shelf { IsErrOf result Stop.Shelf → ⊥ }
 {
+    let mut lines = PeerLines::new();
     for change in journal {
-        put_change(text, &change.key, change.before, change.after)?;
+        lines.put_change(text, &change.key, change.before, change.after)?;
         pour_piece(out, text)?;
     }
     Ok(())

@@ -7,7 +7,7 @@ ghost use Rattle.stream_lines.specs.Rows.{Reports, ReportsFront, rows_text};
 
 use crate::stop::Stop;
 use av_base::{Sink, pour_piece};
-use report_text::put_row;
+use report_text::PeerLines;
 use rib_store::{Rib, RibStore};
 
 /// Reports each route on a line, in key order, with its current verdict. The text is held, and written in pieces.
@@ -42,8 +42,9 @@ fn put_each<W: Sink>(rows: Rib<'_>, out: &mut W, text: &mut Vec<u8>) -> Result<(
     ensures grows { Grows (W.written out.old) (W.written out.new) }
     ensures no_shelf { IsErrOf result Stop.Shelf → ⊥ }
 {
+    let mut lines = PeerLines::new();
     for (key, verdict) in rows {
-        put_row(text, &key, verdict)?;
+        lines.put_row(text, &key, verdict)?;
         pour_piece(out, text)?;
     }
     Ok(())

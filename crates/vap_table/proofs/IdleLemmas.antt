@@ -1,4 +1,4 @@
--- Changes by hand that leave the parts as they are.
+-- Changes by hand, and moments, that leave the parts as they are.
 use Rattle.std.proofs.Common.{◌≡◌, ℕ, nat_eq, Bool, true, false, cond, not, ◌||◌, ◌&&◌, List, [], ◌∷◌, ◌++◌, Some, None, refl, sym, ap, ◌∙◌, true≢false}
 use Rattle.std.specs.declared.option.Option.{Option}
 use Rattle.std.specs.List.Sorted.{IsStrictlySortedBy, IsStrictlyIncreasing}
@@ -10,9 +10,9 @@ use Rattle.std.proofs.lemmas.Map.Keys.{sorted_from_strictly_increasing}
 use Rattle.std.proofs.lemmas.Map.Views.{exact_unsigned_eq}
 use Rattle.path_model.specs.Authority.{has}
 use Rattle.path_model.specs.Rows.{RowMap, row_or_empty}
-use Rattle.path_model.specs.CurrentTable.{Parts}
+use Rattle.attestations.specs.CurrentTable.{Parts}
 use Rattle.path_model.proofs.MemberLemmas.{has-append}
-use Rattle.vap_table.specs.declared.change.TableChange.TheVariants.{Filter, Unfilter, Assert, Unassert}
+use Rattle.vap_table.specs.declared.change.TableChange.TheVariants.{Filter, Unfilter, Assert, Unassert, At}
 use Rattle.vap_table.specs.Change.{Alters, without}
 use Rattle.vap_table.specs.Counting.{missing}
 use Rattle.vap_table.proofs.MemberLemmas.{set_of_members}
@@ -61,3 +61,6 @@ idle_assert parts x list row held some is rising none = (
 pub idle_unassert : (parts : Parts) (x : ℕ) → map.get parts.assertions x ≡ None → Alters parts (Unassert x) parts
 idle_unassert parts x none = ap (λ (m : RowMap). record parts { assertions = m }) (map.same_map nat_cmp_total map.nat_cmp-IsAntisymmetric parts.assertions (map.remove parts.assertions x)
     (λ q. same_at parts.assertions x q None (is_at (nat_cmp q) x) refl none ∙ sym (map.get-remove nat_cmp_total parts.assertions x q)))
+
+pub idle_at : (parts : Parts) (moment : ℕ) → parts.moment ≡ moment → Alters parts (At moment) parts
+idle_at parts moment same = ap (λ (m : ℕ). record parts { moment = m }) same

@@ -1,8 +1,11 @@
 pub mod AlteredLemmas
 pub mod ChangeLemmas
+pub mod ComparingLemmas
 pub mod CountingLemmas
 pub mod CurrentLemmas
 pub mod IdleLemmas
+pub mod LastsLemmas
+pub mod MarksLemmas
 pub mod MemberLemmas
 pub mod MovesLemmas
 pub mod NamingLemmas
@@ -13,4 +16,5 @@ pub mod SourcesLemmas
 pub mod SteppingLemmas
 pub mod TalliesLemmas
 pub mod TallyingLemmas
+pub mod TurningLemmas
 pub mod VapsLemmas

@@ -11,14 +11,14 @@ use Rattle.std.proofs.lemmas.Bool.{false_from_ne_true}
 use Rattle.std.proofs.lemmas.Map.Keys.{sorted_head, sorted_tail}
 use Rattle.std.proofs.lemmas.Map.Views.{exact_unsigned_eq}
 use Rattle.path_model.specs.Authority.{has}
-use Rattle.path_model.specs.CurrentTable.{Parts}
-use Rattle.path_model.specs.ComputedTable.{onto, attested, unfiltered, joined, union_of, row_made, table_of}
+use Rattle.attestations.specs.CurrentTable.{Parts}
+use Rattle.attestations.specs.ComputedTable.{onto, attested, unfiltered, joined, union_of, row_made, table_of}
 use Rattle.path_model.proofs.MemberLemmas.{has-append, has-nonzero}
 use Rattle.vap_table.specs.declared.tally.Given.{Given}
 use Rattle.vap_table.specs.declared.tally.Tally.{Tally}
-use Rattle.vap_table.specs.Counting.{one, holds, asserted_with}
+use Rattle.vap_table.specs.Counting.{holds, asserted_with}
 use Rattle.vap_table.specs.Shown.{some_go, goes_in, shown, row_shown}
-use Rattle.vap_table.specs.Stepping.{numbers_of}
+use Rattle.vap_table.specs.Stepping.{one, numbers_of}
 use Rattle.vap_table.specs.Tally.{holding, counted, IsTallyOf, IsTallyOfRows}
 use Rattle.vap_table.proofs.CountingLemmas.{rows_counted, numbers_counted, ordered}
 use Rattle.vap_table.proofs.MemberLemmas.{set_of_members, set_is_ascending}
@@ -160,5 +160,5 @@ row_is_current parts x tally is =
     let by_hand = map.get parts.assertions x in
     let b = has parts.slurm_filters x in
     let c = has parts.filters x in
-    let rows = attested parts.sources x in
+    let rows = attested parts.moment parts.sources x in
     row_is_made (b || c) rows (asserted_with by_slurm by_hand) tally (onto by_slurm (onto by_hand (unfiltered b c rows))) is (number_that_go by_slurm by_hand b c rows) (holders_that_go by_slurm by_hand b c rows)

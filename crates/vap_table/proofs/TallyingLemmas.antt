@@ -1,53 +1,36 @@
 -- What each change makes of the rows of a customer that are counted.
 use Rattle.std.proofs.Common.{◌≡◌, ℕ, nat_eq, ◌+◌, Bool, true, false, cond, not, ◌||◌, ◌&&◌, List, [], ◌∷◌, ◌++◌, length, Some, None, refl, sym, ap, subst, ◌∙◌}
-use Rattle.std.specs.Prelude.{is_none}
+use Rattle.std.specs.Prelude.{is_none, option_to_list}
+use Rattle.std.specs.Option.{option_map}
 use Rattle.std.specs.declared.option.Option.{Option}
 use Rattle.std.specs.Ordering.{nat_cmp}
 use Rattle.std.specs.BTreeMap.{is_at}
 use Rattle.std.specs.Cmp.{nat_cmp_total, nat_eq_equiv, unsigned_tied}
-use Rattle.std.specs.Cmp.Lexicographic.{pointwise}
 use Rattle.std.specs.FinMap as map
 use Rattle.std.proofs.lemmas.Bool.{false_from_ne_true}
 use Rattle.std.proofs.lemmas.Map.Views.{exact_unsigned_eq}
 use Rattle.path_model.specs.Authority.{has}
 use Rattle.path_model.specs.Rows.{RowMap, PatchMap, row_or_empty}
 use Rattle.path_model.specs.Sets.{IsSetOf}
-use Rattle.path_model.specs.CurrentTable.{Parts}
-use Rattle.path_model.specs.ComputedTable.{onto, attested}
+use Rattle.attestations.specs.CurrentTable.{Parts}
+use Rattle.attestations.specs.ComputedTable.{onto, attested}
+use Rattle.attestations.specs.declared.term.Term.{Term}
+use Rattle.attestations.specs.Terms.{SetOfTerms, TermMap, lasting, members, terms_or_none}
+use Rattle.attestations.proofs.TermLemmas.{members_empty, members_only}
 use Rattle.path_model.proofs.MemberLemmas.{has-append}
 use Rattle.vap_table.specs.declared.tally.Tally.{Tally}
-use Rattle.vap_table.specs.declared.change.TableChange.TheVariants.{Replace, Patch, Slurm, Filter, Unfilter, Assert, Unassert}
+use Rattle.vap_table.specs.declared.change.TableChange.TheVariants.{Replace, Patch, Slurm, Filter, Unfilter, Assert, Unassert, At}
 use Rattle.vap_table.specs.declared.stepping.Step.TheVariants.{AssertionMore}
 use Rattle.vap_table.specs.declared.tallied.Side.{Side}
-use Rattle.vap_table.specs.declared.tallied.Side.TheVariants.{Sources, Assertions}
-use Rattle.vap_table.specs.Change.{Alters, with_source, rows_in, patched_row}
-use Rattle.vap_table.specs.Counting.{one, holds, missing, asserted_with, IsGrown, IsGrownBy, IsTallyBySide}
-use Rattle.vap_table.specs.Stepping.{IsTallyStepped}
+use Rattle.vap_table.specs.declared.tallied.Side.TheVariants.{Assertions}
+use Rattle.vap_table.specs.Change.{Alters, with_source, terms_in, given_terms, patched_terms}
+use Rattle.vap_table.specs.Counting.{holds, missing, asserted_with, IsGrown, IsGrownBy, IsTallyBySide}
+use Rattle.vap_table.specs.Sources.{list_of}
+use Rattle.vap_table.specs.Stepping.{one, IsTallyStepped}
 use Rattle.vap_table.specs.Tally.{asserted, holding, IsTallyOf, IsTallyOfRows}
 use Rattle.vap_table.proofs.CountingLemmas.{onto_grown, onto_kept, kept_grown, assertion_added}
 use Rattle.vap_table.proofs.MemberLemmas.{members_of_set}
 use Rattle.vap_table.proofs.SourcesLemmas.{same_attested}
-
--- ---- the row of one source
-
--- the rows that the other sources have of a customer
-abbrev pub by_others : List (List ℕ × RowMap) → List ℕ → ℕ → List (List ℕ)
-by_others [] name x = []
-by_others (s ∷ ss) name x = cond (pointwise nat_eq name s.0) (attested ss x) (onto (map.get s.1 x) (by_others ss name x))
-
-pub put_grown : (sources : List (List ℕ × RowMap)) (name : List ℕ) (rows : RowMap) (x : ℕ) → IsGrownBy (map.get rows x) (by_others sources name x) (attested (with_source sources name rows) x)
-put_grown [] name rows x = onto_grown (map.get rows x) []
-put_grown (s ∷ ss) name rows x = by (pointwise nat_eq name s.0) (put_grown ss name rows x) where
-  by : (b : Bool) → IsGrownBy (map.get rows x) (by_others ss name x) (attested (with_source ss name rows) x) → IsGrownBy (map.get rows x) (cond b (attested ss x) (onto (map.get s.1 x) (by_others ss name x))) (attested (cond b ((s.0, rows) ∷ ss) (s ∷ with_source ss name rows)) x)
-  by true more = onto_grown (map.get rows x) (attested ss x)
-  by false more = onto_kept (map.get rows x) (map.get s.1 x) (by_others ss name x) (attested (with_source ss name rows) x) more
-
-pub held_grown : (sources : List (List ℕ × RowMap)) (name : List ℕ) (x : ℕ) → IsGrownBy (map.get (rows_in sources name) x) (by_others sources name x) (attested sources x)
-held_grown [] name x = subst (λ (o : Option (List ℕ)). IsGrownBy o [] []) (sym (map.get-empty nat_cmp x)) refl
-held_grown (s ∷ ss) name x = by (pointwise nat_eq name s.0) (held_grown ss name x) where
-  by : (b : Bool) → IsGrownBy (map.get (rows_in ss name) x) (by_others ss name x) (attested ss x) → IsGrownBy (map.get (cond b s.1 (rows_in ss name)) x) (cond b (attested ss x) (onto (map.get s.1 x) (by_others ss name x))) (onto (map.get s.1 x) (attested ss x))
-  by true more = onto_grown (map.get s.1 x) (attested ss x)
-  by false more = onto_kept (map.get (rows_in ss name) x) (map.get s.1 x) (by_others ss name x) (attested ss x) more
 
 -- ---- the rows of the two kinds of assertions
 
@@ -108,21 +91,32 @@ united_grown by_slurm held list row more is_row is_more = kept_grown by_slurm (i
 
 -- ---- each change
 
-pub tally_of_replace : (old : Parts) (name : List ℕ) (rows : RowMap) (x : ℕ) (tally : Option Tally) → IsTallyOfRows (attested (with_source old.sources name rows) x) (asserted old x) tally
-    → (new : Parts) → Alters old (Replace name rows) new → IsTallyOf new x tally
-tally_of_replace old name rows x tally is new e = subst (λ (parts : Parts). IsTallyOf parts x tally) (sym e) is
+pub tally_of_replace : (old : Parts) (name : List ℕ) (terms : TermMap) (x : ℕ) (tally : Option Tally) → IsTallyOfRows (attested old.moment (with_source old.sources name terms) x) (asserted old x) tally
+    → (new : Parts) → Alters old (Replace name terms) new → IsTallyOf new x tally
+tally_of_replace old name terms x tally is new e = subst (λ (parts : Parts). IsTallyOf parts x tally) (sym e) is
 
-pub tally_of_patch : (old : Parts) (name : List ℕ) (patch : PatchMap) (x : ℕ) (given : Option (List ℕ)) (tally : Option Tally) → map.get patch x ≡ Some given
-    → ((rows : RowMap) → map.get rows x ≡ given → IsTallyOfRows (attested (with_source old.sources name rows) x) (asserted old x) tally) → (new : Parts) → Alters old (Patch name patch) new → IsTallyOf new x tally
-tally_of_patch old name patch x given tally said is new (rows, patched, e) = subst (λ (parts : Parts). IsTallyOf parts x tally) (sym e)
-    (is rows (patched.each x ∙ ap (λ (o : Option (Option (List ℕ))). patched_row o (map.get (rows_in old.sources name) x)) said))
+-- the list of a row that is given, as one attestation that never ends
+abbrev pub listed_row : Option (List ℕ) → List Term
+listed_row given = option_to_list (option_map lasting given)
+
+listed_given : (given : Option (List ℕ)) → members (terms_or_none (given_terms given)) ≡ listed_row given
+listed_given None = members_empty
+listed_given (Some row) = members_only (lasting row)
+
+pub tally_of_patch : (old : Parts) (name : List ℕ) (patch : PatchMap) (x : ℕ) (given : Option (List ℕ)) (list : List Term) (tally : Option Tally) → map.get patch x ≡ Some given → list ≡ listed_row given
+    → ((terms : TermMap) → list_of terms x ≡ list → IsTallyOfRows (attested old.moment (with_source old.sources name terms) x) (asserted old x) tally) → (new : Parts) → Alters old (Patch name patch) new → IsTallyOf new x tally
+tally_of_patch old name patch x given list tally said listed is new (terms, patched, e) = subst (λ (parts : Parts). IsTallyOf parts x tally) (sym e)
+    (is terms (ap (λ (o : Option SetOfTerms). members (terms_or_none o)) (patched.each x ∙ ap (λ (o : Option (Option (List ℕ))). patched_terms o (map.get (terms_in old.sources name) x)) said) ∙ listed_given given ∙ sym listed))
 
 pub tally_unpatched : (old : Parts) (name : List ℕ) (patch : PatchMap) (x : ℕ) (tally : Option Tally) → map.get patch x ≡ None → IsTallyOf old x tally → (new : Parts) → Alters old (Patch name patch) new → IsTallyOf new x tally
-tally_unpatched old name patch x tally unsaid is new (rows, patched, e) = subst (λ (parts : Parts). IsTallyOf parts x tally) (sym e)
+tally_unpatched old name patch x tally unsaid is new (terms, patched, e) = subst (λ (parts : Parts). IsTallyOf parts x tally) (sym e)
     (subst (λ (sourced : List (List ℕ)). IsTallyOfRows sourced (asserted old x) tally)
-    (sym (same_attested old.sources name rows x (sym (patched.each x ∙ ap (λ (o : Option (Option (List ℕ))). patched_row o (map.get (rows_in old.sources name) x)) unsaid)))) is)
+    (sym (same_attested old.moment old.sources name terms x (sym (patched.each x ∙ ap (λ (o : Option (Option (List ℕ))). patched_terms o (map.get (terms_in old.sources name) x)) unsaid)))) is)
 
-pub tally_of_slurm : (old : Parts) (filters : List ℕ) (rows : RowMap) (x : ℕ) (tally : Option Tally) → IsTallyOfRows (attested old.sources x) (asserted_with (map.get rows x) (map.get old.assertions x)) tally
+pub tally_of_at : (old : Parts) (moment x : ℕ) (tally : Option Tally) → IsTallyOfRows (attested moment old.sources x) (asserted old x) tally → (new : Parts) → Alters old (At moment) new → IsTallyOf new x tally
+tally_of_at old moment x tally is new e = subst (λ (parts : Parts). IsTallyOf parts x tally) (sym e) is
+
+pub tally_of_slurm : (old : Parts) (filters : List ℕ) (rows : RowMap) (x : ℕ) (tally : Option Tally) → IsTallyOfRows (attested old.moment old.sources x) (asserted_with (map.get rows x) (map.get old.assertions x)) tally
     → (new : Parts) → Alters old (Slurm filters rows) new → IsTallyOf new x tally
 tally_of_slurm old filters rows x tally is new (set, is_set, e) = subst (λ (parts : Parts). IsTallyOf parts x tally) (sym e) is
 
@@ -134,9 +128,9 @@ tally_of_unfilter old customer x tally is new (set, is_set, e) = subst (λ (part
 
 -- assertions that differ at one customer
 by_assertions : (old new : Parts) (rows : RowMap) (x : ℕ) (row : Option (List ℕ)) (tally : Option Tally) → new ≡ record old { assertions = rows } → map.get rows x ≡ row
-    → IsTallyOfRows (attested old.sources x) (asserted_with (map.get old.slurm_assertions x) row) tally → IsTallyOf new x tally
+    → IsTallyOfRows (attested old.moment old.sources x) (asserted_with (map.get old.slurm_assertions x) row) tally → IsTallyOf new x tally
 by_assertions old new rows x row tally e at is = subst (λ (parts : Parts). IsTallyOf parts x tally) (sym e)
-    (subst (λ (o : Option (List ℕ)). IsTallyOfRows (attested old.sources x) (asserted_with (map.get old.slurm_assertions x) o) tally) (sym at) is)
+    (subst (λ (o : Option (List ℕ)). IsTallyOfRows (attested old.moment old.sources x) (asserted_with (map.get old.slurm_assertions x) o) tally) (sym at) is)
 
 at_itself : (x : ℕ) → is_at (nat_cmp x) x ≡ true
 at_itself x = unsigned_tied x x ∙ nat_eq_equiv.refl x
@@ -145,7 +139,7 @@ at_other : (x y : ℕ) → nat_eq x y ≡ false → is_at (nat_cmp y) x ≡ fals
 at_other x y other = unsigned_tied y x ∙ nat_eq_equiv.symm y x ∙ other
 
 pub tally_of_assert : (old : Parts) (x : ℕ) (list : List ℕ) (tally : Option Tally)
-    → ((row : List ℕ) → IsSetOf (row_or_empty (map.get old.assertions x) ++ list) row → IsTallyOfRows (attested old.sources x) (asserted_with (map.get old.slurm_assertions x) (Some row)) tally)
+    → ((row : List ℕ) → IsSetOf (row_or_empty (map.get old.assertions x) ++ list) row → IsTallyOfRows (attested old.moment old.sources x) (asserted_with (map.get old.slurm_assertions x) (Some row)) tally)
     → (new : Parts) → Alters old (Assert x list) new → IsTallyOf new x tally
 tally_of_assert old x list tally is new (rows, unites, e) = by_assertions old new rows x (Some unites.row) tally e
     (ap (λ (m : RowMap). map.get m x) unites.whole ∙ map.get-insert nat_cmp_total old.assertions x unites.row x ∙ ap (λ (b : Bool). cond b (Some unites.row) (map.get old.assertions x)) (at_itself x))
@@ -157,7 +151,7 @@ tally_asserted_apart old customer list x tally other is new (rows, unites, e) = 
     ∙ ap (λ (b : Bool). cond b (Some unites.row) (map.get old.assertions x)) (at_other customer x other))
     is
 
-pub tally_of_unassert : (old : Parts) (x : ℕ) (tally : Option Tally) → IsTallyOfRows (attested old.sources x) (asserted_with (map.get old.slurm_assertions x) None) tally
+pub tally_of_unassert : (old : Parts) (x : ℕ) (tally : Option Tally) → IsTallyOfRows (attested old.moment old.sources x) (asserted_with (map.get old.slurm_assertions x) None) tally
     → (new : Parts) → Alters old (Unassert x) new → IsTallyOf new x tally
 tally_of_unassert old x tally is new e = by_assertions old new (map.remove old.assertions x) x None tally e
     (map.get-remove nat_cmp_total old.assertions x x ∙ ap (λ (b : Bool). cond b None (map.get old.assertions x)) (at_itself x)) is
@@ -179,32 +173,26 @@ AddsOn side row before after = (rows grown other : List (List ℕ)) → IsGrownB
 grown_as : (row held : Option (List ℕ)) (rows grown : List (List ℕ)) → row ≡ held → IsGrownBy held rows grown → IsGrownBy row rows grown
 grown_as row held rows grown e g = subst (λ (o : Option (List ℕ)). IsGrownBy o rows grown) (sym e) g
 
-pub source_put : (parts : Parts) (name : List ℕ) (x : ℕ) (held row : Option (List ℕ)) (before between after : Option Tally) → held ≡ map.get (rows_in parts.sources name) x → TakesOff Sources held before between → AddsOn Sources row between after
-    → IsTallyOf parts x before → (rows : RowMap) → map.get rows x ≡ row → IsTallyOfRows (attested (with_source parts.sources name rows) x) (asserted parts x) after
-source_put parts name x held row before between after is_held off on is rows is_row =
-    on (by_others parts.sources name x) (attested (with_source parts.sources name rows) x) (asserted parts x) (grown_as row (map.get rows x) _ _ (sym is_row) (put_grown parts.sources name rows x))
-    (off (by_others parts.sources name x) (attested parts.sources x) (asserted parts x) (grown_as held (map.get (rows_in parts.sources name) x) _ _ is_held (held_grown parts.sources name x)) is)
-
 pub slurm_put : (parts : Parts) (x : ℕ) (held row : Option (List ℕ)) (before between after : Option Tally) → held ≡ map.get parts.slurm_assertions x → TakesOff Assertions held before between → AddsOn Assertions row between after
-    → IsTallyOf parts x before → IsTallyOfRows (attested parts.sources x) (asserted_with row (map.get parts.assertions x)) after
+    → IsTallyOf parts x before → IsTallyOfRows (attested parts.moment parts.sources x) (asserted_with row (map.get parts.assertions x)) after
 slurm_put parts x held row before between after is_held off on is =
     let by_hand = map.get parts.assertions x in
-    on (onto by_hand []) (asserted_with row by_hand) (attested parts.sources x) (slurm_grown row by_hand)
-    (off (onto by_hand []) (asserted parts x) (attested parts.sources x) (grown_as held (map.get parts.slurm_assertions x) _ _ is_held (slurm_grown (map.get parts.slurm_assertions x) by_hand)) is)
+    on (onto by_hand []) (asserted_with row by_hand) (attested parts.moment parts.sources x) (slurm_grown row by_hand)
+    (off (onto by_hand []) (asserted parts x) (attested parts.moment parts.sources x) (grown_as held (map.get parts.slurm_assertions x) _ _ is_held (slurm_grown (map.get parts.slurm_assertions x) by_hand)) is)
 
 pub hand_removed : (parts : Parts) (x : ℕ) (held : Option (List ℕ)) (before after : Option Tally) → held ≡ map.get parts.assertions x → TakesOff Assertions held before after → IsTallyOf parts x before
-    → IsTallyOfRows (attested parts.sources x) (asserted_with (map.get parts.slurm_assertions x) None) after
+    → IsTallyOfRows (attested parts.moment parts.sources x) (asserted_with (map.get parts.slurm_assertions x) None) after
 hand_removed parts x held before after is_held off is =
     let by_slurm = map.get parts.slurm_assertions x in
-    off (onto by_slurm []) (asserted parts x) (attested parts.sources x) (grown_as held (map.get parts.assertions x) _ _ is_held (hand_grown by_slurm (map.get parts.assertions x))) is
+    off (onto by_slurm []) (asserted parts x) (attested parts.moment parts.sources x) (grown_as held (map.get parts.assertions x) _ _ is_held (hand_grown by_slurm (map.get parts.assertions x))) is
 
 pub hand_united : (parts : Parts) (x : ℕ) (held : Option (List ℕ)) (is_first : Bool) (list row more : List ℕ) (before after : Option Tally) → held ≡ map.get parts.assertions x → is_first ≡ is_none held
     → IsSetOf (missing held list) more → IsTallyStepped AssertionMore is_first more before after → IsTallyOf parts x before → IsSetOf (row_or_empty (map.get parts.assertions x) ++ list) row
-    → IsTallyOfRows (attested parts.sources x) (asserted_with (map.get parts.slurm_assertions x) (Some row)) after
+    → IsTallyOfRows (attested parts.moment parts.sources x) (asserted_with (map.get parts.slurm_assertions x) (Some row)) after
 hand_united parts x held is_first list row more before after is_held first is_more stepped is is_row =
     let by_slurm = map.get parts.slurm_assertions x in
     let by_hand = map.get parts.assertions x in
-    assertion_added is_first more (asserted_with by_slurm by_hand) (asserted_with by_slurm (Some row)) (attested parts.sources x) before after stepped
+    assertion_added is_first more (asserted_with by_slurm by_hand) (asserted_with by_slurm (Some row)) (attested parts.moment parts.sources x) before after stepped
     (subst (λ (b : Bool). IsGrown b more (asserted_with by_slurm by_hand) (asserted_with by_slurm (Some row))) (sym (first ∙ ap is_none is_held))
     (united_grown by_slurm by_hand list row more is_row (subst (λ (o : Option (List ℕ)). IsSetOf (missing o list) more) is_held is_more))) is
 

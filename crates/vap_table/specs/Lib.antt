@@ -1,12 +1,16 @@
 pub mod Change
 pub mod Codes
+pub mod Comparing
 pub mod Counting
 pub mod Current
+pub mod Lasts
 pub mod Laws
+pub mod Marks
 pub mod Moves
 pub mod Naming
 pub mod Shown
 pub mod Sources
 pub mod Stepping
 pub mod Tally
+pub mod Turning
 pub mod Vaps

@@ -1,5 +1,5 @@
--- Counted numbers, once a step is taken for each number of a row; private contracts alone cite it.
-use Rattle.std.specs.Prelude.{◌≡◌, ℕ, nat_eq, ◌+◌, ◌-◌, ◌<◌, Bool, true, ◌&&◌, List, [], ◌∷◌, ◌++◌, map, All, IfSome, option_to_list, if◌then◌else◌}
+-- Counted numbers, once a step is taken as often for each number as rows hold it; private contracts alone cite it.
+use Rattle.std.specs.Prelude.{◌≡◌, ℕ, nat_eq, ◌+◌, ◌-◌, ◌<◌, Bool, true, ◌&&◌, List, [], ◌∷◌, ◌++◌, map, count_by, replicate, All, IfSome, option_to_list, if◌then◌else◌}
 use Rattle.std.specs.declared.option.Option.{Option}
 use Rattle.std.specs.declared.option.Option.TheVariants.{Some, None}
 use Rattle.std.specs.Ordering.{nat_cmp}
@@ -18,36 +18,42 @@ numbers_of given = map (λ g. g.provider) given
 abbrev pub pair_of : Given → ℕ × ℕ
 pair_of one = (one.sources, one.assertions)
 
--- the counts of a number after a step
-abbrev pub stepped : Step → Given → Given
-stepped SourceMore one = record one { sources = one.sources + 1 }
-stepped SourceLess one = record one { sources = one.sources - 1 }
-stepped AssertionMore one = record one { assertions = one.assertions + 1 }
-stepped AssertionLess one = record one { assertions = one.assertions - 1 }
+abbrev pub one : Bool → ℕ
+one b = if b then 1 else 0
 
--- the same, if it is taken
-abbrev pub step_if : Bool → Step → Given → Given
-step_if is_taken step one = if is_taken then stepped step one else one
+-- how often a number is in the list
+abbrev pub times : List ℕ → ℕ → ℕ
+times numbers y = count_by (λ n. nat_eq n y) numbers
+
+-- the counts of a number after so many steps
+abbrev pub stepped : Step → ℕ → Given → Given
+stepped SourceMore n one = record one { sources = one.sources + n }
+stepped SourceLess n one = record one { sources = one.sources - n }
+stepped AssertionMore n one = record one { assertions = one.assertions + n }
+stepped AssertionLess n one = record one { assertions = one.assertions - n }
 
 -- the same of the two counts alone
-abbrev pub stepped_pair : Step → ℕ × ℕ → ℕ × ℕ
-stepped_pair SourceMore pair = (pair.0 + 1, pair.1)
-stepped_pair SourceLess pair = (pair.0 - 1, pair.1)
-stepped_pair AssertionMore pair = (pair.0, pair.1 + 1)
-stepped_pair AssertionLess pair = (pair.0, pair.1 - 1)
-
-abbrev pub pair_if : Bool → Step → ℕ × ℕ → ℕ × ℕ
-pair_if is_taken step pair = if is_taken then stepped_pair step pair else pair
+abbrev pub stepped_pair : Step → ℕ → ℕ × ℕ → ℕ × ℕ
+stepped_pair SourceMore n pair = (pair.0 + n, pair.1)
+stepped_pair SourceLess n pair = (pair.0 - n, pair.1)
+stepped_pair AssertionMore n pair = (pair.0, pair.1 + n)
+stepped_pair AssertionLess n pair = (pair.0, pair.1 - n)
 
 -- a number is listed where something holds it
 abbrev pub listed : Given → List Given
 listed one = if nat_eq one.sources 0 && nat_eq one.assertions 0 then [] else one ∷ []
 
--- the counts once the step is taken for each number of the row
-pub record AreStepped (step : Step) (given : List Given) (row : List ℕ) (new : List Given) : Type 0 where
+-- the counts once the step is taken so many times for each number
+pub record AreStepped (step : Step) (given : List Given) (often : ℕ → ℕ) (new : List Given) : Type 0 where
   pub rising : IsStrictlySortedBy nat_cmp (numbers_of new)
   pub held : All (λ g. 0 < g.sources + g.assertions) new
-  pub each : (y : ℕ) → counted new y ≡ pair_if (has row y) step (counted given y)
+  pub each : (y : ℕ) → counted new y ≡ stepped_pair step (often y) (counted given y)
+
+-- what is left of a list behind the first items, each of which is this number, and the next one isn't
+pub record IsBehind (number : ℕ) (list rest : List ℕ) : Type 0 where
+  pub often : ℕ
+  pub whole : list ≡ replicate often number ++ rest
+  pub other : (more : List ℕ) → rest ≡ number ∷ more → ⊥
 
 -- a number that nothing holds
 abbrev pub uncounted : ℕ → Given
@@ -76,8 +82,12 @@ given_in (Some tally) = tally.given
 abbrev pub tally_made : ℕ × ℕ → List Given → Option Tally
 tally_made rows given = if nat_eq rows.0 0 && nat_eq rows.1 0 then None else Some (record { sources = rows.0; assertions = rows.1; given = given })
 
--- the tally once the step is taken for the numbers of a row, and, if it is another row, for the number of rows
-pub record IsTallyStepped (step : Step) (is_other : Bool) (row : List ℕ) (before after : Option Tally) : Type 0 where
+-- the tally once the step is taken so many times for each number, and so many times for the number of rows
+pub record AreStepsTaken (step : Step) (rows : ℕ) (often : ℕ → ℕ) (before after : Option Tally) : Type 0 where
   pub given : List Given
-  pub stepped : AreStepped step (given_in before) row given
-  pub whole : after ≡ tally_made (pair_if is_other step (rows_in before)) given
+  pub stepped : AreStepped step (given_in before) often given
+  pub whole : after ≡ tally_made (stepped_pair step rows (rows_in before)) given
+
+-- the same for the numbers of one row, which counts as a row if it is another one
+abbrev pub IsTallyStepped : Step → Bool → List ℕ → Option Tally → Option Tally → Type 0
+IsTallyStepped step is_other row before after = AreStepsTaken step (one is_other) (λ y. one (has row y)) before after

@@ -1,7 +1,7 @@
-//! Changes by hand that change nothing.
+//! Changes by hand, and moments, that change nothing.
 ghost use Rattle.std.specs.Prelude.{IsTrue};
 ghost use Rattle.vap_table.specs.Change.{Alters};
-ghost use Rattle.vap_table.specs.declared.change.TableChange.TheVariants.{Filter, Unfilter, Assert, Unassert};
+ghost use Rattle.vap_table.specs.declared.change.TableChange.TheVariants.{Filter, Unfilter, Assert, Unassert, At};
 
 use crate::TableChange;
 use crate::parts::HeldParts;
@@ -9,8 +9,8 @@ use crate::searching::are_held;
 use path_model::AsList;
 
 impl HeldParts {
-    /// Whether a change by hand leaves all as it is. It takes a look-up, and one for each provider that is asserted. Of other changes it says
-    /// no.
+    /// Whether a change by hand, or a moment, leaves all as it is. It takes a look-up, and one for each provider that is asserted. Of other
+    /// changes it says no.
     pub(crate) fn is_idle(&self, change: &TableChange) -> bool
         ensures { IsTrue result → Alters self.now change.now self.now }
     {
@@ -22,7 +22,15 @@ impl HeldParts {
             TableChange::Replace(_, _) => false,
             TableChange::Patch(_, _) => false,
             TableChange::Slurm(_, _) => false,
+            TableChange::At(moment) => self.is_moment(*moment),
         }
+    }
+
+    // Whether the current table is made for this moment.
+    fn is_moment(&self, moment: u32) -> bool
+        ensures { IsTrue result → Alters self.now (At moment) self.now }
+    {
+        self.moment == moment
     }
 
     // Whether the customer is filtered out by hand.

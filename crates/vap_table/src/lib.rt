@@ -1,25 +1,32 @@
-//! The current table: which rows of attestations hold now, from all that attests and the local filters.
+//! The current table: which rows hold at the stated moment, from all that attests and the local filters.
 //!
 //! The layer above uses one contract: [`Vaps::change`] answers the table of the changed parts, with exactly the customers whose current
 //! row moved. What a change makes of the parts is defined in `specs/Change.antt`; begin reading there, and then in `specs/Moves.antt`.
-//! The current table of given parts is defined in `path_model` (`CurrentTable`).
+//! The current table of given parts is defined in `attestations` (`CurrentTable`).
 //!
-//! A change visits only the customers that it names (`naming`), and none where it changes nothing (`idle`). Each customer has a tally
-//! (`specs/Tally.antt`): how many sources and how many assertions have a row of it, and which numbers they hold. [`Vaps::tally`] lends it. A
-//! change takes the row that it replaces off the tally and adds the new one (`tallying`, `tallied`, `stepping`), so no other source is looked
-//! at, and the current row is read off the tally (`shown`). `current` keeps the rows that the first source doesn't have as they are, and
-//! `refreshing` does so customer by customer.
+//! A change visits only the customers that it names (`naming`, `comparing`), and none where it changes nothing (`idle`). An index has the
+//! last moments of the attestations that end (`lasts`, `listing`), so another moment names only the customers with an attestation that is
+//! alive at one of the two moments alone. Each customer has a tally (`specs/Tally.antt`): how many alive attestations and how many
+//! assertions there are of it, and which numbers they hold. [`Vaps::tally`] lends it. A change takes the rows that it replaces off the
+//! tally and adds the new ones (`tallying`, `turning`, `gathering`, `tallied`, `stepping`), and the current row is read off the tally
+//! (`shown`). So other sources are looked at only for another moment, and for a customer with an attestation that has an end. `current`
+//! keeps the rows that the first source doesn't have as they are, and `refreshing` does so customer by customer.
 #![tactic(auto)]
 
 mod change;
+mod comparing;
 mod current;
 mod customers;
+mod gathering;
 mod idle;
+mod lasts;
 mod laws;
+mod listing;
 mod moves;
 mod naming;
 mod parts;
 mod refreshing;
+mod row_holders;
 mod searching;
 mod shown;
 mod sources;
@@ -28,6 +35,7 @@ mod tallied;
 mod tallies;
 mod tally;
 mod tallying;
+mod turning;
 mod vaps;
 
 pub use change::TableChange;

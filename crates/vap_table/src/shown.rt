@@ -1,7 +1,7 @@
 //! The current row of a customer, read off its tally.
 ghost use Rattle.std.specs.Prelude.{◌≡◌, ◌++◌, IfOk, OnOk};
 ghost use Rattle.std.specs.Option.{option_copied};
-ghost use Rattle.path_model.specs.ComputedTable.{table_of};
+ghost use Rattle.attestations.specs.ComputedTable.{table_of};
 ghost use Rattle.vap_table.specs.Shown.{goes_in, has_row, row_shown, shown};
 ghost use Rattle.vap_table.specs.Tally.{IsTallyOf};
 

@@ -1,19 +1,19 @@
-//! The counted numbers of a customer, once one row more or less is counted.
+//! The counted numbers of a customer, once rows more or less are counted.
 ghost use Rattle.std.specs.Prelude.{◌≡◌, ◌++◌, ◌+◌, ◌<◌, ◌≤◌, All, length, IfOk, OnOk, if◌then◌else◌};
 ghost use Rattle.std.specs.Ordering.{nat_cmp};
-ghost use Rattle.std.specs.List.Sorted.{IsStrictlySortedBy, IsPartitionPoint};
-ghost use Rattle.vap_table.specs.Stepping.{ArePartedAt, AreStepped, listed, numbers_of, step_if, stepped, uncounted};
+ghost use Rattle.std.specs.List.Sorted.{IsStrictlySortedBy, IsNonDecreasing, IsPartitionPoint};
+ghost use Rattle.vap_table.specs.Stepping.{ArePartedAt, AreStepped, IsBehind, listed, numbers_of, stepped, times, uncounted};
 
 use crate::Given;
 use av_base::NoMemory;
 use std::alloc::Global;
 
-/// What is done to the counts of each number of a row.
+/// What is done to the counts of a number that a row holds.
 #[derive(Clone, Copy, Debug, PartialEq, Eq)]
 pub(crate) enum Step {
-    /// One source more holds it.
+    /// One attestation more of a source holds it.
     SourceMore,
-    /// One source less holds it.
+    /// One attestation less of a source holds it.
     SourceLess,
     /// One assertion more holds it.
     AssertionMore,
@@ -22,48 +22,38 @@ pub(crate) enum Step {
 }
 
 impl Step {
-    // The counts after the step. For 2^64 of a kind there is no memory.
-    fn taken(self, one: Given) -> Result<Given, NoMemory>
-        ensures { IfOk result (λ after. after ≡ stepped self one) }
+    /// The counts after so many steps. For 2^64 of a kind there is no memory.
+    pub(crate) fn taken(self, one: Given, often: u64) -> Result<Given, NoMemory>
+        ensures { IfOk result (λ after. after ≡ stepped self often one) }
     {
         match self {
-            Step::SourceMore => more_sources(one),
+            Step::SourceMore => more_sources(one, often),
             Step::SourceLess => Ok(Given {
-                sources: one.sources.saturating_sub(1),
+                sources: one.sources.saturating_sub(often),
                 ..one
             }),
-            Step::AssertionMore => more_assertions(one),
+            Step::AssertionMore => more_assertions(one, often),
             Step::AssertionLess => Ok(Given {
-                assertions: one.assertions.saturating_sub(1),
+                assertions: one.assertions.saturating_sub(often),
                 ..one
             }),
         }
-    }
-
-    /// The counts after the step, if it is taken.
-    pub(crate) fn taken_if(self, is_taken: bool, one: Given) -> Result<Given, NoMemory>
-        ensures { IfOk result (λ after. after ≡ step_if is_taken self one) }
-    {
-        if is_taken {
-            return self.taken(one);
-        }
-        Ok(one)
     }
 }
 
-// One source more.
-fn more_sources(one: Given) -> Result<Given, NoMemory>
-    ensures { IfOk result (λ after. after ≡ stepped Step.SourceMore one) }
+// So many sources more.
+fn more_sources(one: Given, often: u64) -> Result<Given, NoMemory>
+    ensures { IfOk result (λ after. after ≡ stepped Step.SourceMore often one) }
 {
-    let sources = one.sources.checked_add(1).ok_or(NoMemory)?;
+    let sources = one.sources.checked_add(often).ok_or(NoMemory)?;
     Ok(Given { sources, ..one })
 }
 
-// One assertion more.
-fn more_assertions(one: Given) -> Result<Given, NoMemory>
-    ensures { IfOk result (λ after. after ≡ stepped Step.AssertionMore one) }
+// So many assertions more.
+fn more_assertions(one: Given, often: u64) -> Result<Given, NoMemory>
+    ensures { IfOk result (λ after. after ≡ stepped Step.AssertionMore often one) }
 {
-    let assertions = one.assertions.checked_add(1).ok_or(NoMemory)?;
+    let assertions = one.assertions.checked_add(often).ok_or(NoMemory)?;
     Ok(Given { assertions, ..one })
 }
 
@@ -75,43 +65,65 @@ struct Parted<'a> {
     above: &'a [Given],
 }
 
-/// The counted numbers once the step is taken for each number of a row. Each number of the row costs a binary search, and the counts between
-/// them are copied as they are.
+/// The counted numbers once the step is taken for each number of a list that doesn't fall, as often as it is there. Each other number costs
+/// a binary search, and the counts between them are copied as they are.
 pub(crate) fn stepped_by(
     alloc: Global,
     given: &[Given],
-    row: &[u32],
+    list: &[u32],
     step: Step,
 ) -> Result<Vec<Given>, NoMemory>
     requires counted { IsStrictlySortedBy nat_cmp (numbers_of given.now) }
     requires held { All (λ g. 0 < g.sources + g.assertions) given.now }
-    requires rising { IsStrictlySortedBy nat_cmp row.now }
-    ensures { IfOk result (λ items. AreStepped step given.now row.now items.items) }
+    requires rising { IsNonDecreasing list.now }
+    ensures { IfOk result (λ items. AreStepped step given.now (times list.now) items.items) }
 {
-    let most = given.len().saturating_add(uncounted_in(given, row));
+    let most = given.len().saturating_add(uncounted_in(given, list));
     let mut done = Vec::with_capacity(alloc, most)?;
     let mut counts = given;
-    let mut numbers = row;
+    let mut numbers = list;
     while let Some((number, more)) = numbers.split_first() {
+        let left = behind(more, *number);
+        let often = (numbers.len() - left.len()) as u64;
         let Parted { below, one, above } = parted_at(counts, *number);
         done.extend_from_slice(below)?;
-        push_counted(&mut done, step.taken(one.unwrap_or(uncounted(*number)))?)?;
+        push_counted(
+            &mut done,
+            step.taken(one.unwrap_or(uncounted(*number)), often)?,
+        )?;
         counts = above;
-        numbers = more;
+        numbers = left;
     }
     done.extend_from_slice(counts)?;
     Ok(done)
 }
 
-// How many numbers of a row nothing holds so far: there is room for these from the start.
-fn uncounted_in(counts: &[Given], row: &[u32]) -> usize
+// What is left of a list behind the first items, each of which is this number.
+fn behind(list: &[u32], number: u32) -> &[u32]
+    ensures behind { IsBehind number list.now result.now }
+    ensures fewer { length result.now ≤ length list.now }
+{
+    let mut left = list;
+    while let Some((first, more)) = left.split_first() {
+        if *first != number {
+            return left;
+        }
+        left = more;
+    }
+    left
+}
+
+// How many numbers of a list nothing holds so far, each counted once: there is room for these from the start.
+fn uncounted_in(counts: &[Given], list: &[u32]) -> usize
     requires { IsStrictlySortedBy nat_cmp (numbers_of counts.now) }
 {
     let mut number_of_new: usize = 0;
-    for number in row {
-        if parted_at(counts, *number).one.is_none() {
+    let mut last = None;
+    for number in list {
+        if last != Some(*number) && parted_at(counts, *number).one.is_none() {
             number_of_new = number_of_new.saturating_add(1);
         }
+        last = Some(*number);
     }
     number_of_new
 }

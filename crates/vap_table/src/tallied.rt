@@ -1,11 +1,11 @@
-//! A customer's tally, once one row more or less is counted.
+//! A customer's tally, once rows more or less are counted.
 ghost use Rattle.std.specs.Prelude.{◌≡◌, ℕ, List, [], IfOk};
 ghost use Rattle.std.specs.Ordering.{nat_cmp};
-ghost use Rattle.std.specs.List.Sorted.{IsStrictlySortedBy};
+ghost use Rattle.std.specs.List.Sorted.{IsStrictlySortedBy, IsNonDecreasing};
 ghost use Rattle.std.specs.Option.{option_copied};
 ghost use Rattle.vap_table.specs.Counting.{IsGrownBy, IsOrdered, IsTallyBySide};
 ghost use Rattle.vap_table.specs.Sources.{IsSetIfGiven};
-ghost use Rattle.vap_table.specs.Stepping.{given_in, rows_in, IsTallyStepped, step_if, tally_made};
+ghost use Rattle.vap_table.specs.Stepping.{given_in, rows_in, times, AreStepsTaken, IsTallyStepped, tally_made};
 
 use crate::stepping::{Step, stepped_by};
 use crate::{Given, GivenList, Tally};
@@ -93,19 +93,37 @@ pub(crate) fn step_tally(
     ensures ordered { IfOk result IsOrdered }
     ensures stepped { IfOk result (λ next. IsTallyStepped step is_other row.now tally next) }
 {
+    let next = step_rows(alloc, tally, step, u64::from(is_other), row)?;
+    Ok(next)
+}
+
+/// The tally once the step is taken for each number of a list that doesn't fall, as often as it is there, and for so many rows. It goes
+/// through the tally and the list once.
+pub(crate) fn step_rows(
+    alloc: Global,
+    tally: Option<Tally>,
+    step: Step,
+    rows: u64,
+    list: &[u32],
+) -> Result<Option<Tally>, NoMemory>
+    requires ordered { IsOrdered tally }
+    requires rising { IsNonDecreasing list.now }
+    ensures ordered { IfOk result IsOrdered }
+    ensures stepped { IfOk result (AreStepsTaken step rows (times list.now) tally) }
+{
     let Tally {
         sources,
         assertions,
         given,
     } = or_empty(alloc, tally);
-    let rows = Given {
+    let counted = Given {
         provider: 0,
         sources,
         assertions,
     };
-    let items = stepped_by(alloc, given.as_slice(), row, step)?;
-    let rows = step.taken_if(is_other, rows)?;
-    Ok(tally_of(rows, GivenList { items }))
+    let items = stepped_by(alloc, given.as_slice(), list, step)?;
+    let counted = step.taken(counted, rows)?;
+    Ok(tally_of(counted, GivenList { items }))
 }
 
 // The tally, or one of no rows.

@@ -12,9 +12,10 @@ use Rattle.path_model.specs.declared.change.Change.TheVariants.{Announce}
 use Rattle.path_model.specs.declared.key.Key.{Key}
 use Rattle.path_model.specs.declared.role.Role.{Role}
 use Rattle.path_model.specs.declared.role.Role.TheVariants.{Provider, Customer, Peer}
+use Rattle.path_model.specs.Ascending.{ascending_of}
 use Rattle.path_model.specs.Authority.{Table, has, said_by}
-use Rattle.path_model.specs.ComputedTable.{onto, unfiltered, row_made, table_of, ascending_of}
-use Rattle.path_model.specs.CurrentTable.{Parts, no_parts}
+use Rattle.attestations.specs.ComputedTable.{onto, unfiltered, row_made, table_of}
+use Rattle.attestations.specs.CurrentTable.{Parts, no_parts}
 use Rattle.path_model.specs.Key.{key_cmp}
 use Rattle.path_model.specs.Order.{key_total}
 use Rattle.path_model.specs.Prefix.{Subnet}

@@ -127,7 +127,7 @@ fn replayed<L: Ledger>(alloc: Global, blank: Blank) -> Result<Compared, NoMemory
     let mut steps = Steps::<L>::new(blank);
     let mut plain = Plain::new(alloc);
     let mut drawn = Draw { state: 1 };
-    let mut analyser = Analyser::new(alloc);
+    let mut analyser = Analyser::new(alloc)?;
     let mut compared = Compared::default();
     for _ in 0..EVENTS {
         analyser = replay_one(analyser, &mut drawn, &mut plain, &mut compared, &mut steps)?;

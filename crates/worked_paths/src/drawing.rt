@@ -1,7 +1,15 @@
 //! What events are made of, drawn.
 use av_base::NoMemory;
-use path_model::{Addr, AsList, Changes, Key, Nlri, NlriList, Peer, Prefix, Role, Rows, Trail};
+use path_model::{Addr, AsList, Changes, Key, Nlri, NlriList, Peer, Prefix, Role, Trail};
 use std::alloc::Global;
+
+/// An attestation of the one source, with its end.
+#[derive(Drop)]
+pub struct Drawn {
+    pub customer: u32,
+    pub providers: AsList,
+    pub until: Option<u32>,
+}
 
 /// Numbers that look drawn: two upper bits of a linear congruence.
 #[derive(Drop)]
@@ -144,14 +152,30 @@ impl Draw {
         changes.announce(key, trail)
     }
 
-    // The rows of the one source.
-    pub fn rows(&mut self, alloc: Global) -> Result<Rows, NoMemory> {
-        let mut rows = Rows::new(alloc);
-        for _ in 0..4 {
-            let customer = self.asn();
-            rows.set(customer, self.ases(alloc, 2)?)?;
+    // A moment from 0 to 6.
+    pub fn moment(&mut self) -> u32 {
+        self.four().wrapping_add(self.four())
+    }
+
+    // What the one source attests; some customers may have several, with ends of their own.
+    pub fn attestations(&mut self, alloc: Global) -> Result<Vec<Drawn>, NoMemory> {
+        let mut drawn = Vec::new(alloc);
+        for _ in 0..5 {
+            drawn.push(Drawn {
+                customer: self.asn(),
+                providers: self.ases(alloc, 2)?,
+                until: self.end(),
+            })?;
         }
-        Ok(rows)
+        Ok(drawn)
+    }
+
+    // Never, or one of these moments.
+    fn end(&mut self) -> Option<u32> {
+        match self.four() {
+            0 | 1 => None,
+            _ => Some(self.moment()),
+        }
     }
 }
 

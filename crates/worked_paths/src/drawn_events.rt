@@ -2,6 +2,7 @@
 use crate::drawing::Draw;
 use crate::plain::Plain;
 use analyser::Event;
+use attestations::Terms;
 use av_base::NoMemory;
 use path_model::Name;
 use vap_table::TableChange;
@@ -42,6 +43,10 @@ fn change_source(
             plain.filtered.remove(&asn);
             Ok(Event::Table(TableChange::Unfilter(asn)))
         }
+        2 => {
+            plain.moment = draw.moment();
+            Ok(Event::Table(TableChange::At(plain.moment)))
+        }
         _ => replace_source(draw, plain),
     }
 }
@@ -50,9 +55,12 @@ fn replace_source(draw: &mut Draw, plain: &mut Plain) -> Result<Event, NoMemory>
     let Some(name) = Name::new(plain.alloc, b"s")? else {
         return Err(NoMemory);
     };
-    let rows = draw.rows(plain.alloc)?;
-    plain.source = rows.copy()?;
-    Ok(Event::Table(TableChange::Replace(name, rows)))
+    plain.source = draw.attestations(plain.alloc)?;
+    let mut terms = Terms::new(plain.alloc);
+    for one in &plain.source {
+        terms.unite(one.customer, one.providers.as_slice(), one.until)?;
+    }
+    Ok(Event::Table(TableChange::Replace(name, terms)))
 }
 
 fn change_roles(

@@ -1,4 +1,6 @@
 //! What stands, as plain lists, and all routes judged from scratch.
+use crate::drawing::Drawn;
+use attestations::Terms;
 use av_base::{NoMemory, Steps};
 use path_model::{Batch, Change, Key, Name, NlriList, Peer, Roles, Rows, Trail, Verdict};
 use ramps::judge;
@@ -7,11 +9,12 @@ use std::collections::{BTreeMap, BTreeSet};
 use std::sync::ledger::Ledger;
 use vap_table::{TableChange, Vaps};
 
-/// What stands, as lists: the rows of the source, the filters and the assertions, the roles, and the routes.
+/// What stands, as lists: the moment, what the source attests, the filters and the assertions, the roles, and the routes.
 #[derive(Drop)]
 pub struct Plain {
     pub alloc: Global,
-    pub source: Rows,
+    pub moment: u32,
+    pub source: Vec<Drawn>,
     pub filtered: BTreeSet<u32>,
     pub asserted: Rows,
     pub roles: Roles,
@@ -24,7 +27,8 @@ impl Plain {
     pub fn new(alloc: Global) -> Plain {
         Plain {
             alloc,
-            source: Rows::new(alloc),
+            moment: 0,
+            source: Vec::new(alloc),
             filtered: BTreeSet::new(alloc),
             asserted: Rows::new(alloc),
             roles: Roles::new(alloc),
@@ -88,7 +92,7 @@ impl Plain {
         Ok(left)
     }
 
-    // All that attests, as the rows of one source: the unfiltered ones and the asserted ones.
+    // All that attests, as the rows of one source that never end: those that are unfiltered and haven't ended, and the asserted ones.
     fn table(&self) -> Result<Vaps, NoMemory> {
         let mut rows = self.unfiltered()?;
         for (customer, providers) in self.asserted.entries() {
@@ -97,18 +101,28 @@ impl Plain {
         let Some(name) = Name::new(self.alloc, b"all")? else {
             return Err(NoMemory);
         };
-        let (table, _moves) = Vaps::new(self.alloc).change(TableChange::Replace(name, rows))?;
+        let (table, _moves) = Vaps::new(self.alloc).change(TableChange::Replace(
+            name,
+            Terms::of(self.alloc, rows)?,
+        ))?;
         Ok(table)
     }
 
     fn unfiltered(&self) -> Result<Rows, NoMemory> {
         let mut rows = Rows::new(self.alloc);
-        for (customer, providers) in self.source.entries() {
-            if !self.filtered.contains(&customer) {
-                rows.unite(customer, providers.as_slice())?;
+        for one in &self.source {
+            if !self.filtered.contains(&one.customer) && !self.has_ended(one) {
+                rows.unite(one.customer, one.providers.as_slice())?;
             }
         }
         Ok(rows)
+    }
+
+    fn has_ended(&self, one: &Drawn) -> bool {
+        match one.until {
+            None => false,
+            Some(end) => end <= self.moment,
+        }
     }
 
     // The verdict of each route, judged from scratch.

@@ -3,6 +3,7 @@ ghost use Rattle.std.specs.Prelude.{◌≡◌};
 
 use crate::replaying::{assert_one, happen, unassert};
 use analyser::{Analyser, Event};
+use attestations::Terms;
 use av_base::{NoMemory, Steps};
 use path_model::{Addr, AsList, Changes, Key, Name, Peer, Prefix, Role, Rows, Trail};
 use rib_store::Counts;
@@ -12,7 +13,7 @@ use std::sync::ledger::{Blank, Ledger};
 use vap_table::TableChange;
 
 // How many customers the source has, and how many routes are announced.
-const MANY: u32 = 200_000;
+pub(crate) const MANY: u32 = 200_000;
 
 // 10.0.0.1 in AS 1.
 const PEER: Peer = Peer {
@@ -29,7 +30,7 @@ fn source(alloc: Global) -> Result<Event, NoMemory> {
     let Some(name) = Name::new(alloc, b"s")? else {
         return Err(NoMemory);
     };
-    Ok(Event::Table(TableChange::Replace(name, rows)))
+    Ok(Event::Table(TableChange::Replace(name, Terms::of(alloc, rows)?)))
 }
 
 // Routes to as many networks of 24 bits from 11.0.0.0 on, each from an origin of its own.
@@ -50,9 +51,9 @@ pub(crate) fn routes(alloc: Global) -> Result<Event, NoMemory> {
 }
 
 // The counts, and how many customers have a row.
-type Seen = (Counts, u64);
+pub(crate) type Seen = (Counts, u64);
 
-fn seen(analyser: &Analyser) -> Seen {
+pub(crate) fn seen(analyser: &Analyser) -> Seen {
     let store = analyser.store();
     (store.counts(), store.table().customers())
 }
@@ -60,7 +61,7 @@ fn seen(analyser: &Analyser) -> Seen {
 // From customers, with the source and the routes.
 fn loaded<L: Ledger>(alloc: Global, steps: &mut Steps<L>) -> Result<Analyser, NoMemory> {
     let analyser = happen(
-        Analyser::new(alloc),
+        Analyser::new(alloc)?,
         Event::DefaultRole(Role::Customer),
         steps,
     )?;
@@ -91,7 +92,7 @@ fn replayed_once(alloc: Global) -> Result<(Seen, Seen), NoMemory> {
 }
 
 // Whether so many routes are valid and all others unknown, and so many customers have a row.
-fn is_seen(seen: &Seen, valid: u64, customers: u64) -> bool {
+pub(crate) fn is_seen(seen: &Seen, valid: u64, customers: u64) -> bool {
     let counts = Counts {
         routes: 200_000,
         valid,

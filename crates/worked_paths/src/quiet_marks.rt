@@ -49,7 +49,7 @@ fn counted(analyser: Analyser, count: &mut u32) -> Result<Analyser, NoMemory> {
 
 // From providers, with all routes, marked; then from customers.
 fn loaded<L: Ledger>(alloc: Global, steps: &mut Steps<L>) -> Result<Analyser, NoMemory> {
-    let analyser = mark(Analyser::new(alloc));
+    let analyser = mark(Analyser::new(alloc)?);
     let analyser = happen(analyser, Event::DefaultRole(Role::Provider), steps)?;
     let analyser = happen(analyser, routes(alloc)?, steps)?;
     let analyser = mark(happen(analyser, other_route(alloc)?, steps)?);

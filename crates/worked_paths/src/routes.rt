@@ -81,7 +81,8 @@ fn asked<L: Ledger>(alloc: Global, blank: Blank) -> Result<Answers, NoMemory>
 {
     let changes = routes(alloc)?;
     let mut steps = Steps::<L>::new(blank);
-    let store = RibStore::new(alloc).apply_routes(changes, &mut steps)?;
+    let mut store = RibStore::new(alloc);
+    store.apply_routes(changes, &mut steps)?;
     let store = store.set_role(64501, Role::Customer, &mut steps)?;
     Ok(ask(&store))
 }

@@ -103,7 +103,7 @@ fn happen<L: Ledger>(alloc: Global, steps: &mut Steps<L>) -> Result<Analyser, No
     ensures state { IfOk result (λ last. last ≡ default_role_state) }
     ensures ticks { steps.new ≤ steps.old + 3 }
 {
-    let analyser = announce(alloc, Analyser::new(alloc), steps)?;
+    let analyser = announce(alloc, Analyser::new(alloc)?, steps)?;
     let analyser = assert_other(alloc, analyser, steps)?;
     let analyser = filter(analyser, steps)?;
     let analyser = assert_origin(alloc, analyser, steps)?;

@@ -1,9 +1,14 @@
 //! Tests of what attests: payloads and files of them, SLURM files, and the table that they make.
 //!
-//! Each table has its expected values worked out by hand. `payloads` and `slurm_files` read attestations as the RPKI and an operator give
-//! them; `scale` reads large ones. `tables` changes a table, and counts who gives a customer its providers.
+//! Each table has its expected values worked out by hand. `payloads`, `payload_lines` and `slurm_files` read attestations as the RPKI and an
+//! operator give them; `scale` reads large ones. `held_terms` holds attestations by customer; `tables` changes a table, and counts who gives a
+//! customer its providers.
 #![tactic(auto)]
 
+#[cfg(test)]
+mod held_terms;
+#[cfg(test)]
+mod payload_lines;
 #[cfg(test)]
 mod payloads;
 #[cfg(test)]

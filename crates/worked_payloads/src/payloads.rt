@@ -1,5 +1,5 @@
-//! Payloads, files of them and base64 lines: vectors worked out by hand, refused ones, and cut ones.
-use aspa_payload::{FileFault, Payload, PayloadFault, read, read_lines, read_many};
+//! Payloads and files of them: vectors worked out by hand, refused ones, and cut ones.
+use aspa_payload::{FileFault, Payload, PayloadFault, read, read_many};
 use der_reader::{DerFault, put_u32, put_value, take_u32, take_value};
 use path_model::Rows;
 use std::alloc::Global;
@@ -225,54 +225,5 @@ fn a_cut_payload_is_refused(rt: HostRuntime) {
             Err(cut)
         };
         assert!(rt; is_file(read_many(rt.alloc(), front), wanted));
-    }
-}
-
-#[test]
-fn reads_files_of_lines(rt: HostRuntime) {
-    let alloc = rt.alloc();
-    let good: [(&[u8], Option<&[u32]>); 5] = [
-        (b"", None),
-        (b"\n\r\n", None),
-        (b"MBGgAwIBAQIDAPvwMAUCAwD78Q==", Some(&[64_497])),
-        (
-            b"MBGgAwIBAQIDAPvwMAUCAwD78Q==\r\n\nMBGgAwIBAQIDAPvwMAUCAwD78g==\n",
-            Some(&[64_497, 64_498]),
-        ),
-        (
-            b"MBGgAwIBAQIDAPvwMAUCAwD78g==\nMBGgAwIBAQIDAPvwMAUCAwD78Q==",
-            Some(&[64_497, 64_498]),
-        ),
-    ];
-    for (bytes, row) in good {
-        assert!(rt; is_file(read_lines(alloc, bytes), Ok(row)));
-    }
-    let refused: [(&[u8], u32, PayloadFault); 8] = [
-        (b"MBGg!", 1, PayloadFault::Base64),
-        // No padding; a bit after the last byte; a space; a CR at the very end.
-        (b"MBGgAwIBAQIDAPvwMAUCAwD78Q", 1, PayloadFault::Base64),
-        (b"MBGgAwIBAQIDAPvwMAUCAwD78R==", 1, PayloadFault::Base64),
-        (
-            b"\n\nMBGgAwIBAQIDAPvwMAUCAwD78Q== ",
-            3,
-            PayloadFault::Base64,
-        ),
-        (b"MBGgAwIBAQIDAPvwMAUCAwD78Q==\r", 1, PayloadFault::Base64),
-        // A byte after the payload, and one too few.
-        (b"MBGgAwIBAQIDAPvwMAUCAwD78QA=", 1, PayloadFault::NotDer),
-        (b"MBGgAwIBAQIDAPvwMAUCAwD7", 1, PayloadFault::NotDer),
-        (
-            b"MBGgAwIBAQIDAPvwMAUCAwD78Q==\nMBGgAwIBAQIDAPvwMAUCAwD78Q==MBGg",
-            2,
-            PayloadFault::Base64,
-        ),
-    ];
-    for (bytes, unit, cause) in refused {
-        assert!(rt;
-            is_file(
-                read_lines(alloc, bytes),
-                Err(FileFault::Bad { unit, cause })
-            )
-        );
     }
 }

@@ -1,5 +1,5 @@
 //! Large files: a reader that finds no memory from some small size on keeps its contract, and only a test sees it.
-use aspa_payload::{FileFault, PayloadFault, read, read_lines, read_many};
+use aspa_payload::{FileFault, PayloadFault, read, read_many};
 use av_base::NoMemory;
 use der_reader::{put_value, take_value};
 use path_model::Rows;
@@ -55,21 +55,6 @@ fn reads_a_thousand_payloads(rt: HostRuntime) -> Result<(), NoMemory> {
         cause: PayloadFault::NotDer,
     };
     assert!(rt; file.len() <= MOST && is_file(read_many(alloc, &file), Err(last)));
-    Ok(())
-}
-
-#[test]
-fn reads_a_thousand_lines(rt: HostRuntime) -> Result<(), NoMemory> {
-    let alloc = rt.alloc();
-    let line = b"MBGgAwIBAQIDAPvwMAUCAwD78Q==\n";
-    let file = repeated(alloc, b"", line, 1_000, b"")?;
-    assert!(rt; file.len() <= MOST && is_file(read_lines(alloc, &file), Ok(64_497)));
-    let file = repeated(alloc, b"", line, 1_000, b"MBGg!")?;
-    let last = FileFault::Bad {
-        unit: 1_001,
-        cause: PayloadFault::Base64,
-    };
-    assert!(rt; file.len() <= MOST && is_file(read_lines(alloc, &file), Err(last)));
     Ok(())
 }
 

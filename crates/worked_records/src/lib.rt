@@ -1,8 +1,8 @@
-//! Tests of the readers of dumps: path attributes, messages and records.
+//! Tests of the readers of dumps and of BMP streams: path attributes, messages and records.
 //!
 //! Each table has its expected values worked out by hand, or, for the dumps that routing daemons wrote, by `bgpdump`. `attributes` reads
 //! attribute fields and `lists` prefixes in them, `records` single records and streams in any pieces (`comparing`), `identifiers` records
-//! with path identifiers, and `daemons` whole dumps of two daemons.
+//! with path identifiers, and `daemons` whole dumps of two daemons. `monitoring` reads the messages of BMP streams.
 #![tactic(auto)]
 
 #[cfg(test)]
@@ -17,5 +17,7 @@ mod hex;
 mod identifiers;
 #[cfg(test)]
 mod lists;
+#[cfg(test)]
+mod monitoring;
 #[cfg(test)]
 mod records;

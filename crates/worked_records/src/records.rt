@@ -215,8 +215,11 @@ const DUMPS: [Case; 32] = [
     ),
 ];
 
-// The records, with some bytes changed, joined.
-fn joined(alloc: Global, records: &[(&str, &[(usize, u8)])]) -> Result<Vec<u8>, NoMemory> {
+/// The records, with some bytes changed, joined.
+pub(crate) fn joined(
+    alloc: Global,
+    records: &[(&str, &[(usize, u8)])],
+) -> Result<Vec<u8>, NoMemory> {
     let mut stream = Vec::new(alloc);
     for (text, changes) in records {
         let mut bytes = hex(alloc, text)?;

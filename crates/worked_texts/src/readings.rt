@@ -16,6 +16,7 @@ enum Reading {
     Unfilter(u32),
     Assert(u32, &'static [u32]),
     Unassert(u32),
+    At(u32),
     Role(u32, Role),
     RoleDefault(Role),
     Open(&'static str, &'static str),
@@ -84,7 +85,7 @@ const FILES: [Row; 15] = [
     (b"slurm \xc3\xa9", Reading::Refused(LineFault::Words)),
 ];
 
-const AMENDMENTS: [Row; 12] = [
+const AMENDMENTS: [Row; 20] = [
     (b"filter 0", Reading::Filter(0)),
     (b"filter", Reading::Refused(LineFault::Words)),
     (b"filter 1 2", Reading::Refused(LineFault::Words)),
@@ -97,6 +98,14 @@ const AMENDMENTS: [Row; 12] = [
     (b"unassert", Reading::Refused(LineFault::Words)),
     (b"unassert 64500 1", Reading::Refused(LineFault::Words)),
     (b"unassert 064500", Reading::Refused(LineFault::Number)),
+    (b"at 0", Reading::At(0)),
+    (b"at 4294967295", Reading::At(4_294_967_295)),
+    (b"at", Reading::Refused(LineFault::Words)),
+    (b"at 1 2", Reading::Refused(LineFault::Words)),
+    (b"At 1", Reading::Refused(LineFault::Command)),
+    (b"at 4294967296", Reading::Refused(LineFault::Number)),
+    (b"at -1", Reading::Refused(LineFault::Number)),
+    (b"at 00", Reading::Refused(LineFault::Number)),
 ];
 
 const DUMPS: [Row; 15] = [
@@ -231,6 +240,7 @@ fn is_read_so(read: &Result<Command, LineFault>, reading: Reading) -> bool {
         (Ok(Command::Filter(customer)), Reading::Filter(wanted)) => *customer == wanted,
         (Ok(Command::Unfilter(customer)), Reading::Unfilter(wanted)) => *customer == wanted,
         (Ok(Command::Unassert(customer)), Reading::Unassert(wanted)) => *customer == wanted,
+        (Ok(Command::At(moment)), Reading::At(wanted)) => *moment == wanted,
         (Ok(Command::Assert(customer, providers)), Reading::Assert(wanted, all)) => {
             *customer == wanted && providers.as_slice() == all
         }

@@ -1,5 +1,8 @@
-use Rattle.aspa_payload.proofs.LineLemmas.{decodes_after, line_answer}
+use Rattle.std.proofs.lemmas.Result.{err_from_is_err_and}
+use Rattle.aspa_payload.proofs.LineLemmas.{line_refused}
 use Rattle.aspa_payload.proofs.line.read_line.Goals as goal
 
-pub returns-in-Ok : goal.returns-in-Ok
-returns-in-Ok c = line_answer c.args.line.now c.deref.result.now (decodes_after c.args.line.now _ c.deref.result.now _ c.in-Ok.ensures.ok c.clear.ensures.len c.deref.ensures.value) c.read.result c.read.ensures
+pub returns-in_err-payload : goal.returns-in_err-payload
+returns-in_err-payload c =
+    let p = err_from_is_err_and c.from_residual-in_err-payload.result c.from_residual-in_err-payload.ensures.1 in
+    rw (p.1, p.2) (line_refused c.args.line.now _ _ c.in_ok-until.until _ c.split.ensures.text c.split.ensures.word c.in_ok-until.ensures.end c.in_err-payload.ensures)

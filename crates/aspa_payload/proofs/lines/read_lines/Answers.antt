@@ -11,4 +11,4 @@ loop-line-preserved c =
 
 pub returns : goal.returns
 returns c =
-    lines_end c.args.bytes.now c.loop-line.rest.now c.loop-line.gathered c.in_ok-into_rows.field-0 c.loop-line.unit c.loop-line.invariant c.in_default.ensures.none c.in_ok-into_rows.ensures
+    lines_end c.args.bytes.now c.loop-line.rest.now c.loop-line.gathered c.in_ok-into_terms.field-0 c.loop-line.unit c.loop-line.invariant c.in_default.ensures.none c.in_ok-into_terms.ensures

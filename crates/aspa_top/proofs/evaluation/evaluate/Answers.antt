@@ -1,25 +1,34 @@
-use Rattle.std.proofs.Common.{◌≡◌, ℕ, sym, subst, arith}
-use Rattle.av_base.proofs.PouringLemmas.{Grows-trans}
+use Rattle.std.proofs.Common.{◌≡◌, ℕ, [], refl, sym, subst, arith}
+use Rattle.av_base.proofs.PouringLemmas.{Grows-refl, Grows-trans}
 use Rattle.feed_lines.proofs.StandingLemmas.{start_sound}
 use Rattle.report_text.proofs.ReportedLemmas.{adds_front, adds_more, adds_more_front, written_lines}
 use Rattle.aspa_top.specs.Standing.{IsSound}
 use Rattle.aspa_top.proofs.KeepLemmas.{Keeps-trans, keeps_all, keeps_sink}
 use Rattle.aspa_top.proofs.ReportingLemmas.{front_poured, lines_begun, lines_poured}
 use Rattle.aspa_top.proofs.BeginningLemmas.{Tells-names}
-use Rattle.aspa_top.proofs.RunLemmas.{Performing-next, Performing-poured, Performing-start, ended_all, ended_between, ended_within}
+use Rattle.aspa_top.proofs.RunLemmas.{Performing-next, Performing-poured, Performing-start, starved_at_start, ended_all, ended_between, ended_within}
 use Rattle.aspa_top.proofs.StopLemmas.{sink_ended, sink_stopped, stopped_by}
 use Rattle.aspa_top.proofs.evaluation.evaluate.Goals as goal
 
+-- no memory was to be had
+pub returns-in_default : goal.returns-in_default
+returns-in_default g c = record {
+  keeps = keeps_all _ _ _;
+  evaluated = λ world meets. starved_at_start world _ _ refl meets;
+  causes = record { shelf = λ is. let no : ⊥ = cc in absurd no; sink = λ is. let no : ⊥ = cc in absurd no };
+  adds = written_lines _ _ _ _ _ (Grows-refl _) (adds_front _ _ _ _ (lines_begun _ [] _ refl));
+}
+
 pub loop-line-init : goal.loop-line-init
 loop-line-init g c =
-    let none : c.new-working.result.lines ≡ 0 = c.new-working.ensures.lines in
+    let none : c.in-Ok.working.lines ≡ 0 = c.in-Ok.ensures.lines in
     record {
-      so_far = λ world tells begins. Performing-start world _ _ c.new-working.result _ (c.new-working.ensures.stands _ _ world begins) c.new-text.ensures.items;
+      so_far = λ world tells begins. Performing-start world _ _ c.in-Ok.working _ (c.in-Ok.ensures.stands _ _ world begins) c.new-text.ensures.items;
       keeps = keeps_all _ _ _;
       count = omega (arith, none);
       ready = record {
-        sound = subst (λ (n : ℕ). IsSound (g.F.Shelf.opened c.args.shelf.now) n c.new-working.result) (sym none) (c.new-working.ensures.sound (g.F.Shelf.opened c.args.shelf.now));
-        feeds = start_sound _ _ _ c.new-working.ensures.feeds;
+        sound = subst (λ (n : ℕ). IsSound (g.F.Shelf.opened c.args.shelf.now) n c.in-Ok.working) (sym none) (c.in-Ok.ensures.sound (g.F.Shelf.opened c.args.shelf.now));
+        feeds = start_sound _ _ _ c.in-Ok.ensures.feeds;
       };
       adds = lines_begun _ _ _ c.new-text.ensures.items;
     }
@@ -27,7 +36,7 @@ loop-line-init g c =
 -- a line was performed, and a piece written
 pub loop-line-preserved : goal.loop-line-preserved
 loop-line-preserved g c =
-    let did = c.in-Ok.ensures.did in
+    let did = c.in-Ok-perform_line.ensures.did in
     record {
       so_far = λ world tells begins. Performing-poured world _ _ _ _ _ _ _ _ c.pour_before.ensures.same
           (Performing-next world _ _ _ _ _ _ _ _ _ (c.loop-line.invariant.so_far world tells begins) c.in-Some.ensures.first (Tells-names _ _ world c.loop-line.invariant.keeps.names tells)
@@ -57,7 +66,7 @@ returns-in-Err g c =
 -- the sink failed between two lines
 pub returns-in_err-pour_before : goal.returns-in_err-pour_before
 returns-in_err-pour_before g c =
-    let did = c.in-Ok.ensures.did in
+    let did = c.in-Ok-perform_line.ensures.did in
     let grows = Grows-trans c.loop-line.invariant.keeps.grows (Grows-trans c.perform_line.ensures.keeps.grows c.pour_before.ensures.grows) in
     let later = c.pour_before.ensures.cause.later in
     let keeps = Keeps-trans c.loop-line.invariant.keeps c.perform_line.ensures.keeps in
@@ -89,7 +98,7 @@ returns g c =
     let grows = Grows-trans c.loop-line.invariant.keeps.grows c.pour.ensures.grows in
     record {
       keeps = Keeps-trans c.loop-line.invariant.keeps (keeps_sink _ _ _ _ _ c.pour.ensures.grows c.pour.ensures.cause.later);
-      evaluated = λ world meets. ended_all world _ _ _ _ _ _ _ meets (Performing-poured world _ _ _ _ _ _ _ _ c.pour.ensures.same (c.loop-line.invariant.so_far world meets.tells meets.begins)) grows c.in_default.ensures.none c.in_ok-pour.ensures.ok;
+      evaluated = λ world meets. ended_all world _ _ _ _ _ _ _ meets (Performing-poured world _ _ _ _ _ _ _ _ c.pour.ensures.same (c.loop-line.invariant.so_far world meets.tells meets.begins)) grows c.in_default-next_line.ensures.none c.in_ok-pour.ensures.ok;
       causes = record { shelf = λ is. let no : ⊥ = cc in absurd no; sink = λ is. let no : ⊥ = cc in absurd no };
       adds = written_lines _ _ _ _ _ grows (front_poured _ _ _ _ _ c.pour.ensures.same (adds_front _ _ _ _ c.loop-line.invariant.adds));
     }

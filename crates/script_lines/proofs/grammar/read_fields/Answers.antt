@@ -2,7 +2,7 @@ use Rattle.std.proofs.Common.{ℕ, Option, subst}
 use Rattle.std.proofs.lemmas.Iterator.Adapters.{option_map_id}
 use Rattle.av_text.specs.Words.{words_left}
 use Rattle.script_lines.specs.declared.command.Command.TheVariants.{Why}
-use Rattle.script_lines.specs.declared.command.CommandName.TheVariants.{Aspa as AspaName, Aspa64 as Aspa64Name, Slurm as SlurmName, Filter as FilterName, Unfilter as UnfilterName, Assert as AssertName, Unassert as UnassertName, Role as RoleName, Open as OpenName, Take as TakeName, Feed as FeedName, Ask as AskName, Sync as SyncName, Judge as JudgeName, Changes as ChangesName, Why as WhyName, Show as ShowName}
+use Rattle.script_lines.specs.declared.command.CommandName.TheVariants.{Aspa as AspaName, Aspa64 as Aspa64Name, Slurm as SlurmName, Filter as FilterName, Unfilter as UnfilterName, Assert as AssertName, Unassert as UnassertName, At as AtName, Role as RoleName, Open as OpenName, Take as TakeName, Feed as FeedName, Ask as AskName, Sync as SyncName, Judge as JudgeName, Changes as ChangesName, Why as WhyName, Show as ShowName}
 use Rattle.script_lines.specs.Commands.{made_by, SpellsCommand}
 use Rattle.script_lines.proofs.grammar.read_fields.Goals as goal
 
@@ -26,6 +26,9 @@ returns-in_ok-customer-in-Assert-clause-spelled c = rw c.in-Assert.is (c.in_ok-c
 
 pub returns-in_ok-customer-in-Unassert-clause-spelled : goal.returns-in_ok-customer-in-Unassert-clause-spelled
 returns-in_ok-customer-in-Unassert-clause-spelled c = rw c.in-Unassert.is (c.in_ok-customer-in-Unassert.ensures.spelled (made_by UnassertName))
+
+pub returns-in_ok-moment-in-At-clause-spelled : goal.returns-in_ok-moment-in-At-clause-spelled
+returns-in_ok-moment-in-At-clause-spelled c = rw c.in-At.is (c.in_ok-moment-in-At.ensures.spelled (made_by AtName))
 
 pub returns-in_ok-whom-in-Role-clause-spelled : goal.returns-in_ok-whom-in-Role-clause-spelled
 returns-in_ok-whom-in-Role-clause-spelled c = rw (c.in-Role.is, c.role_command.ensures) (c.in_ok-whom-in-Role.ensures.spelled (made_by RoleName))

@@ -2,7 +2,7 @@ use Rattle.std.proofs.Common.{◌||◌, Bool, not, Some, ap, sym, subst, ◌∙�
 use Rattle.std.specs.declared.option.Option.{Option}
 use Rattle.std.specs.Option.{option_copied_mut}
 use Rattle.path_model.specs.declared.role.Role.{Role}
-use Rattle.path_model.specs.ComputedTable.{table_of}
+use Rattle.attestations.specs.ComputedTable.{table_of}
 use Rattle.path_model.specs.PrintedWitness.{IsPrinted}
 use Rattle.shared_cases.specs.declared.case.StoredCase.{StoredCase}
 use Rattle.shared_cases.specs.Cases.{same_verdict}

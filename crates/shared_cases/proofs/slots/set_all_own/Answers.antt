@@ -1,5 +1,4 @@
 use Rattle.std.proofs.Common.{◌≡◌, ℕ, List, ◌∷◌, subst}
-use Rattle.std.specs.Map.Iter.{deref}
 use Rattle.std.proofs.lemmas.Map.Iter.{rest_more}
 use Rattle.shared_cases.specs.Numbers.{has}
 use Rattle.shared_cases.specs.Owning.{owned}
@@ -9,6 +8,6 @@ use Rattle.shared_cases.proofs.slots.set_all_own.Goals as goal
 
 pub loop-number-preserved : goal.loop-number-preserved
 loop-number-preserved c =
-    let e : c.loop-number.number-iterator ≡ c.in-Some.number.now ∷ c.next.new.self = rest_more deref c.loop-number.number-iterator c.next.new.self c.next.result c.in-Some.number c.in-Some.is c.next.ensures.steps in
-    doing_next owned owned_twice (has c.args.numbers.now) c.args.slab.now.slots c.loop-number.slab.slots c.set_own.new.slab.slots c.in-Some.number.now c.next.new.self
+    let e : c.loop-number.number-iterator ≡ c.in-Some.number ∷ c.next.new.self = rest_more (λ (n : ℕ). n) c.loop-number.number-iterator c.next.new.self c.next.result c.in-Some.number c.in-Some.is c.next.ensures.steps in
+    doing_next owned owned_twice (has c.args.numbers.now) c.args.slab.now.slots c.loop-number.slab.slots c.set_own.new.slab.slots c.in-Some.number c.next.new.self
     (subst (λ (rest : List ℕ). IsDoing owned (has c.args.numbers.now) c.args.slab.now.slots c.loop-number.slab.slots rest) e c.loop-number.invariant) c.set_own.ensures

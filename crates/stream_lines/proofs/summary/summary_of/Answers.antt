@@ -1,7 +1,7 @@
 use Rattle.std.proofs.Common.{refl, subst}
-use Rattle.path_model.specs.ComputedTable.{table_of}
-use Rattle.path_model.specs.CurrentTable.{Parts}
-use Rattle.path_model.proofs.PartsLemmas.{table_is_current}
+use Rattle.attestations.specs.ComputedTable.{table_of}
+use Rattle.attestations.specs.CurrentTable.{Parts}
+use Rattle.attestations.proofs.PartsLemmas.{table_is_current}
 use Rattle.vap_table.specs.Vaps.{IsNumberOfRows}
 use Rattle.stream_lines.proofs.summary.summary_of.Goals as goal
 

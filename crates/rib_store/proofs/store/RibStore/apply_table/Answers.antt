@@ -1,6 +1,6 @@
 use Rattle.std.proofs.Common.{◌≡◌, ◌-◌, ap, subst, ◌∙◌}
-use Rattle.path_model.specs.ComputedTable.{table_of}
-use Rattle.path_model.specs.CurrentTable.{Parts}
+use Rattle.attestations.specs.ComputedTable.{table_of}
+use Rattle.attestations.specs.CurrentTable.{Parts}
 use Rattle.vap_table.specs.Change.{Alters}
 use Rattle.shared_cases.specs.Grounds.{grounds}
 use Rattle.shared_cases.specs.Touched.{AreWithinTouched}
@@ -11,8 +11,8 @@ use Rattle.rib_store.proofs.StoredLemmas.{rejudged}
 use Rattle.rib_store.proofs.store.RibStore.apply_table.Goals as goal
 
 pub invariant_of-result : goal.invariant_of-result
-invariant_of-result g c = event_sound (grounds c.in_ok-table.table c.self.inside.roles) c.self.inside.routes c.self.inside.cases c.in_ok-cases.cases c.self.inside.marks c.defer.new.self c.in_ok-cases.differing c.self.invariant.marks
-    (rejudged (grounds c.self.inside.table c.self.inside.roles) (grounds c.in_ok-table.table c.self.inside.roles) c.self.inside.routes c.self.inside.cases c.in_ok-cases.cases
+invariant_of-result g c = event_sound (grounds c.in_ok-table.table c.self.inside.roles) c.self.inside.routing.routes c.self.inside.routing.cases c.in_ok-cases.cases c.self.inside.routing.marks c.defer.new.self c.in_ok-cases.differing c.self.invariant.marks
+    (rejudged (grounds c.self.inside.table c.self.inside.roles) (grounds c.in_ok-table.table c.self.inside.roles) c.self.inside.routing.routes c.self.inside.routing.cases c.in_ok-cases.cases
     c.self.invariant.stored c.in_ok-cases.ensures.same (c.in_ok-cases.ensures.judged (table_of c.self.inside.table) c.in_ok-table.ensures.moves))
     c.in_ok-cases.ensures.newly c.in_ok-defer.ensures.deferred c.defer.ensures.same c.defer.ensures.notes c.defer.ensures.keys
 
@@ -20,8 +20,8 @@ pub returns-clause-state : goal.returns-clause-state
 returns-clause-state g c = (
   c.in_ok-table.table,
   subst (λ (s : Stored). Alters s.state.parts c.args.change c.in_ok-table.table) c.self.view_is c.in_ok-table.ensures.parts,
-  deferred_state c.in_ok-table.table c.self.inside.roles c.self.inside.marks.is_marked c.defer.new.self.is_marked c.self.inside.routes c.in_ok-cases.cases c.self.inside.marks.notes c.defer.new.self.notes c.defer.ensures.notes c.defer.ensures.same
-      ∙ rejudged_state c.self.inside.table c.in_ok-table.table c.self.inside.roles c.self.inside.roles c.self.inside.marks.is_marked c.self.inside.routes c.self.inside.marks.notes c.self.inside.cases c.in_ok-cases.cases c.in_ok-cases.ensures.same
+  deferred_state c.in_ok-table.table c.self.inside.roles c.self.inside.routing.marks.is_marked c.defer.new.self.is_marked c.self.inside.routing.routes c.in_ok-cases.cases c.self.inside.routing.marks.notes c.defer.new.self.notes c.defer.ensures.notes c.defer.ensures.same
+      ∙ rejudged_state c.self.inside.table c.in_ok-table.table c.self.inside.roles c.self.inside.roles c.self.inside.routing.marks.is_marked c.self.inside.routing.routes c.self.inside.routing.marks.notes c.self.inside.routing.cases c.in_ok-cases.cases c.in_ok-cases.ensures.same
       ∙ ap (λ (s : Stored). record s.state { parts = c.in_ok-table.table }) c.self.view_is,
 )
 
@@ -29,22 +29,22 @@ pub returns-clause-ticks : goal.returns-clause-ticks
 returns-clause-ticks g c =
     subst (λ (s : Stored). (parts : Parts) → Alters s.state.parts c.args.change parts → IsWithinTouched s.state (record s.state { parts = parts }) (c.follow_table.new.steps - c.args.steps.now)) c.self.view_is (λ parts alters.
     let same : c.in_ok-table.table ≡ parts = same_outcome c.self.inside.table c.in_ok-table.table parts c.args.change c.in_ok-table.ensures.parts alters in
-    few_judged c.self.inside.table parts c.self.inside.roles c.self.inside.roles c.self.inside.marks.is_marked c.self.inside.routes c.self.inside.marks.notes c.self.inside.cases _ c.self.invariant.stored c.len-length.ensures.in_order
-    (subst (λ (p : Parts). AreWithinTouched (grounds c.self.inside.table c.self.inside.roles) (grounds p c.self.inside.roles) c.self.inside.cases (c.follow_table.new.steps - c.args.steps.now)) same
+    few_judged c.self.inside.table parts c.self.inside.roles c.self.inside.roles c.self.inside.routing.marks.is_marked c.self.inside.routing.routes c.self.inside.routing.marks.notes c.self.inside.routing.cases _ c.self.invariant.stored c.len-length.ensures.in_order
+    (subst (λ (p : Parts). AreWithinTouched (grounds c.self.inside.table c.self.inside.roles) (grounds p c.self.inside.roles) c.self.inside.routing.cases (c.follow_table.new.steps - c.args.steps.now)) same
     (c.follow_table.ensures.ticks (table_of c.self.inside.table) c.in_ok-table.ensures.moves)))
 
 pub returns-in_err-cases-clause-ticks : goal.returns-in_err-cases-clause-ticks
 returns-in_err-cases-clause-ticks g c =
     subst (λ (s : Stored). (parts : Parts) → Alters s.state.parts c.args.change parts → IsWithinTouched s.state (record s.state { parts = parts }) (c.follow_table.new.steps - c.args.steps.now)) c.self.view_is (λ parts alters.
     let same : c.in_ok-table.table ≡ parts = same_outcome c.self.inside.table c.in_ok-table.table parts c.args.change c.in_ok-table.ensures.parts alters in
-    few_judged c.self.inside.table parts c.self.inside.roles c.self.inside.roles c.self.inside.marks.is_marked c.self.inside.routes c.self.inside.marks.notes c.self.inside.cases _ c.self.invariant.stored c.len-length.ensures.in_order
-    (subst (λ (p : Parts). AreWithinTouched (grounds c.self.inside.table c.self.inside.roles) (grounds p c.self.inside.roles) c.self.inside.cases (c.follow_table.new.steps - c.args.steps.now)) same
+    few_judged c.self.inside.table parts c.self.inside.roles c.self.inside.roles c.self.inside.routing.marks.is_marked c.self.inside.routing.routes c.self.inside.routing.marks.notes c.self.inside.routing.cases _ c.self.invariant.stored c.len-length.ensures.in_order
+    (subst (λ (p : Parts). AreWithinTouched (grounds c.self.inside.table c.self.inside.roles) (grounds p c.self.inside.roles) c.self.inside.routing.cases (c.follow_table.new.steps - c.args.steps.now)) same
     (c.follow_table.ensures.ticks (table_of c.self.inside.table) c.in_ok-table.ensures.moves)))
 
 pub returns-in_err-defer-clause-ticks : goal.returns-in_err-defer-clause-ticks
 returns-in_err-defer-clause-ticks g c =
     subst (λ (s : Stored). (parts : Parts) → Alters s.state.parts c.args.change parts → IsWithinTouched s.state (record s.state { parts = parts }) (c.follow_table.new.steps - c.args.steps.now)) c.self.view_is (λ parts alters.
     let same : c.in_ok-table.table ≡ parts = same_outcome c.self.inside.table c.in_ok-table.table parts c.args.change c.in_ok-table.ensures.parts alters in
-    few_judged c.self.inside.table parts c.self.inside.roles c.self.inside.roles c.self.inside.marks.is_marked c.self.inside.routes c.self.inside.marks.notes c.self.inside.cases _ c.self.invariant.stored c.len-length.ensures.in_order
-    (subst (λ (p : Parts). AreWithinTouched (grounds c.self.inside.table c.self.inside.roles) (grounds p c.self.inside.roles) c.self.inside.cases (c.follow_table.new.steps - c.args.steps.now)) same
+    few_judged c.self.inside.table parts c.self.inside.roles c.self.inside.roles c.self.inside.routing.marks.is_marked c.self.inside.routing.routes c.self.inside.routing.marks.notes c.self.inside.routing.cases _ c.self.invariant.stored c.len-length.ensures.in_order
+    (subst (λ (p : Parts). AreWithinTouched (grounds c.self.inside.table c.self.inside.roles) (grounds p c.self.inside.roles) c.self.inside.routing.cases (c.follow_table.new.steps - c.args.steps.now)) same
     (c.follow_table.ensures.ticks (table_of c.self.inside.table) c.in_ok-table.ensures.moves)))

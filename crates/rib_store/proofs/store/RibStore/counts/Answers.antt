@@ -10,6 +10,6 @@ use Rattle.rib_store.proofs.store.RibStore.counts.Goals as goal
 pub returns : goal.returns
 returns c =
     subst (λ (s : Stored). AreCounts s.state c.of.result) c.self.view_is
-    (subst (λ (counts : Counts). AreCounts (state_by c.self.inside.table c.self.inside.roles c.self.inside.marks.is_marked c.self.inside.cases c.self.inside.routes c.self.inside.marks.notes) counts) (sym c.of.ensures)
-    (stored_counts c.self.inside.table c.self.inside.roles c.self.inside.routes c.self.inside.cases c.self.invariant.stored c.len.ensures.in_order
-    (marked_by c.self.inside.marks.is_marked c.self.inside.cases c.self.inside.routes c.self.inside.marks.notes) c.len.result c.totals.result c.len.ensures.len c.totals.ensures))
+    (subst (λ (counts : Counts). AreCounts (state_by c.self.inside.table c.self.inside.roles c.self.inside.routing.marks.is_marked c.self.inside.routing.cases c.self.inside.routing.routes c.self.inside.routing.marks.notes) counts) (sym c.of.ensures)
+    (stored_counts c.self.inside.table c.self.inside.roles c.self.inside.routing.routes c.self.inside.routing.cases c.self.invariant.stored c.len.ensures.in_order
+    (marked_by c.self.inside.routing.marks.is_marked c.self.inside.routing.cases c.self.inside.routing.routes c.self.inside.routing.marks.notes) c.len.result c.totals.result c.len.ensures.len c.totals.ensures))

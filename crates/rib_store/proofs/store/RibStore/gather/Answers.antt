@@ -4,14 +4,14 @@ use Rattle.rib_store.proofs.EventLemmas.{gathered_sound, noted_state}
 use Rattle.rib_store.proofs.store.RibStore.gather.Goals as goal
 
 pub invariant_of-result : goal.invariant_of-result
-invariant_of-result c = gathered_sound (grounds c.self.inside.table c.self.inside.roles) c.self.inside.routes c.self.inside.cases c.self.inside.marks c.gather.new.self c.self.invariant
+invariant_of-result c = gathered_sound (grounds c.self.inside.table c.self.inside.roles) c.self.inside.routing.routes c.self.inside.routing.cases c.self.inside.routing.marks c.gather.new.self c.self.invariant
     c.in_ok-gather.ensures.told c.in_ok-gather.ensures.covered c.in_ok-gather.ensures.keys c.in_ok-gather.ensures.pending c.gather.ensures.same
 
 pub returns : goal.returns
 returns c =
     (λ i. record {
-      state = noted_state c.self.inside.table c.self.inside.roles c.self.inside.marks.is_marked c.gather.new.self.is_marked c.self.inside.routes c.self.inside.cases c.self.inside.marks.notes c.gather.new.self.notes
+      state = noted_state c.self.inside.table c.self.inside.roles c.self.inside.routing.marks.is_marked c.gather.new.self.is_marked c.self.inside.routing.routes c.self.inside.routing.cases c.self.inside.routing.marks.notes c.gather.new.self.notes
           c.in_ok-gather.ensures.told c.gather.ensures.same i;
-      cases = c.self.inside.cases;
+      cases = c.self.inside.routing.cases;
     })
     ∙ c.self.view_is

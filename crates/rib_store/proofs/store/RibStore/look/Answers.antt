@@ -17,19 +17,19 @@ use Rattle.rib_store.proofs.store.RibStore.look.Goals as goal
 
 pub returns-in_err-number-clause-none : goal.returns-in_err-number-clause-none
 returns-in_err-number-clause-none c = if_none c.from_residual.result _
-    (ap (λ (s : Stored). fin.get s.state.routes c.args.key.now) (sym c.self.view_is) ∙ get_through path_or c.self.inside.cases c.self.inside.routes c.args.key.now
-    ∙ ap (option_map (λ n. path_or (at c.self.inside.cases n))) (sym c.get.ensures ∙ ap option_copied c.in_err-number.was))
+    (ap (λ (s : Stored). fin.get s.state.routes c.args.key.now) (sym c.self.view_is) ∙ get_through path_or c.self.inside.routing.cases c.self.inside.routing.routes c.args.key.now
+    ∙ ap (option_map (λ n. path_or (at c.self.inside.routing.cases n))) (sym c.get.ensures ∙ ap option_copied c.in_err-number.was))
 
 pub returns-in_err-case-clause-none : goal.returns-in_err-case-clause-none
 returns-in_err-case-clause-none c =
-    let here : lookup (is_at (key_cmp c.args.key.now)) c.self.inside.routes ≡ Some c.in_ok-number.number.now = sym c.get.ensures ∙ ap option_copied c.in_ok-number.was in
-    absurd (has_case c.self.inside.table c.self.inside.roles c.self.inside.routes c.self.inside.cases (marked_by c.self.inside.marks.is_marked c.self.inside.cases c.self.inside.routes c.self.inside.marks.notes)
+    let here : lookup (is_at (key_cmp c.args.key.now)) c.self.inside.routing.routes ≡ Some c.in_ok-number.number.now = sym c.get.ensures ∙ ap option_copied c.in_ok-number.was in
+    absurd (has_case c.self.inside.table c.self.inside.roles c.self.inside.routing.routes c.self.inside.routing.cases (marked_by c.self.inside.routing.marks.is_marked c.self.inside.routing.cases c.self.inside.routing.routes c.self.inside.routing.marks.notes)
     c.self.invariant.stored c.args.key.now c.in_ok-number.number.now here c.get-2.result c.in_err-case.was c.get-2.ensures)
 
 pub returns-clause-some : goal.returns-clause-some
 returns-clause-some c =
-    let here : lookup (is_at (key_cmp c.args.key.now)) c.self.inside.routes ≡ Some c.in_ok-number.number.now = sym c.get.ensures ∙ ap option_copied c.in_ok-number.was in
+    let here : lookup (is_at (key_cmp c.args.key.now)) c.self.inside.routing.routes ≡ Some c.in_ok-number.number.now = sym c.get.ensures ∙ ap option_copied c.in_ok-number.was in
     subst (λ (s : Stored). IsShown s.state c.args.key.now (record { verdict = c.verdict.result; witness = c.witness.result; role = c.of.result; trail = c.in_ok-case.case.trail })) c.self.view_is
-    (stored_shown c.self.inside.table c.self.inside.roles c.self.inside.routes c.self.inside.cases (marked_by c.self.inside.marks.is_marked c.self.inside.cases c.self.inside.routes c.self.inside.marks.notes)
+    (stored_shown c.self.inside.table c.self.inside.roles c.self.inside.routing.routes c.self.inside.routing.cases (marked_by c.self.inside.routing.marks.is_marked c.self.inside.routing.cases c.self.inside.routing.routes c.self.inside.routing.marks.notes)
     c.self.invariant.stored c.args.key.now c.in_ok-number.number.now here (record { verdict = c.verdict.result; witness = c.witness.result; role = c.of.result; trail = c.in_ok-case.case.trail }) c.in_ok-case.case
-    (subst (λ (o : Option Case). IsCase o (at c.self.inside.cases c.in_ok-number.number.now)) c.in_ok-case.was c.get-2.ensures) refl c.verdict.ensures c.witness.ensures c.of.ensures)
+    (subst (λ (o : Option Case). IsCase o (at c.self.inside.routing.cases c.in_ok-number.number.now)) c.in_ok-case.was c.get-2.ensures) refl c.verdict.ensures c.witness.ensures c.of.ensures)

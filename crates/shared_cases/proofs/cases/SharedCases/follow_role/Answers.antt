@@ -1,5 +1,5 @@
 use Rattle.std.proofs.Common.{◌-◌, subst, arith}
-use Rattle.path_model.specs.ComputedTable.{table_of}
+use Rattle.attestations.specs.ComputedTable.{table_of}
 use Rattle.shared_cases.specs.Cases.{Slots}
 use Rattle.shared_cases.specs.Kept.{AreIndexed}
 use Rattle.shared_cases.proofs.FollowLemmas.{role_followed, role_others, role_only, roles_touch}

@@ -1,18 +1,29 @@
-use Rattle.std.proofs.Common.{◌≡◌, inr, Some, ap, sym, ◌∙◌}
+use Rattle.std.proofs.Common.{◌≡◌, ℕ, inl, inr, Some, refl, ap, sym, subst, ◌∙◌}
+use Rattle.std.specs.FinMap.{FinMap, insert}
+use Rattle.std.specs.Ordering.{nat_cmp}
 use Rattle.shared_cases.specs.declared.case_name.CaseName.{CaseName}
 use Rattle.shared_cases.specs.Names.{word_of}
-use Rattle.shared_cases.specs.Naming.{worded}
-use Rattle.shared_cases.proofs.NamingLemmas.{put_back, twin_set}
+use Rattle.shared_cases.specs.Naming.{worded, SetsWord}
+use Rattle.shared_cases.proofs.NamingLemmas.{twin_set, word_set}
 use Rattle.shared_cases.proofs.names.Names.add.Goals as goal
 
-pub returns-in_ok-insert-2 : goal.returns-in_ok-insert-2
-returns-in_ok-insert-2 c =
+pub returns-in_ok-set-in-None : goal.returns-in_ok-set-in-None
+returns-in_ok-set-in-None c =
     let word_is : c.args.name.word ≡ word_of c.args.name.asn c.args.name.trail = ap (λ (name : CaseName). name.word) c.requires in
-    let held : worded c.args.self.now.words.entries c.args.name.word ≡ Some c.in-Some.first = sym c.in_ok-first.ensures.old ∙ c.in-Some.is in
+    inl (record {
+      free = ap (worded c.args.self.now.words) (sym word_is) ∙ sym c.get.ensures ∙ c.in-None.is;
+      sets = subst (λ (words : FinMap nat_cmp ℕ). SetsWord c.args.self.now.words words (word_of c.args.name.asn c.args.name.trail) (Some c.args.number))
+          (ap (λ (word : ℕ). insert c.args.self.now.words word c.args.number) (sym word_is) ∙ sym c.in_ok-set-in-None.ensures.ok)
+          (word_set c.args.self.now.words (word_of c.args.name.asn c.args.name.trail) c.args.number);
+      twins = λ asn path. refl;
+    })
+
+pub returns-in_ok-insert-in-Some : goal.returns-in_ok-insert-in-Some
+returns-in_ok-insert-in-Some c =
+    let word_is : c.args.name.word ≡ word_of c.args.name.asn c.args.name.trail = ap (λ (name : CaseName). name.word) c.requires in
     inr (record {
-      first = c.in-Some.first;
-      held = ap (worded c.args.self.now.words.entries) (sym word_is) ∙ held;
-      words = put_back c.args.self.now.words.entries c.insert.new.self.entries c.insert-in-Some.new.self.entries c.args.name.word c.args.number c.in-Some.first held
-          c.in_ok-first.ensures.updates.0 c.in_ok-insert.ensures.updates.0;
-      sets = twin_set c.args.self.now.twins.entries c.insert-in-Some-2.new.self.entries c.args.name (Some c.args.number) c.requires c.in_ok-insert-2.ensures.updates.0;
+      first = c.in-Some.field-0;
+      held = ap (worded c.args.self.now.words) (sym word_is) ∙ sym c.get.ensures ∙ c.in-Some.is;
+      words = λ w. refl;
+      sets = twin_set c.args.self.now.twins.entries c.insert.new.self.entries c.args.name (Some c.args.number) c.requires c.in_ok-insert-in-Some.ensures.updates.0;
     })

@@ -5,8 +5,8 @@ use Rattle.std.specs.List.Sorted.{IsStrictlySortedBy}
 use Rattle.std.specs.Option.{option_copied}
 use Rattle.std.specs.FinMap as map
 use Rattle.std.proofs.lemmas.Map.Keys.{sorted_from_strictly_increasing}
-use Rattle.path_model.specs.CurrentTable.{Parts}
-use Rattle.path_model.specs.ComputedTable.{attested}
+use Rattle.attestations.specs.CurrentTable.{Parts}
+use Rattle.attestations.specs.ComputedTable.{attested}
 use Rattle.path_model.specs.Rows.{row_or_empty}
 use Rattle.path_model.specs.Sets.{IsSetOf}
 use Rattle.vap_table.specs.declared.stepping.Step.TheVariants.{AssertionMore}
@@ -24,7 +24,7 @@ first_is (Some r) true e = absurd (true≢false e)
 first_is (Some r) false e = refl
 
 pub step_tally-requires-clause-ordered : goal.step_tally-requires-clause-ordered
-step_tally-requires-clause-ordered c = ordered (attested c.args.self.now.sources c.args.customer) (asserted c.args.self.now c.args.customer) c.args.tally c.requires
+step_tally-requires-clause-ordered c = ordered (attested c.args.self.now.moment c.args.self.now.sources c.args.customer) (asserted c.args.self.now c.args.customer) c.args.tally c.requires
 
 pub step_tally-requires-clause-rising : goal.step_tally-requires-clause-rising
 step_tally-requires-clause-rising c = subst (λ (row : List ℕ). IsStrictlySortedBy nat_cmp row) (sym c.as_slice.ensures) (sorted_from_strictly_increasing c.in_ok-more.more c.in_ok-more.ensures.ascending)
@@ -32,6 +32,7 @@ step_tally-requires-clause-rising c = subst (λ (row : List ℕ). IsStrictlySort
 pub returns : goal.returns
 returns c =
     let held : Parts = record {
+      moment = c.self.inside.moment;
       sources = c.self.inside.sources;
       slurm_filters = c.self.inside.slurm_filters;
       slurm_assertions = c.self.inside.slurm_assertions;
@@ -39,7 +40,7 @@ returns c =
       assertions = c.self.inside.assertions;
     } in
     subst (λ (p : Parts). (row : List ℕ) → IsSetOf (row_or_empty (map.get p.assertions c.args.customer) ++ c.args.providers.now) row
-    → IsTallyOfRows (attested p.sources c.args.customer) (asserted_with (map.get p.slurm_assertions c.args.customer) (Some row)) c.in_ok-next.next) c.self.view_is
+    → IsTallyOfRows (attested p.moment p.sources c.args.customer) (asserted_with (map.get p.slurm_assertions c.args.customer) (Some row)) c.in_ok-next.next) c.self.view_is
     (λ row is_row. hand_united held c.args.customer (option_copied c.row-held.result) c.is_none-is_first.result c.args.providers.now row c.in_ok-more.more c.args.tally c.in_ok-next.next c.row-held.ensures.row
     (first_is c.row-held.result c.is_none-is_first.result c.is_none-is_first.ensures) c.in_ok-more.ensures
     (subst (λ (row : List ℕ). IsTallyStepped AssertionMore c.is_none-is_first.result row c.args.tally c.in_ok-next.next) c.as_slice.ensures c.in_ok-next.ensures.stepped)

@@ -1,7 +1,7 @@
 use Rattle.std.proofs.Common.{◌≡◌, Some, ap, refl, sym, ◌∙◌}
 use Rattle.std.specs.FinMap as map
 use Rattle.std.specs.Option.{option_copied}
-use Rattle.path_model.specs.CurrentTable.{Parts}
+use Rattle.attestations.specs.CurrentTable.{Parts}
 use Rattle.vap_table.specs.Counting.{missing}
 use Rattle.vap_table.proofs.IdleLemmas.{idle_assert}
 use Rattle.vap_table.proofs.parts.HeldParts.has_asserted.Goals as goal
@@ -9,6 +9,7 @@ use Rattle.vap_table.proofs.parts.HeldParts.has_asserted.Goals as goal
 pub returns-in-Some : goal.returns-in-Some
 returns-in-Some c = λ yes.
     let held : Parts = record {
+      moment = c.self.inside.moment;
       sources = c.self.inside.sources;
       slurm_filters = c.self.inside.slurm_filters;
       slurm_assertions = c.self.inside.slurm_assertions;

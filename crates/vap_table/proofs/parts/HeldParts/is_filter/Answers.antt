@@ -1,11 +1,12 @@
 use Rattle.std.proofs.Common.{sym, ◌∙◌}
-use Rattle.path_model.specs.CurrentTable.{Parts}
+use Rattle.attestations.specs.CurrentTable.{Parts}
 use Rattle.vap_table.proofs.IdleLemmas.{idle_filter}
 use Rattle.vap_table.proofs.parts.HeldParts.is_filter.Goals as goal
 
 pub returns : goal.returns
 returns c = λ yes.
     let held : Parts = record {
+      moment = c.self.inside.moment;
       sources = c.self.inside.sources;
       slurm_filters = c.self.inside.slurm_filters;
       slurm_assertions = c.self.inside.slurm_assertions;

@@ -1,5 +1,5 @@
 use Rattle.std.proofs.Common.{◌≡◌, Bool, true, false, not, refl, sym, ◌∙◌}
-use Rattle.path_model.specs.CurrentTable.{Parts}
+use Rattle.attestations.specs.CurrentTable.{Parts}
 use Rattle.vap_table.proofs.IdleLemmas.{idle_unfilter}
 use Rattle.vap_table.proofs.parts.HeldParts.is_no_filter.Goals as goal
 
@@ -10,6 +10,7 @@ turned false e = refl
 pub returns : goal.returns
 returns c = λ yes.
     let held : Parts = record {
+      moment = c.self.inside.moment;
       sources = c.self.inside.sources;
       slurm_filters = c.self.inside.slurm_filters;
       slurm_assertions = c.self.inside.slurm_assertions;

@@ -1,4 +1,4 @@
-use Rattle.path_model.specs.CurrentTable.{Parts}
+use Rattle.attestations.specs.CurrentTable.{Parts}
 use Rattle.vap_table.specs.declared.change.TableChange.TheVariants.{Patch}
 use Rattle.vap_table.proofs.AlteredLemmas.{altered_by_patch, altered_from}
 use Rattle.vap_table.proofs.parts.HeldParts.patch.Goals as goal
@@ -6,6 +6,7 @@ use Rattle.vap_table.proofs.parts.HeldParts.patch.Goals as goal
 pub returns : goal.returns
 returns c =
     let held : Parts = record {
+      moment = c.self.inside.moment;
       sources = c.self.inside.sources;
       slurm_filters = c.self.inside.slurm_filters;
       slurm_assertions = c.self.inside.slurm_assertions;

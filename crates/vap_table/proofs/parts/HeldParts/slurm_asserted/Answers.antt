@@ -1,8 +1,8 @@
 use Rattle.std.proofs.Common.{sym, subst}
 use Rattle.std.specs.Option.{option_copied}
 use Rattle.std.specs.FinMap as map
-use Rattle.path_model.specs.CurrentTable.{Parts}
-use Rattle.path_model.specs.ComputedTable.{attested}
+use Rattle.attestations.specs.CurrentTable.{Parts}
+use Rattle.attestations.specs.ComputedTable.{attested}
 use Rattle.vap_table.specs.Counting.{asserted_with}
 use Rattle.vap_table.specs.Tally.{asserted, IsTallyOf, IsTallyOfRows}
 use Rattle.vap_table.proofs.CountingLemmas.{ordered}
@@ -10,17 +10,18 @@ use Rattle.vap_table.proofs.TallyingLemmas.{slurm_put}
 use Rattle.vap_table.proofs.parts.HeldParts.slurm_asserted.Goals as goal
 
 pub without_row-requires-clause-ordered : goal.without_row-requires-clause-ordered
-without_row-requires-clause-ordered c = ordered (attested c.args.self.now.sources c.args.customer) (asserted c.args.self.now c.args.customer) c.args.tally c.requires.tally
+without_row-requires-clause-ordered c = ordered (attested c.args.self.now.moment c.args.self.now.sources c.args.customer) (asserted c.args.self.now c.args.customer) c.args.tally c.requires.tally
 
 pub returns : goal.returns
 returns c =
     let held : Parts = record {
+      moment = c.self.inside.moment;
       sources = c.self.inside.sources;
       slurm_filters = c.self.inside.slurm_filters;
       slurm_assertions = c.self.inside.slurm_assertions;
       filters = c.self.inside.filters;
       assertions = c.self.inside.assertions;
     } in
-    subst (λ (p : Parts). IsTallyOfRows (attested p.sources c.args.customer) (asserted_with (option_copied c.args.row) (map.get p.assertions c.args.customer)) c.in_ok-next.next) c.self.view_is
+    subst (λ (p : Parts). IsTallyOfRows (attested p.moment p.sources c.args.customer) (asserted_with (option_copied c.args.row) (map.get p.assertions c.args.customer)) c.in_ok-next.next) c.self.view_is
     (slurm_put held c.args.customer (option_copied c.row-held.result) (option_copied c.args.row) c.args.tally c.in_ok-without.without c.in_ok-next.next c.row-held.ensures.row
     c.in_ok-without.ensures.tally c.in_ok-next.ensures.tally (subst (λ (p : Parts). IsTallyOf p c.args.customer c.args.tally) (sym c.self.view_is) c.requires.tally))

@@ -1,41 +1,26 @@
 use Rattle.std.proofs.Common.{◌≡◌, ℕ, false, List, sym, subst, ◌∙◌}
 use Rattle.path_model.specs.Authority.{Table, has}
-use Rattle.path_model.specs.CurrentTable.{Parts}
-use Rattle.path_model.specs.ComputedTable.{table_of}
+use Rattle.attestations.specs.CurrentTable.{Parts}
+use Rattle.attestations.specs.ComputedTable.{table_of}
 use Rattle.vap_table.specs.declared.moves.RowMove.{RowMove}
 use Rattle.vap_table.specs.Current.{rows_among}
 use Rattle.vap_table.specs.Moves.{AreMoves}
 use Rattle.vap_table.proofs.MovesLemmas.{are_moves, same_moves}
-use Rattle.vap_table.proofs.TalliesLemmas.{all_followed}
 use Rattle.vap_table.proofs.VapsLemmas.{same_row, still_kept}
 use Rattle.vap_table.proofs.vaps.Vaps.changed.Goals as goal
 
 pub refreshed-requires-clause-still : goal.refreshed-requires-clause-still
 refreshed-requires-clause-still c = λ x out.
-    still_kept c.self.inside.current c.self.inside.parts c.change.new.self x (c.self.invariant.rows x) (c.in_ok-names.ensures c.change.new.self c.in_ok-change.ensures x out)
-
-pub refreshed-requires-clause-tallied : goal.refreshed-requires-clause-tallied
-refreshed-requires-clause-tallied c =
-    all_followed c.self.inside.parts c.change.new.self c.in_ok-names.names c.self.inside.tallies c.in_ok-tallies.tallies c.self.invariant.tallied
-    (c.in_ok-tallies.ensures.named c.change.new.self c.in_ok-change.ensures) c.in_ok-tallies.ensures.others
-    (λ q out. c.in_ok-names.ensures c.change.new.self c.in_ok-change.ensures q out)
+    still_kept c.self.inside.current c.self.inside.parts c.in_ok-parts.parts x (c.self.invariant.rows x) (c.in_ok-names.ensures.all c.in_ok-parts.parts c.in_ok-parts.ensures.parts x out)
 
 pub returns-clause-moves : goal.returns-clause-moves
 returns-clause-moves c =
     let held : Parts = c.self.inside.parts in
-    let changed : Parts = c.change.new.self in
-    let names : List ℕ = c.in_ok-names.names in
-    let before : Table = rows_among c.in_ok-before.before.entries in
-    let still = λ (x : ℕ) (out : has names x ≡ false). same_row held changed x (c.in_ok-names.ensures changed c.in_ok-change.ensures x out) in
-    let same = same_moves before (table_of held) (table_of changed) names (λ x here. c.in_ok-before.ensures x here ∙ (c.self.invariant.rows x).row) in
+    let changed : Parts = c.in_ok-parts.parts in
+    let names : List ℕ = c.in_ok-names.names.all in
+    let before : Table = rows_among c.in_ok-names.before.entries in
+    let still = λ (x : ℕ) (out : has names x ≡ false). same_row held changed x (c.in_ok-names.ensures.all changed c.in_ok-parts.ensures.parts x out) in
+    let same = same_moves before (table_of held) (table_of changed) names (λ x here. c.in_ok-names.ensures.before x here ∙ (c.self.invariant.rows x).row) in
     subst (λ (old : Parts). AreMoves (table_of old) (table_of changed) c.in_ok-current.moves) c.self.view_is
     (subst (λ (moves : List RowMove). AreMoves (table_of held) (table_of changed) moves) (sym (c.in_ok-current.ensures.moves ∙ same))
     (are_moves (table_of held) (table_of changed) names c.in_ok-current.ensures.rising still))
-
-pub invariant_of-vaps : goal.invariant_of-vaps
-invariant_of-vaps c = record {
-  rows = c.in_ok-current.ensures.kept;
-  tallied = all_followed c.self.inside.parts c.change.new.self c.in_ok-names.names c.self.inside.tallies c.in_ok-tallies.tallies c.self.invariant.tallied
-      (c.in_ok-tallies.ensures.named c.change.new.self c.in_ok-change.ensures) c.in_ok-tallies.ensures.others
-      (λ q out. c.in_ok-names.ensures c.change.new.self c.in_ok-change.ensures q out);
-}

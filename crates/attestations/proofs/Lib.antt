@@ -1,0 +1,6 @@
+pub mod EntryLemmas
+pub mod GatheredLemmas
+pub mod HeldLemmas
+pub mod PartsLemmas
+pub mod SetOfLemmas
+pub mod TermLemmas

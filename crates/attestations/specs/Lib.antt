@@ -1,0 +1,9 @@
+pub mod Attested
+pub mod Codes
+pub mod ComputedTable
+pub mod CurrentTable
+pub mod Entries
+pub mod Gathered
+pub mod Held
+pub mod Order
+pub mod Terms

@@ -1,0 +1,22 @@
+//! Attestations that may end: what each source attests, and the definition of the current table of a moment.
+//!
+//! The layer above holds a [`Terms`] for each source, and a [`GatheredTerms`] while a file is read. It cites the definition of the current
+//! table (`specs/CurrentTable.antt`) and the table that is computed (`specs/ComputedTable.antt`); that these are one table is a law of
+//! `laws`. Begin reading in `specs/Terms.antt`, and then in `specs/CurrentTable.antt`.
+#![tactic(auto)]
+
+mod attested;
+mod gathered_terms;
+mod laws;
+mod term;
+mod term_entries;
+mod term_list;
+mod term_set;
+mod terms;
+
+pub use attested::Attested;
+pub use gathered_terms::GatheredTerms;
+pub use laws::{computed_is_current, each_row_never_ends, parts_have_one_table};
+pub use term::Term;
+pub use term_entries::TermEntries;
+pub use terms::Terms;

@@ -1,0 +1,12 @@
+pub mod CapabilityLemmas
+pub mod FieldLemmas
+pub mod FormLemmas
+pub mod HeaderLemmas
+pub mod LawLemmas
+pub mod MessageLemmas
+pub mod OpenLemmas
+pub mod PeerLemmas
+pub mod ReadingLemmas
+pub mod SeenLemmas
+pub mod UnitLemmas
+pub mod WalkLemmas

@@ -1,0 +1,146 @@
+-- What is seen of capabilities is what they tell.
+use Rattle.std.proofs.Common.{◌≡◌, ◌≢◌, inl, inr, ℕ, Bool, true, false, cond, List, [], ◌∷◌, ◌++◌, length, Some, None, refl, sym, ap, subst, ◌∙◌, append_assoc, true≢false, arith}
+use Rattle.std.specs.Prelude.{◌==◌, ◌||◌, ◌↔◌, IsTrue}
+use Rattle.std.specs.declared.option.Option.{Option}
+use Rattle.std.specs.List.{Contains}
+use Rattle.std.proofs.lemmas.Option.{same_Some}
+use Rattle.std.proofs.lemmas.List.{append-nil}
+use Rattle.std.proofs.lemmas.List.Elements.{Contains-append_left, Contains-push, Contains-push_cases}
+use Rattle.std.proofs.lemmas.Bool.Decides.{nat_tests}
+use Rattle.path_model.specs.declared.role.Role.{Role}
+use Rattle.bmp_reader.specs.declared.seen.Seen.{Seen}
+use Rattle.bmp_reader.specs.declared.seen.Told.{Told}
+use Rattle.bmp_reader.specs.declared.seen.Told.TheVariants.{Nothing, Value, Several}
+use Rattle.bmp_reader.specs.Learning.{role_of_value, role_capability, TellsValue, TellsRole, HasPaths}
+use Rattle.bmp_reader.specs.Opens.{Triple}
+use Rattle.bmp_reader.specs.Seen.{unseen, told_also, told_by, see, see_all, role_told}
+
+-- what capabilities tell of roles
+abbrev IsTold : List Triple → Told → Type 0
+IsTold front Nothing = (value : ℕ) → Contains front (role_capability value) → ⊥
+IsTold front (Value value) = TellsValue front value
+IsTold front Several = (one : ℕ) × (other : ℕ) × Contains front (role_capability one) × Contains front (role_capability other) × (one ≢ other)
+
+-- ---- one more
+
+-- the values of two such capabilities
+same_value : (a b : ℕ) → role_capability a ≡ role_capability b → b ≡ a
+same_value a b e = let values : a ∷ [] ≡ b ∷ [] = ap (λ (t : Triple). t.value) e in cc
+
+-- one that is no capability of a role
+kept : (front : List Triple) (told : Told) (last : Triple) → ((value : ℕ) → last ≡ role_capability value → ⊥) → IsTold front told → IsTold (front ++ last ∷ []) told
+kept front Nothing last apart is = λ value has. elim (Contains-push_cases front last (role_capability value) has) [ inl before ↦ is value before | inr e ↦ apart value e ]
+kept front (Value value) last apart is = record {
+  some = Contains-append_left front (last ∷ []) (role_capability value) is.some;
+  only = λ other has. elim (Contains-push_cases front last (role_capability other) has) [ inl before ↦ is.only other before | inr e ↦ absurd (apart other e) ];
+}
+kept front Several last apart is =
+    (is.0, is.1, Contains-append_left front (last ∷ []) (role_capability is.0) is.2, Contains-append_left front (last ∷ []) (role_capability is.1) is.3, is.4)
+
+-- one that is
+added : (front : List Triple) (told : Told) (value : ℕ) → IsTold front told → IsTold (front ++ role_capability value ∷ []) (told_also told value)
+added front Nothing value is = record {
+  some = Contains-push front (role_capability value);
+  only = λ other has. elim (Contains-push_cases front (role_capability value) (role_capability other) has) [ inl before ↦ absurd (is other before) | inr e ↦ same_value value other e ];
+}
+added front (Value first) value is = by_test (first == value) refl
+  where
+    by_test : (same : Bool) → (first == value) ≡ same → IsTold (front ++ role_capability value ∷ []) (cond same (Value first) Several)
+    by_test true t = (let e : first ≡ value = grind (arith, nat_tests) in record {
+      some = Contains-append_left front (role_capability value ∷ []) (role_capability first) is.some;
+      only = λ other has. elim (Contains-push_cases front (role_capability value) (role_capability other) has) [ inl before ↦ is.only other before | inr p ↦ same_value value other p ∙ sym e ];
+    })
+    by_test false t = (first, value, Contains-append_left front (role_capability value ∷ []) (role_capability first) is.some, Contains-push front (role_capability value), (λ e. grind (arith, nat_tests)))
+added front Several value is =
+    (is.0, is.1, Contains-append_left front (role_capability value ∷ []) (role_capability is.0) is.2, Contains-append_left front (role_capability value ∷ []) (role_capability is.1) is.3, is.4)
+
+told_more : (front : List Triple) (told : Told) (last : Triple) → IsTold front told → IsTold (front ++ last ∷ []) (cond (last.code == 9) (told_by told last.value) told)
+told_more front told last is = by_test (last.code == 9) refl
+  where
+    by_value : (value : List ℕ) → last.value ≡ value → last.code ≡ 9 → IsTold (front ++ last ∷ []) (told_by told value)
+    by_value [] v c = kept front told last (λ value e. (let both : [] ≡ value ∷ [] = sym v ∙ ap (λ (t : Triple). t.value) e in cc)) is
+    by_value (a ∷ b ∷ rest) v c = kept front told last (λ value e. (let both : a ∷ b ∷ rest ≡ value ∷ [] = sym v ∙ ap (λ (t : Triple). t.value) e in cc)) is
+    by_value (value ∷ []) v c =
+        (let same : role_capability value ≡ last = (λ i. record { code = sym c i; value = sym v i }) in
+        subst (λ (t : Triple). IsTold (front ++ t ∷ []) (told_also told value)) same (added front told value is))
+
+    by_test : (role : Bool) → (last.code == 9) ≡ role → IsTold (front ++ last ∷ []) (cond role (told_by told last.value) told)
+    by_test true t = by_value last.value refl (grind (arith, nat_tests))
+    by_test false t = kept front told last (λ value e. (let c : last.code ≡ 9 = ap (λ (t : Triple). t.code) e in grind (arith, nat_tests))) is
+
+-- ---- whether ADD-PATH is among them
+
+abbrev SaysPaths : List Triple → Bool → Type 0
+SaysPaths front paths = IsTrue paths ↔ HasPaths front
+
+paths_more : (front : List Triple) (paths : Bool) (last : Triple) → SaysPaths front paths → SaysPaths (front ++ last ∷ []) (paths || (last.code == 69))
+paths_more front true last says = (λ on. (let has = says.0 refl in (has.0, Contains-append_left front (last ∷ []) (record { code = 69; value = has.0 }) has.1)), λ has. refl)
+paths_more front false last says = by_test (last.code == 69) refl
+  where
+    by_test : (path : Bool) → (last.code == 69) ≡ path → SaysPaths (front ++ last ∷ []) path
+    by_test true t =
+        (let c : last.code ≡ 69 = grind (arith, nat_tests) in
+        let same : last ≡ record { code = 69; value = last.value } = (λ i. record { code = c i; value = last.value }) in
+        (λ on. (last.value, subst (λ (t : Triple). Contains (front ++ last ∷ []) t) same (Contains-push front last)), λ has. refl))
+    by_test false t = (
+      λ on. absurd (true≢false (sym on)),
+      λ has. elim (Contains-push_cases front last (record { code = 69; value = has.0 }) has.1) [
+        | inl before ↦ says.1 (has.0, before)
+        | inr e ↦ absurd (let c : last.code ≡ 69 = ap (λ (t : Triple). t.code) e in grind (arith, nat_tests))
+      ],
+    )
+
+-- ---- all of them
+
+pub record IsSeen (front : List Triple) (seen : Seen) : Type 0 where
+  pub told : IsTold front seen.told
+  pub paths : SaysPaths front seen.paths
+
+nowhere : (t : Triple) → Contains [] t → ⊥
+nowhere t has = let less = has.1 in omega arith
+
+none_seen : IsSeen [] unseen
+none_seen = record { told = λ value has. nowhere (role_capability value) has; paths = (λ on. absurd (true≢false (sym on)), λ has. absurd (nowhere (record { code = 69; value = has.0 }) has.1)) }
+
+one_seen : (front : List Triple) (seen : Seen) (last : Triple) → IsSeen front seen → IsSeen (front ++ last ∷ []) (see seen last)
+one_seen front seen last is = record { told = told_more front seen.told last is.told; paths = paths_more front seen.paths last is.paths }
+
+more_seen : (front : List Triple) (seen : Seen) (capabilities : List Triple) → IsSeen front seen → IsSeen (front ++ capabilities) (see_all seen capabilities)
+more_seen front seen [] is = subst (λ (ts : List Triple). IsSeen ts seen) (sym (append-nil front)) is
+more_seen front seen (last ∷ capabilities) is =
+    subst (λ (ts : List Triple). IsSeen ts (see_all (see seen last) capabilities)) (append_assoc front (last ∷ []) capabilities) (more_seen (front ++ last ∷ []) (see seen last) capabilities (one_seen front seen last is))
+
+pub all_seen : (capabilities : List Triple) → IsSeen capabilities (see_all unseen capabilities)
+all_seen capabilities = more_seen [] unseen capabilities none_seen
+
+-- what is seen of some and then of others
+pub see-append : (seen : Seen) (some others : List Triple) → see_all seen (some ++ others) ≡ see_all (see_all seen some) others
+see-append seen [] others = refl
+see-append seen (t ∷ some) others = see-append (see seen t) some others
+
+-- ---- the role
+
+role_is : (capabilities : List Triple) (told : Told) → IsTold capabilities told → TellsRole capabilities (role_told told)
+role_is capabilities Nothing is = λ value role tells e. is value tells.some
+role_is capabilities Several is = λ value role tells e. (let p = tells.only is.0 is.2 in let q = tells.only is.1 is.3 in is.4 (p ∙ sym q))
+role_is capabilities (Value value) is = by_role (role_of_value value) refl
+  where
+    by_role : (role : Option Role) → role_of_value value ≡ role → TellsRole capabilities role
+    by_role (Some role) e = (value, is, e)
+    by_role None e = λ other role tells f. (let both : Some role ≡ None = sym f ∙ ap role_of_value (is.only other tells.some) ∙ e in cc)
+
+pub role_seen : (capabilities : List Triple) → TellsRole capabilities (role_told (see_all unseen capabilities).told)
+role_seen capabilities = role_is capabilities (see_all unseen capabilities).told (all_seen capabilities).told
+
+pub role_same : (capabilities : List Triple) (one other : Option Role) → TellsRole capabilities one → TellsRole capabilities other → one ≡ other
+role_same capabilities None None p q = refl
+role_same capabilities None (Some role) p q = absurd (p q.0 role q.1 q.2)
+role_same capabilities (Some role) None p q = absurd (q p.0 role p.1 p.2)
+role_same capabilities (Some one) (Some other) p q = sym p.2 ∙ ap role_of_value (q.1.only p.0 p.1.some) ∙ q.2
+
+-- a truth value is determined by what it says
+pub truth_same : {P : Type 0} (one other : Bool) → IsTrue one ↔ P → IsTrue other ↔ P → one ≡ other
+truth_same true true p q = refl
+truth_same true false p q = sym (q.1 (p.0 refl))
+truth_same false true p q = p.1 (q.0 refl)
+truth_same false false p q = refl

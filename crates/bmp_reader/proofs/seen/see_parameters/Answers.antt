@@ -1,0 +1,15 @@
+use Rattle.std.proofs.Common.{sym, ◌∙◌, rules}
+use Rattle.bmp_reader.proofs.WalkLemmas.{first-step, first-shortens, first-none, over-end}
+use Rattle.bmp_reader.proofs.seen.see_parameters.Goals as goal
+
+pub returns-in_err-more_seen : goal.returns-in_err-more_seen
+returns-in_err-more_seen c = rw c.from_residual.ensures (first-none c.loop-rest.seen c.loop-rest.rest.now (search rules) (sym c.in_err-more_seen.ensures) ∙ c.loop-rest.invariant)
+
+pub loop-rest-smaller : goal.loop-rest-smaller
+loop-rest-smaller c = first-shortens c.loop-rest.seen c.in_ok-more_seen.more_seen c.loop-rest.rest.now c.in_ok-more_seen.more.now (sym c.in_ok-more_seen.ensures)
+
+pub loop-rest-preserved : goal.loop-rest-preserved
+loop-rest-preserved c = first-step c.loop-rest.seen c.in_ok-more_seen.more_seen c.loop-rest.rest.now c.in_ok-more_seen.more.now (sym c.in_ok-more_seen.ensures) ∙ c.loop-rest.invariant
+
+pub returns : goal.returns
+returns c = over-end c.loop-rest.seen c.loop-rest.rest.now (search rules) ∙ c.loop-rest.invariant

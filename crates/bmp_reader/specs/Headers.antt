@@ -1,0 +1,30 @@
+-- Per-peer headers: of whom a message tells (RFC 7854, section 4.2).
+use Rattle.std.specs.Prelude.{◌≡◌, ℕ, ◌==◌, not, bit_and, Bool, List, ◌∷◌, ◌++◌, length}
+use Rattle.bmp_reader.specs.declared.header.PeerHeader.{PeerHeader}
+use Rattle.bmp_reader.specs.Fields.{SpellsFour, SpellsAddr, unread_size}
+
+-- the flags of a peer: an address of IPv6; routes behind the inbound policy; ASes of two bytes in AS_PATH, so that
+-- without the flag they have four; others aren't read
+abbrev pub is_six : ℕ → Bool
+is_six flags = not (bit_and flags 128 == 0)
+
+abbrev pub is_post : ℕ → Bool
+is_post flags = not (bit_and flags 64 == 0)
+
+abbrev pub is_wide : ℕ → Bool
+is_wide flags = bit_and flags 32 == 0
+
+-- The bytes spell one header: the peer's type, its flags, eight bytes of distinguisher, its address in the last of sixteen bytes, its AS,
+-- four bytes of identifier and eight of time.
+pub record IsPeerHeader (bytes : List ℕ) (header : PeerHeader) : Type 0 where
+  pub distinguisher : List ℕ
+  pub unread : List ℕ
+  pub addr : List ℕ
+  pub asn : List ℕ
+  pub time : List ℕ
+  pub eight : length distinguisher ≡ 8
+  pub is_unread : length unread ≡ unread_size (is_six header.flags)
+  pub is_addr : SpellsAddr (is_six header.flags) addr header.peer.addr
+  pub is_asn : SpellsFour asn header.peer.asn
+  pub twelve : length time ≡ 12
+  pub whole : bytes ≡ header.kind ∷ (header.flags ∷ (distinguisher ++ (unread ++ (addr ++ (asn ++ time)))))

@@ -1,0 +1,15 @@
+pub mod Bodies
+pub mod Coming
+pub mod Fields
+pub mod Forms
+pub mod Gathering
+pub mod Headed
+pub mod Headers
+pub mod Kinds
+pub mod Laws
+pub mod Learning
+pub mod Left
+pub mod Messages
+pub mod Opens
+pub mod Readers
+pub mod Seen

@@ -1,0 +1,20 @@
+//! What a message says.
+use path_model::{Changes, Peer, Role};
+
+/// What a message says.
+#[derive(Debug, Drop)]
+pub enum Body {
+    /// The changes that it makes; none for a BGP message that changes no route.
+    Routes(Changes),
+    /// The session with a peer came up.
+    Up {
+        /// The peer.
+        peer: Peer,
+        /// The role that the peer says it has in its OPEN (RFC 9234, section 4.1). That is its own: `Provider` for our provider.
+        role: Option<Role>,
+        /// Whether both OPENs have the capability ADD-PATH (RFC 7911, section 4).
+        paths: bool,
+    },
+    /// It is passed over.
+    Passed,
+}

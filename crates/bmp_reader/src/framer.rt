@@ -1,0 +1,109 @@
+//! Messages cut out of a stream that comes in pieces.
+ghost use Rattle.std.specs.Prelude.{◌≡◌, ◌≢◌, ◌↔◌, ◌++◌, [], OnOk, OnErr, IfOk, IsErrOf, IsTrue};
+ghost use Rattle.std.specs.Borrow.{sem};
+ghost use Rattle.std.specs.Io.BufRead.{Rests};
+
+use crate::fault::BmpFrameFault;
+use crate::heading::whole_head;
+use av_base::NoMemory;
+use held_bytes::HeldBytes;
+use std::alloc::Global;
+use std::marker::Model;
+
+/// One message: its type and its body.
+#[derive(Clone, Copy, Debug)]
+pub struct Message<'a> {
+    /// The body, without the header.
+    pub body: &'a [u8],
+    /// The type.
+    pub kind: u8,
+}
+
+/// The bytes of a stream that came and that no message took yet.
+///
+/// Feed it only after `next` answered `None`: then less than a message is held, and with the piece less than a message and a piece. Fed
+/// before that, or after 45 BmpVersion or 46 BmpLength, it grows by each piece.
+#[derive(Debug, Drop)]
+pub struct Framer {
+    held: HeldBytes,
+}
+
+impl Model for Framer {
+    ghost use Rattle.std.specs.Prelude.{List, ℕ};
+
+    ghost Value = { List ℕ };
+
+    ghost view = { λ f. f.held.left };
+}
+
+impl Framer {
+    ghost use Rattle.bmp_reader.specs.Coming.{Answers, IsPartial};
+    ghost use Rattle.bmp_reader.specs.contracts.framer.Framer.{the_row};
+
+    /// Nothing is held. It takes no memory.
+    pub fn new(alloc: Global) -> Framer
+        ensures { result ≡ [] }
+    {
+        Framer {
+            held: HeldBytes::new(alloc),
+        }
+    }
+
+    /// Appends a piece of the stream. What was taken before is let go here, so that a byte of a message is moved at most once for each
+    /// piece that comes before the message is whole.
+    pub fn feed(self, piece: &[u8]) -> Result<Framer, NoMemory>
+        ensures { IfOk result (λ framer. framer ≡ self ++ piece.now) }
+    {
+        let Framer { held } = self;
+        let held = held.feed(piece)?;
+        Ok(Framer { held })
+    }
+
+    /// Takes the first message off and lends its body. It takes no memory and moves no byte.
+    ///
+    /// 45 BmpVersion comes exactly where a byte is held and the version isn't 3, and else 46 BmpLength exactly where 6 bytes are held and
+    /// the length is below 6 or over 4,194,304; then nothing is taken, and it comes again at each later call, whatever is fed. `None`
+    /// comes exactly where neither does and no whole message is held.
+    pub fn next(&mut self) -> Result<Option<Message<'_>>, BmpFrameFault>
+        ensures* taken { sem 𝓛 (Rests the_row self.entry
+            (λ new. Answers self.old new result)) }
+    {
+        match whole_head(self.held.front()) {
+            Ok(Some(head)) => {
+                self.held.drop_front(6 + head.size);
+                let taken = self.held.taken();
+                let (_, body) = taken.split_at(taken.len() - head.size);
+                Ok(Some(Message {
+                    body,
+                    kind: head.kind,
+                }))
+            }
+            Ok(None) => Ok(None),
+            Err(fault) => Err(fault),
+        }
+    }
+
+    /// Whether `next` has an answer other than `None` for what is held.
+    pub fn is_ready(&self) -> bool
+        ensures { IsTrue result ↔ ¬ IsPartial self.now }
+    {
+        match whole_head(self.held.front()) {
+            Ok(head) => head.is_some(),
+            Err(_) => true,
+        }
+    }
+
+    /// Whether the stream may end here: 27 CutShort comes exactly where some byte is held. Where `next` answered `None` that byte
+    /// begins a message that is cut.
+    pub fn finish(&self) -> Result<(), BmpFrameFault>
+        ensures ok { OnOk result (self.now ≡ []) }
+        ensures err { OnErr result (self.now ≢ []) }
+        ensures version { IsErrOf result BmpFrameFault.BmpVersion → ⊥ }
+        ensures size { IsErrOf result BmpFrameFault.BmpLength → ⊥ }
+    {
+        if !self.held.front().is_empty() {
+            return Err(BmpFrameFault::CutShort);
+        }
+        Ok(())
+    }
+}

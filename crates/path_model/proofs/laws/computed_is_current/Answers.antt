@@ -1,5 +1,0 @@
-use Rattle.path_model.proofs.PartsLemmas.{table_is_current}
-use Rattle.path_model.proofs.laws.computed_is_current.Goals as goal
-
-pub returns : goal.returns
-returns c = table_is_current

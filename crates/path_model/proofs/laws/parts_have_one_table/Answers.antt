@@ -1,5 +1,0 @@
-use Rattle.path_model.proofs.PartsLemmas as parts
-use Rattle.path_model.proofs.laws.parts_have_one_table.Goals as goal
-
-pub returns : goal.returns
-returns c = parts.parts_have_one_table

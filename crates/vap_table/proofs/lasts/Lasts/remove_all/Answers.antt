@@ -1,0 +1,15 @@
+use Rattle.std.proofs.Common.{ℕ, ◌+◌, List, drop, subst}
+use Rattle.std.proofs.lemmas.List.{drop_all}
+use Rattle.attestations.specs.declared.term.Term.{Term}
+use Rattle.vap_table.proofs.LastsLemmas.{Dropping, dropping_next, dropping_end, drop_item}
+use Rattle.vap_table.proofs.lasts.Lasts.remove_all.Goals as goal
+
+pub loop-term-preserved : goal.loop-term-preserved
+loop-term-preserved c =
+    let terms : List Term = c.args.terms.now in
+    let i : ℕ = c.loop-term.term-index in
+    dropping_next c.loop-term.self c.drop_term.new.self c.args.self.now c.args.customer c.term-item.result (drop (i + 1) terms) terms c.drop_term.ensures
+    (subst (λ (rest : List Term). Dropping c.loop-term.self c.args.customer rest c.args.self.now terms) (drop_item terms i c.term-item.result c.loop-term-test.true c.term-item.is) c.loop-term.invariant)
+
+pub returns : goal.returns
+returns c = dropping_end c.loop-term.self c.args.self.now c.args.customer (drop c.loop-term.term-index c.args.terms.now) c.args.terms.now (drop_all c.loop-term.term-index c.args.terms.now c.loop-term-test.false) c.loop-term.invariant
