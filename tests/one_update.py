@@ -10,7 +10,6 @@ import struct
 import subprocess
 import sys
 import tempfile
-import time
 
 # How many messages a dump has, and how many bytes each of them: the most that its length can say.
 MESSAGES = 20
@@ -71,37 +70,28 @@ def network(i):
 
 
 def peak_of(pid):
-    """The peak of the process's memory so far, in bytes (proc(5), VmHWM); None once it is gone."""
-    try:
-        with open(f"/proc/{pid}/status") as file:
-            for line in file:
-                if line.startswith("VmHWM:"):
-                    return int(line.split()[1]) * 1024
-    except OSError:
-        pass
-    return None
+    """The peak of the process's memory so far, in bytes (proc(5), VmHWM)."""
+    with open(f"/proc/{pid}/status") as file:
+        return next(int(line.split()[1]) * 1024 for line in file if line.startswith("VmHWM:"))
 
 
 def run(program, folder, script):
-    """What the program writes, its status, its processor seconds, and its peak memory in bytes, looked at each millisecond."""
+    """What the program writes, its status, its processor seconds, and its peak memory in bytes. The peak is looked at behind the first line of the
+    text, while the program waits: what it writes from there on is more than a pipe holds."""
     with open(os.path.join(folder, "script"), "w") as file:
         file.write(script)
-    peak = 0
-    with open(os.path.join(folder, "script")) as lines, open(os.path.join(folder, "text"), "w") as text:
-        child = subprocess.Popen([program, "run"], stdin=lines, stdout=text)
-        ended = 0
-        while ended == 0:
-            peak = max(peak, peak_of(child.pid) or 0)
-            time.sleep(0.001)
-            ended, status, usage = os.wait4(child.pid, os.WNOHANG)
+    with open(os.path.join(folder, "script")) as lines:
+        child = subprocess.Popen([program, "run"], stdin=lines, stdout=subprocess.PIPE)
+        written = child.stdout.readline()
+        peak = peak_of(child.pid)
+        written += child.stdout.read()
+        _, status, usage = os.wait4(child.pid, 0)
         child.returncode = os.waitstatus_to_exitcode(status)
-    with open(os.path.join(folder, "text")) as text:
-        written = text.read()
-    return written, child.returncode, usage.ru_utime + usage.ru_stime, peak
+    return written.decode(), child.returncode, usage.ru_utime + usage.ru_stime, peak
 
 
-# Lines that take time and no memory, so that the peak before them is seen.
-PAUSE = "judge customer 64501 64501 64500\n" * 20_000
+# Lines whose text is more than a pipe holds: 160,000 bytes.
+MORE = "judge customer 64501 64501 64500\n" * 20_000
 
 
 def taken(program, folder, name, data):
@@ -109,8 +99,8 @@ def taken(program, folder, name, data):
     path = os.path.join(folder, name)
     with open(path, "wb") as file:
         file.write(data)
-    runs = [run(program, folder, f"open it {path}\ntake it {MESSAGES}\nsummary\n{PAUSE}") for _ in range(3)]
-    empty = [run(program, folder, f"summary\n{PAUSE}") for _ in range(3)]
+    runs = [run(program, folder, f"open it {path}\ntake it {MESSAGES}\nsummary\n{MORE}") for _ in range(3)]
+    empty = [run(program, folder, f"summary\n{MORE}") for _ in range(3)]
     seconds = max(0.0, min(r[2] for r in runs) - min(r[2] for r in empty))
     memory = max(0, min(r[3] for r in runs) - min(r[3] for r in empty))
     summary = runs[0][0].split("\n", 1)[0]
