@@ -53,7 +53,7 @@ pub enum Cause {
     NoPath,
     /// 26: the record's length is over the limit.
     TooLong,
-    /// 27: the dump ends within a record.
+    /// 27: the dump ends within a record, or the recorded stream within a message.
     CutShort,
     /// 28: the record's body isn't one of its type.
     Body,
@@ -85,10 +85,17 @@ pub enum Cause {
     // of files of base64 lines
     /// 41: what stands behind the space of a line is no moment.
     Moment,
+    // of messages of recorded streams (RFC 7854)
+    /// 45: the message isn't of version 3.
+    BmpVersion,
+    /// 46: the message's length is under that of its header, or over the limit.
+    BmpLength,
+    /// 47: the message's body isn't one of its type.
+    BmpBody,
 }
 
 impl Cause {
-    /// Its number, from 5 to 41.
+    /// Its number, from 5 to 47.
     pub fn number(self) -> u16
         ensures { result ≡ number_of self }
     {
@@ -145,6 +152,9 @@ impl Cause {
             Cause::NoRoute => (39, "NoRoute"),
             Cause::FileLong => (40, "FileLong"),
             Cause::Moment => (41, "Moment"),
+            Cause::BmpVersion => (45, "BmpVersion"),
+            Cause::BmpLength => (46, "BmpLength"),
+            Cause::BmpBody => (47, "BmpBody"),
         }
     }
 }
