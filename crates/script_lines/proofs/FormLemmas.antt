@@ -7,7 +7,7 @@ use Rattle.script_lines.specs.declared.command.Command.{Command}
 use Rattle.script_lines.specs.declared.command.Command.TheVariants.{Idle}
 use Rattle.script_lines.specs.declared.command.LineFault.{LineFault}
 use Rattle.script_lines.specs.declared.command.LineFault.TheVariants.{Long, Command as NoCommand, Words, Number, NoMemory}
-use Rattle.script_lines.specs.Kinds.{WordKind, NAME, TEXT, ROLE, ADDRESS, PREFIX, NUMBER, WHOM, ValueOf, Spells, HasForm}
+use Rattle.script_lines.specs.Kinds.{WordKind, NAME, TEXT, ROLE, VIEW, ADDRESS, PREFIX, NUMBER, WHOM, ValueOf, Spells, HasForm}
 use Rattle.script_lines.specs.Forms.{AreAses, Form, end, ases, optional, ◌then◌, Builds, IsSpelled, Fits}
 use Rattle.script_lines.specs.Fields.{AreSpelled, RefusesWord, RefusesWords, joined}
 
@@ -16,6 +16,7 @@ spelled-form : (kind : WordKind) (word : List ℕ) (value : ValueOf kind) → Sp
 spelled-form NAME word value is = (value, is)
 spelled-form TEXT word value is = (value, is)
 spelled-form ROLE word value is = (value, is)
+spelled-form VIEW word value is = (value, is)
 spelled-form ADDRESS word value is = (value, is)
 spelled-form PREFIX word value is = (value, is)
 spelled-form (NUMBER least most) word value is = tt

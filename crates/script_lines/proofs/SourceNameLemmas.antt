@@ -3,10 +3,10 @@ use Rattle.std.proofs.Common.{inl, inr, ℕ, ◌≤◌, List, [], ◌∷◌, Opt
 use Rattle.path_model.specs.declared.role.Role.{Role as RoleOf}
 use Rattle.path_model.specs.Name.{IsName}
 use Rattle.script_lines.specs.declared.command.Command.{Command}
-use Rattle.script_lines.specs.declared.command.Command.TheVariants.{Idle, Aspa, Aspa64, Slurm, Filter, Unfilter, Assert, Unassert, At, Role, RoleDefault, Open, Take, Feed, Ask, Sync, Judge, Changes, Why, Show}
+use Rattle.script_lines.specs.declared.command.Command.TheVariants.{Idle, Aspa, Aspa64, Slurm, Filter, Unfilter, Assert, Unassert, At, Role, RoleDefault, Open, Bmp, Take, Feed, Ask, Sync, Judge, Changes, Why, Show}
 use Rattle.script_lines.specs.declared.command.CommandName.{CommandName}
-use Rattle.script_lines.specs.declared.command.CommandName.TheVariants.{Aspa as AspaName, Aspa64 as Aspa64Name, Slurm as SlurmName, Filter as FilterName, Unfilter as UnfilterName, Assert as AssertName, Unassert as UnassertName, At as AtName, Role as RoleName, Open as OpenName, Take as TakeName, Feed as FeedName, Ask as AskName, Sync as SyncName, Judge as JudgeName, Changes as ChangesName, Why as WhyName, Show as ShowName}
-use Rattle.script_lines.specs.Kinds.{WordKind, NAME, TEXT, ROLE, ADDRESS, PREFIX, NUMBER, WHOM, ValueOf, Spells}
+use Rattle.script_lines.specs.declared.command.CommandName.TheVariants.{Aspa as AspaName, Aspa64 as Aspa64Name, Slurm as SlurmName, Filter as FilterName, Unfilter as UnfilterName, Assert as AssertName, Unassert as UnassertName, At as AtName, Role as RoleName, Open as OpenName, Bmp as BmpName, Take as TakeName, Feed as FeedName, Ask as AskName, Sync as SyncName, Judge as JudgeName, Changes as ChangesName, Why as WhyName, Show as ShowName}
+use Rattle.script_lines.specs.Kinds.{WordKind, NAME, TEXT, ROLE, VIEW, ADDRESS, PREFIX, NUMBER, WHOM, ValueOf, Spells}
 use Rattle.script_lines.specs.Forms.{Form, end, ases, optional, ◌then◌, Builds, IsSpelled}
 use Rattle.script_lines.specs.Commands.{form_of, sets_role, made_by}
 use Rattle.script_lines.specs.Grammar.{IsReading}
@@ -25,6 +25,7 @@ IsNamed (At moment) = Unit {0}
 IsNamed (Role asn role) = Unit {0}
 IsNamed (RoleDefault role) = Unit {0}
 IsNamed (Open name file) = IsName name
+IsNamed (Bmp name file post) = IsName name
 IsNamed (Take name count) = IsName name × (count ≤ 100000000)
 IsNamed (Feed name place) = IsName name
 IsNamed (Ask name) = IsName name
@@ -39,6 +40,7 @@ abbrev IsValue : (kind : WordKind) → ValueOf kind → Type 0
 IsValue NAME name = IsName name
 IsValue TEXT text = Unit {0}
 IsValue ROLE role = Unit {0}
+IsValue VIEW post = Unit {0}
 IsValue ADDRESS addr = Unit {0}
 IsValue PREFIX prefix = Unit {0}
 IsValue (NUMBER least most) n = n ≤ most
@@ -48,6 +50,7 @@ spelled_value : (kind : WordKind) (word : List ℕ) (value : ValueOf kind) → S
 spelled_value NAME word name is = subst IsName (sym is.1) is.0
 spelled_value TEXT word text is = tt
 spelled_value ROLE word role is = tt
+spelled_value VIEW word post is = tt
 spelled_value ADDRESS word addr is = tt
 spelled_value PREFIX word prefix is = tt
 spelled_value (NUMBER least most) word n is = is.2
@@ -76,6 +79,7 @@ makes_named UnassertName = λ customer any. tt
 makes_named AtName = λ moment within. tt
 makes_named RoleName = λ whom any role other. sets_unnamed whom role
 makes_named OpenName = λ name is file any. is
+makes_named BmpName = λ name is file any post other. is
 makes_named TakeName = λ name is count within. (is, within)
 makes_named FeedName = λ name is place any. is
 makes_named AskName = λ name is. is

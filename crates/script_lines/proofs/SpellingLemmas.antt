@@ -1,5 +1,5 @@
 -- Words spell values or don't, each at most one, kind by kind and form by form.
-use Rattle.std.proofs.Common.{◌≡◌, ◌⊎◌, inl, inr, ℕ, zero, suc, ◌<◌, ◌≤◌, ◌^◌, List, [], ◌∷◌, ◌++◌, length, map, codes, decimal, slice_get, Option, Some, None, lit<, lit≤, refl, sym, ap, ◌∙◌, arith, subst}
+use Rattle.std.proofs.Common.{◌≡◌, ◌⊎◌, inl, inr, ℕ, zero, suc, ◌<◌, ◌≤◌, ◌^◌, Bool, true, false, List, [], ◌∷◌, ◌++◌, length, map, codes, decimal, slice_get, Option, Some, None, lit<, lit≤, refl, sym, ap, ◌∙◌, arith, subst}
 use Rattle.std.specs.Bool.{IsTrue}
 use Rattle.std.specs.List.{All}
 use Rattle.std.proofs.lemmas.Bool.{cases_lt}
@@ -15,10 +15,10 @@ use Rattle.av_text.specs.PrefixText.{prefix_text}
 use Rattle.av_text.specs.Spellings.{SpellsOne}
 use Rattle.av_text.proofs.AnySpellingLemmas.{addr_or_none, prefix_or_none, prefix_text_injective, peer_text_injective}
 use Rattle.av_text.proofs.NumberLemmas.{number_or_none, no_number-other, map-decimal_injective}
-use Rattle.av_text.proofs.SpellingLemmas.{decided_text, role_text_injective, decided_role}
+use Rattle.av_text.proofs.SpellingLemmas.{value_among, found_injective, found_or_none, decided_text, role_text_injective, decided_role}
 use Rattle.script_lines.specs.declared.command.Command.{Command}
 use Rattle.script_lines.specs.Word.{IsVisible}
-use Rattle.script_lines.specs.Kinds.{WordKind, NAME, TEXT, ROLE, ADDRESS, PREFIX, NUMBER, WHOM, ValueOf, Spells, HasForm, LacksNumber}
+use Rattle.script_lines.specs.Kinds.{view_text, WordKind, NAME, TEXT, ROLE, VIEW, ADDRESS, PREFIX, NUMBER, WHOM, ValueOf, Spells, HasForm, LacksNumber}
 use Rattle.script_lines.specs.Forms.{Form, end, ases, optional, ◌then◌, Builds, IsSpelled, Fits, SomeNoAs, SomeNoNumber}
 use Rattle.script_lines.proofs.AsLemmas.{no_as_first, no_as_later}
 use Rattle.script_lines.proofs.FormLemmas.{ases-spelled}
@@ -55,6 +55,23 @@ decided_is_name word =
 decided_visible : (byte : ℕ) → Decided (IsVisible byte)
 decided_visible byte = decided_both (decided_le 33 byte) (decided_le byte 126)
 
+-- the view that a word could name
+view_of : List ℕ → Bool
+view_of = value_among view_text true (false ∷ [])
+
+view_of-view_text : (post : Bool) → view_of (view_text post) ≡ post
+unfolding view_of value_among
+view_of-view_text false = refl
+view_of-view_text true = refl
+
+-- two views with one word are equal
+view_text_injective : (one other : Bool) → view_text one ≡ view_text other → one ≡ other
+view_text_injective = found_injective view_text view_of view_of-view_text
+
+-- whether a word names a view
+decided_view : (word : List ℕ) → Decided ((post : Bool) × (word ≡ view_text post))
+decided_view = found_or_none view_text view_of view_of-view_text
+
 -- a word that is so is the text of itself
 decided_itself : (P : Type 0) (word : List ℕ) → Decided P → Decided ((text : List ℕ) × (P × (text ≡ word)))
 decided_itself P word (inl is) = inl (word, (is, refl))
@@ -70,6 +87,7 @@ decided_kind : (kind : WordKind) (word : List ℕ) → Decided (HasForm kind wor
 decided_kind NAME word = decided_itself (IsName word) word (decided_is_name word)
 decided_kind TEXT word = decided_itself (All IsVisible word) word (decided_all IsVisible decided_visible word)
 decided_kind ROLE word = decided_role word
+decided_kind VIEW word = decided_view word
 decided_kind ADDRESS word = decided_spelling IsAddr addr_text word (addr_or_none word)
 decided_kind PREFIX word = decided_spelling IsSubnet prefix_text word (prefix_or_none word)
 decided_kind (NUMBER least most) word = inl tt
@@ -80,6 +98,7 @@ value_or_lacks : (kind : WordKind) (word : List ℕ) → HasForm kind word → L
 value_or_lacks NAME word form = inr form
 value_or_lacks TEXT word form = inr form
 value_or_lacks ROLE word form = inr form
+value_or_lacks VIEW word form = inr form
 value_or_lacks ADDRESS word form = inr form
 value_or_lacks PREFIX word form = inr form
 value_or_lacks (NUMBER least most) word form =
@@ -121,6 +140,7 @@ one_value : (kind : WordKind) (word : List ℕ) (one other : ValueOf kind) → S
 one_value NAME word one other a b = a.1 ∙ sym b.1
 one_value TEXT word one other a b = a.1 ∙ sym b.1
 one_value ROLE word one other a b = role_text_injective one other (sym a ∙ b)
+one_value VIEW word one other a b = view_text_injective one other (sym a ∙ b)
 one_value ADDRESS word one other a b = one_addr word one other a b
 one_value PREFIX word one other a b = prefix_text_injective one other a.0 b.0 (sym a.1 ∙ b.1)
 one_value (NUMBER least most) word one other a b = one_number word one other a.0 b.0
@@ -131,6 +151,7 @@ no_lack : (kind : WordKind) (word : List ℕ) (value : ValueOf kind) → Spells 
 no_lack NAME word value is lacks = lacks
 no_lack TEXT word value is lacks = lacks
 no_lack ROLE word value is lacks = lacks
+no_lack VIEW word value is lacks = lacks
 no_lack ADDRESS word value is lacks = lacks
 no_lack PREFIX word value is lacks = lacks
 no_lack (NUMBER least most) word value is lacks = lacks value is

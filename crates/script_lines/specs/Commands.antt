@@ -4,12 +4,12 @@ use Rattle.std.specs.declared.option.Option.{Option}
 use Rattle.std.specs.declared.option.Option.TheVariants.{Some, None}
 use Rattle.path_model.specs.declared.role.Role.{Role as RoleOf}
 use Rattle.script_lines.specs.declared.command.Command.{Command}
-use Rattle.script_lines.specs.declared.command.Command.TheVariants.{Aspa, Aspa64, Slurm, Filter, Unfilter, Assert, Unassert, At, Role, RoleDefault, Open, Take, Feed, Ask, Sync, Judge, Changes, Why, Show}
+use Rattle.script_lines.specs.declared.command.Command.TheVariants.{Aspa, Aspa64, Slurm, Filter, Unfilter, Assert, Unassert, At, Role, RoleDefault, Open, Bmp, Take, Feed, Ask, Sync, Judge, Changes, Why, Show}
 use Rattle.script_lines.specs.declared.command.CommandName.{CommandName}
-use Rattle.script_lines.specs.declared.command.CommandName.TheVariants.{Aspa as AspaName, Aspa64 as Aspa64Name, Slurm as SlurmName, Filter as FilterName, Unfilter as UnfilterName, Assert as AssertName, Unassert as UnassertName, At as AtName, Role as RoleName, Open as OpenName, Take as TakeName, Feed as FeedName, Ask as AskName, Sync as SyncName, Judge as JudgeName, Changes as ChangesName, Why as WhyName, Show as ShowName}
+use Rattle.script_lines.specs.declared.command.CommandName.TheVariants.{Aspa as AspaName, Aspa64 as Aspa64Name, Slurm as SlurmName, Filter as FilterName, Unfilter as UnfilterName, Assert as AssertName, Unassert as UnassertName, At as AtName, Role as RoleName, Open as OpenName, Bmp as BmpName, Take as TakeName, Feed as FeedName, Ask as AskName, Sync as SyncName, Judge as JudgeName, Changes as ChangesName, Why as WhyName, Show as ShowName}
 use Rattle.script_lines.specs.declared.command.Show.{Show as ShowOf}
 use Rattle.script_lines.specs.declared.command.Show.TheVariants.{Report, Summary}
-use Rattle.script_lines.specs.Kinds.{WordKind, NAME, TEXT, ROLE, ADDRESS, PREFIX, NUMBER, WHOM}
+use Rattle.script_lines.specs.Kinds.{WordKind, NAME, TEXT, ROLE, VIEW, ADDRESS, PREFIX, NUMBER, WHOM}
 use Rattle.script_lines.specs.Forms.{Form, end, ases, optional, ◌then◌, Builds, IsSpelled}
 
 -- an AS, a moment, a path identifier, and how many units of a stream
@@ -42,6 +42,7 @@ name_text UnassertName = codes "unassert"
 name_text AtName = codes "at"
 name_text RoleName = codes "role"
 name_text OpenName = codes "open"
+name_text BmpName = codes "bmp"
 name_text TakeName = codes "take"
 name_text FeedName = codes "feed"
 name_text AskName = codes "ask"
@@ -63,6 +64,7 @@ form_of UnassertName = AS then end
 form_of AtName = MOMENT then end
 form_of RoleName = WHOM then ROLE then end
 form_of OpenName = NAME then TEXT then end
+form_of BmpName = NAME then TEXT then VIEW then end
 form_of TakeName = NAME then COUNT then end
 form_of FeedName = NAME then TEXT then end
 form_of AskName = NAME then end
@@ -89,6 +91,7 @@ made_by UnassertName = λ customer. Unassert customer
 made_by AtName = λ moment. At moment
 made_by RoleName = λ whom role. sets_role whom role
 made_by OpenName = λ name file. Open name file
+made_by BmpName = λ name file post. Bmp name file post
 made_by TakeName = λ name count. Take name count
 made_by FeedName = λ name place. Feed name place
 made_by AskName = λ name. Ask name

@@ -1,5 +1,5 @@
 -- The kinds of words that a command's line may hold behind the command's name.
-use Rattle.std.specs.Prelude.{◌≡◌, ℕ, ◌≤◌, List, codes, All}
+use Rattle.std.specs.Prelude.{◌≡◌, ℕ, Bool, true, false, ◌≤◌, List, codes, All}
 use Rattle.std.specs.declared.option.Option.{Option}
 use Rattle.std.specs.declared.option.Option.TheVariants.{Some, None}
 use Rattle.path_model.specs.declared.addr.Addr.{Addr}
@@ -12,11 +12,17 @@ use Rattle.av_text.specs.RoleText.{role_text}
 use Rattle.av_text.specs.Number.{IsNumber}
 use Rattle.script_lines.specs.Word.{IsVisible}
 
--- NAME, a text such as FILE or PLACE, ROLE, ADDRESS, PREFIX, a number from a least one to a most, and whom a role is given: an AS or all others
+-- the one spelling of a view of what a router received (RFC 7854, section 4.2): before its inbound policy, or, as true, behind it
+abbrev pub view_text : Bool → List ℕ
+view_text false = codes "pre"
+view_text true = codes "post"
+
+-- NAME, a text such as FILE or PLACE, ROLE, VIEW, ADDRESS, PREFIX, a number from a least one to a most, and whom a role is given: an AS or all others
 pub data WordKind : Type 0 where
   NAME : WordKind
   TEXT : WordKind
   ROLE : WordKind
+  VIEW : WordKind
   ADDRESS : WordKind
   PREFIX : WordKind
   NUMBER : ℕ → ℕ → WordKind
@@ -27,6 +33,7 @@ abbrev pub ValueOf : WordKind → Type 0
 ValueOf NAME = List ℕ
 ValueOf TEXT = List ℕ
 ValueOf ROLE = Role
+ValueOf VIEW = Bool
 ValueOf ADDRESS = Addr
 ValueOf PREFIX = Subnet
 ValueOf (NUMBER least most) = ℕ
@@ -42,6 +49,7 @@ abbrev pub Spells : (kind : WordKind) → List ℕ → ValueOf kind → Type 0
 Spells NAME word name = IsName word × (name ≡ word)
 Spells TEXT word text = All IsVisible word × (text ≡ word)
 Spells ROLE word role = word ≡ role_text role
+Spells VIEW word post = word ≡ view_text post
 Spells ADDRESS word addr = IsAddrText word addr
 Spells PREFIX word prefix = IsPrefixText word prefix
 Spells (NUMBER least most) word n = IsNumber word n × (least ≤ n) × (n ≤ most)
@@ -52,6 +60,7 @@ abbrev pub HasForm : WordKind → List ℕ → Type 0
 HasForm NAME word = (name : List ℕ) × Spells NAME word name
 HasForm TEXT word = (text : List ℕ) × Spells TEXT word text
 HasForm ROLE word = (role : Role) × Spells ROLE word role
+HasForm VIEW word = (post : Bool) × Spells VIEW word post
 HasForm ADDRESS word = (addr : Addr) × Spells ADDRESS word addr
 HasForm PREFIX word = (prefix : Subnet) × Spells PREFIX word prefix
 HasForm (NUMBER least most) word = Unit {0}
@@ -62,6 +71,7 @@ abbrev pub LacksNumber : WordKind → List ℕ → Type 0
 LacksNumber NAME word = ⊥
 LacksNumber TEXT word = ⊥
 LacksNumber ROLE word = ⊥
+LacksNumber VIEW word = ⊥
 LacksNumber ADDRESS word = ⊥
 LacksNumber PREFIX word = ⊥
 LacksNumber (NUMBER least most) word = (n : ℕ) → ¬ Spells (NUMBER least most) word n

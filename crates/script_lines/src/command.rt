@@ -34,7 +34,10 @@ pub enum Command {
     RoleDefault(Role),
     /// `open NAME FILE`: the file's records are a stream of that name.
     Open(Name, Word),
-    /// `take NAME N`: at most so many more records of the dump, or PDUs of the feed, 1 to 100,000,000.
+    /// `bmp NAME FILE VIEW`: the file's messages (RFC 7854) are a stream of that name; true for the view `post`, of routes behind the
+    /// router's inbound policy.
+    Bmp(Name, Word, bool),
+    /// `take NAME N`: at most so many more records of the dump, messages of the recorded stream, or PDUs of the feed, 1 to 100,000,000.
     Take(Name, u32),
     /// `feed NAME PLACE`: a new connection to the place is the feed of that name, and its cache is asked for all that it has.
     Feed(Name, Word),
@@ -75,6 +78,7 @@ pub(crate) enum CommandName {
     At,
     Role,
     Open,
+    Bmp,
     Take,
     Feed,
     Ask,

@@ -9,7 +9,7 @@ use crate::command::{Command, CommandName, LineFault, Show};
 use crate::fields::{Ases, End, Fields, Optional, Then};
 use crate::kinds::{
     AddressWord, AsWord, CountWord, IdentifierWord, MomentWord, NameWord, PrefixWord, RoleWord,
-    TextWord, WhomWord,
+    TextWord, ViewWord, WhomWord,
 };
 use av_text::{Words, words};
 use path_model::Role;
@@ -74,6 +74,7 @@ fn command_name(word: &[u8]) -> Option<CommandName>
         b"at" => Some(CommandName::At),
         b"role" => Some(CommandName::Role),
         b"open" => Some(CommandName::Open),
+        b"bmp" => Some(CommandName::Bmp),
         b"take" => Some(CommandName::Take),
         b"feed" => Some(CommandName::Feed),
         b"ask" => Some(CommandName::Ask),
@@ -132,6 +133,13 @@ fn read_fields(alloc: Global, name: CommandName, words: Words<'_>) -> Result<Com
         CommandName::Open => {
             let (name, (file, ())) = <Then<NameWord, Then<TextWord, End>>>::read(alloc, words)?;
             Ok(Command::Open(name, file))
+        }
+        CommandName::Bmp => {
+            let (name, (file, (post, ()))) = <Then<
+                NameWord,
+                Then<TextWord, Then<ViewWord, End>>,
+            >>::read(alloc, words)?;
+            Ok(Command::Bmp(name, file, post))
         }
         CommandName::Take => {
             let (name, (count, ())) = <Then<NameWord, Then<CountWord, End>>>::read(alloc, words)?;

@@ -1,5 +1,6 @@
 //! The kinds of words that a command's line may hold, each read as its value.
-ghost use Rattle.std.specs.Prelude.{◌≡◌, ◌↔◌, codes, IfOk, IfErr, IsTrue};
+ghost use Rattle.std.specs.Prelude.{◌≡◌, ◌≢◌, ◌↔◌, Bool, codes, IfOk, IfErr, IfSome, IfNone, IsTrue};
+ghost use Rattle.script_lines.specs.Kinds.{view_text};
 
 use crate::command::LineFault;
 use crate::word::Word;
@@ -81,6 +82,38 @@ impl Kind for RoleWord {
             Some(role) => Ok(role),
             None => Err(LineFault::Words),
         }
+    }
+}
+
+/// A VIEW.
+pub(crate) struct ViewWord;
+
+impl Kind for ViewWord {
+    ghost use Rattle.script_lines.specs.Kinds.{VIEW};
+
+    type Value = bool;
+
+    ghost kind = { VIEW };
+
+    ghost value = { λ post. post };
+
+    fn read(_alloc: Global, word: &[u8]) -> Result<bool, LineFault> {
+        match read_view(word) {
+            Some(post) => Ok(post),
+            None => Err(LineFault::Words),
+        }
+    }
+}
+
+// Reads a word as a view: true for `post`.
+fn read_view(word: &[u8]) -> Option<bool>
+    ensures spelled { IfSome result (λ post. word.now ≡ view_text post) }
+    ensures none { IfNone result ((post : Bool) → word.now ≢ view_text post) }
+{
+    match word {
+        b"pre" => Some(false),
+        b"post" => Some(true),
+        _ => None,
     }
 }
 

@@ -2,7 +2,7 @@ use Rattle.std.proofs.Common.{ℕ, Option, subst}
 use Rattle.std.proofs.lemmas.Iterator.Adapters.{option_map_id}
 use Rattle.av_text.specs.Words.{words_left}
 use Rattle.script_lines.specs.declared.command.Command.TheVariants.{Why}
-use Rattle.script_lines.specs.declared.command.CommandName.TheVariants.{Aspa as AspaName, Aspa64 as Aspa64Name, Slurm as SlurmName, Filter as FilterName, Unfilter as UnfilterName, Assert as AssertName, Unassert as UnassertName, At as AtName, Role as RoleName, Open as OpenName, Take as TakeName, Feed as FeedName, Ask as AskName, Sync as SyncName, Judge as JudgeName, Changes as ChangesName, Why as WhyName, Show as ShowName}
+use Rattle.script_lines.specs.declared.command.CommandName.TheVariants.{Aspa as AspaName, Aspa64 as Aspa64Name, Slurm as SlurmName, Filter as FilterName, Unfilter as UnfilterName, Assert as AssertName, Unassert as UnassertName, At as AtName, Role as RoleName, Open as OpenName, Bmp as BmpName, Take as TakeName, Feed as FeedName, Ask as AskName, Sync as SyncName, Judge as JudgeName, Changes as ChangesName, Why as WhyName, Show as ShowName}
 use Rattle.script_lines.specs.Commands.{made_by, SpellsCommand}
 use Rattle.script_lines.proofs.grammar.read_fields.Goals as goal
 
@@ -35,6 +35,9 @@ returns-in_ok-whom-in-Role-clause-spelled c = rw (c.in-Role.is, c.role_command.e
 
 pub returns-in_ok-name-in-Open-clause-spelled : goal.returns-in_ok-name-in-Open-clause-spelled
 returns-in_ok-name-in-Open-clause-spelled c = rw c.in-Open.is (c.in_ok-name-in-Open.ensures.spelled (made_by OpenName))
+
+pub returns-in_ok-name-in-Bmp-clause-spelled : goal.returns-in_ok-name-in-Bmp-clause-spelled
+returns-in_ok-name-in-Bmp-clause-spelled c = rw c.in-Bmp.is (c.in_ok-name-in-Bmp.ensures.spelled (made_by BmpName))
 
 pub returns-in_ok-name-in-Take-clause-spelled : goal.returns-in_ok-name-in-Take-clause-spelled
 returns-in_ok-name-in-Take-clause-spelled c = rw c.in-Take.is (c.in_ok-name-in-Take.ensures.spelled (made_by TakeName))
