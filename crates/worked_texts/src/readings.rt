@@ -20,6 +20,8 @@ enum Reading {
     Role(u32, Role),
     RoleDefault(Role),
     Open(&'static str, &'static str),
+    // of the view `post`, or `pre`
+    Bmp(&'static str, &'static str, bool),
     Take(&'static str, u32),
     Feed(&'static str, &'static str),
     Ask(&'static str),
@@ -108,7 +110,7 @@ const AMENDMENTS: [Row; 20] = [
     (b"at 00", Reading::Refused(LineFault::Number)),
 ];
 
-const DUMPS: [Row; 15] = [
+const DUMPS: [Row; 20] = [
     (
         b"role 64501 customer",
         Reading::Role(64_501, Role::Customer),
@@ -123,6 +125,11 @@ const DUMPS: [Row; 15] = [
     (b"role x customer", Reading::Refused(LineFault::Number)),
     (b"open d updates.mrt", Reading::Open("d", "updates.mrt")),
     (b"open d", Reading::Refused(LineFault::Words)),
+    (b"bmp b f pre", Reading::Bmp("b", "f", false)),
+    (b"bmp b f post", Reading::Bmp("b", "f", true)),
+    (b"bmp b f in", Reading::Refused(LineFault::Words)),
+    (b"bmp b f", Reading::Refused(LineFault::Words)),
+    (b"bmp b f pre more", Reading::Refused(LineFault::Words)),
     (b"take d 1", Reading::Take("d", 1)),
     (b"take d 100000000", Reading::Take("d", 100_000_000)),
     (b"take d", Reading::Refused(LineFault::Words)),
@@ -250,6 +257,9 @@ fn is_read_so(read: &Result<Command, LineFault>, reading: Reading) -> bool {
         (Ok(Command::RoleDefault(role)), Reading::RoleDefault(of)) => *role == of,
         (Ok(Command::Open(name, file)), Reading::Open(called, of)) => {
             name.text() == called && file.text() == of
+        }
+        (Ok(Command::Bmp(name, file, post)), Reading::Bmp(called, of, wanted)) => {
+            name.text() == called && file.text() == of && *post == wanted
         }
         (Ok(Command::Take(name, count)), Reading::Take(called, wanted)) => {
             name.text() == called && *count == wanted

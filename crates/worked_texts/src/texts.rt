@@ -214,28 +214,35 @@ fn cuts_lines(rt: HostRuntime) {
 }
 
 #[test]
-fn puts_refusals(rt: HostRuntime) {
-    let alloc = rt.alloc();
-    let mut out = Vec::new(alloc);
-    let slurm = Place::Unit {
-        name: "slurm",
-        unit: 1,
-    };
-    let dump = Place::Unit {
-        name: "rrc-00.a_b",
-        unit: 12,
-    };
-    assert!(rt; put_refusal(&mut out, 1, Place::Line, Cause::Number).is_ok());
-    assert!(rt; put_refusal(&mut out, 2, slurm, Cause::Json).is_ok());
-    assert!(rt; put_refusal(&mut out, u64::MAX, dump, Cause::CutShort).is_ok());
+fn puts_refusals(rt: HostRuntime) -> Result<(), NoMemory> {
+    let mut out = Vec::new(rt.alloc());
+    let table = [
+        (1, Place::Line, Cause::Number),
+        (2, unit("slurm", 1), Cause::Json),
+        (u64::MAX, unit("rrc-00.a_b", 12), Cause::CutShort),
+        (2, unit("b", 1), Cause::BmpVersion),
+        (3, unit("b", 1), Cause::BmpLength),
+        (4, unit("b", 1), Cause::BmpBody),
+    ];
+    for (line, place, cause) in table {
+        put_refusal(&mut out, line, place, cause)?;
+    }
     assert_eq!(rt;
         out.as_slice(),
         b"! line 1 cause 34 Number
 ! line 2 slurm unit 1 cause 11 Json
 ! line 18446744073709551615 rrc-00.a_b unit 12 cause 27 CutShort
+! line 2 b unit 1 cause 45 BmpVersion
+! line 3 b unit 1 cause 46 BmpLength
+! line 4 b unit 1 cause 47 BmpBody
 "
             .as_slice()
     );
+    Ok(())
+}
+
+fn unit(name: &'static str, unit: u64) -> Place<'static> {
+    Place::Unit { name, unit }
 }
 
 #[test]
