@@ -7,6 +7,7 @@ use Rattle.feed_lines.specs.declared.working.Work.TheVariants.{Take as TakePdus}
 use Rattle.feed_lines.specs.Laws.{AreConnectedFrom}
 use Rattle.feed_lines.specs.Lines.{State as FeedState}
 use Rattle.feed_lines.proofs.ConnectedLemmas.{connects_connected, works_connected}
+use Rattle.stream_lines.specs.declared.kind.DumpKind.{DumpKind}
 use Rattle.stream_lines.specs.Streams.{Dump}
 use Rattle.aspa_top.specs.declared.loading.FileKind.{FileKind}
 use Rattle.aspa_top.specs.declared.loading.Outcome.{Outcome}
@@ -42,10 +43,10 @@ Loads-keeps : (taken : Bool) (world : World) (state : State) (kind : FileKind) (
 Loads-keeps true world state kind file text next loads = kept state next _ refl refl loads.1
 Loads-keeps false world state kind file text next loads = TakesFile-keeps state kind loads.outcome text next loads.takes
 
-Opens-keeps : (used : Bool) (named : Option (List ℕ)) (state : State) (name text : List ℕ) (next : State) → OpensNamed used named state name text next → KeepsFeeds state next
-Opens-keeps true named state name text next opens = kept state next _ refl refl opens.1
-Opens-keeps false None state name text next opens = kept state next _ refl refl opens.1
-Opens-keeps false (Some bytes) state name text next opens = kept state next _ refl refl opens.1
+Opens-keeps : (used : Bool) (named : Option (List ℕ)) (state : State) (kind : DumpKind) (name text : List ℕ) (next : State) → OpensNamed used named state kind name text next → KeepsFeeds state next
+Opens-keeps true named state kind name text next opens = kept state next _ refl refl opens.1
+Opens-keeps false None state kind name text next opens = kept state next _ refl refl opens.1
+Opens-keeps false (Some bytes) state kind name text next opens = kept state next _ refl refl opens.1
 
 TakesOpen-keeps : (over : Bool) (state : State) (name : List ℕ) (count : ℕ) (dump : Dump) (text : List ℕ) (next : State) → TakesOpen over state name count dump text next → KeepsFeeds state next
 TakesOpen-keeps true state name count dump text next takes = kept state next _ refl refl takes.1
@@ -94,8 +95,8 @@ module _ (world : World) where
   DoesTask-connected : (state next : State) (task : Task) (text : List ℕ) → AreConnected state → DoesTask world state task text next → AreConnected next
   DoesTask-connected state next (Short short) text connected does = keeps_connected state next (DoesShort-keeps state short text next does) connected
   DoesTask-connected state next (Load kind file) text connected does = keeps_connected state next (Loads-keeps (is_taken state kind) world state kind file text next does) connected
-  DoesTask-connected state next (Open name file) text connected does =
-      keeps_connected state next (Opens-keeps (state.sources name || is_stream state name) (world.named file) state name text next does) connected
+  DoesTask-connected state next (Open kind name file) text connected does =
+      keeps_connected state next (Opens-keeps (state.sources name || is_stream state name) (world.named file) state kind name text next does) connected
   DoesTask-connected state next (Take name count) text connected does = Takes-connected (state.dumps name) state next name count text connected does
   DoesTask-connected state next (Connect name place) text connected does =
       Connects-connected (state.sources name || is_some (state.dumps name)) state next name place text connected does

@@ -14,11 +14,13 @@ use Rattle.report_text.specs.declared.cause.Cause.TheVariants as causes
 use Rattle.report_text.specs.Refusals.{of_line, refusal_text}
 use Rattle.report_text.specs.Reported.{AddsQuiet}
 use Rattle.report_text.proofs.ReportedLemmas.{adds_front}
+use Rattle.stream_lines.specs.declared.kind.DumpKind.{DumpKind}
 use Rattle.stream_lines.specs.declared.stop.Stop.{Stop}
 use Rattle.stream_lines.specs.declared.stop.Stop.TheVariants as stops
 use Rattle.stream_lines.specs.Frames.{Leaves}
 use Rattle.stream_lines.specs.Holding.{HoldsDump}
 use Rattle.stream_lines.specs.Taking.{GrewBy, StandsAt, TicksWithinUnits, TookUnits, TookSome}
+use Rattle.stream_lines.specs.Units.{first_known}
 use Rattle.stream_lines.specs.Streams.{Dump, Taking, Asking, TakesUnits}
 use Rattle.stream_lines.specs.Held.{HeldDump}
 use Rattle.stream_lines.specs.declared.taking.Progress.{Progress}
@@ -46,7 +48,7 @@ pub opens_names : (bytes : List ℕ) (old : Option Files) → names_of (option_m
 opens_names bytes None = refl
 opens_names bytes (Some files) = refl
 
-module _ (working next : Working) (name file : List ℕ) (old : Outside) (held : List ℕ) (begun : IsBegun old working) where
+module _ (working next : Working) (kind : DumpKind) (name file : List ℕ) (old : Outside) (held : List ℕ) (begun : IsBegun old working) where
   -- both tell whether the name is in use
   same_use : (files : Option Files) (links : Links) (state : State) → StandsFor files links working state
       → (has_source working name || has_stream working name) ≡ (state.sources name || is_stream state name)
@@ -54,21 +56,21 @@ module _ (working next : Working) (name file : List ℕ) (old : Outside) (held :
 
   -- the name is in use
   pub open_used : (has_source working name || has_stream working name) ≡ true → held ≡ old.held ++ refusal_text working.lines of_line causes.NameTaken
-      → next ≡ record working { refused = working.refused + 1 } → Done working (Ok (Open name file)) old (record old { held = held }) next
+      → next ≡ record working { refused = working.refused + 1 } → Done working (Ok (Open kind name file)) old (record old { held = held }) next
   open_used used added is =
-      done_refused working (Ok (Open name file)) old (record old { held = held }) next of_line causes.NameTaken tt (Leaves-refl (λ other. Unit {0}) old.files) (λ n d e. tt)
+      done_refused working (Ok (Open kind name file)) old (record old { held = held }) next of_line causes.NameTaken tt (Leaves-refl (λ other. Unit {0}) old.files) (λ n d e. tt)
       refl refl refl (omega arith) refl refl added is begun
       (λ world tells state stands.
-      subst (λ (b : Bool). OpensNamed b (world.named file) state name (refusal_text state.lines of_line causes.NameTaken) (record state { refused = state.refused + 1 }))
+      subst (λ (b : Bool). OpensNamed b (world.named file) state kind name (refusal_text state.lines of_line causes.NameTaken) (record state { refused = state.refused + 1 }))
       (sym (sym (same_use old.files old.links state stands) ∙ used)) (refl, refl))
 
   module _ (files : Option Files) (opened faults : ℕ) (told : List ℕ) (free : (has_source working name || has_stream working name) ≡ false) (same : told ≡ file) where
     -- the file isn't there
     pub open_misses : Misses old.files files old.opened opened told → held ≡ old.held ++ refusal_text working.lines of_line causes.NoFile
         → next ≡ record working { refused = working.refused + 1 }
-        → Done working (Ok (Open name file)) old (record old { files = files; opened = opened; shelf_faults = faults; held = held }) next
+        → Done working (Ok (Open kind name file)) old (record old { files = files; opened = opened; shelf_faults = faults; held = held }) next
     open_misses misses added is =
-        done_refused working (Ok (Open name file)) old (record old { files = files; opened = opened; shelf_faults = faults; held = held }) next of_line causes.NoFile tt
+        done_refused working (Ok (Open kind name file)) old (record old { files = files; opened = opened; shelf_faults = faults; held = held }) next of_line causes.NoFile tt
         (subst (λ (f : Option Files). Leaves (λ other. Unit {0}) old.files f) (sym misses.told) (Leaves-refl (λ other. Unit {0}) old.files)) (λ n d e. tt)
         refl refl refl (omega (arith, misses.count)) refl refl added is begun
         (λ world tells state stands.
@@ -76,9 +78,9 @@ module _ (working next : Working) (name file : List ℕ) (old : Outside) (held :
         rw (sym (same_use old.files old.links state stands) ∙ free, named) (refl, refl))
 
     -- the dump is new
-    pub open_new : (number : ℕ) (kept : HeldDump) → kept ≡ record { file = number; held = []; taken = 0; peers = None; over = false }
+    pub open_new : (number : ℕ) (kept : HeldDump) → kept ≡ record { file = number; held = []; taken = 0; known = first_known kind; over = false }
         → Opens old.files files old.opened opened told number → IfSome old.files (λ files. length files.left ≡ old.opened) → held ≡ old.held → NamesDump working name kept next
-        → Done working (Ok (Open name file)) old (record old { files = files; opened = opened; shelf_faults = faults; held = held }) next
+        → Done working (Ok (Open kind name file)) old (record old { files = files; opened = opened; shelf_faults = faults; held = held }) next
     open_new number kept is_new opens count silent names =
         let new : Outside = record old { files = files; opened = opened; shelf_faults = faults; held = held } in
         let is = names.left in
@@ -95,14 +97,14 @@ module _ (working next : Working) (name file : List ℕ) (old : Outside) (held :
               let stayed = StandsFor-leaves old.files files old.links working state (Leaves-opens old.files files old.opened opened told number opens count) (λ n d e. (begun.sound.given n d e).0) stands in
               record {
                 text = [];
-                after = record state { dumps = with_dump name (new_dump opens.bytes) state.dumps };
+                after = record state { dumps = with_dump name (new_dump kind opens.bytes) state.dumps };
                 does = λ ends comes. rw (sym (same_use old.files old.links state stands) ∙ free, named) (refl, refl);
                 added = ap (append_known old.written) silent ∙ sym (append_known-nil (all_of old));
                 stands = record {
                   analysis = ap (λ (w : Working). w.analyser) is ∙ stands.analysis;
                   sources = λ q. ap (λ (w : Working). has_source w q) is ∙ stands.sources q;
-                  dumps = λ q. rw (names.dumps q) (HoldsOr-put (same_name name q) files kept (new_dump opens.bytes) (dump_in working q) (state.dumps q)
-                      (rw is_new (record { over = refl; taken = refl; left = λ yet. ap (prepend_known []) (left ∙ bytes); peers = λ yet. refl })) (λ other. stayed.dumps q));
+                  dumps = λ q. rw (names.dumps q) (HoldsOr-put (same_name name q) files kept (new_dump kind opens.bytes) (dump_in working q) (state.dumps q)
+                      (rw is_new (record { over = refl; taken = refl; left = λ yet. ap (prepend_known []) (left ∙ bytes); known = λ yet. refl })) (λ other. stayed.dumps q));
                   feeds = subst (λ (held : Feeds). (q : List ℕ) → HoldsFeed old.links.wire (feed_in held q) (state.feeds q)) (sym (ap (λ (w : Working). w.feeds) is)) stayed.feeds;
                   made = stayed.made;
                   lines = lines ∙ stands.lines;
@@ -122,9 +124,9 @@ module _ (working next : Working) (name file : List ℕ) (old : Outside) (held :
         }
 
 -- the shelf failed
-pub open_failed : (working : Working) (name file : List ℕ) (old : Outside) (files : Option Files) (opened faults : ℕ) → Rose old.shelf_faults faults
-    → EndedEarly working (Ok (Open name file)) old (record old { files = files; opened = opened; shelf_faults = faults }) stops.Shelf
-open_failed working name file old files opened faults rose = record {
+pub open_failed : (working : Working) (kind : DumpKind) (name file : List ℕ) (old : Outside) (files : Option Files) (opened faults : ℕ) → Rose old.shelf_faults faults
+    → EndedEarly working (Ok (Open kind name file)) old (record old { files = files; opened = opened; shelf_faults = faults }) stops.Shelf
+open_failed working kind name file old files opened faults rose = record {
   part = inl (refl, refl, refl);
   adds = front_none (all_of old) (all_of old) old.link_faults old.link_faults (omega arith) refl;
   cause = (λ state stands. tt, rose);

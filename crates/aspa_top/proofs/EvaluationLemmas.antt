@@ -10,11 +10,12 @@ use Rattle.feed_lines.specs.Feeds.{Feed}
 use Rattle.feed_lines.specs.Lines.{WorksBy}
 use Rattle.feed_lines.specs.Lines.{State as FeedState}
 use Rattle.script_lines.specs.declared.command.Command.{Command}
-use Rattle.script_lines.specs.declared.command.Command.TheVariants.{Idle, Aspa, Aspa64, Slurm, At, Filter, Unfilter, Assert, Unassert, Role as SetRole, RoleDefault, Open as OpenDump, Take as TakeUnits, Feed as FeedLine, Ask, Sync, Judge as JudgePath, Changes as ListChanges, Why as WhyRoute, Show as ShowAll}
+use Rattle.script_lines.specs.declared.command.Command.TheVariants.{Idle, Aspa, Aspa64, Slurm, At, Filter, Unfilter, Assert, Unassert, Role as SetRole, RoleDefault, Open as OpenDump, Bmp as OpenBmp, Take as TakeUnits, Feed as FeedLine, Ask, Sync, Judge as JudgePath, Changes as ListChanges, Why as WhyRoute, Show as ShowAll}
 use Rattle.script_lines.specs.declared.command.LineFault.{LineFault}
 use Rattle.script_lines.specs.declared.command.LineFault.TheVariants.{Long, Command as NoCommand, Words, Number, NoMemory}
 use Rattle.script_lines.specs.Grammar.{IsReading}
 use Rattle.script_lines.proofs.LawLemmas.{IsReading-unique, some_reading}
+use Rattle.stream_lines.specs.declared.kind.DumpKind.{DumpKind}
 use Rattle.stream_lines.specs.Streams.{Dump}
 use Rattle.aspa_top.specs.declared.loading.FileKind.{FileKind}
 use Rattle.aspa_top.specs.declared.loading.Outcome.{Outcome}
@@ -62,10 +63,10 @@ load_keeps : (taken : Bool) (world : World) (state : State) (kind : FileKind) (f
 load_keeps true world state kind file text next loads = ap (λ (s : State). s.feeds) loads.1
 load_keeps false world state kind file text next loads = file_keeps state kind loads.outcome text next loads.takes
 
-open_keeps : (used : Bool) (named : Option (List ℕ)) (state : State) (name text : List ℕ) (next : State) → OpensNamed used named state name text next → next.feeds ≡ state.feeds
-open_keeps true named state name text next opens = ap (λ (s : State). s.feeds) opens.1
-open_keeps false None state name text next opens = ap (λ (s : State). s.feeds) opens.1
-open_keeps false (Some bytes) state name text next opens = ap (λ (s : State). s.feeds) opens.1
+open_keeps : (used : Bool) (named : Option (List ℕ)) (state : State) (kind : DumpKind) (name text : List ℕ) (next : State) → OpensNamed used named state kind name text next → next.feeds ≡ state.feeds
+open_keeps true named state kind name text next opens = ap (λ (s : State). s.feeds) opens.1
+open_keeps false None state kind name text next opens = ap (λ (s : State). s.feeds) opens.1
+open_keeps false (Some bytes) state kind name text next opens = ap (λ (s : State). s.feeds) opens.1
 
 dump_keeps : (over : Bool) (state : State) (name : List ℕ) (count : ℕ) (dump : Dump) (text : List ℕ) (next : State) → TakesOpen over state name count dump text next
     → next.feeds ≡ state.feeds
@@ -87,7 +88,7 @@ task_keeps : (world : World) (state : State) (task : Task) (text : List ℕ) (ne
     → next.feeds ≡ state.feeds
 task_keeps world state (Short short) text next other none does = short_keeps state short text next does
 task_keeps world state (Load kind file) text next other none does = load_keeps (is_taken state kind) world state kind file text next does
-task_keeps world state (Open name file) text next other none does = open_keeps (state.sources name || is_stream state name) (world.named file) state name text next does
+task_keeps world state (Open kind name file) text next other none does = open_keeps (state.sources name || is_stream state name) (world.named file) state kind name text next does
 task_keeps world state (Take name count) text next other none does = take_keeps (state.dumps name) world state name count text next (none name) does
 task_keeps world state (Connect name place) text next other none does = absurd other
 task_keeps world state (OnFeed name work) text next other none does = work_keeps world state name work text next (none name) does
@@ -128,6 +129,7 @@ no_feed line (Ok (Unassert customer)) reads other = tt
 no_feed line (Ok (SetRole asn role)) reads other = tt
 no_feed line (Ok (RoleDefault role)) reads other = tt
 no_feed line (Ok (OpenDump name file)) reads other = tt
+no_feed line (Ok (OpenBmp name file post)) reads other = tt
 no_feed line (Ok (TakeUnits name count)) reads other = tt
 no_feed line (Ok (Ask name)) reads other = tt
 no_feed line (Ok (Sync name count)) reads other = tt

@@ -5,7 +5,7 @@ use Rattle.av_text.specs.Spellings.{IsInLine}
 use Rattle.av_text.proofs.AnySpellingLemmas.{names_in_line}
 use Rattle.report_text.proofs.RefusalLemmas.{slurm-in_line}
 use Rattle.script_lines.specs.declared.command.Command.{Command}
-use Rattle.script_lines.specs.declared.command.Command.TheVariants.{Idle, Aspa, Aspa64, Slurm, At, Filter, Unfilter, Assert, Unassert, Role as SetRole, RoleDefault, Open, Take, Feed, Ask, Sync, Judge, Changes, Why, Show}
+use Rattle.script_lines.specs.declared.command.Command.TheVariants.{Idle, Aspa, Aspa64, Slurm, At, Filter, Unfilter, Assert, Unassert, Role as SetRole, RoleDefault, Open, Bmp, Take, Feed, Ask, Sync, Judge, Changes, Why, Show}
 use Rattle.script_lines.specs.declared.command.LineFault.{LineFault}
 use Rattle.script_lines.specs.Grammar.{IsReading}
 use Rattle.script_lines.proofs.SourceNameLemmas.{reading_named}
@@ -17,7 +17,7 @@ use Rattle.aspa_top.specs.Loading.{unit_name}
 -- the name of the stream or of the file's units has no line feed
 abbrev pub IsNamedInLine : Task → Type 0
 IsNamedInLine (Load kind file) = IsInLine (unit_name kind)
-IsNamedInLine (OpenDump name file) = IsInLine name
+IsNamedInLine (OpenDump kind name file) = IsInLine name
 IsNamedInLine (TakeUnits name count) = IsInLine name
 IsNamedInLine (Connect name place) = IsInLine name
 IsNamedInLine (OnFeed name work) = IsInLine name
@@ -40,6 +40,7 @@ reading_in_line line (Ok (Unassert customer)) reads = tt
 reading_in_line line (Ok (SetRole asn role)) reads = tt
 reading_in_line line (Ok (RoleDefault role)) reads = tt
 reading_in_line line (Ok (Open name file)) reads = names_in_line name (reading_named line (Open name file) reads)
+reading_in_line line (Ok (Bmp name file post)) reads = names_in_line name (reading_named line (Bmp name file post) reads)
 reading_in_line line (Ok (Take name count)) reads = names_in_line name (reading_named line (Take name count) reads).0
 reading_in_line line (Ok (Feed name place)) reads = names_in_line name (reading_named line (Feed name place) reads)
 reading_in_line line (Ok (Ask name)) reads = names_in_line name (reading_named line (Ask name) reads)

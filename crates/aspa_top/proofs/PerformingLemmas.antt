@@ -4,7 +4,7 @@ use Rattle.std.specs.declared.option.Option.{Option}
 use Rattle.report_text.specs.declared.cause.Cause.{Cause}
 use Rattle.report_text.specs.Refusals.{of_line, refusal_text}
 use Rattle.script_lines.specs.declared.command.Command.{Command}
-use Rattle.script_lines.specs.declared.command.Command.TheVariants.{Idle, Aspa, Aspa64, Slurm, At, Filter, Unfilter, Assert, Unassert, Role as SetRole, RoleDefault, Open, Take, Feed, Ask, Sync, Judge, Changes, Why, Show}
+use Rattle.script_lines.specs.declared.command.Command.TheVariants.{Idle, Aspa, Aspa64, Slurm, At, Filter, Unfilter, Assert, Unassert, Role as SetRole, RoleDefault, Open, Bmp, Take, Feed, Ask, Sync, Judge, Changes, Why, Show}
 use Rattle.script_lines.specs.declared.command.LineFault.{LineFault}
 use Rattle.script_lines.specs.Grammar.{IsReading}
 use Rattle.script_lines.proofs.LengthLemmas.{judged_short}
@@ -32,6 +32,7 @@ IsWithinBounds-IsReading line (Unassert customer) is = tt
 IsWithinBounds-IsReading line (SetRole asn role) is = tt
 IsWithinBounds-IsReading line (RoleDefault role) is = tt
 IsWithinBounds-IsReading line (Open name file) is = tt
+IsWithinBounds-IsReading line (Bmp name file post) is = tt
 IsWithinBounds-IsReading line (Take name count) is = (reading_named line (Take name count) is).1
 IsWithinBounds-IsReading line (Feed name place) is = tt
 IsWithinBounds-IsReading line (Ask name) is = omega arith

@@ -19,13 +19,12 @@ use Rattle.rib_store.proofs.ChangeLawLemmas.{has_one_list_of_changes}
 use Rattle.rib_store.proofs.MarkLemmas.{has_one_marking}
 use Rattle.analyser.specs.declared.event.Event.{Event}
 use Rattle.analyser.specs.declared.event.Event.TheVariants.{Table as TableEvent}
-use Rattle.analyser.specs.Events.{Happens}
-use Rattle.analyser.specs.Touched.{Costs}
-use Rattle.analyser.proofs.CostLemmas.{some_cost, Costs-unique}
+use Rattle.analyser.proofs.CostLemmas.{some_cost}
 use Rattle.analyser.proofs.EventLemmas.{one_outcome_of}
+use Rattle.stream_lines.specs.declared.kind.DumpKind.{DumpKind}
 use Rattle.stream_lines.specs.Changes.{changes_text}
 use Rattle.stream_lines.specs.Streams.{Dump}
-use Rattle.stream_lines.proofs.LawLemmas.{some_units, units_unique}
+use Rattle.stream_lines.proofs.LawLemmas.{outcome_and_cost, some_units, units_unique}
 use Rattle.aspa_top.specs.declared.loading.FileKind.{FileKind}
 use Rattle.aspa_top.specs.declared.loading.Outcome.{Outcome}
 use Rattle.aspa_top.specs.declared.loading.Outcome.TheVariants.{NoFile, Long as FileLong, Flawed, Good}
@@ -76,10 +75,10 @@ some_load false world state kind file =
     let takes = some_taking state kind found.0 in
     (takes.0, takes.1, record { outcome = found.0; comes = found.1; takes = takes.2 })
 
-some_opening : (used : Bool) (named : Option (List ℕ)) (state : State) (name : List ℕ) → Some_that (OpensNamed used named state name)
-some_opening true named state name = (_, _, (refl, refl))
-some_opening false None state name = (_, _, (refl, refl))
-some_opening false (Some bytes) state name = ([], _, (refl, refl))
+some_opening : (used : Bool) (named : Option (List ℕ)) (state : State) (kind : DumpKind) (name : List ℕ) → Some_that (OpensNamed used named state kind name)
+some_opening true named state kind name = (_, _, (refl, refl))
+some_opening false None state kind name = (_, _, (refl, refl))
+some_opening false (Some bytes) state kind name = ([], _, (refl, refl))
 
 some_units_of : (over : Bool) (state : State) (name : List ℕ) (count : ℕ) (dump : Dump) → Some_that (TakesOpen over state name count dump)
 some_units_of true state name count dump = (_, _, (refl, refl))
@@ -135,7 +134,7 @@ ConnectsNone other = Unit {0}
 pub some_task : (world : World) (state : State) (task : Task) → ConnectsNone task → ((name : List ℕ) → state.feeds name ≡ None) → Some_that (DoesTask world state task)
 some_task world state (Short short) other none = some_short state short
 some_task world state (Load kind file) other none = some_load (is_taken state kind) world state kind file
-some_task world state (Open name file) other none = some_opening (state.sources name || is_stream state name) (world.named file) state name
+some_task world state (Open kind name file) other none = some_opening (state.sources name || is_stream state name) (world.named file) state kind name
 some_task world state (Take name count) other none = some_take (state.dumps name) world state name count (none name)
 some_task world state (Connect name place) other none = absurd other
 some_task world state (OnFeed name work) other none = some_work world state name work (none name)
@@ -148,14 +147,6 @@ some_task world state Changes other none = some_changes state
 pub both : {S : Type 0} (one other text : List ℕ) (end last state : S) → (one ≡ text) × (end ≡ state)
     → (other ≡ text) × (last ≡ state) → (one ≡ other) × (end ≡ last)
 both {S} one other text end last state a b = (a.0 ∙ sym b.0, a.1 ∙ sym b.1)
-
--- an event has no two outcomes, and no two costs
-outcome_and_cost : (old : Analysis) (event : Event) (new other : Analysis) (cost more : ℕ) → Happens old event new → Happens old event other
-    → Costs old event new cost → Costs old event other more → (new ≡ other) × (cost ≡ more)
-outcome_and_cost old event new other cost more a b x y =
-    let outcome = one_outcome_of old event in
-    let same = outcome.only new a ∙ sym (outcome.only other b) in
-    (same, Costs-unique old event other cost more (subst (λ (n : Analysis). Costs old event n cost) same x) y)
 
 MakesHappen-unique : (state : State) (event : Event) (one other : List ℕ) (end last : State)
     → MakesHappen state event one end → MakesHappen state event other last → (one ≡ other) × (end ≡ last)
@@ -188,11 +179,11 @@ Loads-unique false world state kind file one other end last a b =
     let same = outcome_unique kind (world.named file) b.outcome a.outcome b.comes a.comes in
     TakesFile-unique state kind a.outcome one other end last a.takes (subst (λ (o : Outcome). TakesFile state kind o other last) same b.takes)
 
-Opens-unique : (used : Bool) (named : Option (List ℕ)) (state : State) (name one other : List ℕ) (end last : State)
-    → OpensNamed used named state name one end → OpensNamed used named state name other last → (one ≡ other) × (end ≡ last)
-Opens-unique true named state name one other end last a b = both one other _ end last _ a b
-Opens-unique false None state name one other end last a b = both one other _ end last _ a b
-Opens-unique false (Some bytes) state name one other end last a b = both one other _ end last _ a b
+Opens-unique : (used : Bool) (named : Option (List ℕ)) (state : State) (kind : DumpKind) (name one other : List ℕ) (end last : State)
+    → OpensNamed used named state kind name one end → OpensNamed used named state kind name other last → (one ≡ other) × (end ≡ last)
+Opens-unique true named state kind name one other end last a b = both one other _ end last _ a b
+Opens-unique false None state kind name one other end last a b = both one other _ end last _ a b
+Opens-unique false (Some bytes) state kind name one other end last a b = both one other _ end last _ a b
 
 TakesOpen-unique : (over : Bool) (state : State) (name : List ℕ) (count : ℕ) (dump : Dump) (one other : List ℕ) (end last : State)
     → TakesOpen over state name count dump one end → TakesOpen over state name count dump other last → (one ≡ other) × (end ≡ last)
@@ -241,8 +232,8 @@ pub DoesTask-unique : (world : World) (attempts : List Attempt) → world.ends.a
     → DoesTask world state task one end → DoesTask world state task other last → (one ≡ other) × (end ≡ last)
 DoesTask-unique world attempts told state (Short short) one other end last a b = DoesShort-unique state short one other end last a b
 DoesTask-unique world attempts told state (Load kind file) one other end last a b = Loads-unique (is_taken state kind) world state kind file one other end last a b
-DoesTask-unique world attempts told state (Open name file) one other end last a b =
-    Opens-unique (state.sources name || is_stream state name) (world.named file) state name one other end last a b
+DoesTask-unique world attempts told state (Open kind name file) one other end last a b =
+    Opens-unique (state.sources name || is_stream state name) (world.named file) state kind name one other end last a b
 DoesTask-unique world attempts told state (Take name count) one other end last a b = Takes-unique (state.dumps name) world attempts told state name count one other end last a b
 DoesTask-unique world attempts told state (Connect name place) one other end last a b =
     Connects-unique (state.sources name || is_some (state.dumps name)) world attempts told state name place one other end last a b

@@ -24,6 +24,7 @@ use Rattle.report_text.specs.Change.{change_line, change_text}
 use Rattle.report_text.proofs.AnswerLemmas.{change_is_one_line}
 use Rattle.analyser.specs.declared.event.Event.{Event}
 use Rattle.rib_store.specs.declared.journal.ChangedKey.{ChangedKey}
+use Rattle.stream_lines.specs.declared.kind.DumpKind.{DumpKind}
 use Rattle.stream_lines.specs.Changes.{changes_text}
 use Rattle.stream_lines.specs.Counts.{refusals_in}
 use Rattle.stream_lines.specs.Streams.{Dump}
@@ -85,11 +86,11 @@ Loads-refused : (taken : Bool) (world : World) (state : State) (kind : FileKind)
 Loads-refused true world state kind file text next rest in_line loads = Refuses-refused state of_line causes.NameTaken text next rest tt loads
 Loads-refused false world state kind file text next rest in_line loads = TakesFile-refused state kind loads.outcome text next rest in_line loads.takes
 
-Opens-refused : (used : Bool) (named : Option (List ℕ)) (state : State) (name text : List ℕ) (next : State) (rest : List ℕ)
-    → OpensNamed used named state name text next → next.refused + refusals_in rest ≡ state.refused + refusals_in (text ++ rest)
-Opens-refused true named state name text next rest opens = Refuses-refused state of_line causes.NameTaken text next rest tt opens
-Opens-refused false None state name text next rest opens = Refuses-refused state of_line causes.NoFile text next rest tt opens
-Opens-refused false (Some bytes) state name text next rest opens = silent text rest state.refused next.refused opens.0 (ap (λ (s : State). s.refused) opens.1)
+Opens-refused : (used : Bool) (named : Option (List ℕ)) (state : State) (kind : DumpKind) (name text : List ℕ) (next : State) (rest : List ℕ)
+    → OpensNamed used named state kind name text next → next.refused + refusals_in rest ≡ state.refused + refusals_in (text ++ rest)
+Opens-refused true named state kind name text next rest opens = Refuses-refused state of_line causes.NameTaken text next rest tt opens
+Opens-refused false None state kind name text next rest opens = Refuses-refused state of_line causes.NoFile text next rest tt opens
+Opens-refused false (Some bytes) state kind name text next rest opens = silent text rest state.refused next.refused opens.0 (ap (λ (s : State). s.refused) opens.1)
 
 TakesOpen-refused : (over : Bool) (state : State) (name : List ℕ) (count : ℕ) (dump : Dump) (text : List ℕ) (next : State) (rest : List ℕ) → IsInLine name
     → TakesOpen over state name count dump text next → next.refused + refusals_in rest ≡ state.refused + refusals_in (text ++ rest)
@@ -174,7 +175,7 @@ DoesTask-refused : (world : World) (state : State) (task : Task) (text : List �
     → DoesTask world state task text next → next.refused + refusals_in rest ≡ state.refused + refusals_in (text ++ rest)
 DoesTask-refused world state (Short short) text next rest in_line does = DoesShort-refused state short text next rest does
 DoesTask-refused world state (Load kind file) text next rest in_line does = Loads-refused (is_taken state kind) world state kind file text next rest in_line does
-DoesTask-refused world state (Open name file) text next rest in_line does = Opens-refused (state.sources name || is_stream state name) (world.named file) state name text next rest does
+DoesTask-refused world state (Open kind name file) text next rest in_line does = Opens-refused (state.sources name || is_stream state name) (world.named file) state kind name text next rest does
 DoesTask-refused world state (Take name count) text next rest in_line does = Takes-refused (state.dumps name) world state name count text next rest in_line does
 DoesTask-refused world state (Connect name place) text next rest in_line does =
     Connects-refused (state.sources name || is_some (state.dumps name)) world state name place text next rest in_line does

@@ -1,5 +1,5 @@
 -- The text of a script, by evaluating each line from scratch: from the world, what the lines before have left, and the line itself.
-use Rattle.std.specs.Prelude.{◌≡◌, ℕ, ◌+◌, ◌-◌, ◌≤◌, ◌⊎◌, List, [], ◌∷◌, ◌++◌}
+use Rattle.std.specs.Prelude.{◌≡◌, ℕ, ◌+◌, ◌-◌, ◌≤◌, ◌⊎◌, Bool, true, false, List, [], ◌∷◌, ◌++◌}
 use Rattle.std.specs.declared.option.Option.{Option}
 use Rattle.std.specs.declared.option.Option.TheVariants.{Some, None}
 use Rattle.std.specs.declared.result.Result.{Result}
@@ -8,9 +8,11 @@ use Rattle.vap_table.specs.declared.change.TableChange.{TableChange}
 use Rattle.vap_table.specs.declared.change.TableChange.TheVariants.{At as SetMoment, Filter as FilterByHand, Unfilter as UnfilterByHand, Assert as AssertByHand, Unassert as UnassertByHand}
 use Rattle.analyser.specs.declared.event.Event.TheVariants.{Table as TableEvent, Role as RoleEvent, DefaultRole}
 use Rattle.script_lines.specs.declared.command.Command.{Command}
-use Rattle.script_lines.specs.declared.command.Command.TheVariants.{Idle, Aspa, Aspa64, Slurm, At, Filter, Unfilter, Assert, Unassert, Role as SetRole, RoleDefault, Open, Take, Feed, Ask, Sync, Judge, Changes, Why, Show}
+use Rattle.script_lines.specs.declared.command.Command.TheVariants.{Idle, Aspa, Aspa64, Slurm, At, Filter, Unfilter, Assert, Unassert, Role as SetRole, RoleDefault, Open, Bmp, Take, Feed, Ask, Sync, Judge, Changes, Why, Show}
 use Rattle.script_lines.specs.declared.command.LineFault.{LineFault}
 use Rattle.script_lines.specs.declared.command.LineFault.TheVariants.{Long, Command as NoCommand, Words, Number, NoMemory}
+use Rattle.stream_lines.specs.declared.kind.DumpKind.{DumpKind}
+use Rattle.stream_lines.specs.declared.kind.DumpKind.TheVariants as kinds
 use Rattle.feed_lines.specs.declared.working.Work.TheVariants.{Ask as AskNow, Sync as SyncTo}
 use Rattle.script_lines.specs.Grammar.{IsReading}
 use Rattle.report_text.specs.declared.cause.Cause.{Cause}
@@ -36,6 +38,11 @@ line_cause NoMemory = None
 abbrev pub table_event : TableChange → Task
 table_event change = Short (Happen (TableEvent change))
 
+-- the kind of dump that a `bmp` line opens, by its view: `post`, or `pre`
+abbrev pub bmp_kind : Bool → DumpKind
+bmp_kind true = kinds.BmpPost
+bmp_kind false = kinds.BmpPre
+
 -- what a command asks for
 abbrev pub task_of : Command → Task
 task_of Idle = Short Nothing
@@ -49,7 +56,8 @@ task_of (Assert customer providers) = table_event (AssertByHand customer provide
 task_of (Unassert customer) = table_event (UnassertByHand customer)
 task_of (SetRole asn role) = Short (Happen (RoleEvent asn role))
 task_of (RoleDefault role) = Short (Happen (DefaultRole role))
-task_of (Open name file) = OpenDump name file
+task_of (Open name file) = OpenDump kinds.Mrt name file
+task_of (Bmp name file post) = OpenDump (bmp_kind post) name file
 task_of (Take name count) = TakeUnits name count
 task_of (Feed name place) = Connect name place
 task_of (Ask name) = OnFeed name AskNow

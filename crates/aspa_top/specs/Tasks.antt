@@ -23,8 +23,10 @@ use Rattle.feed_lines.specs.Lines.{State as FeedState}
 use Rattle.feed_lines.specs.Tellings.{Asking as FeedAsking}
 use Rattle.report_text.specs.declared.cause.Cause.TheVariants as causes
 use Rattle.report_text.specs.Refusals.{of_line, of_unit}
+use Rattle.stream_lines.specs.declared.kind.DumpKind.{DumpKind}
 use Rattle.stream_lines.specs.Changes.{changes_text}
 use Rattle.stream_lines.specs.Streams.{Dump, Taking, Asking, TakesUnits}
+use Rattle.stream_lines.specs.Units.{first_known}
 use Rattle.aspa_top.specs.declared.loading.FileKind.{FileKind}
 use Rattle.aspa_top.specs.declared.loading.FileKind.TheVariants.{Payloads, PayloadLines, Slurm as SlurmFile}
 use Rattle.aspa_top.specs.declared.loading.Outcome.{Outcome}
@@ -95,26 +97,26 @@ LoadsUnless false world state kind file text next = LoadsFile world state kind f
 abbrev pub Loads : World → State → FileKind → List ℕ → List ℕ → State → Type 0
 Loads world state kind file text next = LoadsUnless (is_taken state kind) world state kind file text next
 
--- ---- `open NAME FILE`
+-- ---- `open NAME FILE`, `bmp NAME FILE VIEW`
 
 -- a dump that was just opened
-abbrev pub new_dump : List ℕ → Dump
-new_dump bytes = record { left = bytes; taken = 0; peers = None; over = false }
+abbrev pub new_dump : DumpKind → List ℕ → Dump
+new_dump kind bytes = record { left = bytes; taken = 0; known = first_known kind; over = false }
 
 -- the dumps with this one under its name
 abbrev pub with_dump : List ℕ → Dump → (List ℕ → Option Dump) → List ℕ → Option Dump
 with_dump name dump dumps other = cond (same_name name other) (Some dump) (dumps other)
 
 -- whether the name is in use, and what the world has under the file's name
-abbrev pub OpensNamed : Bool → Option (List ℕ) → State → List ℕ → List ℕ → State → Type 0
-OpensNamed true named state name text next = Refuses state of_line causes.NameTaken text next
-OpensNamed false None state name text next = Refuses state of_line causes.NoFile text next
-OpensNamed false (Some bytes) state name text next =
-    (text ≡ []) × (next ≡ record state { dumps = with_dump name (new_dump bytes) state.dumps })
+abbrev pub OpensNamed : Bool → Option (List ℕ) → State → DumpKind → List ℕ → List ℕ → State → Type 0
+OpensNamed true named state kind name text next = Refuses state of_line causes.NameTaken text next
+OpensNamed false None state kind name text next = Refuses state of_line causes.NoFile text next
+OpensNamed false (Some bytes) state kind name text next =
+    (text ≡ []) × (next ≡ record state { dumps = with_dump name (new_dump kind bytes) state.dumps })
 
-abbrev pub Opens : World → State → List ℕ → List ℕ → List ℕ → State → Type 0
-Opens world state name file text next =
-    OpensNamed (state.sources name || is_stream state name) (world.named file) state name text next
+abbrev pub Opens : World → State → DumpKind → List ℕ → List ℕ → List ℕ → State → Type 0
+Opens world state kind name file text next =
+    OpensNamed (state.sources name || is_stream state name) (world.named file) state kind name text next
 
 -- ---- `feed NAME PLACE`, `ask NAME`, `sync NAME N`, and `take NAME N` on a feed
 
@@ -236,7 +238,7 @@ DoesShort state (Judge role neighbour path) text next =
 abbrev pub DoesTask : World → State → Task → List ℕ → State → Type 0
 DoesTask world state (Short short) text next = DoesShort state short text next
 DoesTask world state (Load kind file) text next = Loads world state kind file text next
-DoesTask world state (Open name file) text next = Opens world state name file text next
+DoesTask world state (Open kind name file) text next = Opens world state kind name file text next
 DoesTask world state (Take name count) text next = Takes world state name count text next
 DoesTask world state (Connect name place) text next = Connects world state name place text next
 DoesTask world state (OnFeed name work) text next = Works world state name work text next
@@ -246,7 +248,7 @@ DoesTask world state Changes text next = ShowsChanges state text next
 -- a task opens or reads a file
 abbrev pub TaskUsesFile : State → Task → Type 0
 TaskUsesFile state (Load kind file) = Unit {0}
-TaskUsesFile state (Open name file) = Unit {0}
+TaskUsesFile state (Open kind name file) = Unit {0}
 TaskUsesFile state (Take name count) = (dump : Dump) × (state.dumps name ≡ Some dump)
 TaskUsesFile state task = ⊥
 

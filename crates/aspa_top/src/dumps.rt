@@ -1,4 +1,4 @@
-//! `open` and `take`: dumps.
+//! `open`, `bmp` and `take`: dumps.
 ghost use Rattle.std.specs.Prelude.{is_some, true, ◌≡◌, ◌≤◌, Ok, IfOk};
 ghost use Rattle.aspa_top.specs.declared.task.Task.TheVariants.{Open, Take};
 ghost use Rattle.aspa_top.specs.Bounds.{most};
@@ -17,13 +17,14 @@ use report_text::{Cause, Place};
 use script_lines::Word;
 use std::alloc::Global;
 use std::sync::ledger::Ledger;
-use stream_lines::{Asked, OpenDump, Progress, Stop, take_units};
+use stream_lines::{Asked, DumpKind, OpenDump, Progress, Stop, take_units};
 
-/// Opens a dump under a new name.
+/// Opens a dump of this kind under a new name.
 #[inline(never)]
 pub(crate) fn open<F: Shelf, K: Links, W: Sink, L: Ledger>(
     alloc: Global,
     working: Working,
+    kind: DumpKind,
     name: Name,
     file: &Word,
     shelf: &mut F,
@@ -37,7 +38,7 @@ pub(crate) fn open<F: Shelf, K: Links, W: Sink, L: Ledger>(
     ensures keeps { Keeps
         (outside F.Shelf K.Links W.Sink shelf.old links.old out.old text.old.items steps.old)
         (outside F.Shelf K.Links W.Sink shelf.new links.new out.new text.new.items steps.new) }
-    ensures did { Did working (Ok (Open name file.now))
+    ensures did { Did working (Ok (Open kind name file.now))
         (outside F.Shelf K.Links W.Sink shelf.old links.old out.old text.old.items steps.old)
         (outside F.Shelf K.Links W.Sink shelf.new links.new out.new text.new.items steps.new) result }
 {
@@ -50,7 +51,7 @@ pub(crate) fn open<F: Shelf, K: Links, W: Sink, L: Ledger>(
     let Some(number) = opened else {
         return Ok(refuse(working, Place::Line, Cause::NoFile, text)?);
     };
-    let dump = OpenDump::new(alloc, number);
+    let dump = OpenDump::new(alloc, number, kind);
     Ok(name_dump(working, name, dump)?)
 }
 

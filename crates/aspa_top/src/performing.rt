@@ -98,8 +98,10 @@ fn perform_task<F: Shelf, K: Links, W: Sink, L: Ledger>(
         Task::Load(kind, file) => {
             load(alloc, working, kind, &file, shelf, links, out, text, steps)
         }
-        Task::Open(name, file) => {
-            open(alloc, working, name, &file, shelf, links, out, text, steps)
+        Task::Open(kind, name, file) => {
+            open(
+                alloc, working, kind, name, &file, shelf, links, out, text, steps,
+            )
         }
         Task::Take(name, count) => {
             take(alloc, working, &name, count, shelf, links, out, text, steps)

@@ -1,12 +1,13 @@
 //! What a command asks for.
 ghost use Rattle.std.specs.Prelude.{◌≡◌};
-ghost use Rattle.aspa_top.specs.Evaluation.{table_event, task_of};
+ghost use Rattle.aspa_top.specs.Evaluation.{bmp_kind, table_event, task_of};
 
 use crate::loading::FileKind;
 use analyser::Event;
 use feed_lines::Work;
 use path_model::{AsList, Key, Name, Peer, Role};
 use script_lines::{Command, Show, Word};
+use stream_lines::DumpKind;
 use vap_table::TableChange;
 
 /// What a line does to the world, or with it.
@@ -16,8 +17,8 @@ pub(crate) enum Task {
     Short(Short),
     /// It loads a file that changes the table.
     Load(FileKind, Word),
-    /// It opens a dump under a name.
-    Open(Name, Word),
+    /// It opens a dump of this kind under a name.
+    Open(DumpKind, Name, Word),
     /// It takes at most so many units of the stream of that name.
     Take(Name, u32),
     /// It connects a feed under a name to a place.
@@ -68,7 +69,8 @@ pub(crate) fn task_of(command: Command) -> Task
         Command::Unassert(customer) => table_event(TableChange::Unassert(customer)),
         Command::Role(asn, role) => Task::Short(Short::Happen(Event::Role(asn, role))),
         Command::RoleDefault(role) => Task::Short(Short::Happen(Event::DefaultRole(role))),
-        Command::Open(name, file) => Task::Open(name, file),
+        Command::Open(name, file) => Task::Open(DumpKind::Mrt, name, file),
+        Command::Bmp(name, file, post) => Task::Open(bmp_kind(post), name, file),
         Command::Take(name, count) => Task::Take(name, count),
         Command::Feed(name, place) => Task::Connect(name, place),
         Command::Ask(name) => Task::OnFeed(name, Work::Ask),
@@ -82,6 +84,17 @@ pub(crate) fn task_of(command: Command) -> Task
             Task::Answer(Question::Why(Key { peer, prefix, path }))
         }
         Command::Show(show) => Task::Answer(Question::Show(show)),
+    }
+}
+
+// The kind of dump that a `bmp` line opens.
+fn bmp_kind(post: bool) -> DumpKind
+    ensures { result ≡ bmp_kind post }
+{
+    if post {
+        DumpKind::BmpPost
+    } else {
+        DumpKind::BmpPre
     }
 }
 

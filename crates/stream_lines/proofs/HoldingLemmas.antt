@@ -6,13 +6,10 @@ use Rattle.std.specs.Option.{option_map}
 use Rattle.std.specs.declared.option.Option.{Option}
 use Rattle.av_base.specs.Files.{Files, closes, left_of}
 use Rattle.av_base.proofs.PlacesLemmas.{get-change_at}
-use Rattle.mrt_reader.specs.declared.body.Body.{Body}
-use Rattle.mrt_reader.specs.declared.body.Body.TheVariants.{Peers, Routes as RoutesBody, Passed}
-use Rattle.stream_lines.specs.declared.taking.Progress.{Progress}
-use Rattle.stream_lines.specs.Held.{HeldDump}
+use Rattle.stream_lines.specs.Held.{HeldDump, fresh_of}
+use Rattle.stream_lines.specs.Units.{Known, Mrt, Bmp}
 use Rattle.stream_lines.specs.Holding.{HoldsDump, IsLetGo, LetsGo}
 use Rattle.stream_lines.specs.Streams.{Dump}
-use Rattle.stream_lines.specs.TakingSteps.{TookBody}
 
 -- what is left of the dump's file stayed
 pub HoldsDump-leaves : (old new : Option Files) (kept : HeldDump) (dump : Dump) → left_of new kept.file ≡ left_of old kept.file
@@ -21,7 +18,7 @@ HoldsDump-leaves old new kept dump same holds = record {
   over = holds.over;
   taken = holds.taken;
   left = λ open_yet. ap (prepend_known kept.held) same ∙ holds.left open_yet;
-  peers = holds.peers;
+  known = holds.known;
 }
 
 -- ---- at the end
@@ -34,12 +31,16 @@ nothing_left : (files : Option Files) (file : ℕ) → IfSome (left_of (option_m
 nothing_left None file = tt
 nothing_left (Some told) file = subst (λ (o : Option (List ℕ)). IfSome o (λ left. left ≡ [])) (sym (get-change_at (λ _. []) file told.left)) (none_left (slice_get told.left file))
 
+fresh_twice : (known : Known) → fresh_of known ≡ fresh_of (fresh_of known)
+fresh_twice (Mrt peers) = refl
+fresh_twice (Bmp view peers) = refl
+
 -- the dump ended, and its file was let go
-pub LetsGo-end : (old mid new : HeldDump) (files files_end : Option Files) → new ≡ record mid { held = []; peers = None; over = true } → files_end ≡ option_map (closes mid.file) files → LetsGo old new files_end
+pub LetsGo-end : (old mid new : HeldDump) (files files_end : Option Files) → new ≡ record mid { held = []; known = fresh_of mid.known; over = true } → files_end ≡ option_map (closes mid.file) files → LetsGo old new files_end
 LetsGo-end old mid new files files_end ended closed = λ open_yet over.
     subst (λ (d : HeldDump). IsLetGo files_end d) (sym ended) (record {
       held = refl;
-      peers = refl;
+      known = fresh_twice mid.known;
       file = subst (λ (told : Option Files). IfSome (left_of told mid.file) (λ left. left ≡ [])) (sym closed) (nothing_left files mid.file);
     })
 
@@ -49,11 +50,6 @@ still_open old new files same = λ open_yet over. absurd (let never : ⊥ = (let
 -- no unit that was taken ends a dump
 pub LetsGo-passed : (old mid new : HeldDump) (files : Option Files) → mid.over ≡ old.over → new ≡ record mid { taken = mid.taken + 1 } → LetsGo old new files
 LetsGo-passed old mid new files same passed = still_open old new files (ap (λ (d : HeldDump). d.over) passed ∙ same)
-
-pub LetsGo-body : (body : Body) (old mid new : HeldDump) (progress next : Progress) (files : Option Files) → mid.over ≡ old.over → TookBody body mid new progress next → LetsGo old new files
-LetsGo-body (Peers table) old mid new progress next files same took = still_open old new files (ap (λ (d : HeldDump). d.over) took.0 ∙ same)
-LetsGo-body (RoutesBody changes) old mid new progress next files same took = still_open old new files (ap (λ (d : HeldDump). d.over) took.0 ∙ same)
-LetsGo-body Passed old mid new progress next files same took = still_open old new files (ap (λ (d : HeldDump). d.over) took.0 ∙ same)
 
 -- where nothing was taken
 pub LetsGo-same : (dump : HeldDump) (files : Option Files) → LetsGo dump dump files

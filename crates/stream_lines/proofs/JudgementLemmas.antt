@@ -1,27 +1,21 @@
 -- How many judgements units may cost, and that no more steps are taken.
-use Rattle.std.proofs.Common.{◌≡◌, ℕ, zero, suc, ◌+◌, ◌-◌, ◌≤◌, Bool, true, false, List, ◌++◌, Some, None, Ok, Err, refl, sym, ◌∙◌, ap, subst, arith}
+use Rattle.std.proofs.Common.{◌≡◌, ℕ, zero, suc, ◌+◌, ◌-◌, ◌≤◌, Bool, true, false, List, ◌++◌, Ok, Err, refl, sym, ◌∙◌, ap, subst, arith}
 use Rattle.std.specs.Io.KnownBytes.{prepend_known}
 use Rattle.std.specs.declared.option.Option.{Option}
-use Rattle.std.specs.declared.result.Result.{Result}
 use Rattle.av_base.specs.Files.{Files, left_of}
-use Rattle.path_model.specs.declared.peer.Peer.{Peer}
-use Rattle.mrt_reader.specs.declared.body.Body.{Body}
-use Rattle.mrt_reader.specs.declared.body.Body.TheVariants.{Peers, Routes as RoutesBody, Passed}
-use Rattle.mrt_reader.specs.declared.fault.BodyFault.{BodyFault}
-use Rattle.report_text.specs.declared.cause.Cause.{Cause}
-use Rattle.mrt_reader.specs.Bodies.{IsReading}
-use Rattle.mrt_reader.specs.Coming.{Coming, IsComing, Whole, TooLong, CutShort, End}
-use Rattle.mrt_reader.specs.Records.{Recorded}
-use Rattle.mrt_reader.proofs.LawLemmas.{coming_same}
-use Rattle.mrt_reader.proofs.SameLemmas.{reading_same}
-use Rattle.stream_lines.specs.declared.dump.Next.{Next}
-use Rattle.stream_lines.specs.declared.dump.Next.TheVariants.{Record}
+use Rattle.rib_store.specs.State.{State}
+use Rattle.stream_lines.specs.declared.next.Effect.{Effect}
+use Rattle.stream_lines.specs.declared.next.Effect.TheVariants.{Event, Note, Pass}
+use Rattle.stream_lines.specs.declared.next.Next.{Next}
+use Rattle.stream_lines.specs.declared.next.Next.TheVariants.{Unit as AUnit, Broken, End}
 use Rattle.stream_lines.specs.declared.taking.Progress.{Progress}
+use Rattle.stream_lines.specs.Gives.{IsNext, IsNextOf}
 use Rattle.stream_lines.specs.Held.{HeldDump}
-use Rattle.stream_lines.specs.Next.{IsNext}
-use Rattle.stream_lines.specs.Streams.{Asking, Taking, body_cause, RefusesRecord, TakesBody, TakesRecord, TakesNext, TakesComing, TakesUnless, TakesUnit, TakesUnits}
+use Rattle.stream_lines.specs.Streams.{Asking, Dump, Taking, after_unit, Does, TakesNext, TakesComing, TakesUnless, TakesUnits}
 use Rattle.stream_lines.specs.Taking.{TicksWithinUnits, TookUnits}
-use Rattle.stream_lines.specs.TakingSteps.{TicksWithinUnit, judged_by}
+use Rattle.stream_lines.specs.TakingSteps.{TicksWithinEffect, TicksWithinUnit}
+use Rattle.stream_lines.specs.Units.{Known, Coming, comes}
+use Rattle.stream_lines.proofs.ComingLemmas.{coming_same}
 use Rattle.stream_lines.proofs.LawLemmas.{some_unless, some_units, units_unique}
 use Rattle.stream_lines.proofs.UnitsLemmas.{TakesUnits-join, TakesUnits-one}
 
@@ -51,35 +45,26 @@ then_more before between after old mid end new first last is = omega (arith, fir
 kept : (old new end : Taking) → new ≡ end → end.judgements ≡ old.judgements → new.judgements ≡ old.judgements
 kept old new end is same = ap (λ (t : Taking). t.judgements) is ∙ same
 
-none_more : (old new : Taking) → new.judgements ≡ old.judgements → new.judgements ≡ old.judgements + 0
-none_more old new same = omega (arith, same)
+no_steps : (before after old new : ℕ) → after ≤ before → new ≡ old → after + old ≤ before + new
+no_steps before after old new few same = omega (arith, few, same)
 
 no_fewer : (old new : Taking) → new.judgements ≡ old.judgements → old.judgements ≤ new.judgements
 no_fewer old new same = omega (arith, same)
 
-body_costs : (asking : Asking) (old : Taking) (rest : List ℕ) (body : Body) (text : List ℕ) (new : Taking) → TakesBody asking old rest (Ok body) text new
-    → new.judgements ≡ old.judgements + judged_by body
-body_costs asking old rest (Peers table) text new takes = none_more old new (kept old new _ takes.1 refl)
-body_costs asking old rest (RoutesBody changes) text new takes = ap (λ (t : Taking). t.judgements) takes.1.2
-body_costs asking old rest Passed text new takes = none_more old new (kept old new _ takes.1 refl)
+effect_grows : (old : Taking) (dump : Dump) (effect : Effect) (new : Taking) → Does old dump effect new → old.judgements ≤ new.judgements
+effect_grows old dump (Event event) new does = at_least old.judgements new.judgements does.cost (ap (λ (t : Taking). t.judgements) does.new_is)
+effect_grows old dump Note new does = no_fewer old new (kept old new _ does refl)
+effect_grows old dump Pass new does = no_fewer old new (kept old new _ does refl)
 
-body_grows : (asking : Asking) (old : Taking) (rest : List ℕ) (reading : Result Body BodyFault) (text : List ℕ) (new : Taking) → TakesBody asking old rest reading text new
-    → old.judgements ≤ new.judgements
-body_grows asking old rest (Ok body) text new takes = at_least old.judgements new.judgements (judged_by body) (body_costs asking old rest body text new takes)
-body_grows asking old rest (Err fault) text new takes = record_grows (body_cause fault) takes where
-  record_grows : (cause : Option Cause) → RefusesRecord cause asking old rest text new → old.judgements ≤ new.judgements
-  record_grows None refuses = absurd refuses
-  record_grows (Some cause) refuses = no_fewer old new (kept old new _ refuses.1 refl)
-
-coming_grows : (asking : Asking) (old : Taking) (coming : Coming) (text : List ℕ) (new : Taking) → TakesComing asking old coming text new → old.judgements ≤ new.judgements
-coming_grows asking old (Whole it rest) text new takes = body_grows asking old rest takes.reading text new takes.takes
-coming_grows asking old TooLong text new takes = no_fewer old new (kept old new _ takes.1 refl)
-coming_grows asking old CutShort text new takes = no_fewer old new (kept old new _ takes.1 refl)
-coming_grows asking old End text new takes = no_fewer old new (kept old new _ takes.1 refl)
+next_grows : (asking : Asking) (old : Taking) (behind : Dump) (next : Next) (text : List ℕ) (new : Taking) → TakesComing asking old behind next text new → old.judgements ≤ new.judgements
+next_grows asking old behind (AUnit (Ok effect)) text new takes = effect_grows old behind effect new takes.1
+next_grows asking old behind (AUnit (Err cause)) text new takes = no_fewer old new (kept old new _ takes.1 refl)
+next_grows asking old behind (Broken cause) text new takes = no_fewer old new (kept old new _ takes.1 refl)
+next_grows asking old behind End text new takes = no_fewer old new (kept old new _ takes.1 refl)
 
 unless_grows : (over : Bool) (asking : Asking) (old : Taking) (text : List ℕ) (new : Taking) → TakesUnless over asking old text new → old.judgements ≤ new.judgements
 unless_grows true asking old text new takes = no_fewer old new (kept old new old takes.1 refl)
-unless_grows false asking old text new takes = coming_grows asking old takes.coming text new takes.takes
+unless_grows false asking old text new takes = next_grows asking old (after_unit old.dump takes.coming) takes.coming.next text new takes.takes
 
 units_grow : (asking : Asking) (count : ℕ) (old : Taking) (text : List ℕ) (new : Taking) → TakesUnits asking count old text new → old.judgements ≤ new.judgements
 units_grow asking zero old text new takes = no_fewer old new (kept old new old takes.1 refl)
@@ -87,15 +72,14 @@ units_grow asking (suc count) old text new takes =
     then_less old.judgements takes.mid.judgements new.judgements
     (unless_grows old.dump.over asking old takes.first takes.mid takes.takes) (units_grow asking count takes.mid takes.rest new takes.goes_on)
 
--- where a record comes, and reads so, a unit costs what its body may cost
-unit_costs : (asking : Asking) (old new : Taking) (text : List ℕ) (it : Recorded) (rest : List ℕ) (body : Body) → old.dump.over ≡ false → IsComing old.dump.left (Whole it rest)
-    → IsReading it old.dump.peers (Ok body) → TakesUnit asking old text new → new.judgements ≡ old.judgements + judged_by body
-unit_costs asking old new text it rest body open_yet comes reads takes =
-    let next : TakesNext asking old text new = subst (λ (over : Bool). TakesUnless over asking old text new) open_yet takes in
-    let same : next.coming ≡ Whole it rest = coming_same old.dump.left next.coming (Whole it rest) next.comes comes in
-    let taken : TakesRecord asking old it rest text new = subst (λ (c : Coming). TakesComing asking old c text new) same next.takes in
-    let reading : taken.reading ≡ Ok body = reading_same it old.dump.peers taken.reading (Ok body) taken.reads reads in
-    body_costs asking old rest body text new (subst (λ (r : Result Body BodyFault). TakesBody asking old rest r text new) reading taken.takes)
+-- an effect costs no fewer judgements than the steps that were taken
+effect_ticks : (state : State) (old : Taking) (dump : Dump) (effect : Effect) (new : Taking) (before after : ℕ) → state ≡ old.state → TicksWithinEffect state effect before after
+    → Does old dump effect new → after + old.judgements ≤ before + new.judgements
+effect_ticks state old dump (Event event) new before after same few does =
+    let within = subst (λ (s : State). TicksWithinEffect s (Event event) before after) same few in
+    more_steps before after old.judgements new.judgements does.cost (within does.state does.cost does.happens does.costs) (ap (λ (t : Taking). t.judgements) does.new_is)
+effect_ticks state old dump Note new before after same few does = no_steps before after old.judgements new.judgements few (kept old new _ does refl)
+effect_ticks state old dump Pass new before after same few does = no_steps before after old.judgements new.judgements few (kept old new _ does refl)
 
 -- ---- steps of one unit
 
@@ -105,16 +89,22 @@ ticks_none asking dump progress files steps = record {
   within = λ open_yet old new text stands takes. no_more old.judgements new.judgements steps (unless_grows old.dump.over asking old text new takes);
 }
 
--- the record that came next may cost as many
-pub ticks_body : (asking : Asking) (dump : HeldDump) (progress : Progress) (files_old files_new : Option Files) (held : List ℕ) (next : Next)
-    → IsNext dump.peers (prepend_known dump.held (left_of files_old dump.file)) (prepend_known held (left_of files_new dump.file)) next
-    → (body : Body) (before after : ℕ) → next ≡ Record (Ok body) → after ≤ before + judged_by body → TicksWithinUnit asking dump progress files_old before after
-ticks_body asking dump progress files_old files_new held next comes body before after is few = record {
+-- no more than what the unit that came next may cost
+pub ticks_effect : (asking : Asking) (dump : HeldDump) (progress : Progress) (files_old files_new : Option Files) (held : List ℕ) (known : Known) (next : Next)
+    → IsNext dump.known (prepend_known dump.held (left_of files_old dump.file)) known (prepend_known held (left_of files_new dump.file)) next
+    → (effect : Effect) (before after : ℕ) → next ≡ AUnit (Ok effect) → TicksWithinEffect progress.analyser effect before after
+    → TicksWithinUnit asking dump progress files_old before after
+ticks_effect asking dump progress files_old files_new held known next is_next effect before after is few = record {
   within = λ open_yet old new text stands takes.
-      let came = (rw is at comes) old.dump.left (stands.holds.left open_yet) in
-      let reads : IsReading came.it old.dump.peers (Ok body) = subst (λ (p : Option (List Peer)). IsReading came.it p (Ok body)) (stands.holds.peers open_yet) came.reads in
-      let cost = unit_costs asking old new text came.it came.rest body (sym stands.holds.over ∙ open_yet) came.begins reads takes in
-      more_steps before after old.judgements new.judgements (judged_by body) few cost;
+      let it : IsNextOf old.dump.known old.dump.left known (prepend_known held (left_of files_new dump.file)) next =
+          subst (λ (k : Known). IsNextOf k old.dump.left known (prepend_known held (left_of files_new dump.file)) next) (stands.holds.known open_yet)
+          (is_next old.dump.left (stands.holds.left open_yet)) in
+      let coming = comes next known it.rest in
+      let taken : TakesNext asking old text new = subst (λ (over : Bool). TakesUnless over asking old text new) (sym stands.holds.over ∙ open_yet) takes in
+      let same : taken.coming ≡ coming = coming_same old.dump.known old.dump.left taken.coming coming taken.is_coming it.coming in
+      let does : TakesComing asking old (after_unit old.dump coming) next text new = subst (λ (c : Coming). TakesComing asking old (after_unit old.dump c) c.next text new) same taken.takes in
+      let so : TakesComing asking old (after_unit old.dump coming) (AUnit (Ok effect)) text new = subst (λ (n : Next). TakesComing asking old (after_unit old.dump coming) n text new) is does in
+      effect_ticks progress.analyser old (after_unit old.dump coming) effect new before after stands.state few so.1;
 }
 
 -- ---- steps of several units

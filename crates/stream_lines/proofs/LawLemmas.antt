@@ -1,24 +1,19 @@
 -- From each dump any number of units has one text and one outcome.
-use Rattle.std.proofs.Common.{◌≡◌, ◌≢◌, ℕ, zero, suc, ◌+◌, Bool, true, false, List, [], ◌++◌, Option, Some, None, Ok, Err, refl, sym, ◌∙◌, ap, subst}
-use Rattle.std.specs.declared.result.Result.{Result}
+use Rattle.std.proofs.Common.{◌≡◌, ℕ, zero, suc, ◌+◌, Bool, true, false, List, [], ◌++◌, Ok, Err, refl, sym, ◌∙◌, ap, subst}
 use Rattle.av_base.specs.One.{HasOnePair}
-use Rattle.path_model.specs.Routes.{performed}
-use Rattle.mrt_reader.specs.declared.body.Body.{Body}
-use Rattle.mrt_reader.specs.declared.body.Body.TheVariants.{Peers, Routes as RoutesBody, Passed}
-use Rattle.mrt_reader.specs.declared.fault.BodyFault.{BodyFault}
-use Rattle.mrt_reader.specs.declared.fault.BodyFault.TheVariants.{Body as BadBody, NoPeerTable, PeerIndex, Message, Attributes, NoPath, NoMemory}
-use Rattle.path_model.specs.declared.peer.Peer.{Peer}
-use Rattle.mrt_reader.specs.Bodies.{IsReading}
-use Rattle.mrt_reader.specs.Coming.{Coming, Whole, TooLong, CutShort, End}
-use Rattle.mrt_reader.specs.Records.{Recorded}
-use Rattle.mrt_reader.proofs.LawLemmas.{one_thing_comes, coming_same}
-use Rattle.mrt_reader.proofs.MemoryLemmas.{no_want_of_memory}
-use Rattle.mrt_reader.proofs.SameLemmas.{reading_same}
-use Rattle.mrt_reader.proofs.SomeLemmas.{one_reading}
 use Rattle.rib_store.specs.State.{State}
-use Rattle.rib_store.specs.Touched.{announced}
-use Rattle.report_text.specs.declared.cause.Cause.{Cause}
-use Rattle.stream_lines.specs.Streams.{Asking, Taking, after_unit, body_cause, RefusesRecord, TakesBody, TakesComing, TakesUnless, TakesUnits}
+use Rattle.analyser.specs.declared.event.Event.{Event as AnEvent}
+use Rattle.analyser.specs.Events.{Happens}
+use Rattle.analyser.specs.Touched.{Costs}
+use Rattle.analyser.proofs.CostLemmas.{some_cost, Costs-unique}
+use Rattle.analyser.proofs.EventLemmas.{one_outcome_of}
+use Rattle.stream_lines.specs.declared.next.Effect.{Effect}
+use Rattle.stream_lines.specs.declared.next.Effect.TheVariants.{Event, Note, Pass}
+use Rattle.stream_lines.specs.declared.next.Next.{Next}
+use Rattle.stream_lines.specs.declared.next.Next.TheVariants.{Unit as AUnit, Broken, End}
+use Rattle.stream_lines.specs.Streams.{Asking, Dump, Taking, after_unit, LetsHappen, Does, TakesComing, TakesUnless, TakesUnits}
+use Rattle.stream_lines.specs.Units.{Coming}
+use Rattle.stream_lines.proofs.ComingLemmas.{coming_same, one_thing_comes}
 
 -- ---- one at most
 
@@ -26,32 +21,38 @@ use Rattle.stream_lines.specs.Streams.{Asking, Taking, after_unit, body_cause, R
 both : (one other text : List ℕ) (end last new : Taking) → (one ≡ text) × (end ≡ new) → (other ≡ text) × (last ≡ new) → (one ≡ other) × (end ≡ last)
 both one other text end last new a b = (a.0 ∙ sym b.0, a.1 ∙ sym b.1)
 
-body_unique : (asking : Asking) (old : Taking) (rest : List ℕ) (reading : Result Body BodyFault) (one other : List ℕ) (end last : Taking)
-    → TakesBody asking old rest reading one end → TakesBody asking old rest reading other last → (one ≡ other) × (end ≡ last)
-body_unique asking old rest (Ok (Peers table)) one other end last a b = both one other _ end last _ a b
-body_unique asking old rest (Ok (RoutesBody changes)) one other end last a b =
-    (a.0 ∙ sym b.0, a.1.2 ∙ ap (λ (s : State). record old { dump = after_unit old.dump rest; state = s; judgements = old.judgements + announced changes }) (a.1.1 ∙ sym b.1.1) ∙ sym b.1.2)
-body_unique asking old rest (Ok Passed) one other end last a b = both one other _ end last _ a b
-body_unique asking old rest (Err fault) one other end last a b = record_unique (body_cause fault) a b where
-  record_unique : (cause : Option Cause) → RefusesRecord cause asking old rest one end → RefusesRecord cause asking old rest other last → (one ≡ other) × (end ≡ last)
-  record_unique None c d = absurd c
-  record_unique (Some cause) c d = both one other _ end last _ c d
+-- an event has one outcome, and may cost so many judgements
+pub outcome_and_cost : (old : State) (event : AnEvent) (new other : State) (cost more : ℕ) → Happens old event new → Happens old event other
+    → Costs old event new cost → Costs old event other more → (new ≡ other) × (cost ≡ more)
+outcome_and_cost old event new other cost more a b x y =
+    let outcome = one_outcome_of old event in
+    let same = outcome.only new a ∙ sym (outcome.only other b) in
+    (same, Costs-unique old event other cost more (subst (λ (n : State). Costs old event n cost) same x) y)
 
-coming_unique : (asking : Asking) (old : Taking) (coming : Coming) (one other : List ℕ) (end last : Taking)
-    → TakesComing asking old coming one end → TakesComing asking old coming other last → (one ≡ other) × (end ≡ last)
-coming_unique asking old (Whole it rest) one other end last a b =
-    let same = reading_same it old.dump.peers b.reading a.reading b.reads a.reads in
-    body_unique asking old rest a.reading one other end last a.takes (subst (λ r. TakesBody asking old rest r other last) same b.takes)
-coming_unique asking old TooLong one other end last a b = both one other _ end last _ a b
-coming_unique asking old CutShort one other end last a b = both one other _ end last _ a b
-coming_unique asking old End one other end last a b = both one other _ end last _ a b
+happening_unique : (old : Taking) (dump : Dump) (event : AnEvent) (end last : Taking) → LetsHappen old dump event end → LetsHappen old dump event last → end ≡ last
+happening_unique old dump event end last a b =
+    let same = outcome_and_cost old.state event a.state b.state a.cost b.cost a.happens b.happens a.costs b.costs in
+    a.new_is ∙ (λ i. record old { dump = dump; state = same.0 i; judgements = old.judgements + same.1 i }) ∙ sym b.new_is
+
+effect_unique : (old : Taking) (dump : Dump) (effect : Effect) (end last : Taking) → Does old dump effect end → Does old dump effect last → end ≡ last
+effect_unique old dump (Event event) end last a b = happening_unique old dump event end last a b
+effect_unique old dump Note end last a b = a ∙ sym b
+effect_unique old dump Pass end last a b = a ∙ sym b
+
+next_unique : (asking : Asking) (old : Taking) (behind : Dump) (next : Next) (one other : List ℕ) (end last : Taking)
+    → TakesComing asking old behind next one end → TakesComing asking old behind next other last → (one ≡ other) × (end ≡ last)
+next_unique asking old behind (AUnit (Ok effect)) one other end last a b = (a.0 ∙ sym b.0, effect_unique old behind effect end last a.1 b.1)
+next_unique asking old behind (AUnit (Err cause)) one other end last a b = both one other _ end last _ a b
+next_unique asking old behind (Broken cause) one other end last a b = both one other _ end last _ a b
+next_unique asking old behind End one other end last a b = both one other _ end last _ a b
 
 unless_unique : (over : Bool) (asking : Asking) (old : Taking) (one other : List ℕ) (end last : Taking)
     → TakesUnless over asking old one end → TakesUnless over asking old other last → (one ≡ other) × (end ≡ last)
 unless_unique true asking old one other end last a b = both one other _ end last _ a b
 unless_unique false asking old one other end last a b =
-    let same = coming_same old.dump.left b.coming a.coming b.comes a.comes in
-    coming_unique asking old a.coming one other end last a.takes (subst (λ c. TakesComing asking old c other last) same b.takes)
+    let same = coming_same old.dump.known old.dump.left b.coming a.coming b.is_coming a.is_coming in
+    next_unique asking old (after_unit old.dump a.coming) a.coming.next one other end last a.takes
+    (subst (λ (c : Coming). TakesComing asking old (after_unit old.dump c) c.next other last) same b.takes)
 
 pub units_unique : (asking : Asking) (count : ℕ) (old : Taking) (one other : List ℕ) (end last : Taking)
     → TakesUnits asking count old one end → TakesUnits asking count old other last → (one ≡ other) × (end ≡ last)
@@ -64,42 +65,30 @@ units_unique asking (suc count) old one other end last a b =
 
 -- ---- one at least
 
--- what is refused is so for a cause
-has_cause : (it : Recorded) (peers : Option (List Peer)) (fault : BodyFault) → IsReading it peers (Err fault) → body_cause fault ≢ None
-has_cause it peers Attributes reads = λ none. cc
-has_cause it peers Message reads = λ none. cc
-has_cause it peers NoPath reads = λ none. cc
-has_cause it peers BadBody reads = λ none. cc
-has_cause it peers NoPeerTable reads = λ none. cc
-has_cause it peers PeerIndex reads = λ none. cc
-has_cause it peers NoMemory reads = absurd (no_want_of_memory it peers reads)
+some_effect : (old : Taking) (dump : Dump) (effect : Effect) → (new : Taking) × Does old dump effect new
+some_effect old dump (Event event) =
+    let one = one_outcome_of old.state event in
+    let cost = some_cost old.state event one.one in (
+      record old { dump = dump; state = one.one; judgements = old.judgements + cost.0 },
+      record { state = one.one; happens = one.is; cost = cost.0; costs = cost.1; new_is = refl },
+    )
+some_effect old dump Note = (_, refl)
+some_effect old dump Pass = (_, refl)
 
-some_body : (asking : Asking) (old : Taking) (it : Recorded) (rest : List ℕ) (reading : Result Body BodyFault) → IsReading it old.dump.peers reading
-    → (text : List ℕ) × (new : Taking) × TakesBody asking old rest reading text new
-some_body asking old it rest (Ok (Peers table)) reads = ([], _, (refl, refl))
-some_body asking old it rest (Ok (RoutesBody changes)) reads =
-    ([], _, (refl, (record old.state { routes = performed changes old.state.routes }, refl, refl)))
-some_body asking old it rest (Ok Passed) reads = ([], _, (refl, refl))
-some_body asking old it rest (Err fault) reads = some_refusal (body_cause fault) (has_cause it old.dump.peers fault reads) where
-  some_refusal : (cause : Option Cause) → cause ≢ None → (text : List ℕ) × (new : Taking) × RefusesRecord cause asking old rest text new
-  some_refusal None some = absurd (some refl)
-  some_refusal (Some cause) some = (_, _, (refl, refl))
-
-some_coming : (asking : Asking) (old : Taking) (coming : Coming) → (text : List ℕ) × (new : Taking) × TakesComing asking old coming text new
-some_coming asking old (Whole it rest) =
-    let reading = one_reading it old.dump.peers in
-    let done = some_body asking old it rest reading.one reading.is in
-    (done.0, done.1, record { reading = reading.one; reads = reading.is; takes = done.2 })
-some_coming asking old TooLong = (_, _, (refl, refl))
-some_coming asking old CutShort = (_, _, (refl, refl))
-some_coming asking old End = ([], _, (refl, refl))
+some_next : (asking : Asking) (old : Taking) (behind : Dump) (next : Next) → (text : List ℕ) × (new : Taking) × TakesComing asking old behind next text new
+some_next asking old behind (AUnit (Ok effect)) =
+    let done = some_effect old behind effect in
+    ([], done.0, (refl, done.1))
+some_next asking old behind (AUnit (Err cause)) = (_, _, (refl, refl))
+some_next asking old behind (Broken cause) = (_, _, (refl, refl))
+some_next asking old behind End = ([], _, (refl, refl))
 
 pub some_unless : (over : Bool) (asking : Asking) (old : Taking) → (text : List ℕ) × (new : Taking) × TakesUnless over asking old text new
 some_unless true asking old = ([], old, (refl, refl))
 some_unless false asking old =
-    let coming = one_thing_comes old.dump.left in
-    let done = some_coming asking old coming.one in
-    (done.0, done.1, record { coming = coming.one; comes = coming.is; takes = done.2 })
+    let coming = one_thing_comes old.dump.known old.dump.left in
+    let done = some_next asking old (after_unit old.dump coming.one) coming.one.next in
+    (done.0, done.1, record { coming = coming.one; is_coming = coming.is; takes = done.2 })
 
 pub some_units : (asking : Asking) (count : ℕ) (old : Taking) → (text : List ℕ) × (new : Taking) × TakesUnits asking count old text new
 some_units asking zero old = ([], old, (refl, refl))

@@ -1,4 +1,5 @@
 pub mod ChangesLemmas
+pub mod ComingLemmas
 pub mod FrameLemmas
 pub mod HoldingLemmas
 pub mod JudgementLemmas

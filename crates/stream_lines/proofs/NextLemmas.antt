@@ -1,54 +1,114 @@
 -- What comes next in a dump, from what is held of it.
-use Rattle.std.proofs.Common.{◌≡◌, ◌≢◌, ℕ, List, [], ◌++◌, None, Some, refl, sym, ◌∙◌, ap, append_assoc, append-nil}
+use Rattle.std.proofs.Common.{◌≡◌, ◌≢◌, ℕ, List, [], ◌++◌, None, Some, Ok, Err, refl, sym, ◌∙◌, ap, subst, append_assoc, append-nil}
 use Rattle.std.specs.Io.KnownBytes.{prepend_known, IsAtEnd}
 use Rattle.std.specs.declared.option.Option.{Option}
 use Rattle.std.specs.declared.result.Result.{Result}
 use Rattle.path_model.specs.declared.peer.Peer.{Peer}
 use Rattle.held_bytes.specs.Units.{Begins}
-use Rattle.mrt_reader.specs.declared.body.Body.{Body}
+use Rattle.mrt_reader.specs.declared.body.Body.{Body as RecordBody}
+use Rattle.mrt_reader.specs.declared.body.Body.TheVariants as bodies
 use Rattle.mrt_reader.specs.declared.fault.BodyFault.{BodyFault}
-use Rattle.mrt_reader.specs.Bodies.{IsOutcome}
-use Rattle.mrt_reader.specs.Coming.{IsPartial, IsTooLong}
+use Rattle.mrt_reader.specs.declared.fault.BodyFault.TheVariants as faults
+use Rattle.mrt_reader.specs.Bodies as mrt
+use Rattle.mrt_reader.specs.Coming as records
 use Rattle.mrt_reader.specs.Records.{Recorded, IsRecord}
 use Rattle.mrt_reader.proofs.LawLemmas.{too_long_stays}
-use Rattle.stream_lines.specs.declared.dump.Next.TheVariants.{Record, TooLong, CutShort, End}
-use Rattle.stream_lines.specs.Next.{IsNext}
+use Rattle.bmp_reader.specs.declared.body.Body.{Body as MessageBody}
+use Rattle.bmp_reader.specs.declared.body.Body.TheVariants as sayings
+use Rattle.bmp_reader.specs.declared.fault.BmpFault.{BmpFault}
+use Rattle.bmp_reader.specs.declared.fault.BmpFault.TheVariants as bmp_faults
+use Rattle.bmp_reader.specs.declared.view.View.{View}
+use Rattle.bmp_reader.specs.Bodies as bmp
+use Rattle.bmp_reader.specs.Coming as messages
+use Rattle.bmp_reader.specs.Messages.{Sent, IsMessage}
+use Rattle.bmp_reader.proofs.LawLemmas.{other_version_stays, bad_length_stays}
+use Rattle.report_text.specs.declared.cause.Cause.TheVariants as causes
+use Rattle.stream_lines.specs.declared.next.Effect.{Effect}
+use Rattle.stream_lines.specs.declared.next.Next.{Next}
+use Rattle.stream_lines.specs.declared.next.Next.TheVariants.{Unit as AUnit, Broken, End}
+use Rattle.report_text.specs.declared.cause.Cause.{Cause}
+use Rattle.stream_lines.specs.Gives.{Gives, IsLast, IsNext, IsPartial, Says}
+use Rattle.stream_lines.specs.Units.{Known, Mrt, Bmp, comes, RecordSays, MessageSays, IsComing}
+
+-- what begins with a unit does so whatever comes behind
+begins_more : {A : Type 0} (IsUnit : List ℕ → A → Type 0) (held rest more : List ℕ) (it : A) → Begins IsUnit held it rest → Begins IsUnit (held ++ more) it (rest ++ more)
+begins_more IsUnit held rest more it begins = record {
+  front = begins.front;
+  spelled = begins.spelled;
+  whole = ap (λ (t : List ℕ). t ++ more) begins.whole ∙ append_assoc begins.front rest more;
+}
+
+-- ---- records
+
+-- an answer that says something is no want of memory
+record_reads : (it : Recorded) (peers : Option (List Peer)) (reading : Result RecordBody BodyFault) (known : Known) (effect : Result Effect Cause)
+    → Says (RecordSays peers reading) known effect → mrt.IsOutcome it peers reading → mrt.IsReading it peers reading
+record_reads it peers (Ok body) known effect says reads = reads
+record_reads it peers (Err faults.Body) known effect says reads = reads
+record_reads it peers (Err faults.NoPeerTable) known effect says reads = reads
+record_reads it peers (Err faults.PeerIndex) known effect says reads = reads
+record_reads it peers (Err faults.Message) known effect says reads = reads
+record_reads it peers (Err faults.Attributes) known effect says reads = reads
+record_reads it peers (Err faults.NoPath) known effect says reads = reads
+record_reads it peers (Err faults.NoMemory) known effect says reads = absurd (says [])
+
+pub gives_record : (peers : Option (List Peer)) (held rest : List ℕ) (it : Recorded) (reading : Result RecordBody BodyFault) (known : Known) (effect : Result Effect Cause)
+    → Begins IsRecord held it rest → mrt.IsOutcome it peers reading → Says (RecordSays peers reading) known effect → Gives (Mrt peers) held known rest (Some (AUnit effect))
+gives_record peers held rest it reading known effect begins reads says = λ more.
+    (records.Whole it (rest ++ more), begins_more IsRecord held rest more it begins, (reading, record_reads it peers reading known effect says reads, says (rest ++ more)))
+
+pub gives_too_long : (peers : Option (List Peer)) (held : List ℕ) → records.IsTooLong held → Gives (Mrt peers) held (Mrt peers) held (Some (Broken causes.TooLong))
+gives_too_long peers held long = λ more. (records.TooLong, too_long_stays held more long, refl)
+
+-- ---- messages
+
+message_reads : (it : Sent) (view : View) (peers : bmp.Identifying) (reading : Result MessageBody BmpFault) (known : Known) (effect : Result Effect Cause)
+    → Says (MessageSays view peers reading) known effect → bmp.IsOutcome it view peers reading → bmp.IsReading it view peers reading
+message_reads it view peers (Ok body) known effect says reads = reads
+message_reads it view peers (Err bmp_faults.Body) known effect says reads = reads
+message_reads it view peers (Err bmp_faults.Message) known effect says reads = reads
+message_reads it view peers (Err bmp_faults.Attributes) known effect says reads = reads
+message_reads it view peers (Err bmp_faults.NoPath) known effect says reads = reads
+message_reads it view peers (Err bmp_faults.NoMemory) known effect says reads = absurd (says [])
+
+pub gives_message : (view : View) (peers : bmp.Identifying) (held rest : List ℕ) (it : Sent) (reading : Result MessageBody BmpFault) (known : Known) (effect : Result Effect Cause)
+    → Begins IsMessage held it rest → bmp.IsOutcome it view peers reading → Says (MessageSays view peers reading) known effect → Gives (Bmp view peers) held known rest (Some (AUnit effect))
+gives_message view peers held rest it reading known effect begins reads says = λ more.
+    (messages.Whole it (rest ++ more), begins_more IsMessage held rest more it begins, (reading, message_reads it view peers reading known effect says reads, says (rest ++ more)))
+
+pub gives_version : (view : View) (peers : bmp.Identifying) (held : List ℕ) → messages.IsOtherVersion held → Gives (Bmp view peers) held (Bmp view peers) held (Some (Broken causes.BmpVersion))
+gives_version view peers held other = λ more. (messages.OtherVersion, other_version_stays held more other, refl)
+
+pub gives_length : (view : View) (peers : bmp.Identifying) (held : List ℕ) → messages.IsBadLength held → Gives (Bmp view peers) held (Bmp view peers) held (Some (Broken causes.BmpLength))
+gives_length view peers held bad = λ more. (messages.BadLength, bad_length_stays held more bad, refl)
+
+-- ---- either
+
+-- the end, where no whole unit is held
+last_comes : (known : Known) (held : List ℕ) (next : Next) → IsPartial known held → IsLast held next → IsComing known held (comes next known held)
+last_comes known held (AUnit effect) partial last = absurd last
+last_comes (Mrt peers) held (Broken cause) partial last = (records.CutShort, (partial, last.0), ap (λ (c : Cause). comes (Broken c) (Mrt peers) held) last.1)
+last_comes (Bmp view peers) held (Broken cause) partial last = (messages.CutShort, (partial, last.0), ap (λ (c : Cause). comes (Broken c) (Bmp view peers) held) last.1)
+last_comes (Mrt peers) held End partial last = (records.End, last, refl)
+last_comes (Bmp view peers) held End partial last = (messages.End, last, refl)
 
 -- `held` is held, `left` is left of the file, and `old` was left before anything was read
-module _ (peers : Option (List Peer)) (old : Option (List ℕ)) (held : List ℕ) where
-  pub IsNext-record : (left : Option (List ℕ)) (rest : List ℕ) (it : Recorded) (reading : Result Body BodyFault) → old ≡ prepend_known held left
-      → Begins IsRecord held it rest → IsOutcome it peers reading → IsNext peers old (prepend_known rest left) (Record reading)
-  IsNext-record None rest it reading is begins reads = λ all told. absurd (let no : ⊥ = cc in no)
-  IsNext-record (Some left) rest it reading is begins reads = λ all told.
+module _ (known : Known) (old : Option (List ℕ)) (held : List ℕ) where
+  pub IsNext-given : (left : Option (List ℕ)) (known_new : Known) (rest : List ℕ) (next : Next) → old ≡ prepend_known held left
+      → Gives known held known_new rest (Some next) → IsNext known old known_new (prepend_known rest left) next
+  IsNext-given None known_new rest next is gives = λ all told. absurd (let no : ⊥ = cc in no)
+  IsNext-given (Some left) known_new rest next is gives = λ all told.
       let same : all ≡ held ++ left = cc in
-      record {
-        it = it;
-        rest = rest ++ left;
-        begins = record {
-          front = begins.front;
-          spelled = begins.spelled;
-          whole = same ∙ ap (λ (t : List ℕ). t ++ left) begins.whole ∙ append_assoc begins.front rest left;
-        };
-        told = refl;
-        reads = reads;
-      }
+      record { rest = rest ++ left; coming = subst (λ (t : List ℕ). IsComing known t (comes next known_new (rest ++ left))) (sym same) (gives left); told = refl }
 
-  pub IsNext-too_long : (left : Option (List ℕ)) → old ≡ prepend_known held left → IsTooLong held → IsNext peers old (prepend_known held left) TooLong
-  IsNext-too_long None is long = λ all told. absurd (let no : ⊥ = cc in no)
-  IsNext-too_long (Some left) is long = λ all told.
-      let same : all ≡ held ++ left = cc in
-      (rw same (too_long_stays held left long), ap Some (sym same))
-
-  pub IsNext-cut : (left : Option (List ℕ)) → old ≡ prepend_known held left → IsAtEnd left → IsPartial held → held ≢ []
-      → IsNext peers old (prepend_known held left) CutShort
-  IsNext-cut None is at_end partial some = λ all told. absurd (let no : ⊥ = cc in no)
-  IsNext-cut (Some left) is at_end partial some = λ all told.
+  pub IsNext-last : (left : Option (List ℕ)) (next : Next) → old ≡ prepend_known held left → IsAtEnd left → IsPartial known held → IsLast held next
+      → IsNext known old known (prepend_known held left) next
+  IsNext-last None next is at_end partial last = λ all told. absurd (let no : ⊥ = cc in no)
+  IsNext-last (Some left) next is at_end partial last = λ all told.
       let whole : all ≡ held ++ left = cc in
       let same : all ≡ held = whole ∙ ap (λ (t : List ℕ). held ++ t) at_end ∙ append-nil held in
-      (rw same partial, (λ none. some (sym same ∙ none)), ap Some (sym whole))
-
-  pub IsNext-end : (left : Option (List ℕ)) → old ≡ prepend_known held left → IsAtEnd left → held ≡ [] → IsNext peers old (prepend_known held left) End
-  IsNext-end None is at_end none = λ all told. absurd (let no : ⊥ = cc in no)
-  IsNext-end (Some left) is at_end none = λ all told.
-      let whole : all ≡ held ++ left = cc in
-      (whole ∙ ap (λ (t : List ℕ). held ++ t) at_end ∙ append-nil held ∙ none, ap Some (sym whole))
+      record {
+        rest = all;
+        coming = subst (λ (t : List ℕ). IsComing known t (comes next known t)) (sym same) (last_comes known held next partial last);
+        told = ap Some (sym whole);
+      }

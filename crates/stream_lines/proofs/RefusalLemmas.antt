@@ -1,7 +1,6 @@
 -- The refusals in a text are those that were counted.
-use Rattle.std.proofs.Common.{◌≡◌, ℕ, zero, suc, ◌+◌, Bool, true, false, not, cond, nat_eq, List, [], ◌∷◌, ◌++◌, Option, Some, None, Ok, Err, codes, refl, sym, ap, ◌∙◌, arith}
+use Rattle.std.proofs.Common.{◌≡◌, ℕ, zero, suc, ◌+◌, Bool, true, false, not, cond, nat_eq, List, [], ◌∷◌, ◌++◌, Ok, Err, codes, refl, sym, ap, ◌∙◌, arith}
 use Rattle.std.specs.List.{list_all, slice_split, starts_with, count_by}
-use Rattle.std.specs.declared.result.Result.{Result}
 use Rattle.std.proofs.lemmas.List.{append_assoc}
 use Rattle.std.proofs.lemmas.List.Elements.{All-weaker}
 use Rattle.std.proofs.lemmas.List.Splits.{slice_split_at}
@@ -13,14 +12,13 @@ use Rattle.report_text.specs.Refusals.{AnyPlace, of_unit, refusal_line, refusal_
 use Rattle.report_text.specs.Laws.{IsPlaceInLine}
 use Rattle.report_text.proofs.RefusalLemmas.{refusal_is_one_line}
 pub use Rattle.report_text.proofs.ReportedLemmas.{lacks_lf, lacks}
-use Rattle.mrt_reader.specs.declared.body.Body.{Body}
-use Rattle.mrt_reader.specs.declared.body.Body.TheVariants.{Peers, Routes as RoutesBody, Passed}
-use Rattle.mrt_reader.specs.declared.fault.BodyFault.{BodyFault}
 use Rattle.report_text.specs.declared.cause.Cause.{Cause}
-use Rattle.report_text.specs.declared.cause.Cause.TheVariants as causes
-use Rattle.mrt_reader.specs.Coming.{Coming, Whole, TooLong, CutShort, End}
+use Rattle.stream_lines.specs.declared.next.Effect.{Effect}
+use Rattle.stream_lines.specs.declared.next.Effect.TheVariants.{Event, Note, Pass}
+use Rattle.stream_lines.specs.declared.next.Next.{Next}
+use Rattle.stream_lines.specs.declared.next.Next.TheVariants.{Unit as AUnit, Broken, End}
 use Rattle.stream_lines.specs.Counts.{refusals_in}
-use Rattle.stream_lines.specs.Streams.{Asking, Taking, body_cause, RefusesRecord, TakesBody, TakesComing, TakesUnless, TakesUnits}
+use Rattle.stream_lines.specs.Streams.{Asking, Dump, Taking, after_unit, Does, TakesComing, TakesUnless, TakesUnits}
 
 -- ---- texts without a line feed
 
@@ -74,27 +72,22 @@ module _ (asking : Asking) (in_line : IsInLine asking.name) where
   unit_refused old cause text new end rest more takes =
       refused asking.line (of_unit asking.name (old.dump.taken + 1)) cause text rest old.refused new.refused in_line takes.0 (ap (λ (t : Taking). t.refused) takes.1 ∙ more)
 
-  body_counted : (old : Taking) (left : List ℕ) (reading : Result Body BodyFault) (text : List ℕ) (new : Taking) (rest : List ℕ)
-      → TakesBody asking old left reading text new → new.refused + refusals_in rest ≡ old.refused + refusals_in (text ++ rest)
-  body_counted old left (Ok (Peers table)) text new rest takes = silent text rest old.refused new.refused takes.0 (ap (λ (t : Taking). t.refused) takes.1)
-  body_counted old left (Ok (RoutesBody changes)) text new rest takes = silent text rest old.refused new.refused takes.0 (ap (λ (t : Taking). t.refused) takes.1.2)
-  body_counted old left (Ok Passed) text new rest takes = silent text rest old.refused new.refused takes.0 (ap (λ (t : Taking). t.refused) takes.1)
-  body_counted old left (Err fault) text new rest takes = record_counted (body_cause fault) takes where
-    record_counted : (cause : Option Cause) → RefusesRecord cause asking old left text new → new.refused + refusals_in rest ≡ old.refused + refusals_in (text ++ rest)
-    record_counted None refuses = absurd refuses
-    record_counted (Some cause) refuses = unit_refused old cause text new _ rest refl refuses
+  effect_refuses : (old : Taking) (dump : Dump) (effect : Effect) (new : Taking) → Does old dump effect new → new.refused ≡ old.refused
+  effect_refuses old dump (Event event) new does = ap (λ (t : Taking). t.refused) does.new_is
+  effect_refuses old dump Note new does = ap (λ (t : Taking). t.refused) does
+  effect_refuses old dump Pass new does = ap (λ (t : Taking). t.refused) does
 
-  coming_counted : (old : Taking) (coming : Coming) (text : List ℕ) (new : Taking) (rest : List ℕ) → TakesComing asking old coming text new
+  next_counted : (old : Taking) (behind : Dump) (next : Next) (text : List ℕ) (new : Taking) (rest : List ℕ) → TakesComing asking old behind next text new
       → new.refused + refusals_in rest ≡ old.refused + refusals_in (text ++ rest)
-  coming_counted old (Whole it left) text new rest takes = body_counted old left takes.reading text new rest takes.takes
-  coming_counted old TooLong text new rest takes = unit_refused old causes.TooLong text new _ rest refl takes
-  coming_counted old CutShort text new rest takes = unit_refused old causes.CutShort text new _ rest refl takes
-  coming_counted old End text new rest takes = silent text rest old.refused new.refused takes.0 (ap (λ (t : Taking). t.refused) takes.1)
+  next_counted old behind (AUnit (Ok effect)) text new rest takes = silent text rest old.refused new.refused takes.0 (effect_refuses old behind effect new takes.1)
+  next_counted old behind (AUnit (Err cause)) text new rest takes = unit_refused old cause text new _ rest refl takes
+  next_counted old behind (Broken cause) text new rest takes = unit_refused old cause text new _ rest refl takes
+  next_counted old behind End text new rest takes = silent text rest old.refused new.refused takes.0 (ap (λ (t : Taking). t.refused) takes.1)
 
   unless_counted : (over : Bool) (old : Taking) (text : List ℕ) (new : Taking) (rest : List ℕ) → TakesUnless over asking old text new
       → new.refused + refusals_in rest ≡ old.refused + refusals_in (text ++ rest)
   unless_counted true old text new rest takes = silent text rest old.refused new.refused takes.0 (ap (λ (t : Taking). t.refused) takes.1)
-  unless_counted false old text new rest takes = coming_counted old takes.coming text new rest takes.takes
+  unless_counted false old text new rest takes = next_counted old (after_unit old.dump takes.coming) takes.coming.next text new rest takes.takes
 
   counted_in_line : (count : ℕ) (old new : Taking) (text rest : List ℕ) → TakesUnits asking count old text new
       → new.refused + refusals_in rest ≡ old.refused + refusals_in (text ++ rest)

@@ -1,13 +1,30 @@
 -- What is held of a dump that was opened.
 use Rattle.std.specs.Prelude.{ℕ, Bool, List}
-use Rattle.std.specs.declared.option.Option.{Option}
-use Rattle.path_model.specs.declared.peer.Peer.{Peer}
+use Rattle.std.specs.declared.option.Option.TheVariants.{None}
+use Rattle.std.specs.FinSet as set
+use Rattle.stream_lines.specs.declared.reader.Reader.{Reader}
+use Rattle.stream_lines.specs.declared.reader.Reader.TheVariants as readers
+use Rattle.stream_lines.specs.Units.{Known, Mrt, Bmp}
 
--- the number of its file, what was read of it and belongs to no unit yet, how many units were taken, the last accepted peer table,
--- and whether the dump is over
+-- the number of its file, what was read of it and belongs to no unit yet, how many units were taken, what these told, and whether the
+-- dump is over
 pub record HeldDump : Type 0 where
   pub file : ℕ
   pub held : List ℕ
   pub taken : ℕ
-  pub peers : Option (List Peer)
+  pub known : Known
   pub over : Bool
+
+-- what a reader holds, and what it knows
+abbrev pub held_of : Reader → List ℕ
+held_of (readers.Mrt records) = records.framer
+held_of (readers.Bmp messages) = messages.framer
+
+abbrev pub known_of : Reader → Known
+known_of (readers.Mrt records) = Mrt records.peers
+known_of (readers.Bmp messages) = Bmp messages.view messages.peers
+
+-- of a dump that is over nothing is known
+abbrev pub fresh_of : Known → Known
+fresh_of (Mrt peers) = Mrt None
+fresh_of (Bmp view peers) = Bmp view set.empty

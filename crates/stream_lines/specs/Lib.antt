@@ -1,13 +1,15 @@
 pub mod Changes
+pub mod Codes
 pub mod Counts
 pub mod Frames
+pub mod Gives
 pub mod Held
 pub mod Holding
 pub mod Laws
-pub mod Next
 pub mod Rows
 pub mod Stops
 pub mod Streams
 pub mod Summary
 pub mod Taking
 pub mod TakingSteps
+pub mod Units

@@ -1,34 +1,27 @@
 -- The units that a line takes from a dump.
 use Rattle.std.specs.Prelude.{◌≡◌, ℕ, zero, suc, ◌+◌, Bool, true, false, List, [], ◌++◌}
-use Rattle.std.specs.declared.option.Option.{Option}
-use Rattle.std.specs.declared.option.Option.TheVariants.{Some, None}
-use Rattle.std.specs.declared.result.Result.{Result}
 use Rattle.std.specs.declared.result.Result.TheVariants.{Ok, Err}
-use Rattle.path_model.specs.declared.peer.Peer.{Peer}
-use Rattle.mrt_reader.specs.declared.body.Body.{Body}
-use Rattle.mrt_reader.specs.declared.body.Body.TheVariants.{Peers, Routes as RoutesBody, Passed}
-use Rattle.mrt_reader.specs.declared.fault.BodyFault.{BodyFault}
-use Rattle.mrt_reader.specs.declared.fault.BodyFault.TheVariants.{Body as BadBody, NoPeerTable, PeerIndex, Message, Attributes, NoPath, NoMemory}
-use Rattle.mrt_reader.specs.Bodies.{IsReading}
-use Rattle.mrt_reader.specs.Coming.{Coming, IsComing}
-use Rattle.mrt_reader.specs.Records.{Recorded}
 use Rattle.report_text.specs.declared.cause.Cause.{Cause}
-use Rattle.report_text.specs.declared.cause.Cause.TheVariants as causes
 use Rattle.report_text.specs.Refusals.{of_unit, refusal_text}
 use Rattle.rib_store.specs.State.{State}
-use Rattle.rib_store.specs.Touched.{announced}
-use Rattle.analyser.specs.declared.event.Event.TheVariants.{Routes}
+use Rattle.analyser.specs.declared.event.Event.{Event as AnEvent}
 use Rattle.analyser.specs.Events.{Happens}
+use Rattle.analyser.specs.Touched.{Costs}
+use Rattle.stream_lines.specs.declared.next.Effect.{Effect}
+use Rattle.stream_lines.specs.declared.next.Effect.TheVariants.{Event, Note, Pass}
+use Rattle.stream_lines.specs.declared.next.Next.{Next}
+use Rattle.stream_lines.specs.declared.next.Next.TheVariants.{Unit as AUnit, Broken, End}
+use Rattle.stream_lines.specs.Units.{Known, Coming, IsComing}
 
--- A dump: what of its file's bytes comes after the units taken, how many those were, the last accepted peer table, and whether it is over.
+-- A dump: what of its file's bytes comes after the units taken, how many those were, what they told of those to come, and whether it is over.
 pub record Dump : Type 0 where
   pub left : List ℕ
   pub taken : ℕ
-  pub peers : Option (List Peer)
+  pub known : Known
   pub over : Bool
 
--- What a taken unit changes: the dump, the analysis, the counts of passed records and refused lines, and how many judgements the units
--- so far may have cost: one for each route that was announced.
+-- What a taken unit changes: the dump, the analysis, the counts of passed units and refused lines, and how many judgements the units so far
+-- may have cost: one for each route that was announced, and for a role that was learnt what a `role` line may cost.
 pub record Taking : Type 0 where
   pub dump : Dump
   pub state : State
@@ -41,63 +34,46 @@ pub record Asking : Type 0 where
   pub line : ℕ
   pub name : List ℕ
 
--- the cause for which a record's body is refused; want of memory is none
-abbrev pub body_cause : BodyFault → Option Cause
-body_cause Attributes = Some causes.Attributes
-body_cause Message = Some causes.Message
-body_cause NoPath = Some causes.NoPath
-body_cause BadBody = Some causes.Body
-body_cause NoPeerTable = Some causes.NoPeerTable
-body_cause PeerIndex = Some causes.PeerIndex
-body_cause NoMemory = None
+-- the dump stands behind one unit more
+abbrev pub after_unit : Dump → Coming → Dump
+after_unit dump coming = record dump { left = coming.left; taken = dump.taken + 1; known = coming.known }
 
--- the dump stands after one unit more
-abbrev pub after_unit : Dump → List ℕ → Dump
-after_unit dump rest = record dump { left = rest; taken = dump.taken + 1 }
+-- the dump is over
+abbrev pub ended : Dump → Dump
+ended dump = record dump { over = true }
 
 -- the line that reports the next unit as refused
 abbrev pub unit_refused : Asking → Dump → Cause → List ℕ
 unit_refused asking dump cause = refusal_text asking.line (of_unit asking.name (dump.taken + 1)) cause
 
--- a refused record changes nothing but the place in the dump
-abbrev pub RefusesRecord : Option Cause → Asking → Taking → List ℕ → List ℕ → Taking → Type 0
-RefusesRecord None asking old rest text new = ⊥
-RefusesRecord (Some cause) asking old rest text new = (text ≡ unit_refused asking old.dump cause)
-    × (new ≡ record old { dump = after_unit old.dump rest; refused = old.refused + 1 })
+-- an event happens, its judgements are counted, and the dump stands there
+pub record LetsHappen (old : Taking) (dump : Dump) (event : AnEvent) (new : Taking) : Type 0 where
+  pub state : State
+  pub happens : Happens old.state event state
+  pub cost : ℕ
+  pub costs : Costs old.state event state cost
+  pub new_is : new ≡ record old { dump = dump; state = state; judgements = old.judgements + cost }
 
--- a record that reads so is taken
-abbrev pub TakesBody : Asking → Taking → List ℕ → Result Body BodyFault → List ℕ → Taking → Type 0
-TakesBody asking old rest (Ok (Peers table)) text new =
-    (text ≡ []) × (new ≡ record old { dump = record (after_unit old.dump rest) { peers = Some table } })
-TakesBody asking old rest (Ok (RoutesBody changes)) text new =
-    (text ≡ []) × ((state : State) × Happens old.state (Routes changes) state
-    × (new ≡ record old { dump = after_unit old.dump rest; state = state; judgements = old.judgements + announced changes }))
-TakesBody asking old rest (Ok Passed) text new =
-    (text ≡ []) × (new ≡ record old { dump = after_unit old.dump rest; passed = old.passed + 1 })
-TakesBody asking old rest (Err fault) text new = RefusesRecord (body_cause fault) asking old rest text new
+-- what an accepted unit does, behind which the dump stands there
+abbrev pub Does : Taking → Dump → Effect → Taking → Type 0
+Does old dump (Event event) new = LetsHappen old dump event new
+Does old dump Note new = new ≡ record old { dump = dump }
+Does old dump Pass new = new ≡ record old { dump = dump; passed = old.passed + 1 }
 
--- a record is taken as it reads by the last accepted peer table
-pub record TakesRecord (asking : Asking) (old : Taking) (it : Recorded) (rest text : List ℕ) (new : Taking) : Type 0 where
-  pub reading : Result Body BodyFault
-  pub reads : IsReading it old.dump.peers reading
-  pub takes : TakesBody asking old rest reading text new
-
--- the dump is over, in a refused unit
-abbrev pub Breaks : Asking → Taking → Cause → List ℕ → Taking → Type 0
-Breaks asking old cause text new = (text ≡ unit_refused asking old.dump cause)
-    × (new ≡ record old { dump = record old.dump { over = true }; refused = old.refused + 1 })
-
-abbrev pub TakesComing : Asking → Taking → Coming → List ℕ → Taking → Type 0
-TakesComing asking old (Coming.Whole it rest) text new = TakesRecord asking old it rest text new
-TakesComing asking old Coming.TooLong text new = Breaks asking old causes.TooLong text new
-TakesComing asking old Coming.CutShort text new = Breaks asking old causes.CutShort text new
-TakesComing asking old Coming.End text new = (text ≡ []) × (new ≡ record old { dump = record old.dump { over = true } })
+-- what comes next is taken: a unit does what it does; or it is refused, and changes nothing but the place in the dump; or the dump is over
+abbrev pub TakesComing : Asking → Taking → Dump → Next → List ℕ → Taking → Type 0
+TakesComing asking old behind (AUnit (Ok effect)) text new = (text ≡ []) × Does old behind effect new
+TakesComing asking old behind (AUnit (Err cause)) text new = (text ≡ unit_refused asking old.dump cause)
+    × (new ≡ record old { dump = behind; refused = old.refused + 1 })
+TakesComing asking old behind (Broken cause) text new = (text ≡ unit_refused asking old.dump cause)
+    × (new ≡ record old { dump = ended old.dump; refused = old.refused + 1 })
+TakesComing asking old behind End text new = (text ≡ []) × (new ≡ record old { dump = ended old.dump })
 
 -- a line takes what comes next in the dump
 pub record TakesNext (asking : Asking) (old : Taking) (text : List ℕ) (new : Taking) : Type 0 where
   pub coming : Coming
-  pub comes : IsComing old.dump.left coming
-  pub takes : TakesComing asking old coming text new
+  pub is_coming : IsComing old.dump.known old.dump.left coming
+  pub takes : TakesComing asking old (after_unit old.dump coming) coming.next text new
 
 -- unless the dump is over
 abbrev pub TakesUnless : Bool → Asking → Taking → List ℕ → Taking → Type 0

@@ -1,13 +1,12 @@
 -- How one unit stands for the definition's; only private contracts cite it.
-use Rattle.std.specs.Prelude.{◌≡◌, ◌≤◌, ℕ, ◌+◌, false, List, ◌++◌, Some}
+use Rattle.std.specs.Prelude.{◌≡◌, ◌≤◌, ℕ, ◌+◌, false, List, ◌++◌}
 use Rattle.std.specs.declared.option.Option.{Option}
 use Rattle.av_base.specs.Files.{Files}
-use Rattle.mrt_reader.specs.declared.body.Body.{Body}
-use Rattle.mrt_reader.specs.declared.body.Body.TheVariants.{Peers, Routes as RoutesBody, Passed}
 use Rattle.rib_store.specs.State.{State}
-use Rattle.rib_store.specs.Touched.{announced}
-use Rattle.analyser.specs.declared.event.Event.TheVariants.{Routes}
 use Rattle.analyser.specs.Events.{Happens}
+use Rattle.analyser.specs.Touched.{TicksWithin}
+use Rattle.stream_lines.specs.declared.next.Effect.{Effect}
+use Rattle.stream_lines.specs.declared.next.Effect.TheVariants.{Event, Note, Pass}
 use Rattle.stream_lines.specs.declared.taking.Progress.{Progress}
 use Rattle.stream_lines.specs.Held.{HeldDump}
 use Rattle.stream_lines.specs.Streams.{Asking, Taking, TakesUnit}
@@ -30,15 +29,14 @@ pub record TicksWithinUnit (asking : Asking) (dump : HeldDump) (progress : Progr
   pub within : dump.over ≡ false → (old new : Taking) (text : List ℕ) → StandsAt files dump progress old → TakesUnit asking old text new
       → after + old.judgements ≤ before + new.judgements
 
--- what a record that says this makes of an open dump, the analyser and the counts
-abbrev pub TookBody : Body → HeldDump → HeldDump → Progress → Progress → Type 0
-TookBody (Peers table) old new progress next = (new ≡ record old { taken = old.taken + 1; peers = Some table }) × (next ≡ progress)
-TookBody (RoutesBody changes) old new progress next = (new ≡ record old { taken = old.taken + 1 })
-    × (state : State) × Happens progress.analyser (Routes changes) state × (next ≡ record progress { analyser = state })
-TookBody Passed old new progress next = (new ≡ record old { taken = old.taken + 1 }) × (next ≡ record progress { passed = progress.passed + 1 })
+-- what an accepted unit makes of the analyser and the counts
+abbrev pub Did : Effect → Progress → Progress → Type 0
+Did (Event event) progress next = (state : State) × Happens progress.analyser event state × (next ≡ record progress { analyser = state })
+Did Note progress next = next ≡ progress
+Did Pass progress next = next ≡ record progress { passed = progress.passed + 1 }
 
--- how many judgements a record that says this may cost
-abbrev pub judged_by : Body → ℕ
-judged_by (Peers table) = 0
-judged_by (RoutesBody changes) = announced changes
-judged_by Passed = 0
+-- no more steps were taken than the unit may cost
+abbrev pub TicksWithinEffect : State → Effect → ℕ → ℕ → Type 0
+TicksWithinEffect state (Event event) before after = TicksWithin state event before after
+TicksWithinEffect state Note before after = after ≤ before
+TicksWithinEffect state Pass before after = after ≤ before

@@ -1,23 +1,30 @@
 //! What one line of a script does with a dump.
 //!
 //! The layer above uses one contract, that of [`take_units`]: it takes the next units of a dump that was opened, or all that come
-//! until the dump is over, and adds their text to what was written and is held. What a unit makes of a dump, of the analysis and of
-//! the counts is defined in `specs/Streams.antt`, over what is left of the dump's file: begin reading there, and then in
-//! `specs/Holding.antt`, how an [`OpenDump`] stands for such a dump. From each dump any number of units has exactly one text and
-//! outcome, and as many refusals are counted as that text has (`laws`). No more judgements are made than one for each route that the
-//! units announce.
+//! until the dump is over, and adds their text to what was written and is held. A dump is a file of records of MRT, or of messages of
+//! BMP: what comes next in either is defined in `specs/Units.antt`, and what a unit makes of a dump, of the analysis and of the counts in
+//! `specs/Streams.antt`, over what is left of the dump's file. Begin reading there, and then in `specs/Holding.antt`, how an [`OpenDump`]
+//! stands for such a dump. From each dump any number of units has exactly one text and outcome, and as many refusals are counted as that
+//! text has (`laws`). No more judgements are made than one for each route that the units announce, and for a role that is learnt what a
+//! change of that role may cost.
 //!
-//! `dump` reads the file piece by piece and takes off what comes next. `taking` performs it, and `body` a record by what it says.
+//! `dump` reads the file piece by piece and takes off what comes next, by its `reader`: `records` has that of MRT and `messages` that of
+//! BMP, and `next` what both give. `taking` performs it, and `effect` what an accepted unit does.
 //! `rows` writes a report of the routes and `changes` what changed, line by line; `summary` sums up, and `stop` says why a line, or
 //! the reading of a file, ends early. Lemmas for the proofs above are in `proofs/`: `FrameLemmas` for the files that a call leaves as
 //! they were, `LawLemmas` and `UnitsLemmas` for units, `JudgementLemmas` for what units may cost, and `RefusalLemmas` for the refusals
 //! in a text.
 #![tactic(auto)]
 
-mod body;
 mod changes;
 mod dump;
+mod effect;
+mod kind;
 mod laws;
+mod messages;
+mod next;
+mod reader;
+mod records;
 mod rows;
 mod stop;
 mod summary;
@@ -25,6 +32,7 @@ mod taking;
 
 pub use changes::put_changes;
 pub use dump::OpenDump;
+pub use kind::DumpKind;
 pub use laws::{each_state_has_one_summary, refused_units_are_counted, units_have_one_outcome};
 pub use rows::put_rows;
 pub use stop::{ReadFault, Stop};

@@ -11,8 +11,9 @@ ghost use Rattle.stream_lines.specs.Holding.{LetsGo};
 ghost use Rattle.stream_lines.specs.Taking.{GrewBy, TicksWithinUnits, TookSome, TookUnits, asking_of};
 ghost use Rattle.stream_lines.specs.TakingSteps.{TicksWithinUnit, TookUnit};
 
-use crate::body::{body_cause, take_body};
-use crate::dump::{Next, OpenDump};
+use crate::dump::OpenDump;
+use crate::effect::take_effect;
+use crate::next::Next;
 use crate::stop::{ReadFault, Stop};
 use analyser::Analyser;
 use av_base::{Fault, NoMemory, Shelf, Sink, Steps, pour, pour_piece};
@@ -36,7 +37,7 @@ pub struct Asked<'a> {
 pub struct Progress {
     /// The analysis.
     pub analyser: Analyser,
-    /// How many records were passed over unread.
+    /// How many units were passed over.
     pub passed: u64,
     /// How many units and lines were refused.
     pub refused: u64,
@@ -75,7 +76,7 @@ pub fn take_units<F: Shelf, W: Sink, L: Ledger>(
     ensures file { dump.new.file ≡ dump.old.file }
     ensures few { IfOk result (GrewBy asking.entry.count dump.old dump.new progress) }
 
-    // A dump that ends lets its file, its bytes and its peer table go.
+    // A dump that ends lets its file, its bytes and what its units told go.
     ensures lets_go { OnOk result (LetsGo dump.old dump.new (F.files shelf.new)) }
     ensures others { Leaves (λ other. other ≢ dump.old.file)
         (F.files shelf.old) (F.files shelf.new) }
@@ -152,20 +153,18 @@ fn take_unit<F: Shelf, L: Ledger>(
         → AddsQuiet (append_known written text.old.items) (append_known written text.new.items) }
 {
     match dump.next(alloc, shelf)? {
-        Next::Record(Ok(body)) => Ok(take_body(dump, body, progress, steps)?),
-        Next::Record(Err(fault)) => {
-            let cause = body_cause(fault)?;
+        Next::Unit(Ok(effect)) => {
+            let progress = take_effect(effect, progress, steps)?;
+            dump.pass();
+            Ok(progress)
+        }
+        Next::Unit(Err(cause)) => {
             report(text, asking, dump.taken(), cause)?;
             dump.pass();
             Ok(refused_once(progress))
         }
-        Next::TooLong => {
-            report(text, asking, dump.taken(), Cause::TooLong)?;
-            dump.end(alloc, shelf);
-            Ok(refused_once(progress))
-        }
-        Next::CutShort => {
-            report(text, asking, dump.taken(), Cause::CutShort)?;
+        Next::Broken(cause) => {
+            report(text, asking, dump.taken(), cause)?;
             dump.end(alloc, shelf);
             Ok(refused_once(progress))
         }

@@ -11,7 +11,7 @@ use Rattle.aspa_top.proofs.dumps.open.Goals as goal
 pub returns-then-has_name : goal.returns-then-has_name
 returns-then-has_name g c = record {
   keeps = keeps_all _ _ _;
-  did = open_used c.args.working _ c.args.name c.args.file.now _ _ c.requires.begun (sym c.has_name.ensures ∙ c.if-has_name.true) c.in_ok-refuse.ensures.text c.in_ok-refuse.ensures.next;
+  did = open_used c.args.working _ c.args.kind c.args.name c.args.file.now _ _ c.requires.begun (sym c.has_name.ensures ∙ c.if-has_name.true) c.in_ok-refuse.ensures.text c.in_ok-refuse.ensures.next;
 }
 
 pub returns-in_err-refuse : goal.returns-in_err-refuse
@@ -25,7 +25,7 @@ returns-in_err-refuse g c = record {
 pub returns-in_default : goal.returns-in_default
 returns-in_default g c = record {
   keeps = keeps_shelf _ _ _ _ _ _ (ap names_of c.in_default.ensures.err) c.open_file.ensures.cause.later;
-  did = open_failed c.args.working c.args.name c.args.file.now _ _ _ _ c.in_default.ensures.cause.failed;
+  did = open_failed c.args.working c.args.kind c.args.name c.args.file.now _ _ _ _ c.in_default.ensures.cause.failed;
 }
 
 -- the file isn't there
@@ -34,7 +34,7 @@ returns-in_default-opened g c =
     let missed = rw c.in_default-opened.is at c.in-Ok.ensures.answer in
     record {
       keeps = keeps_shelf _ _ _ _ _ _ (ap names_of missed.told) c.open_file.ensures.cause.later;
-      did = open_misses c.args.working _ c.args.name c.args.file.now _ _ c.requires.begun _ _ _ _ (sym c.has_name.ensures ∙ c.if-has_name.false) c.text.ensures.text missed c.in_ok-refuse-2.ensures.text c.in_ok-refuse-2.ensures.next;
+      did = open_misses c.args.working _ c.args.kind c.args.name c.args.file.now _ _ c.requires.begun _ _ _ _ (sym c.has_name.ensures ∙ c.if-has_name.false) c.text.ensures.text missed c.in_ok-refuse-2.ensures.text c.in_ok-refuse-2.ensures.next;
     }
 
 pub returns-in_err-refuse-2 : goal.returns-in_err-refuse-2
@@ -52,7 +52,7 @@ returns g c =
     let opened = rw c.in-Some.is at c.in-Ok.ensures.answer in
     record {
       keeps = keeps_shelf _ _ _ _ _ _ (ap names_of opened.told ∙ opens_names opened.bytes _) c.open_file.ensures.cause.later;
-      did = open_new c.args.working _ c.args.name c.args.file.now _ _ c.requires.begun _ _ _ _ (sym c.has_name.ensures ∙ c.if-has_name.false) c.text.ensures.text c.in-Some.number c.new-dump.result
+      did = open_new c.args.working _ c.args.kind c.args.name c.args.file.now _ _ c.requires.begun _ _ _ _ (sym c.has_name.ensures ∙ c.if-has_name.false) c.text.ensures.text c.in-Some.number c.new-dump.result
           c.new-dump.ensures opened (g.met.F.Shelf.numbered c.args.shelf.now) refl c.in_ok-name_dump.ensures;
     }
 

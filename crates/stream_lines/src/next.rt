@@ -1,0 +1,25 @@
+//! What comes next in a dump.
+use analyser::Event;
+use report_text::Cause;
+
+/// What an accepted unit does.
+#[derive(Debug, Drop)]
+pub(crate) enum Effect {
+    /// An event happens.
+    Event(Event),
+    /// It says how units behind it are read, and nothing happens.
+    Note,
+    /// It is passed over.
+    Pass,
+}
+
+/// What comes next. A unit is taken off as it is read.
+#[derive(Debug, Drop)]
+pub(crate) enum Next {
+    /// A unit, and what it does, or why it is refused.
+    Unit(Result<Effect, Cause>),
+    /// No unit can be cut out of what is left. The dump is over, and why.
+    Broken(Cause),
+    /// Nothing is left, and the dump is over.
+    End,
+}

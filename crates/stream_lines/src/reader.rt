@@ -1,0 +1,92 @@
+//! The reader of a dump: of its records, or of its messages.
+ghost use Rattle.std.specs.Prelude.{◌≡◌, ◌++◌, [], IfOk};
+ghost use Rattle.stream_lines.specs.Gives.{Gives, IsLast};
+ghost use Rattle.stream_lines.specs.Held.{fresh_of, held_of, known_of};
+ghost use Rattle.stream_lines.specs.Units.{first_known};
+
+use crate::kind::DumpKind;
+use crate::messages::Messages;
+use crate::next::Next;
+use crate::records::Records;
+use av_base::NoMemory;
+use bmp_reader::View;
+use report_text::Cause;
+use std::alloc::Global;
+
+/// What is held of a dump, and what is known of the units before.
+#[derive(Debug, Drop)]
+pub(crate) enum Reader {
+    Mrt(Records),
+    Bmp(Messages),
+}
+
+impl Reader {
+    /// Nothing was read. It takes no memory.
+    pub(crate) fn new(alloc: Global, kind: DumpKind) -> Reader
+        ensures held { held_of result ≡ [] }
+        ensures known { known_of result ≡ first_known kind }
+    {
+        match kind {
+            DumpKind::Mrt => Reader::Mrt(Records::new(alloc)),
+            DumpKind::BmpPre => Reader::Bmp(Messages::new(alloc, View::Pre)),
+            DumpKind::BmpPost => Reader::Bmp(Messages::new(alloc, View::Post)),
+        }
+    }
+
+    /// Whether what comes next is held already, so that no read is waited for.
+    pub(crate) fn is_ready(&self) -> bool {
+        match self {
+            Reader::Mrt(records) => records.framer.is_ready(),
+            Reader::Bmp(messages) => messages.framer.is_ready(),
+        }
+    }
+
+    /// Takes the first unit off and reads it. None comes where no whole one is held.
+    pub(crate) fn next(&mut self, alloc: Global) -> Result<Option<Next>, NoMemory>
+        ensures { IfOk result (Gives (known_of self.old) (held_of self.old)
+            (known_of self.new) (held_of self.new)) }
+    {
+        match self {
+            Reader::Mrt(records) => records.next(alloc),
+            Reader::Bmp(messages) => messages.next(alloc),
+        }
+    }
+
+    /// Appends a piece of the file.
+    pub(crate) fn feed(&mut self, alloc: Global, piece: &[u8]) -> Result<(), NoMemory>
+        ensures held { IfOk result (λ _. held_of self.new ≡ held_of self.old ++ piece.now) }
+        ensures known { IfOk result (λ _. known_of self.new ≡ known_of self.old) }
+    {
+        match self {
+            Reader::Mrt(records) => records.feed(alloc, piece),
+            Reader::Bmp(messages) => messages.feed(alloc, piece),
+        }
+    }
+
+    /// What comes where nothing is left of the file, and no whole unit is held.
+    pub(crate) fn last(&self) -> Next
+        ensures { IsLast (held_of self.now) result }
+    {
+        let is_cut = match self {
+            Reader::Mrt(records) => records.framer.finish().is_err(),
+            Reader::Bmp(messages) => messages.framer.finish().is_err(),
+        };
+        if is_cut {
+            Next::Broken(Cause::CutShort)
+        } else {
+            Next::End
+        }
+    }
+
+    /// Lets go what is held and known.
+    pub(crate) fn clear(&mut self, alloc: Global)
+        ensures held { held_of self.new ≡ [] }
+        ensures known { known_of self.new ≡ fresh_of (known_of self.old) }
+    {
+        let fresh = match self {
+            Reader::Mrt(_) => Reader::Mrt(Records::new(alloc)),
+            Reader::Bmp(messages) => Reader::Bmp(Messages::new(alloc, messages.view)),
+        };
+        *self = fresh;
+    }
+}
