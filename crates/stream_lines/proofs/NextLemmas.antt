@@ -17,6 +17,8 @@ use Rattle.bmp_reader.specs.declared.body.Body.{Body as MessageBody}
 use Rattle.bmp_reader.specs.declared.body.Body.TheVariants as sayings
 use Rattle.bmp_reader.specs.declared.fault.BmpFault.{BmpFault}
 use Rattle.bmp_reader.specs.declared.fault.BmpFault.TheVariants as bmp_faults
+use Rattle.bmp_reader.specs.declared.fault.BmpFrameFault.{BmpFrameFault}
+use Rattle.bmp_reader.specs.declared.fault.BmpFrameFault.TheVariants as frames
 use Rattle.bmp_reader.specs.declared.view.View.{View}
 use Rattle.bmp_reader.specs.Bodies as bmp
 use Rattle.bmp_reader.specs.Coming as messages
@@ -27,7 +29,7 @@ use Rattle.stream_lines.specs.declared.next.Effect.{Effect}
 use Rattle.stream_lines.specs.declared.next.Next.{Next}
 use Rattle.stream_lines.specs.declared.next.Next.TheVariants.{Unit as AUnit, Broken, End}
 use Rattle.report_text.specs.declared.cause.Cause.{Cause}
-use Rattle.stream_lines.specs.Gives.{Gives, IsLast, IsNext, IsPartial, Says}
+use Rattle.stream_lines.specs.Gives.{Gives, IsBreak, IsLast, IsNext, IsPartial, Says}
 use Rattle.stream_lines.specs.Units.{Known, Mrt, Bmp, comes, RecordSays, MessageSays, IsComing}
 
 -- what begins with a unit does so whatever comes behind
@@ -76,11 +78,13 @@ pub gives_message : (view : View) (peers : bmp.Identifying) (held rest : List �
 gives_message view peers held rest it reading known effect begins reads says = λ more.
     (messages.Whole it (rest ++ more), begins_more IsMessage held rest more it begins, (reading, message_reads it view peers reading known effect says reads, says (rest ++ more)))
 
-pub gives_version : (view : View) (peers : bmp.Identifying) (held : List ℕ) → messages.IsOtherVersion held → Gives (Bmp view peers) held (Bmp view peers) held (Some (Broken causes.BmpVersion))
-gives_version view peers held other = λ more. (messages.OtherVersion, other_version_stays held more other, refl)
-
-pub gives_length : (view : View) (peers : bmp.Identifying) (held : List ℕ) → messages.IsBadLength held → Gives (Bmp view peers) held (Bmp view peers) held (Some (Broken causes.BmpLength))
-gives_length view peers held bad = λ more. (messages.BadLength, bad_length_stays held more bad, refl)
+pub gives_break : (view : View) (peers : bmp.Identifying) (held held_new : List ℕ) (fault : BmpFrameFault) (cause : Cause) → messages.Answers held held_new (Err fault) → IsBreak fault cause
+    → Gives (Bmp view peers) held (Bmp view peers) held_new (Some (Broken cause))
+gives_break view peers held held_new frames.BmpVersion cause answers is = λ more.
+    (messages.OtherVersion, other_version_stays held more answers.0, (λ i. comes (Broken (is i)) (Bmp view peers) (answers.1 i ++ more)))
+gives_break view peers held held_new frames.BmpLength cause answers is = λ more.
+    (messages.BadLength, bad_length_stays held more answers.0, (λ i. comes (Broken (is i)) (Bmp view peers) (answers.1 i ++ more)))
+gives_break view peers held held_new frames.CutShort cause answers is = absurd answers
 
 -- ---- either
 

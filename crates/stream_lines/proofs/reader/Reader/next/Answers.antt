@@ -1,7 +1,7 @@
 use Rattle.stream_lines.proofs.reader.Reader.next.Goals as goal
 
 pub returns-in-Mrt : goal.returns-in-Mrt
-returns-in-Mrt c = ?
+returns-in-Mrt c = rw c.in-Mrt.is c.next.ensures
 
 pub returns-in-Bmp : goal.returns-in-Bmp
-returns-in-Bmp c = ?
+returns-in-Bmp c = rw c.in-Bmp.is c.next-in-Bmp.ensures
