@@ -97,8 +97,8 @@ pub ticks_effect : (asking : Asking) (dump : HeldDump) (progress : Progress) (fi
 ticks_effect asking dump progress files_old files_new held known next is_next effect before after is few = record {
   within = λ open_yet old new text stands takes.
       let it : IsNextOf old.dump.known old.dump.left known (prepend_known held (left_of files_new dump.file)) next =
-          subst (λ (k : Known). IsNextOf k old.dump.left known (prepend_known held (left_of files_new dump.file)) next) (stands.holds.known open_yet)
-          (is_next old.dump.left (stands.holds.left open_yet)) in
+      subst (λ (k : Known). IsNextOf k old.dump.left known (prepend_known held (left_of files_new dump.file)) next) (stands.holds.known open_yet)
+      (is_next old.dump.left (stands.holds.left open_yet)) in
       let coming = comes next known it.rest in
       let taken : TakesNext asking old text new = subst (λ (over : Bool). TakesUnless over asking old text new) (sym stands.holds.over ∙ open_yet) takes in
       let same : taken.coming ≡ coming = coming_same old.dump.known old.dump.left taken.coming coming taken.is_coming it.coming in

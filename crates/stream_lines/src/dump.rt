@@ -48,7 +48,12 @@ impl OpenDump {
     /// The dump of this kind in a file that was opened, of which nothing was read. It takes no memory.
     pub fn new(alloc: Global, file: u32, kind: DumpKind) -> OpenDump
         ensures { result ≡ record {
-            file = file; held = []; taken = 0; known = first_known kind; over = false } }
+          file = file;
+          held = [];
+          taken = 0;
+          known = first_known kind;
+          over = false;
+        } }
     {
         OpenDump {
             reader: Reader::new(alloc, kind),
@@ -89,7 +94,10 @@ impl OpenDump {
     pub(crate) fn end<F: Shelf>(&mut self, alloc: Global, shelf: &mut F)
         requires given { self.old.file < F.opened shelf.old }
         ensures ended { self.new ≡ record self.old {
-            held = []; known = fresh_of self.old.known; over = true } }
+          held = [];
+          known = fresh_of self.old.known;
+          over = true;
+        } }
         ensures closed { F.files shelf.new
             ≡ option_map (closes self.old.file) (F.files shelf.old) }
         ensures opened { F.opened shelf.new ≡ F.opened shelf.old }

@@ -46,10 +46,7 @@ impl Records {
     }
 
     // What a record does that reads so.
-    fn take(
-        &mut self,
-        reading: Result<Body, BodyFault>,
-    ) -> Result<Result<Effect, Cause>, NoMemory>
+    fn take(&mut self, reading: Result<Body, BodyFault>) -> Result<Result<Effect, Cause>, NoMemory>
         ensures framer { self.new.framer ≡ self.old.framer }
         ensures says { IfOk result (Says (RecordSays self.old.peers reading)
             (Mrt self.new.peers)) }

@@ -12,7 +12,7 @@ use Rattle.stream_lines.proofs.dump.take_next.Goals as goal
 pub returns-then-not-branch-clause-next : goal.returns-then-not-branch-clause-next
 returns-then-not-branch-clause-next g c =
     let none : GivesNone (known_of c.loop-next.reader) (held_of c.loop-next.reader) (known_of c.next.new.self) (held_of c.next.new.self) =
-        subst (λ (o : Option Next). Gives (known_of c.loop-next.reader) (held_of c.loop-next.reader) (known_of c.next.new.self) (held_of c.next.new.self) o) c.in_default.is c.in_ok-next.ensures in
+    subst (λ (o : Option Next). Gives (known_of c.loop-next.reader) (held_of c.loop-next.reader) (known_of c.next.new.self) (held_of c.next.new.self) o) c.in_default.is c.in_ok-next.ensures in
     let ended = c.in_ok-read_piece.ensures.ended c.if-not-branch.true in
     let known : known_of c.read_piece.new.reader ≡ known_of c.args.reader.now = ap known_of ended.0 ∙ none.known_is ∙ c.loop-next.invariant.known in
     let held : held_of c.read_piece.new.reader ≡ held_of c.loop-next.reader = ap held_of ended.0 ∙ none.held_is in
