@@ -11,7 +11,7 @@ use Rattle.stream_lines.specs.Streams.{Dump}
 use Rattle.aspa_top.specs.World.{World}
 
 -- What some lines have left: the analysis, which names are those of attestation sources, of dumps and of feeds (none where a session is
--- over), how many attempts to connect were made, how many lines, passed records and refused lines there were, and how many judgements
+-- over), how many attempts to connect were made, how many lines, passed units and refused lines there were, and how many judgements
 -- they may have cost. A line of text that reports a feed's end counts as refused.
 pub record State : Type 0 where
   pub analysis : Analysis

@@ -24,7 +24,7 @@ pub(crate) struct Working {
     pub(crate) feeds: Feeds,
     /// How many lines there were.
     pub(crate) lines: u64,
-    /// How many records were passed over.
+    /// How many units of dumps were passed over.
     pub(crate) passed: u64,
     /// How many lines of the text so far report a refusal, or a feed's end.
     pub(crate) refused: u64,

@@ -44,7 +44,7 @@ pub enum Cause {
     SessionChanged,
     /// 22: the cache reported an error.
     PeerReported,
-    // of records of dumps (RFC 6396) and messages in them (RFC 4271)
+    // of records of dumps (RFC 6396), and of BGP messages (RFC 4271) in them or in messages of BMP
     /// 23: the path attributes aren't well formed.
     Attributes,
     /// 24: the BGP message isn't well formed.
@@ -53,7 +53,7 @@ pub enum Cause {
     NoPath,
     /// 26: the record's length is over the limit.
     TooLong,
-    /// 27: the dump ends within a record, or the recorded stream within a message.
+    /// 27: the dump ends within a record or a message.
     CutShort,
     /// 28: the record's body isn't one of its type.
     Body,
@@ -85,7 +85,7 @@ pub enum Cause {
     // of files of base64 lines
     /// 41: what stands behind the space of a line is no moment.
     Moment,
-    // of messages of recorded streams (RFC 7854)
+    // of messages in dumps of BMP (RFC 7854)
     /// 45: the message isn't of version 3.
     BmpVersion,
     /// 46: the message's length is under that of its header, or over the limit.

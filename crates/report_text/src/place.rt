@@ -9,7 +9,8 @@ pub enum Place<'a> {
     Unit {
         /// The name of the source or stream, or `slurm`.
         name: &'a str,
-        /// The number of the part, from 1: a payload, a line of a file, a PDU or a record. It is 1 in a SLURM file.
+        /// The number of the part, from 1: a payload, a line of a file, a PDU, a record or a message. It is 1
+        /// in a SLURM file.
         unit: u64,
     },
 }

@@ -19,7 +19,7 @@ pub struct Summary {
     pub invalid: u64,
     /// The customers that attest, by the current table.
     pub customers: u64,
-    /// The records of dumps that were passed over, since they say nothing of routes.
+    /// The units of dumps that were passed over: they say nothing of routes, or what they say isn't read.
     pub passed: u64,
     /// The lines that were written to report a refusal.
     pub refused: u64,

@@ -32,12 +32,12 @@ pub enum Command {
     Role(u32, Role),
     /// `role default ROLE`: so are those of peers in any AS without a role of its own.
     RoleDefault(Role),
-    /// `open NAME FILE`: the file's records are a stream of that name.
+    /// `open NAME FILE`: the file's records of MRT (RFC 6396) are a dump of that name.
     Open(Name, Word),
-    /// `bmp NAME FILE VIEW`: the file's messages (RFC 7854) are a stream of that name; true for the view `post`, of routes behind the
+    /// `bmp NAME FILE VIEW`: the file's messages of BMP (RFC 7854) are a dump of that name; true for the view `post`, of routes behind the
     /// router's inbound policy.
     Bmp(Name, Word, bool),
-    /// `take NAME N`: at most so many more records of the dump, messages of the recorded stream, or PDUs of the feed, 1 to 100,000,000.
+    /// `take NAME N`: at most so many more units of the dump, or PDUs of the feed, 1 to 100,000,000.
     Take(Name, u32),
     /// `feed NAME PLACE`: a new connection to the place is the feed of that name, and its cache is asked for all that it has.
     Feed(Name, Word),
@@ -61,7 +61,7 @@ pub enum Command {
 pub enum Show {
     /// `report`: each route of the table, with the verdict of its path.
     Report,
-    /// `summary`: how many routes and customers there are, and how many records were passed over and lines refused.
+    /// `summary`: how many routes and customers there are, and how many units were passed over and lines refused.
     Summary,
 }
 

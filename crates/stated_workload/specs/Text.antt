@@ -15,7 +15,7 @@ use Rattle.stream_lines.specs.Summary.{IsSummary}
 use Rattle.stated_workload.specs.Workload.{IsWorkload}
 
 -- From the empty analysis the events that load happen, the state is summed up, and its verdicts are marked. Then the events that amend
--- happen, the state is summed up again, and the changes since the marking are counted. No record is passed and no line refused.
+-- happen, the state is summed up again, and the changes since the marking are counted. No unit is passed and no line refused.
 pub record IsTextOf (seed : ℕ) (text : List ℕ) : Type 0 where
   pub loading : List Event
   pub amending : List Event

@@ -19,10 +19,15 @@ abbrev pub IsPartial : Known → List ℕ → Type 0
 IsPartial (Mrt peers) held = records.IsPartial held
 IsPartial (Bmp view peers) held = messages.IsPartial held
 
--- where no whole unit is held, these are fewer than the longest has, and nothing changed
+-- More bytes than this begin with a whole unit, or with nothing that begins one: those of the longest record with its header. The longest
+-- message has fewer.
+abbrev pub longest : ℕ
+longest = 4194316
+
+-- where no whole unit is held, these are fewer, and nothing changed
 pub record GivesNone (known : Known) (held : List ℕ) (known_new : Known) (held_new : List ℕ) : Type 0 where
   pub partial : IsPartial known held
-  pub short : length held_new < 4194316
+  pub short : length held_new < longest
   pub known_is : known_new ≡ known
   pub held_is : held_new ≡ held
 

@@ -24,7 +24,7 @@ abbrev pub known_of : Reader → Known
 known_of (readers.Mrt records) = Mrt records.peers
 known_of (readers.Bmp messages) = Bmp messages.view messages.peers
 
--- of a dump that is over nothing is known
+-- of a dump that is over nothing is known but the view
 abbrev pub fresh_of : Known → Known
 fresh_of (Mrt peers) = Mrt None
 fresh_of (Bmp view peers) = Bmp view set.empty

@@ -34,7 +34,8 @@ use Rattle.stream_lines.specs.declared.next.Next.TheVariants.{Unit as AUnit, Bro
 -- ---- what the units before have told
 
 -- In a dump of MRT records it is the last accepted peer table. In one of BMP messages, which is read in a view, it is the peers whose
--- prefixes have path identifiers: those whose last accepted Peer Up had the capability in both OPENs.
+-- prefixes have path identifiers: those whose last accepted Peer Up, of peer type 0, had the capability ADD-PATH (RFC 7911, section 4) in
+-- both OPENs. A Peer Down leaves that as it is.
 pub data Known : Type 0 where
   Mrt : (peers : Option (List Peer)) → Known
   Bmp : (view : View) (peers : bmp.Identifying) → Known

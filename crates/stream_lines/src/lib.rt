@@ -9,7 +9,7 @@
 //! change of that role may cost.
 //!
 //! `dump` reads the file piece by piece and takes off what comes next, by its `reader`: `records` has that of MRT and `messages` that of
-//! BMP, and `next` what both give. `taking` performs it, and `effect` what an accepted unit does.
+//! BMP, `kind` says which it is, and `next` has what both give. `taking` performs it, and `effect` what an accepted unit does.
 //! `rows` writes a report of the routes and `changes` what changed, line by line; `summary` sums up, and `stop` says why a line, or
 //! the reading of a file, ends early. Lemmas for the proofs above are in `proofs/`: `FrameLemmas` for the files that a call leaves as
 //! they were, `LawLemmas` and `UnitsLemmas` for units, `JudgementLemmas` for what units may cost, and `RefusalLemmas` for the refusals

@@ -4,7 +4,7 @@ ghost use Rattle.stream_lines.specs.Summary.{IsSummary};
 use report_text::Summary;
 use rib_store::RibStore;
 
-/// Counts the routes by their current verdicts and the customers that attest, beside how many records were passed over and how many
+/// Counts the routes by their current verdicts and the customers that attest, beside how many units were passed over and how many
 /// lines report a refusal. It takes no memory.
 pub fn summary_of(store: &RibStore, passed: u64, refused: u64) -> Summary
     ensures { IsSummary store.now.state passed refused result }

@@ -2,6 +2,7 @@ use Rattle.std.proofs.Common.{◌≡◌, ◌≢◌, ◌-◌, ◌≤◌, length}
 use Rattle.std.specs.Io.KnownBytes.{prepend_known}
 use Rattle.av_base.specs.Files.{left_of}
 use Rattle.stream_lines.specs.Frames.{Leaves}
+use Rattle.stream_lines.specs.Gives.{longest}
 use Rattle.stream_lines.specs.Held.{held_of, known_of}
 use Rattle.stream_lines.proofs.dump.take_next.Given as goal
 
@@ -14,6 +15,6 @@ invariant-loop-next g l = record {
   faults : g.F.Shelf.faults l.fn.shelf ≤ g.F.Shelf.faults l.shelf;
 }
 
--- until a whole unit is held, which has at most 12 + 4,194,304 bytes
+-- until a whole unit is held
 abbrev pub decreases-loop-next : goal.decreases-loop-next
-decreases-loop-next g l = 4194316 - length (held_of l.reader)
+decreases-loop-next g l = longest - length (held_of l.reader)
