@@ -206,5 +206,17 @@ wait
 check 'the text is whole' "$(lines valid '! line 3 d unit 1 cause 29 NoPeerTable' \
     'summary routes 0 valid 0 unknown 0 invalid 0 customers 0 passed 0 refused 1')" "$(cat "$work/held")"
 
+mkfifo "$work/router"
+lines 'judge customer 64501 64501' "bmp d $work/router pre" 'take d 9' 'summary' |
+    timeout 60 "$program" run >"$work/held" &
+check 'a dump of BMP that is opened is waited for' 0 "$(within 10 holds valid; echo $?)"
+exec 5<>"$work/router"
+printf '\3\0\0\0\7\2\0' >&5
+check 'a message is waited for' 0 "$(within 10 holds "$(lines valid '! line 3 d unit 1 cause 47 BmpBody')"; echo $?)"
+exec 5>&-
+wait
+check 'the text is whole, of messages' "$(lines valid '! line 3 d unit 1 cause 47 BmpBody' \
+    'summary routes 0 valid 0 unknown 0 invalid 0 customers 0 passed 0 refused 1')" "$(cat "$work/held")"
+
 echo "$(wc -l <"$work/passed") passed, $(wc -l <"$work/failed") failed"
 [ ! -s "$work/failed" ]

@@ -62,7 +62,7 @@ def route(at, path):
 
 
 # How many inputs there are.
-COUNT = 17
+COUNT = 19
 
 def peers(count, apart=0):
     """A peer table of so many peers, each of the AS of the one before and so many more."""
@@ -83,6 +83,7 @@ SLURM = (
     b'"locallyAddedAssertions":{"prefixAssertions":[],"bgpsecAssertions":[],"aspaAssertions":[%s]}}'
 )
 DUMP = "open d input\ntake d 100000000\n"
+BMP = "bmp d input pre\ntake d 100000000\n"
 
 
 def pdu(customer):
@@ -115,6 +116,8 @@ def inputs(size):
     yield "updates: paths of ASes never seen before", fill(
         size, lambda at: announcement([64501, *range(100_000 + 16_000 * at, 116_000 + 16_000 * at)], prefix(at))
     ), DUMP
+    yield "BMP: a route with a path of its own each", fill(size, lambda at: monitoring([64501, 100_000 + at], prefix(at))), BMP
+    yield "BMP: a peer in each Peer Up, with a role and path identifiers", fill(size, peer_up), BMP
     yield "feed: a customer in each PDU", fill(size, lambda at: pdu(1 + at)), "feed"
 
 
@@ -137,6 +140,25 @@ def message(body):
     update = b"\xff" * 16 + struct.pack(">HB", 19 + len(body), 2) + body
     head = struct.pack(">IIHHII", 64501, 64511, 0, 1, 0xC0000201, 0xC00002FE)
     return struct.pack(">IHHI", 0, 16, 4, len(head) + len(update)) + head + update
+
+
+def bmp(kind, address, asn, body):
+    """A message of BMP (RFC 7854, section 4) of a peer with an IPv4 address."""
+    head = struct.pack(">BBQQIIIIII", 0, 0, 0, 0, 0, address, asn, address, 0, 0)
+    return struct.pack(">BIB", 3, 6 + len(head) + len(body), kind) + head + body
+
+
+def monitoring(path, announced):
+    """A Route Monitoring of one UPDATE."""
+    return bmp(0, 0xC0000201, path[0], announcement(path, announced)[12 + 20 :])
+
+
+def peer_up(at):
+    """A Peer Up of a peer of its own, whose OPENs have a role and ADD-PATH."""
+    capabilities = bytes([9, 1, 3, 69, 4, 0, 1, 1, 3])
+    optional = bytes([2, len(capabilities)]) + capabilities
+    opening = b"\xff" * 16 + struct.pack(">HBBHHIB", 29 + len(optional), 1, 4, 23456, 180, 1 + at, len(optional)) + optional
+    return bmp(3, 1 + at, 1 + at, b"\0" * 16 + struct.pack(">HH", 179, 179) + opening + opening)
 
 
 def serve(name):
