@@ -34,11 +34,11 @@ touch "$work/commands"
 # `rt ci` has built the program; where it hasn't, the launcher does.
 [ -x "$program" ] || ./aspaview run </dev/null
 
-# ---- the examples' data are those that their script writes
+# ---- the examples' data are those that their scripts write
 
 cp -r examples "$work/examples"
-(cd "$work/examples" && rm -f ./*.mrt neighbours.base64 && python3 make_dumps.py && rm -rf __pycache__)
-check 'examples/make_dumps.py writes the data of the examples' '' "$(diff -r -x __pycache__ examples "$work/examples" 2>&1)"
+(cd "$work/examples" && rm -f ./*.mrt ./*.bmp neighbours.base64 && python3 make_dumps.py && python3 make_bmp.py && rm -rf __pycache__)
+check 'make_dumps.py and make_bmp.py write the data of the examples' '' "$(diff -r -x __pycache__ examples "$work/examples" 2>&1)"
 
 # ---- a cache for the feeds, at a port that is free, for as long as this script runs
 
@@ -192,11 +192,11 @@ fi
 
 # causes: of lines 'N WORD' those that are a cause with its word
 causes() {
-    awk '$1 >= 5 && $1 <= 41 && $2 ~ /^[A-Z][a-z]+[A-Za-z0-9]*$/ {print $1, $2}' | sort -u
+    awk '($1 >= 5 && $1 <= 41 || $1 >= 45 && $1 <= 47) && $2 ~ /^[A-Z][a-z]+[A-Za-z0-9]*$/ {print $1, $2}' | sort -u
 }
 rows='s/^\| ([0-9]+) \| ([A-Za-z0-9]+) \|.*/\1 \2/p'
 sed -nE "$rows" docs/formats.md | causes >"$work/causes"
-check 'the causes of docs/formats.md' 37 "$(wc -l <"$work/causes")"
+check 'the causes of docs/formats.md' 40 "$(wc -l <"$work/causes")"
 check 'the causes of docs/guide.md' "$(cat "$work/causes")" "$(sed -nE "$rows" docs/guide.md | causes)"
 check "the causes of $manual" "$(cat "$work/causes")" "$(sed -n 's/^\.It //p' "$manual" | causes)"
 # shellcheck disable=SC2086
@@ -224,13 +224,13 @@ for file in examples/*.txt; do
 done
 for file in examples/*.py; do
     case $file in
-    examples/cache.py | examples/make_dumps.py) ;; # run above
+    examples/cache.py | examples/make_dumps.py | examples/make_bmp.py) ;; # run above
     *) check "$file is run by a page" 0 "$(grep -q "$file" "$work/commands"; echo $?)" ;;
     esac
 done
 find . -path ./.git -prune -o -type f -print | sed 's/^\.//' >"$work/files"
 # shellcheck disable=SC2086,SC2016
-grep -ohE '`[A-Za-z0-9_./-]+\.(rt|antt|md|txt|py|sh|awk|mrt|json|base64|payloads)`' $pages | tr -d '`' >"$work/names"
+grep -ohE '`[A-Za-z0-9_./-]+\.(rt|antt|md|txt|py|sh|awk|mrt|bmp|json|base64|payloads)`' $pages | tr -d '`' >"$work/names"
 awk '/^\.Pa / { sub(/^\.\//, "", $2); print $2 }' "$manual" >>"$work/names"
 grep -v '/out/' "$work/names" | sort -u >"$work/named"
 while read -r name; do
