@@ -1,0 +1,4 @@
+pub mod CoverLemmas
+pub mod LawLemmas
+pub mod PayloadLemmas
+pub mod StateLemmas
