@@ -1,0 +1,5 @@
+pub mod DoubleLemmas
+pub mod GroupLemmas
+pub mod RunLemmas
+pub mod TextLemmas
+pub mod UniqueLemmas

@@ -1,0 +1,4 @@
+use Rattle.any_prefix.proofs.run.+read_run.Given as goal
+
+abbrev pub decreases-read_run : goal.decreases-read_run
+decreases-read_run l = l.most

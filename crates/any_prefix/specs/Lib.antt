@@ -1,0 +1,4 @@
+pub mod AnyAddress
+pub mod AnyPrefix
+pub mod Group
+pub mod Reading
