@@ -1,0 +1,115 @@
+-- States by the parts of a look-up, one part after another.
+use Rattle.std.proofs.Common.{◌≡◌, ℕ, ◌+◌, ◌≤◌, true, List, [], ◌∷◌, None, Some, sym, ap, subst, ◌∙◌, arith, ◌⊎◌, inl, inr, true≢false}
+use Rattle.std.specs.declared.option.Option.{Option}
+use Rattle.path_model.specs.Prefix.{Subnet, prefix_of}
+use Rattle.origin_model.specs.declared.origin_state.OriginState.{OriginState}
+use Rattle.origin_model.specs.declared.origin_state.OriginState.TheVariants.{NotFound}
+use Rattle.origin_model.specs.declared.prefix_filter.PrefixFilter.{PrefixFilter}
+use Rattle.origin_model.specs.Covering.{Covers}
+use Rattle.origin_model.specs.Current.{IsGiven}
+use Rattle.origin_model.specs.OriginState.{HasState, better}
+use Rattle.origin_model.specs.Payload.{Payload, has}
+use Rattle.origin_model.proofs.CoverLemmas.{begins, some_is}
+use Rattle.origin_model.proofs.PayloadLemmas.{first_has, has_first}
+use Rattle.origin_model.proofs.StateLemmas.{Goes, better_assoc, better_none, has_like, has_none, has_or}
+use Rattle.origin_validation.specs.Records.{IsGivenUnhit, IsUnhit}
+
+-- ---- a loop that takes one part after another
+
+-- with the state by what is left, the state so far makes the state by all
+pub record Folds (All Rest : Payload → Type 0) (prefix : Subnet) (origin : Option ℕ) (state : OriginState) : Type 0 where
+  pub each : (t : OriginState) → HasState Rest prefix origin t → HasState All prefix origin (better state t)
+
+module _ (prefix : Subnet) (origin : Option ℕ) (All : Payload → Type 0) where
+  pub folds_start : (Rest : Payload → Type 0) → Goes prefix Rest All → Goes prefix All Rest → Folds All Rest prefix origin NotFound
+  folds_start Rest to from = record { each = λ t h. has_like prefix origin Rest All t to from h }
+
+  pub folds_next : (Rest One More : Payload → Type 0) (s u : OriginState) → Folds All Rest prefix origin s → HasState One prefix origin u
+      → Goes prefix Rest (λ v. One v ⊎ More v) → Goes prefix (λ v. One v ⊎ More v) Rest → Folds All More prefix origin (better s u)
+  folds_next Rest One More s u f one split join = record {
+    each = λ t h. subst (HasState All prefix origin) (sym (better_assoc s u t))
+        (f.each (better u t) (has_like prefix origin (λ v. One v ⊎ More v) Rest (better u t) join split (has_or prefix origin One More u t one h)));
+  }
+
+  pub folds_end : (Rest : Payload → Type 0) (s : OriginState) → Folds All Rest prefix origin s → ((v : Payload) → Covers v.prefix prefix → Rest v → ⊥) → HasState All prefix origin s
+  folds_end Rest s f none = subst (HasState All prefix origin) (better_none s) (f.each NotFound (has_none prefix origin Rest none))
+
+-- ---- prefixes of one length
+
+front_len : (addr : Rattle.path_model.specs.declared.addr.Addr.Addr) (len : ℕ) (s : Subnet) → prefix_of addr len ≡ Some s → s.len ≡ len
+front_len addr len s e = sym (ap (λ (p : Subnet). p.len) (begins addr len s e).is)
+
+module _ (prefix : Subnet) (origin : Option ℕ) (T : Payload → Type 0) (len : ℕ) where
+  abbrev OfLen : Payload → Type 0
+  OfLen v = (v.prefix.len ≡ len) × T v
+
+  front_is : (v : Payload) → Covers v.prefix prefix → v.prefix.len ≡ len → prefix_of prefix.addr len ≡ Some v.prefix
+  front_is v covers e = ap (prefix_of prefix.addr) (sym e) ∙ covers.front
+
+  pub at_front : (front : Subnet) (s : OriginState) → Some front ≡ prefix_of prefix.addr len → HasState (λ v. (v.prefix ≡ front) × T v) prefix origin s → HasState OfLen prefix origin s
+  at_front front s is h = has_like prefix origin (λ v. (v.prefix ≡ front) × T v) OfLen s
+      (λ v covers a. (ap (λ (p : Subnet). p.len) a.0 ∙ front_len prefix.addr len front (sym is), a.1))
+      (λ v covers a. (some_is v.prefix front (sym (front_is v covers a.0) ∙ sym is), a.1)) h
+
+  pub no_front : None ≡ prefix_of prefix.addr len → HasState OfLen prefix origin NotFound
+  no_front is = has_none prefix origin OfLen (λ v covers a. let e : ◌≡◌ {A = Option Subnet} None (Some v.prefix) = is ∙ front_is v covers a.0 in absurd cc)
+
+module _ (prefix : Subnet) (origin : Option ℕ) (T : Payload → Type 0) where
+  abbrev pub FromLen : ℕ → Payload → Type 0
+  FromLen len v = (len ≤ v.prefix.len) × T v
+
+  pub lens_start : Folds T (FromLen 0) prefix origin NotFound
+  lens_start = folds_start prefix origin T (FromLen 0) (λ v covers a. a.1) (λ v covers a. (omega arith, a))
+
+  le_cases : (m n : ℕ) → m ≤ n → (n ≡ m) ⊎ (m + 1 ≤ n)
+  le_cases m n le = search arith
+
+  pub lens_next : (len : ℕ) (s u : OriginState) → Folds T (FromLen len) prefix origin s → HasState (λ v. (v.prefix.len ≡ len) × T v) prefix origin u → Folds T (FromLen (len + 1)) prefix origin (better s u)
+  lens_next len s u f one = folds_next prefix origin T (FromLen len) (λ v. (v.prefix.len ≡ len) × T v) (FromLen (len + 1)) s u f one
+      (λ v covers a. elim (le_cases len v.prefix.len a.0) [ inl e ↦ inl (e, a.1) | inr more ↦ inr (more, a.1) ])
+      (λ v covers a. elim a [ inl b ↦ (omega (arith, b.0), b.1) | inr b ↦ (omega (arith, b.0), b.1) ])
+
+  pub lens_end : (len : ℕ) (s : OriginState) → prefix.len + 1 ≤ len → Folds T (FromLen len) prefix origin s → HasState T prefix origin s
+  lens_end len s le f = folds_end prefix origin T (FromLen len) s f (λ v covers a. omega (arith, le, covers.shorter, a.0))
+
+-- ---- payloads of one list
+
+module _ (prefix : Subnet) (origin : Option ℕ) (P : Payload → Type 0) where
+  abbrev pub Among : List Payload → Payload → Type 0
+  Among ws v = (has ws v ≡ true) × P v
+
+  pub among_next : (All : Payload → Type 0) (all ws : List Payload) (w : Payload) (s u : OriginState) → all ≡ w ∷ ws → Folds All (Among all) prefix origin s
+      → HasState (λ v. (v ≡ w) × P v) prefix origin u → Folds All (Among ws) prefix origin (better s u)
+  among_next All all ws w s u is f one = folds_next prefix origin All (Among all) (λ v. (v ≡ w) × P v) (Among ws) s u f one
+      (λ v covers a. elim (has_first v w ws (ap (λ (vs : List Payload). has vs v) (sym is) ∙ a.0)) [ inl e ↦ inl (e, a.1) | inr later ↦ inr (later, a.1) ])
+      (λ v covers a. elim a [
+        | inl b ↦ (ap (λ (vs : List Payload). has vs v) is ∙ first_has v w ws (inl b.0), b.1)
+        | inr b ↦ (ap (λ (vs : List Payload). has vs v) is ∙ first_has v w ws (inr b.0), b.1)
+      ])
+
+  pub among_end : (All : Payload → Type 0) (all : List Payload) (s : OriginState) → all ≡ [] → Folds All (Among all) prefix origin s → HasState All prefix origin s
+  among_end All all s none f = folds_end prefix origin All (Among all) s f (λ v covers a. true≢false (sym a.0 ∙ ap (λ (vs : List Payload). has vs v) none))
+
+-- ---- payloads of sources
+
+module _ (prefix : Subnet) (origin : Option ℕ) (filters : List PrefixFilter) where
+  abbrev pub Given : List (List ℕ × List Payload) → Payload → Type 0
+  Given sources v = IsGivenUnhit sources filters v
+
+  pub sources_next : (All : Payload → Type 0) (all more : List (List ℕ × List Payload)) (source : List ℕ × List Payload) (s u : OriginState) → all ≡ source ∷ more → Folds All (Given all) prefix origin s
+      → HasState (IsUnhit source.1 filters) prefix origin u → Folds All (Given more) prefix origin (better s u)
+  sources_next All all more source s u is f one = folds_next prefix origin All (Given all) (IsUnhit source.1 filters) (Given more) s u f one
+      (λ v covers a. elim (subst (λ (ss : List (List ℕ × List Payload)). IsGiven ss v) is a.0) [ inl here ↦ inl (here, a.1) | inr later ↦ inr (later, a.1) ])
+      (λ v covers a. elim a [
+        | inl b ↦ (subst (λ (ss : List (List ℕ × List Payload)). IsGiven ss v) (sym is) (inl b.0), b.1)
+        | inr b ↦ (subst (λ (ss : List (List ℕ × List Payload)). IsGiven ss v) (sym is) (inr b.0), b.1)
+      ])
+
+  pub sources_end : (All : Payload → Type 0) (all : List (List ℕ × List Payload)) (s : OriginState) → all ≡ [] → Folds All (Given all) prefix origin s → HasState All prefix origin s
+  sources_end All all s none f = folds_end prefix origin All (Given all) s f (λ v covers a. subst (λ (ss : List (List ℕ × List Payload)). IsGiven ss v) none a.0)
+
+-- ---- no payloads
+
+pub none_there : (prefix : Subnet) (origin : Option ℕ) (payloads : List Payload) (filters : List PrefixFilter) → payloads ≡ [] → HasState (IsUnhit payloads filters) prefix origin NotFound
+none_there prefix origin payloads filters none =
+    has_none prefix origin (IsUnhit payloads filters) (λ v covers a. true≢false (sym a.0 ∙ ap (λ (vs : List Payload). has vs v) none))

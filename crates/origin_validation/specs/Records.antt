@@ -1,0 +1,42 @@
+-- What changes of the parts of which the current payloads are made; and the parts of a look-up, which private contracts alone cite.
+use Rattle.std.specs.Prelude.{◌≡◌, ℕ, true, List}
+use Rattle.std.specs.BTreeMap.{insert_entry, is_at}
+use Rattle.std.specs.Cmp.Lexicographic.{slice_cmp}
+use Rattle.std.specs.Map.{lookup}
+use Rattle.std.specs.Ordering.{nat_cmp}
+use Rattle.std.specs.declared.option.Option.{Option}
+use Rattle.path_model.specs.Prefix.{Subnet}
+use Rattle.origin_model.specs.declared.prefix_filter.PrefixFilter.{PrefixFilter}
+use Rattle.origin_model.specs.Current.{Parts, IsGiven}
+use Rattle.origin_model.specs.Filters.{IsHit}
+use Rattle.origin_model.specs.Payload.{Payload, has}
+
+-- the payloads of the source of this name, if there is one
+abbrev pub source_of : List (List ℕ × List Payload) → List ℕ → Option (List Payload)
+source_of sources name = lookup (is_at (slice_cmp nat_cmp name)) sources
+
+-- the source of this name has these payloads from now on
+abbrev pub with_source : Parts → List ℕ → List Payload → Parts
+with_source parts name payloads = record parts { sources = insert_entry (slice_cmp nat_cmp) parts.sources name payloads }
+
+-- ---- parts of a look-up
+
+-- some source has it, and no filter hits it
+abbrev pub IsGivenUnhit : List (List ℕ × List Payload) → List PrefixFilter → Payload → Type 0
+IsGivenUnhit sources filters v = IsGiven sources v × (¬ IsHit filters v)
+
+-- it is among these, and no filter hits it;
+abbrev pub IsUnhit : List Payload → List PrefixFilter → Payload → Type 0
+IsUnhit payloads filters v = (has payloads v ≡ true) × (¬ IsHit filters v)
+
+-- and its prefix has this length,
+abbrev pub IsUnhitOfLength : List Payload → List PrefixFilter → ℕ → Payload → Type 0
+IsUnhitOfLength payloads filters len v = (v.prefix.len ≡ len) × IsUnhit payloads filters v
+
+-- or its prefix is this one
+abbrev pub IsUnhitIn : List Payload → List PrefixFilter → Subnet → Payload → Type 0
+IsUnhitIn payloads filters front v = (v.prefix ≡ front) × IsUnhit payloads filters v
+
+-- it is this payload, and no filter hits it
+abbrev pub IsUnhitOne : Payload → List PrefixFilter → Payload → Type 0
+IsUnhitOne one filters v = (v ≡ one) × (¬ IsHit filters v)

@@ -1,0 +1,114 @@
+//! The payloads of each source, and those and the filters of a SLURM file.
+ghost use Rattle.std.specs.Prelude.{◌≡◌, ◌↔◌, IfOk, IsTrue, OnErr, OnOk};
+ghost use Rattle.std.specs.Option.{option_copied};
+ghost use Rattle.origin_model.specs.Current.{IsCurrent, no_parts};
+ghost use Rattle.origin_model.specs.Filters.{IsHit};
+ghost use Rattle.origin_model.specs.OriginState.{HasState};
+ghost use Rattle.origin_validation.specs.Records.{IsGivenUnhit, source_of, with_source};
+
+use crate::covering::state_in;
+use av_base::NoMemory;
+use origin_model::{OriginState, PrefixFilters, Vrp, VrpSet};
+use path_model::{Name, Prefix};
+use std::alloc::Global;
+use std::collections::BTreeMap;
+use std::marker::Model;
+use std::mem;
+
+/// What says which payloads are current: those of each named source, and the filters and the asserted payloads of a SLURM file (RFC 8416,
+/// section 3).
+#[derive(Drop)]
+pub struct Records {
+    alloc: Global,
+    // in the order of their names, so that no choice of names makes a look-up long
+    sources: BTreeMap<Name, VrpSet>,
+    filters: PrefixFilters,
+    assertions: VrpSet,
+}
+
+impl Model for Records {
+    ghost use Rattle.origin_model.specs.Current.{Parts};
+
+    ghost Value = { Parts };
+
+    ghost view = { λ r. record { sources = r.sources.entries; filters = r.filters; assertions = r.assertions } };
+}
+
+impl Records {
+    /// No source, no filter and no assertion. It takes no memory.
+    pub fn new(alloc: Global) -> Records
+        ensures { result ≡ no_parts }
+    {
+        Records {
+            alloc,
+            sources: BTreeMap::new(alloc),
+            filters: PrefixFilters::new(alloc),
+            assertions: VrpSet::new(alloc),
+        }
+    }
+
+    /// The state of a route by its prefix and its origin, which is `None` where its path has an AS_SET or no AS. It takes no memory, and for
+    /// each source, and for the assertions, at most one look-up for each length up to the prefix's; nothing where no payload is held.
+    pub fn state(&self, prefix: &Prefix, origin: Option<u32>) -> OriginState
+        ensures { HasState (IsCurrent self.now) prefix.now origin result }
+    {
+        let given = self.given_state(prefix, origin);
+        let none = PrefixFilters::new(self.alloc);
+        let asserted = state_in(&self.assertions, &none, prefix, origin);
+        given.or(asserted)
+    }
+
+    // The state by those of the sources.
+    fn given_state(&self, prefix: &Prefix, origin: Option<u32>) -> OriginState
+        ensures { HasState (IsGivenUnhit self.now.sources self.now.filters) prefix.now origin result }
+    {
+        let mut state = OriginState::NotFound;
+        for (_, set) in &self.sources {
+            let more = state_in(set, &self.filters, prefix, origin);
+            state = state.or(more);
+        }
+        state
+    }
+
+    /// The payloads of a source, if there is one of this name.
+    pub fn source(&self, name: &Name) -> Option<&VrpSet>
+        ensures { option_copied result ≡ source_of self.now.sources name.now }
+    {
+        self.sources.get(name)
+    }
+
+    /// Whether a filter hits a payload.
+    pub fn hit(&self, v: &Vrp) -> bool
+        ensures { IsTrue result ↔ IsHit self.now.filters v.now }
+    {
+        self.filters.hit(v)
+    }
+
+    /// The asserted payloads.
+    pub fn assertions(&self) -> &VrpSet
+        ensures { result.now ≡ self.now.assertions }
+    {
+        &self.assertions
+    }
+
+    /// Gives the source of this name these payloads, and takes out those that it had, if there was one.
+    pub fn put(&mut self, name: Name, set: VrpSet) -> Result<Option<VrpSet>, NoMemory>
+        ensures held { IfOk result (λ held. held ≡ source_of self.old.sources name) }
+        ensures put { OnOk result (self.new ≡ with_source self.old name set) }
+        ensures err { OnErr result (self.new ≡ self.old) }
+    {
+        let held = self.sources.insert(name, set)?;
+        Ok(held)
+    }
+
+    /// Gives the SLURM file these filters and asserted payloads, and takes out those that it had.
+    pub fn amend(&mut self, filters: PrefixFilters, assertions: VrpSet) -> (PrefixFilters, VrpSet)
+        ensures new { self.new ≡ record self.old { filters = filters; assertions = assertions } }
+        ensures filters { result.0 ≡ self.old.filters }
+        ensures assertions { result.1 ≡ self.old.assertions }
+    {
+        let before = mem::replace(&mut self.filters, filters);
+        let asserted = mem::replace(&mut self.assertions, assertions);
+        (before, asserted)
+    }
+}
