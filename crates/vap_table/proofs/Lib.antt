@@ -3,6 +3,7 @@ pub mod ChangeLemmas
 pub mod ComparingLemmas
 pub mod CountingLemmas
 pub mod CurrentLemmas
+pub mod EntriesLemmas
 pub mod IdleLemmas
 pub mod LastsLemmas
 pub mod MarksLemmas

@@ -3,6 +3,7 @@ pub mod Codes
 pub mod Comparing
 pub mod Counting
 pub mod Current
+pub mod Entries
 pub mod Lasts
 pub mod Laws
 pub mod Marks

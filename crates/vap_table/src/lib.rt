@@ -10,13 +10,15 @@
 //! assertions there are of it, and which numbers they hold. [`Vaps::tally`] lends it. A change takes the rows that it replaces off the
 //! tally and adds the new ones (`tallying`, `turning`, `gathering`, `tallied`, `stepping`), and the current row is read off the tally
 //! (`shown`). So other sources are looked at only for another moment, and for a customer with an attestation that has an end. `current`
-//! keeps the rows that the first source doesn't have as they are, and `refreshing` does so customer by customer.
+//! keeps the rows that the first source doesn't have as they are, and `refreshing` does so customer by customer. [`Vaps::entries`] lends
+//! the current rows one after another (`entries`).
 #![tactic(auto)]
 
 mod change;
 mod comparing;
 mod current;
 mod customers;
+mod entries;
 mod gathering;
 mod idle;
 mod lasts;
@@ -39,6 +41,7 @@ mod turning;
 mod vaps;
 
 pub use change::TableChange;
+pub use entries::Entries;
 pub use laws::changes_have_one_outcome;
 pub use moves::{Moves, RowMove};
 pub use tally::{Given, GivenList, Tally};

@@ -8,6 +8,7 @@ ghost use Rattle.vap_table.specs.Marks.{is_marked, place_of, AreMarked, KeepsMar
 use crate::customers::Customers;
 use av_base::NoMemory;
 use std::alloc::Global;
+use std::collections::btree_set;
 use std::marker::Model;
 
 // How many marks there are at first.
@@ -102,6 +103,14 @@ impl RowHolders {
         ensures rising { IsStrictlySortedBy nat_cmp self.now }
     {
         self.customers.len()
+    }
+
+    /// The customers, rising.
+    pub(crate) fn iter(&self) -> btree_set::Iter<'_, u32>
+        ensures whole { result ≡ self.now }
+        ensures rising { IsStrictlySortedBy nat_cmp self.now }
+    {
+        self.customers.iter()
     }
 }
 

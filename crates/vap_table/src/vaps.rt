@@ -1,12 +1,17 @@
 //! The current table with its parts.
 ghost use Rattle.std.specs.Prelude.{◌≡◌, ℕ, true, IfOk};
 ghost use Rattle.std.specs.Option.{option_copied};
-ghost use Rattle.attestations.specs.CurrentTable.{no_parts, IsCurrentRow};
+ghost use Rattle.std.specs.Ordering.{nat_cmp};
+ghost use Rattle.std.specs.FinMap as map;
+ghost use Rattle.std.specs.Map.{keys_of};
+ghost use Rattle.std.specs.List.Sorted.{IsStrictlySortedBy};
+ghost use Rattle.attestations.specs.CurrentTable.{no_parts, IsCurrentRow, IsCurrentTable};
 ghost use Rattle.attestations.specs.ComputedTable.{table_of};
 ghost use Rattle.path_model.specs.Authority.{has};
 ghost use Rattle.vap_table.specs.Change.{Alters};
 ghost use Rattle.vap_table.specs.Counting.{AreTallies};
 ghost use Rattle.vap_table.specs.Current.{kept_row, rows_among};
+ghost use Rattle.vap_table.specs.Entries.{entries_left, rows_of};
 ghost use Rattle.vap_table.specs.Lasts.{AreLasts};
 ghost use Rattle.vap_table.specs.Moves.{AreMoves};
 ghost use Rattle.vap_table.specs.Naming.{Names, NamesLasts};
@@ -22,7 +27,7 @@ use crate::parts::HeldParts;
 use crate::refreshing::refreshed;
 use crate::searching::holds;
 use crate::tallies::Tallies;
-use crate::{Moves, TableChange, Tally};
+use crate::{Entries, Moves, TableChange, Tally};
 use av_base::NoMemory;
 use path_model::{AsList, Authority, Table};
 use std::alloc::Global;
@@ -123,6 +128,18 @@ impl Vaps {
         ensures { IsCurrentRow self.now customer (option_copied result) }
     {
         self.kept(customer)
+    }
+
+    /// Each customer that has a current row, with that row, by rising customer. It takes no memory.
+    pub fn entries(&self) -> Entries<'_>
+        ensures current { IsCurrentTable self.now (λ x. map.get (rows_of (entries_left result)) x) }
+        ensures rising { IsStrictlySortedBy nat_cmp (keys_of (entries_left result)) }
+    {
+        Entries {
+            customers: self.current.customers.iter(),
+            current: &self.current,
+            parts: &self.parts,
+        }
     }
 
     /// The number of customers that have a current row. It takes the same time for any table.
