@@ -46,7 +46,7 @@ cleared-clear : (a : Addr) (len : ℕ) → number_of a % 2 ^ (bits_of a - len) �
 cleared-clear (V4 n) len clear = ap V4 (without_last-clear (32 - len) n clear)
 cleared-clear (V6 n) len clear = ap V6 (without_last-clear (128 - len) n clear)
 
-own_front : (p : Subnet) → IsSubnet p → prefix_of p.addr p.len ≡ Some p
+pub own_front : (p : Subnet) → IsSubnet p → prefix_of p.addr p.len ≡ Some p
 own_front p is = begun p.addr p.len is.within ∙ ap (λ (a : Addr). Some (record { addr = a; len = p.len })) (cleared-clear p.addr p.len is.clear)
 
 pub covers_itself : (p : Subnet) → IsSubnet p → Covers p p
@@ -73,14 +73,25 @@ nested_low v u n some =
     let more : k * v * u ≤ n / u * u = mul-le (k * v) u (n / u) u part (omega arith) in
     omega (arith, turned, more)
 
-cut_low : (v u n : ℕ) → n / u * u ≤ n
-cut_low v u n = let whole = div-add-mod' n u in omega (arith, whole)
+cut_low : (u n : ℕ) → n / u * u ≤ n
+cut_low u n = let whole = div-add-mod' n u in omega (arith, whole)
+
+-- clearing more bits gives no more
+cut_more : (s t n : ℕ) → s ≤ t → n / 2 ^ t * 2 ^ t ≤ n / 2 ^ s * 2 ^ s
+cut_more s t n le =
+    let split : 2 ^ (t - s) * 2 ^ s ≡ 2 ^ t = sym (pow-add 2 (t - s) s) ∙ ap (λ (k : ℕ). 2 ^ k) (omega (arith, le)) in
+    subst (λ (w : ℕ). n / w * w ≤ n / 2 ^ s * 2 ^ s) split (nested_low (2 ^ (t - s)) (2 ^ s) n (pow_pos s))
 
 cut_cut : (s t n : ℕ) → s ≤ t → without_last t (without_last s n) ≡ without_last t n
-cut_cut s t n le =
-    let split : 2 ^ (t - s) * 2 ^ s ≡ 2 ^ t = sym (pow-add 2 (t - s) s) ∙ ap (λ (k : ℕ). 2 ^ k) (omega (arith, le)) in
-    let low : n / 2 ^ t * 2 ^ t ≤ n / 2 ^ s * 2 ^ s = subst (λ (w : ℕ). n / w * w ≤ n / 2 ^ s * 2 ^ s) split (nested_low (2 ^ (t - s)) (2 ^ s) n (pow_pos s)) in
-    ap (λ (k : ℕ). k * 2 ^ t) (cut_between (2 ^ t) (n / 2 ^ s * 2 ^ s) n (pow_pos t) low (cut_low 0 (2 ^ s) n))
+cut_cut s t n le = ap (λ (k : ℕ). k * 2 ^ t) (cut_between (2 ^ t) (n / 2 ^ s * 2 ^ s) n (pow_pos t) (cut_more s t n le) (cut_low (2 ^ s) n))
+
+-- what is clear behind a length is clear behind a longer one
+still_clear : (s t n : ℕ) → s ≤ t → n % 2 ^ t ≡ 0 → without_last s n ≡ n
+still_clear s t n le clear = let all = without_last-clear t n clear in let more = cut_more s t n le in let low = cut_low (2 ^ s) n in omega (arith, all, more, low)
+
+pub clear_longer : (a : Addr) (m n : ℕ) → m ≤ n → number_of a % 2 ^ (bits_of a - m) ≡ 0 → cleared n a ≡ a
+clear_longer (V4 k) m n le clear = ap V4 (still_clear (32 - n) (32 - m) k (omega (arith, le)) clear)
+clear_longer (V6 k) m n le clear = ap V6 (still_clear (128 - n) (128 - m) k (omega (arith, le)) clear)
 
 fronts_through : (a : Addr) (m n : ℕ) (p : Subnet) → m ≤ n → prefix_of (cleared n a) m ≡ Some p → prefix_of a m ≡ Some p
 fronts_through (V4 c) m n p le e =
@@ -93,6 +104,20 @@ covers_through p q r first second = record {
   shorter = omega (arith, first.shorter, second.shorter);
   front = fronts_through r.addr p.len q.len p first.shorter
       (subst (λ (s : Subnet). prefix_of s.addr p.len ≡ Some p) (sym ((begins r.addr q.len q second.front).is)) first.front);
+}
+
+-- of two that cover a third one, the shorter covers the longer
+
+fronts_back : (a : Addr) (m n : ℕ) (p : Subnet) → m ≤ n → prefix_of a m ≡ Some p → prefix_of (cleared n a) m ≡ Some p
+fronts_back (V4 c) m n p le e =
+    ap (λ (k : ℕ). cond {A = Option Subnet} (nat_le m 32) (Some (record { addr = V4 k; len = m })) None) (cut_cut (32 - n) (32 - m) c (omega (arith, le))) ∙ e
+fronts_back (V6 c) m n p le e =
+    ap (λ (k : ℕ). cond {A = Option Subnet} (nat_le m 128) (Some (record { addr = V6 k; len = m })) None) (cut_cut (128 - n) (128 - m) c (omega (arith, le))) ∙ e
+
+pub covers_between : (p q r : Subnet) → Covers p r → Covers q r → p.len ≤ q.len → Covers p q
+covers_between p q r first second le = record {
+  shorter = le;
+  front = subst (λ (s : Subnet). prefix_of s.addr p.len ≡ Some p) (begins r.addr q.len q second.front).is (fronts_back r.addr p.len q.len p le first.front);
 }
 
 -- ---- two that cover each other, and families

@@ -14,7 +14,7 @@ use Rattle.origin_model.specs.Filters.{AgreesInAsn, AgreesInPrefix, Hits, IsHit}
 use Rattle.origin_model.specs.Laws.{As0MakesNothingValid, CoveringIsAnOrder, EachRouteHasOneState, RoutesWithoutOriginAreNeverValid}
 use Rattle.origin_model.specs.OriginState.{Matches, HasState, better, origin_of}
 use Rattle.origin_model.specs.Payload.{Payload, has}
-use Rattle.origin_model.proofs.CoverLemmas.{covers_decided, covers_family, covers_itself, covers_only, covers_through}
+use Rattle.origin_model.proofs.CoverLemmas.{covers_between, covers_decided, covers_family, covers_itself, covers_only, covers_through}
 use Rattle.origin_model.proofs.PayloadLemmas.{first_has, has_first}
 use Rattle.origin_model.proofs.StateLemmas.{has_like, has_none, has_or, one_state}
 
@@ -190,4 +190,4 @@ without_origin parts key path without =
 -- ---- covering
 
 pub covering_order : CoveringIsAnOrder
-covering_order = record { itself = covers_itself; through = covers_through; only = covers_only; family = covers_family }
+covering_order = record { itself = covers_itself; through = covers_through; between = covers_between; only = covers_only; family = covers_family }

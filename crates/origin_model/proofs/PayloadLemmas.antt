@@ -14,7 +14,7 @@ use Rattle.std.proofs.lemmas.Map.Views.{any-filter_same}
 use Rattle.path_model.specs.Order.{subnet_total}
 use Rattle.path_model.specs.Prefix.{Subnet, bits_of, subnet_cmp}
 use Rattle.path_model.proofs.OrderLemmas.{subnet_exact}
-use Rattle.origin_model.specs.Payload.{Payload, IsPayload, ArePayloads, payload_cmp, payload_total, has, least_of, greatest_of}
+use Rattle.origin_model.specs.Payload.{Payload, IsPayload, ArePayloads, payload_cmp, payload_total, has, least_of, greatest_of, IsLastBefore}
 
 both_equal : (a b : Ordering) → ordering_then a b ≡ Equal → (a ≡ Equal) × (b ≡ Equal)
 both_equal Less b e = absurd cc
@@ -177,3 +177,39 @@ module _ (p : Subnet) (keys all : List Payload) (same : keys ≡ all) (are : Are
 
   pub some_only : (v : Payload) → has some v ≡ true → v.prefix ≡ p
   some_only v h = of_prefix p v (filtered_passed (in_prefix p) v keys (ap (λ (vs : List Payload). has vs v) (sym some_is) ∙ h))
+
+-- ---- the last before a prefix
+
+-- by prefix first
+not_below_prefix : (s m a : Ordering) → is_lt (ordering_then (ordering_then s m) a) ≡ false → is_lt s ≡ false
+not_below_prefix Less m a h = h
+not_below_prefix Equal m a h = refl
+not_below_prefix Greater m a h = refl
+
+before_least : (v : Payload) (p : Subnet) → subnet_cmp v.prefix p ≡ Less → payload_cmp v (least_of p) ≡ Less
+before_least v p h = ap (λ (s : Ordering). ordering_then (ordering_then s (nat_cmp v.max p.len)) (nat_cmp v.asn 0)) h
+
+module _ (p : Subnet) (x : Payload) (is : IsPayload x) where
+  least_by : (s : Ordering) → subnet_cmp x.prefix p ≡ s → ordering_then (ordering_then s (nat_cmp x.max p.len)) (nat_cmp x.asn 0) ≡ Less → s ≡ Less
+  least_by Less e h = refl
+  least_by Equal e h =
+      let same = subnet_exact x.prefix p e in
+      let reaches = subst (λ (q : Subnet). q.len ≤ x.max) same is.reaches in
+      absurd (true≢false (sym (ap is_lt h) ∙ to_greatest x.max p.len (nat_cmp x.asn 0) reaches (not_above x.asn 0 (omega arith))))
+  least_by Greater e h = absurd cc
+
+  least_before : payload_cmp x (least_of p) ≡ Less → subnet_cmp x.prefix p ≡ Less
+  least_before h = least_by (subnet_cmp x.prefix p) refl h
+
+module _ (p : Subnet) (keys all : List Payload) (same : keys ≡ all) (are : ArePayloads keys) (least x : Payload) (is_least : least ≡ least_of p) (there : has keys x ≡ true)
+    (below : payload_cmp x least ≡ Less) (last : (q : Payload) → payload_cmp q least ≡ Less → has keys q ≡ true → is_lt (payload_cmp x q) ≡ false) where
+  pub last_before : (before : Subnet) → before ≡ x.prefix → IsLastBefore all p before
+  last_before before e = record {
+    payload = x;
+    there = ap (λ (vs : List Payload). has vs x) (sym same) ∙ there;
+    is = sym e;
+    lies = least_before p x (are.each x there) (ap (payload_cmp x) (sym is_least) ∙ below);
+    last = λ v held lies. ap (λ (s : Subnet). is_lt (subnet_cmp s v.prefix)) e
+        ∙ not_below_prefix (subnet_cmp x.prefix v.prefix) (nat_cmp x.max v.max) (nat_cmp x.asn v.asn)
+        (last v (ap (payload_cmp v) is_least ∙ before_least v p lies) (ap (λ (vs : List Payload). has vs v) same ∙ held));
+  }

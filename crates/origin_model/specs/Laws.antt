@@ -1,5 +1,5 @@
 -- Laws of states and of covering, each the contract of a public function of the module `laws`.
-use Rattle.std.specs.Prelude.{◌≡◌, true, ◌⊎◌, []}
+use Rattle.std.specs.Prelude.{◌≡◌, ◌≤◌, true, ◌⊎◌, []}
 use Rattle.av_base.specs.One.{HasOne}
 use Rattle.path_model.specs.declared.key.Key.{Key}
 use Rattle.path_model.specs.Prefix.{Subnet, IsSubnet, bits_of}
@@ -32,9 +32,11 @@ pub record IsNeverValid (parts : Parts) (key : Key) (path : Path) : Type 0 where
 abbrev pub RoutesWithoutOriginAreNeverValid : Type 0
 RoutesWithoutOriginAreNeverValid = (parts : Parts) (key : Key) (path : Path) → (path.set ≡ true) ⊎ (path.chain ≡ []) → IsNeverValid parts key path
 
--- Each prefix covers itself, and what those cover that it covers, and none of the other family; two that cover each other are one.
+-- Each prefix covers itself, and what those cover that it covers, and none of the other family; of two that cover a third one, the shorter
+-- covers the longer; two that cover each other are one.
 pub record CoveringIsAnOrder : Type 0 where
   pub itself : (p : Subnet) → IsSubnet p → Covers p p
   pub through : (p q r : Subnet) → Covers p q → Covers q r → Covers p r
+  pub between : (p q r : Subnet) → Covers p r → Covers q r → p.len ≤ q.len → Covers p q
   pub only : (p q : Subnet) → IsSubnet q → Covers p q → Covers q p → p ≡ q
   pub family : (p q : Subnet) → Covers p q → bits_of p.addr ≡ bits_of q.addr

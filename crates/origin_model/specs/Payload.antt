@@ -1,10 +1,11 @@
 -- Validated ROA payloads (RFC 6811, section 2), and sets of them.
-use Rattle.std.specs.Prelude.{◌≡◌, ℕ, Bool, true, ◌||◌, ◌&&◌, not, ◌<◌, ◌≤◌, ◌^◌, List}
+use Rattle.std.specs.Prelude.{◌≡◌, ℕ, Bool, true, false, ◌||◌, ◌&&◌, not, ◌<◌, ◌≤◌, ◌^◌, List}
 use Rattle.std.specs.BTreeMap.{is_at}
 use Rattle.std.specs.Cmp.{IsTotalOrder, nat_cmp_total, on_total, then_total}
 use Rattle.std.specs.List.{list_any}
-use Rattle.std.specs.Ordering.{nat_cmp, ordering_then}
+use Rattle.std.specs.Ordering.{is_lt, nat_cmp, ordering_then}
 use Rattle.std.specs.declared.cmp.Ordering.{Ordering}
+use Rattle.std.specs.declared.cmp.Ordering.TheVariants.{Less}
 use Rattle.path_model.specs.Order.{subnet_total}
 use Rattle.path_model.specs.Prefix.{Subnet, bits_of, subnet_cmp}
 
@@ -58,6 +59,22 @@ AreAllOf prefix some = (v : Payload) → has some v ≡ true → v.prefix ≡ pr
 -- what has this prefix among the first is among the second
 abbrev pub HasAllOf : Subnet → List Payload → List Payload → Type 0
 HasAllOf prefix all some = (v : Payload) → v.prefix ≡ prefix → has all v ≡ true → has some v ≡ true
+
+-- the payload's prefix is before this one in the order
+abbrev pub IsBefore : Payload → Subnet → Type 0
+IsBefore v prefix = subnet_cmp v.prefix prefix ≡ Less
+
+-- this is the prefix of the last payload before those of a prefix: some payload has it, and no payload between them is among these
+pub record IsLastBefore (payloads : List Payload) (prefix before : Subnet) : Type 0 where
+  pub payload : Payload
+  pub there : has payloads payload ≡ true
+  pub is : payload.prefix ≡ before
+  pub lies : IsBefore payload prefix
+  pub last : (v : Payload) → has payloads v ≡ true → IsBefore v prefix → is_lt (subnet_cmp before v.prefix) ≡ false
+
+-- none of these is before the payloads of a prefix
+abbrev pub HasNoneBefore : List Payload → Subnet → Type 0
+HasNoneBefore payloads prefix = (v : Payload) → has payloads v ≡ true → ¬ IsBefore v prefix
 
 -- the first and the last payload of a prefix in the order
 abbrev pub least_of : Subnet → Payload

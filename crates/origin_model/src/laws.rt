@@ -16,7 +16,8 @@ pub fn routes_without_origin_are_never_valid()
     ensures { RoutesWithoutOriginAreNeverValid }
 {}
 
-/// Each prefix covers itself, none of the other family, and what those cover that it covers; two prefixes that cover each other are one.
+/// Each prefix covers itself, none of the other family, and what those cover that it covers. Of two that cover a third one the shorter
+/// covers the longer, and two that cover each other are one.
 pub fn covering_is_an_order()
     ensures { CoveringIsAnOrder }
 {}

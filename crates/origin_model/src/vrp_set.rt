@@ -1,10 +1,10 @@
 //! Sets of validated ROA payloads.
-ghost use Rattle.std.specs.Prelude.{◌≡◌, ◌↔◌, [], IfOk, OnOk, OnErr, IsTrue};
+ghost use Rattle.std.specs.Prelude.{◌≡◌, ◌↔◌, [], IfNone, IfOk, IfSome, IsTrue, OnErr, OnOk};
 ghost use Rattle.std.specs.BTreeMap.{is_at};
 ghost use Rattle.std.specs.BTreeSet.{insert_key};
 ghost use Rattle.std.specs.Set.{remove_key};
 ghost use Rattle.std.specs.List.Sorted.{IsStrictlySortedBy};
-ghost use Rattle.origin_model.specs.Payload.{AreAllOf, ArePayloads, Gains, HasAllOf, Loses, StandsIn, has, payload_cmp};
+ghost use Rattle.origin_model.specs.Payload.{AreAllOf, ArePayloads, Gains, HasAllOf, HasNoneBefore, IsLastBefore, Loses, StandsIn, has, payload_cmp};
 
 use crate::{Vrp, VrpEntries};
 use av_base::NoMemory;
@@ -95,6 +95,15 @@ impl VrpSet {
     {
         self.members
             .range(Vrp::least_of(*prefix)..=Vrp::greatest_of(*prefix))
+    }
+
+    /// The prefix of the last payload before those of a prefix in the order, if there is one. It takes no memory, and the time of a look-up.
+    pub fn prefix_before(&self, prefix: &Prefix) -> Option<Prefix>
+        ensures some { IfSome result (IsLastBefore self.now prefix.now) }
+        ensures none { IfNone result (HasNoneBefore self.now prefix.now) }
+    {
+        let v = self.members.range(..Vrp::least_of(*prefix)).next_back()?;
+        Some(v.prefix())
     }
 
     /// The same set once more.
