@@ -1,1 +1,3 @@
+pub mod CoverLemmas
+pub mod FrontLemmas
 pub mod StateLemmas

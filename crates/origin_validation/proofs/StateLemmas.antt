@@ -1,7 +1,7 @@
 -- States by the parts of a look-up, one part after another.
-use Rattle.std.proofs.Common.{◌≡◌, ℕ, ◌+◌, ◌≤◌, true, List, [], ◌∷◌, None, Some, sym, ap, subst, ◌∙◌, arith, ◌⊎◌, inl, inr, true≢false}
+use Rattle.std.proofs.Common.{◌≡◌, ℕ, true, List, [], ◌∷◌, sym, ap, subst, ◌∙◌, ◌⊎◌, inl, inr, true≢false}
 use Rattle.std.specs.declared.option.Option.{Option}
-use Rattle.path_model.specs.Prefix.{Subnet, prefix_of}
+use Rattle.path_model.specs.Prefix.{Subnet}
 use Rattle.origin_model.specs.declared.origin_state.OriginState.{OriginState}
 use Rattle.origin_model.specs.declared.origin_state.OriginState.TheVariants.{NotFound}
 use Rattle.origin_model.specs.declared.prefix_filter.PrefixFilter.{PrefixFilter}
@@ -9,7 +9,6 @@ use Rattle.origin_model.specs.Covering.{Covers}
 use Rattle.origin_model.specs.Current.{IsGiven}
 use Rattle.origin_model.specs.OriginState.{HasState, better}
 use Rattle.origin_model.specs.Payload.{Payload, has}
-use Rattle.origin_model.proofs.CoverLemmas.{begins, some_is}
 use Rattle.origin_model.proofs.PayloadLemmas.{first_has, has_first}
 use Rattle.origin_model.proofs.StateLemmas.{Goes, better_assoc, better_none, has_like, has_none, has_or}
 use Rattle.origin_validation.specs.Records.{IsGivenUnhit, IsUnhit}
@@ -33,44 +32,6 @@ module _ (prefix : Subnet) (origin : Option ℕ) (All : Payload → Type 0) wher
 
   pub folds_end : (Rest : Payload → Type 0) (s : OriginState) → Folds All Rest prefix origin s → ((v : Payload) → Covers v.prefix prefix → Rest v → ⊥) → HasState All prefix origin s
   folds_end Rest s f none = subst (HasState All prefix origin) (better_none s) (f.each NotFound (has_none prefix origin Rest none))
-
--- ---- prefixes of one length
-
-front_len : (addr : Rattle.path_model.specs.declared.addr.Addr.Addr) (len : ℕ) (s : Subnet) → prefix_of addr len ≡ Some s → s.len ≡ len
-front_len addr len s e = sym (ap (λ (p : Subnet). p.len) (begins addr len s e).is)
-
-module _ (prefix : Subnet) (origin : Option ℕ) (T : Payload → Type 0) (len : ℕ) where
-  abbrev OfLen : Payload → Type 0
-  OfLen v = (v.prefix.len ≡ len) × T v
-
-  front_is : (v : Payload) → Covers v.prefix prefix → v.prefix.len ≡ len → prefix_of prefix.addr len ≡ Some v.prefix
-  front_is v covers e = ap (prefix_of prefix.addr) (sym e) ∙ covers.front
-
-  pub at_front : (front : Subnet) (s : OriginState) → Some front ≡ prefix_of prefix.addr len → HasState (λ v. (v.prefix ≡ front) × T v) prefix origin s → HasState OfLen prefix origin s
-  at_front front s is h = has_like prefix origin (λ v. (v.prefix ≡ front) × T v) OfLen s
-      (λ v covers a. (ap (λ (p : Subnet). p.len) a.0 ∙ front_len prefix.addr len front (sym is), a.1))
-      (λ v covers a. (some_is v.prefix front (sym (front_is v covers a.0) ∙ sym is), a.1)) h
-
-  pub no_front : None ≡ prefix_of prefix.addr len → HasState OfLen prefix origin NotFound
-  no_front is = has_none prefix origin OfLen (λ v covers a. let e : ◌≡◌ {A = Option Subnet} None (Some v.prefix) = is ∙ front_is v covers a.0 in absurd cc)
-
-module _ (prefix : Subnet) (origin : Option ℕ) (T : Payload → Type 0) where
-  abbrev pub FromLen : ℕ → Payload → Type 0
-  FromLen len v = (len ≤ v.prefix.len) × T v
-
-  pub lens_start : Folds T (FromLen 0) prefix origin NotFound
-  lens_start = folds_start prefix origin T (FromLen 0) (λ v covers a. a.1) (λ v covers a. (omega arith, a))
-
-  le_cases : (m n : ℕ) → m ≤ n → (n ≡ m) ⊎ (m + 1 ≤ n)
-  le_cases m n le = search arith
-
-  pub lens_next : (len : ℕ) (s u : OriginState) → Folds T (FromLen len) prefix origin s → HasState (λ v. (v.prefix.len ≡ len) × T v) prefix origin u → Folds T (FromLen (len + 1)) prefix origin (better s u)
-  lens_next len s u f one = folds_next prefix origin T (FromLen len) (λ v. (v.prefix.len ≡ len) × T v) (FromLen (len + 1)) s u f one
-      (λ v covers a. elim (le_cases len v.prefix.len a.0) [ inl e ↦ inl (e, a.1) | inr more ↦ inr (more, a.1) ])
-      (λ v covers a. elim a [ inl b ↦ (omega (arith, b.0), b.1) | inr b ↦ (omega (arith, b.0), b.1) ])
-
-  pub lens_end : (len : ℕ) (s : OriginState) → prefix.len + 1 ≤ len → Folds T (FromLen len) prefix origin s → HasState T prefix origin s
-  lens_end len s le f = folds_end prefix origin T (FromLen len) s f (λ v covers a. omega (arith, le, covers.shorter, a.0))
 
 -- ---- payloads of one list
 

@@ -1,5 +1,5 @@
 -- What changes of the parts of which the current payloads are made; and the parts of a look-up, which private contracts alone cite.
-use Rattle.std.specs.Prelude.{◌≡◌, ℕ, true, List}
+use Rattle.std.specs.Prelude.{◌≡◌, ◌≤◌, ℕ, true, List}
 use Rattle.std.specs.BTreeMap.{insert_entry, is_at}
 use Rattle.std.specs.Cmp.Lexicographic.{slice_cmp}
 use Rattle.std.specs.Map.{lookup}
@@ -29,9 +29,9 @@ IsGivenUnhit sources filters v = IsGiven sources v × (¬ IsHit filters v)
 abbrev pub IsUnhit : List Payload → List PrefixFilter → Payload → Type 0
 IsUnhit payloads filters v = (has payloads v ≡ true) × (¬ IsHit filters v)
 
--- and its prefix has this length,
-abbrev pub IsUnhitOfLength : List Payload → List PrefixFilter → ℕ → Payload → Type 0
-IsUnhitOfLength payloads filters len v = (v.prefix.len ≡ len) × IsUnhit payloads filters v
+-- and its prefix isn't longer than this,
+abbrev pub IsUnhitUpTo : List Payload → List PrefixFilter → ℕ → Payload → Type 0
+IsUnhitUpTo payloads filters len v = (v.prefix.len ≤ len) × IsUnhit payloads filters v
 
 -- or its prefix is this one
 abbrev pub IsUnhitIn : List Payload → List PrefixFilter → Subnet → Payload → Type 0

@@ -1,7 +1,9 @@
-//! The payloads of a set that cover a prefix, looked up length by length.
+//! The state of a route by the payloads of a set that cover it, looked up from the longest covering prefix to the shortest.
+ghost use Rattle.std.specs.Prelude.{◌≤◌};
 ghost use Rattle.origin_model.specs.OriginState.{HasState};
-ghost use Rattle.origin_validation.specs.Records.{IsUnhit, IsUnhitIn, IsUnhitOfLength, IsUnhitOne};
+ghost use Rattle.origin_validation.specs.Records.{IsUnhit, IsUnhitIn, IsUnhitOne, IsUnhitUpTo};
 
+use crate::fronts::next_front;
 use origin_model::{OriginState, PrefixFilters, Vrp, VrpSet};
 use path_model::Prefix;
 
@@ -17,28 +19,27 @@ pub(crate) fn state_in(
     if set.is_empty() {
         return OriginState::NotFound;
     }
-    let mut state = OriginState::NotFound;
-    let end = prefix.len() + 1;
-    for len in 0..end {
-        let more = state_of_length(set, len, filters, prefix, origin);
-        state = state.or(more);
-    }
-    state
+    state_up_to(set, prefix.len(), filters, prefix, origin)
 }
 
-// The state by those whose prefixes have one length.
-fn state_of_length(
+// The state by those whose prefixes have at most so many bits.
+fn state_up_to(
     set: &VrpSet,
     len: u8,
     filters: &PrefixFilters,
     prefix: &Prefix,
     origin: Option<u32>,
 ) -> OriginState
-    ensures { HasState (IsUnhitOfLength set.now filters.now len) prefix.now origin result }
+    requires { len ≤ prefix.now.len }
+    ensures { HasState (IsUnhitUpTo set.now filters.now len) prefix.now origin result }
 {
-    match Prefix::new(prefix.addr(), len) {
-        Some(front) => state_at(set, &front, filters, prefix, origin),
-        None => OriginState::NotFound,
+    let Some(front) = Prefix::new(prefix.addr(), len) else {
+        return OriginState::NotFound;
+    };
+    let state = state_at(set, &front, filters, prefix, origin);
+    match next_front(set, &front) {
+        None => state,
+        Some(next) => state.or(state_up_to(set, next.len(), filters, prefix, origin)),
     }
 }
 

@@ -47,8 +47,9 @@ impl Records {
         }
     }
 
-    /// The state of a route by its prefix and its origin, which is `None` where its path has an AS_SET or no AS. It takes no memory, and for
-    /// each source, and for the assertions, at most one look-up for each length up to the prefix's; nothing where no payload is held.
+    /// The state of a route by its prefix and its origin, which is `None` where its path has an AS_SET or no AS. It takes no memory. In each
+    /// source, and among the assertions, it goes from the prefix to the next shorter one that covers it and may be a payload's, with two
+    /// look-ups for each, at most one more than the prefix has bits; a set without payloads costs nothing.
     pub fn state(&self, prefix: &Prefix, origin: Option<u32>) -> OriginState
         ensures { HasState (IsCurrent self.now) prefix.now origin result }
     {
@@ -60,7 +61,8 @@ impl Records {
 
     // The state by those of the sources.
     fn given_state(&self, prefix: &Prefix, origin: Option<u32>) -> OriginState
-        ensures { HasState (IsGivenUnhit self.now.sources self.now.filters) prefix.now origin result }
+        ensures { HasState (IsGivenUnhit self.now.sources self.now.filters)
+            prefix.now origin result }
     {
         let mut state = OriginState::NotFound;
         for (_, set) in &self.sources {
