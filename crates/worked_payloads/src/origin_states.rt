@@ -85,36 +85,30 @@ fn payloads_cover_and_match(rt: HostRuntime) {
     }
 }
 
-// The sources with these filters and assertions.
-fn amended(
-    alloc: Global,
-    filter: PrefixFilter,
-    asserted: &[(u32, u8, u8, u32)],
-) -> Option<Records> {
-    let mut records = two_sources(alloc)?;
+// A filter's prefix, as an address and a length, and its AS.
+type Filter = (Option<(u32, u8)>, Option<u32>);
+
+// The two sources with this filter, and with 198.51.100.0/24 asserted for AS 64500.
+fn filtered(alloc: Global, filter: Filter) -> Option<Records> {
+    let prefix = match filter.0 {
+        Some((bits, len)) => Some(four(bits, len)?),
+        None => None,
+    };
     let mut filters = PrefixFilters::new(alloc);
-    filters.push(filter).ok()?;
-    records.amend(filters, payloads(alloc, asserted)?);
+    let asn = filter.1;
+    filters.push(PrefixFilter { prefix, asn }).ok()?;
+    let mut records = two_sources(alloc)?;
+    records.amend(filters, payloads(alloc, &[(0xc633_6400, 24, 24, 64_500)])?);
     Some(records)
 }
 
 #[test]
 fn filters_hit_the_sources_alone(rt: HostRuntime) {
     let alloc = rt.alloc();
-    let by_prefix = PrefixFilter {
-        prefix: four(0x0a00_0000, 17),
-        asn: None,
-    };
-    let by_both = PrefixFilter {
-        prefix: four(0x0a00_8000, 17),
-        asn: Some(64_501),
-    };
-    let by_all = PrefixFilter {
-        prefix: None,
-        asn: None,
-    };
-    let asserted = [(0xc633_6400, 24, 24, 64_500)];
-    // the prefix of the first covers none of the payloads': 10.0.0.0/16 is shorter
+    // 10.0.0.0/17 covers no payload's prefix: that of 10.0.0.0/16 is shorter
+    let by_prefix: Filter = (Some((0x0a00_0000, 17)), None);
+    let by_both: Filter = (Some((0x0a00_8000, 17)), Some(64_501));
+    let by_all: Filter = (None, None);
     let table = [
         (by_prefix, 0x0a00_0000, 16, 64_500, OriginState::Valid),
         (by_both, 0x0a00_8000, 24, 64_501, OriginState::Invalid),
@@ -124,7 +118,7 @@ fn filters_hit_the_sources_alone(rt: HostRuntime) {
         (by_all, 0xc633_6400, 24, 64_499, OriginState::Invalid),
     ];
     for (filter, bits, len, origin, right) in table {
-        match amended(alloc, filter, &asserted) {
+        match filtered(alloc, filter) {
             Some(records) => assert!(rt; state(&records, bits, len, Some(origin)) == Some(right)),
             None => assert!(rt; false),
         }
