@@ -1,0 +1,12 @@
+pub mod AnsweringLemmas
+pub mod ExchangeLemmas
+pub mod FittingLemmas
+pub mod FollowingLemmas
+pub mod RouterLemmas
+pub mod RowLemmas
+pub mod TakingLemmas
+pub mod TellingLemmas
+pub mod UniqueLemmas
+pub mod UnitLemmas
+pub mod UpdatingLemmas
+pub mod VisitLemmas

@@ -1,0 +1,5 @@
+use Rattle.rtr_cache.proofs.ExchangeLemmas as lemmas
+use Rattle.rtr_cache.proofs.laws.routers_get_the_table.Goals as goal
+
+pub returns : goal.returns
+returns c = lemmas.gets_table
