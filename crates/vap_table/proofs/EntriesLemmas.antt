@@ -1,15 +1,15 @@
 -- What the iterator over the current rows begins with.
-use Rattle.std.proofs.Common.{◌≡◌, ℕ, nat_eq, Bool, true, false, cond, ◌||◌, List, [], ◌∷◌, Some, None, is_some, inl, inr, refl, sym, ap, subst, ◌∙◌, arith}
+use Rattle.std.proofs.Common.{◌≡◌, ℕ, nat_eq, Bool, true, false, cond, ◌||◌, List, [], ◌∷◌, Some, None, is_some, inl, inr, refl, sym, ap, subst, ◌∙◌}
 use Rattle.std.specs.declared.option.Option.{Option}
 use Rattle.std.specs.declared.cmp.Ordering.TheVariants.{Less}
 use Rattle.std.specs.Ordering.{nat_cmp}
 use Rattle.std.specs.BTreeMap.{is_at}
+use Rattle.std.specs.Cmp.{nat_eq_equiv, unsigned_tied}
 use Rattle.std.specs.FinMap as map
 use Rattle.std.specs.Map.{keys_of, lookup}
 use Rattle.std.specs.List.{AllByRecursion}
 use Rattle.std.specs.List.Sorted.{IsStrictlySortedBy}
-use Rattle.std.proofs.lemmas.Bool.Decides.{eqb_tells, nat_tests}
-use Rattle.std.proofs.lemmas.Grind.{common_steps}
+use Rattle.std.proofs.lemmas.Bool.Decides.{eqb_tells}
 use Rattle.path_model.specs.Authority.{has}
 use Rattle.attestations.specs.Terms.{TermMap}
 use Rattle.attestations.specs.CurrentTable.{Parts, IsCurrentRow, IsCurrentTable}
@@ -44,7 +44,7 @@ rows_rise current moment sources [] rising = tt
 rows_rise current moment sources (x ∷ xs) rising = onto_rises x (kept_row current moment sources x) (with_rows current moment sources xs) (below_rows current moment sources x xs rising.0) (rows_rise current moment sources xs rising.1)
 
 test_same : (q x : ℕ) → is_at (nat_cmp q) x ≡ nat_eq x q
-test_same q x = elim (eqb_tells x q) [ inl is ↦ grind (arith, common_steps, nat_tests) | inr not ↦ grind (arith, common_steps, nat_tests) ]
+test_same q x = unsigned_tied q x ∙ nat_eq_equiv.symm q x
 
 none_chosen : (b : Bool) (other : Option (List ℕ)) → other ≡ None → cond b other None ≡ other
 none_chosen true other e = refl
