@@ -1,10 +1,10 @@
 //! BMP streams: messages cut out of a recorded stream (RFC 7854), and what the body of each says.
 //!
-//! The layer above uses two contracts. [`Framer`] holds what is left of a stream; its `next` takes the first message off and lends its
+//! The layer above uses three contracts. [`Framer`] holds what is left of a stream; its `next` takes the first message off and lends its
 //! body, or says why there is none (`specs/Coming.antt`: `Answers`). [`read_message`] answers what a message says in a view, by the
-//! peers whose prefixes have path identifiers (`specs/Bodies.antt`: `IsReading`), or want of memory. By the laws in `laws` no message
-//! begins another one, in a stream exactly one thing comes next, a stream has exactly one list of messages, and each message has exactly
-//! one reading.
+//! peers whose prefixes have path identifiers (`specs/Bodies.antt`: `IsReading`), or want of memory. [`PathPeers`] is the set of these
+//! peers. By the laws in `laws` no message begins another one, in a stream exactly one thing comes next, a stream has exactly one list of
+//! messages, and each message has exactly one reading; the proofs above take them from `LawLemmas` and `ReadingLemmas`.
 //!
 //! Begin reading at `specs/Messages.antt` and `specs/Bodies.antt`. `heading` and `framer` cut messages; `kind` tells the bodies apart;
 //! `header` has the per-peer header, `opening` OPENs, `seen` what their capabilities tell, `up` the parts of a Peer Up; `fields` has the
