@@ -10,10 +10,11 @@ use Rattle.origin_model.specs.declared.origin_state.OriginState.TheVariants.{Val
 use Rattle.origin_model.specs.declared.prefix_filter.PrefixFilter.{PrefixFilter}
 use Rattle.origin_model.specs.Covering.{Covers}
 use Rattle.origin_model.specs.Current.{Parts, IsCurrent, IsGiven}
-use Rattle.origin_model.specs.Filters.{AgreesInAsn, AgreesInPrefix, Hits, IsHit}
+use Rattle.origin_model.specs.PrefixFilter.{AgreesInAsn, AgreesInPrefix, Hits, IsHit}
 use Rattle.origin_model.specs.Laws.{As0MakesNothingValid, CoveringIsAnOrder, EachRouteHasOneState, RoutesWithoutOriginAreNeverValid}
 use Rattle.origin_model.specs.OriginState.{Matches, HasState, better, origin_of}
-use Rattle.origin_model.specs.Payload.{Payload, has}
+use Rattle.origin_model.specs.Vrp.{Payload}
+use Rattle.origin_model.specs.VrpSet.{has}
 use Rattle.origin_model.proofs.CoverLemmas.{covers_between, covers_decided, covers_family, covers_itself, covers_only, covers_through}
 use Rattle.origin_model.proofs.PayloadLemmas.{first_has, has_first}
 use Rattle.origin_model.proofs.StateLemmas.{has_like, has_none, has_or, one_state}

@@ -14,7 +14,8 @@ use Rattle.std.proofs.lemmas.Map.Views.{any-filter_same}
 use Rattle.path_model.specs.Order.{subnet_total}
 use Rattle.path_model.specs.Prefix.{Subnet, bits_of, subnet_cmp}
 use Rattle.path_model.proofs.OrderLemmas.{subnet_exact}
-use Rattle.origin_model.specs.Payload.{Payload, IsPayload, ArePayloads, payload_cmp, payload_total, has, least_of, greatest_of, IsLastBefore}
+use Rattle.origin_model.specs.Vrp.{Payload, IsPayload, payload_cmp, payload_total, least_of, greatest_of}
+use Rattle.origin_model.specs.VrpSet.{ArePayloads, has, IsLastBefore}
 
 both_equal : (a b : Ordering) → ordering_then a b ≡ Equal → (a ≡ Equal) × (b ≡ Equal)
 both_equal Less b e = absurd cc

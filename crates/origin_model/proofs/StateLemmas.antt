@@ -3,7 +3,7 @@ use Rattle.std.proofs.Common.{◌≡◌, ℕ, ◌⊎◌, inl, inr, refl}
 use Rattle.std.specs.declared.option.Option.{Option}
 use Rattle.path_model.specs.Prefix.{Subnet}
 use Rattle.origin_model.specs.Covering.{Covers}
-use Rattle.origin_model.specs.Payload.{Payload}
+use Rattle.origin_model.specs.Vrp.{Payload}
 use Rattle.origin_model.specs.declared.origin_state.OriginState.{OriginState}
 use Rattle.origin_model.specs.declared.origin_state.OriginState.TheVariants.{Valid, Invalid, NotFound}
 use Rattle.origin_model.specs.OriginState.{Matches, Matching, Covering, HasState, better}

@@ -1,8 +1,9 @@
 -- Which payloads are current: those of the sources as a SLURM file has them (RFC 8416, sections 3.3.1 and 3.4.1).
 use Rattle.std.specs.Prelude.{◌≡◌, ℕ, true, ◌⊎◌, List, [], ◌∷◌}
 use Rattle.origin_model.specs.declared.prefix_filter.PrefixFilter.{PrefixFilter}
-use Rattle.origin_model.specs.Filters.{IsHit}
-use Rattle.origin_model.specs.Payload.{Payload, has}
+use Rattle.origin_model.specs.PrefixFilter.{IsHit}
+use Rattle.origin_model.specs.Vrp.{Payload}
+use Rattle.origin_model.specs.VrpSet.{has}
 
 -- What the current payloads are made of: those of each named source under its name, and the filters and the asserted payloads of a SLURM
 -- file.

@@ -8,7 +8,7 @@ use Rattle.origin_model.specs.declared.origin_state.OriginState.TheVariants.{Val
 use Rattle.origin_model.specs.Covering.{Covers}
 use Rattle.origin_model.specs.Current.{Parts, IsCurrent}
 use Rattle.origin_model.specs.OriginState.{Covering, IsStateOf}
-use Rattle.origin_model.specs.Payload.{Payload}
+use Rattle.origin_model.specs.Vrp.{Payload}
 
 -- each route has exactly one state
 abbrev pub EachRouteHasOneState : Type 0

@@ -1,6 +1,7 @@
 pub mod Covering
 pub mod Current
-pub mod Filters
 pub mod Laws
 pub mod OriginState
-pub mod Payload
+pub mod PrefixFilter
+pub mod Vrp
+pub mod VrpSet

@@ -10,7 +10,7 @@ use Rattle.origin_model.specs.declared.origin_state.OriginState.{OriginState}
 use Rattle.origin_model.specs.declared.origin_state.OriginState.TheVariants.{Valid, Invalid, NotFound}
 use Rattle.origin_model.specs.Covering.{Covers}
 use Rattle.origin_model.specs.Current.{Parts, IsCurrent}
-use Rattle.origin_model.specs.Payload.{Payload}
+use Rattle.origin_model.specs.Vrp.{Payload}
 
 -- The origin of a path: the first AS of its chain, and none where the path has a set or no AS. RFC 6811 has none where the last segment is a
 -- set; that a set anywhere leaves none is this project's own, as is an empty path's.

@@ -1,7 +1,7 @@
 //! Prefix filters.
 ghost use Rattle.std.specs.Prelude.{◌≡◌, ◌↔◌, ◌∷◌, ◌++◌, [], IsTrue, OnOk, OnErr, IfOk};
 ghost use Rattle.std.specs.Slice.Iter.{iter_rest};
-ghost use Rattle.origin_model.specs.Filters.{AgreesInAsn, AgreesInPrefix, Hits, IsHit};
+ghost use Rattle.origin_model.specs.PrefixFilter.{AgreesInAsn, AgreesInPrefix, Hits, IsHit};
 
 use crate::{Vrp, covers};
 use av_base::NoMemory;

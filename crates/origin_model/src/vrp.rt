@@ -3,7 +3,7 @@ ghost use Rattle.std.specs.Prelude.{◌≡◌, ◌<◌, ◌⊎◌, IfSome, IfNon
 ghost use Rattle.std.specs.Ordering.{eq_by_cmp};
 ghost use Rattle.std.specs.Cmp.{eq_by_cmp_equiv, partial_equiv_from_equiv, partial_order_from_agreeing_total};
 ghost use Rattle.path_model.specs.Prefix.{bits_of};
-ghost use Rattle.origin_model.specs.Payload.{IsPayload, payload_of, payload_cmp, payload_total, least_of, greatest_of};
+ghost use Rattle.origin_model.specs.Vrp.{IsPayload, payload_of, payload_cmp, payload_total, least_of, greatest_of};
 
 use path_model::{Addr, Prefix};
 use std::cmp::Ordering;
@@ -19,7 +19,7 @@ pub struct Vrp {
 }
 
 impl Model for Vrp {
-    ghost use Rattle.origin_model.specs.Payload.{Payload, IsPayload, payload_of};
+    ghost use Rattle.origin_model.specs.Vrp.{Payload, IsPayload, payload_of};
 
     ghost Value = { Payload };
 

@@ -14,7 +14,7 @@ pub struct VrpEntries<'a> {
 
 impl<'a> Model for VrpEntries<'a> {
     ghost use Rattle.std.specs.Prelude.{List};
-    ghost use Rattle.origin_model.specs.Payload.{Payload};
+    ghost use Rattle.origin_model.specs.Vrp.{Payload};
 
     ghost Value = { List Payload };
 

@@ -4,7 +4,8 @@ ghost use Rattle.std.specs.BTreeMap.{is_at};
 ghost use Rattle.std.specs.BTreeSet.{insert_key};
 ghost use Rattle.std.specs.Set.{remove_key};
 ghost use Rattle.std.specs.List.Sorted.{IsStrictlySortedBy};
-ghost use Rattle.origin_model.specs.Payload.{AreAllOf, ArePayloads, Gains, HasAllOf, HasNoneBefore, IsLastBefore, Loses, StandsIn, has, payload_cmp};
+ghost use Rattle.origin_model.specs.Vrp.{payload_cmp};
+ghost use Rattle.origin_model.specs.VrpSet.{AreAllOf, ArePayloads, Gains, HasAllOf, HasNoneBefore, IsLastBefore, Loses, StandsIn, has};
 
 use crate::{Vrp, VrpEntries};
 use av_base::NoMemory;
@@ -22,7 +23,8 @@ pub struct VrpSet {
 
 impl Model for VrpSet {
     ghost use Rattle.std.specs.Prelude.{List};
-    ghost use Rattle.origin_model.specs.Payload.{Payload, ArePayloads};
+    ghost use Rattle.origin_model.specs.Vrp.{Payload};
+    ghost use Rattle.origin_model.specs.VrpSet.{ArePayloads};
 
     ghost Value = { List Payload };
 

@@ -15,7 +15,8 @@ use Rattle.path_model.specs.declared.addr.Addr.TheVariants.{V4, V6}
 use Rattle.path_model.specs.Order.{addr_total, subnet_total}
 use Rattle.path_model.specs.Prefix.{Subnet, IsSubnet, addr_cmp, subnet_cmp, prefix_of, without_last}
 use Rattle.origin_model.specs.Covering.{Covers}
-use Rattle.origin_model.specs.Payload.{Payload, IsLastBefore, has}
+use Rattle.origin_model.specs.Vrp.{Payload}
+use Rattle.origin_model.specs.VrpSet.{IsLastBefore, has}
 use Rattle.origin_model.proofs.CoverLemmas.{begins, clear_longer}
 
 less_or_same : (a b : ℕ) → a ≤ b → (a < b) ⊎ (a ≡ b)

@@ -6,7 +6,8 @@ use Rattle.origin_model.specs.declared.origin_state.OriginState.{OriginState}
 use Rattle.origin_model.specs.declared.prefix_filter.PrefixFilter.{PrefixFilter}
 use Rattle.origin_model.specs.Covering.{Covers}
 use Rattle.origin_model.specs.OriginState.{HasState, better}
-use Rattle.origin_model.specs.Payload.{Payload, HasNoneBefore, IsLastBefore, has}
+use Rattle.origin_model.specs.Vrp.{Payload}
+use Rattle.origin_model.specs.VrpSet.{HasNoneBefore, IsLastBefore, has}
 use Rattle.origin_model.proofs.CoverLemmas.{begins, begun, covers_between, some_is}
 use Rattle.origin_model.proofs.StateLemmas.{has_like, has_or}
 use Rattle.origin_validation.specs.Fronts.{HasNoCommon, HasNoFront, IsCommon, IsCommonOf, IsLongestCommon, IsNextFront}

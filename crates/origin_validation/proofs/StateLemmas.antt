@@ -8,7 +8,8 @@ use Rattle.origin_model.specs.declared.prefix_filter.PrefixFilter.{PrefixFilter}
 use Rattle.origin_model.specs.Covering.{Covers}
 use Rattle.origin_model.specs.Current.{IsGiven}
 use Rattle.origin_model.specs.OriginState.{HasState, better}
-use Rattle.origin_model.specs.Payload.{Payload, has}
+use Rattle.origin_model.specs.Vrp.{Payload}
+use Rattle.origin_model.specs.VrpSet.{has}
 use Rattle.origin_model.proofs.PayloadLemmas.{first_has, has_first}
 use Rattle.origin_model.proofs.StateLemmas.{Goes, better_assoc, better_none, has_like, has_none, has_or}
 use Rattle.origin_validation.specs.Records.{IsGivenUnhit, IsUnhit}

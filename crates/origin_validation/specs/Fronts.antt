@@ -2,7 +2,8 @@
 use Rattle.std.specs.Prelude.{◌≡◌, ℕ, true, ◌<◌, ◌≤◌, List}
 use Rattle.path_model.specs.Prefix.{Subnet}
 use Rattle.origin_model.specs.Covering.{Covers}
-use Rattle.origin_model.specs.Payload.{Payload, has}
+use Rattle.origin_model.specs.Vrp.{Payload}
+use Rattle.origin_model.specs.VrpSet.{has}
 
 -- the prefix covers both of these, and has fewer bits than this
 pub record IsCommon (one other : Subnet) (end : ℕ) (p : Subnet) : Type 0 where

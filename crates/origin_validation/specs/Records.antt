@@ -8,8 +8,9 @@ use Rattle.std.specs.declared.option.Option.{Option}
 use Rattle.path_model.specs.Prefix.{Subnet}
 use Rattle.origin_model.specs.declared.prefix_filter.PrefixFilter.{PrefixFilter}
 use Rattle.origin_model.specs.Current.{Parts, IsGiven}
-use Rattle.origin_model.specs.Filters.{IsHit}
-use Rattle.origin_model.specs.Payload.{Payload, has}
+use Rattle.origin_model.specs.PrefixFilter.{IsHit}
+use Rattle.origin_model.specs.Vrp.{Payload}
+use Rattle.origin_model.specs.VrpSet.{has}
 
 -- the payloads of the source of this name, if there is one
 abbrev pub source_of : List (List ℕ × List Payload) → List ℕ → Option (List Payload)

@@ -2,7 +2,7 @@
 ghost use Rattle.std.specs.Prelude.{◌≡◌, ◌↔◌, IfOk, IsTrue, OnErr, OnOk};
 ghost use Rattle.std.specs.Option.{option_copied};
 ghost use Rattle.origin_model.specs.Current.{IsCurrent, no_parts};
-ghost use Rattle.origin_model.specs.Filters.{IsHit};
+ghost use Rattle.origin_model.specs.PrefixFilter.{IsHit};
 ghost use Rattle.origin_model.specs.OriginState.{HasState};
 ghost use Rattle.origin_validation.specs.Records.{IsGivenUnhit, source_of, with_source};
 

@@ -1,6 +1,7 @@
 use Rattle.std.proofs.Common.{List, ap, subst, sym, ◌∙◌}
-use Rattle.origin_model.specs.Filters.{IsHit}
-use Rattle.origin_model.specs.Payload.{Payload, has}
+use Rattle.origin_model.specs.PrefixFilter.{IsHit}
+use Rattle.origin_model.specs.Vrp.{Payload}
+use Rattle.origin_model.specs.VrpSet.{has}
 use Rattle.origin_model.specs.declared.origin_state.OriginState.{OriginState}
 use Rattle.origin_validation.specs.Records.{IsUnhitIn}
 use Rattle.origin_validation.proofs.StateLemmas.{Folds, Among, folds_start, among_next, among_end}

@@ -1,4 +1,4 @@
-use Rattle.origin_model.specs.Filters.{IsHit}
+use Rattle.origin_model.specs.PrefixFilter.{IsHit}
 use Rattle.origin_validation.specs.Records.{IsUnhitIn}
 use Rattle.origin_validation.proofs.StateLemmas.{Folds, Among}
 use Rattle.origin_validation.proofs.covering.state_at.Given as goal

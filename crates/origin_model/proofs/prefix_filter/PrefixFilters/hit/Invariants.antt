@@ -1,5 +1,5 @@
 use Rattle.std.proofs.Common.{drop}
-use Rattle.origin_model.specs.Filters.{IsHit}
+use Rattle.origin_model.specs.PrefixFilter.{IsHit}
 use Rattle.origin_model.proofs.prefix_filter.PrefixFilters.hit.Given as goal
 
 abbrev pub invariant-loop-f : goal.invariant-loop-f

@@ -1,6 +1,7 @@
 use Rattle.std.proofs.Common.{◌||◌, List, ap, ◌∙◌}
 use Rattle.std.specs.BTreeMap.{is_at}
-use Rattle.origin_model.specs.Payload.{Payload, has, payload_cmp}
+use Rattle.origin_model.specs.Vrp.{Payload, payload_cmp}
+use Rattle.origin_model.specs.VrpSet.{has}
 use Rattle.origin_model.proofs.PayloadLemmas.{or_cond, more_are}
 use Rattle.origin_model.proofs.vrp_set.VrpSet.add.Goals as goal
 

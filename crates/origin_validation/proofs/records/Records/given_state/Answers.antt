@@ -1,6 +1,6 @@
 use Rattle.std.proofs.Common.{ℕ, List, ap, subst, sym, ◌∙◌}
 use Rattle.origin_model.specs.declared.prefix_filter.PrefixFilter.{PrefixFilter}
-use Rattle.origin_model.specs.Payload.{Payload}
+use Rattle.origin_model.specs.Vrp.{Payload}
 use Rattle.origin_model.specs.declared.origin_state.OriginState.{OriginState}
 use Rattle.origin_model.specs.Current.{Parts, IsGiven}
 use Rattle.origin_model.specs.OriginState.{HasState}

@@ -1,9 +1,10 @@
 use Rattle.std.proofs.Common.{List, ap, subst, sym, ◌∙◌, ◌⊎◌, inl, inr}
 use Rattle.origin_model.specs.declared.prefix_filter.PrefixFilter.{PrefixFilter}
 use Rattle.origin_model.specs.Current.{Parts, IsCurrent}
-use Rattle.origin_model.specs.Filters.{IsHit}
+use Rattle.origin_model.specs.PrefixFilter.{IsHit}
 use Rattle.origin_model.specs.OriginState.{HasState, better}
-use Rattle.origin_model.specs.Payload.{Payload, has}
+use Rattle.origin_model.specs.Vrp.{Payload}
+use Rattle.origin_model.specs.VrpSet.{has}
 use Rattle.origin_model.proofs.StateLemmas.{has_like, has_or}
 use Rattle.origin_validation.specs.Records.{IsGivenUnhit, IsUnhit}
 use Rattle.origin_validation.proofs.records.Records.state.Goals as goal

@@ -5,7 +5,7 @@ use Rattle.std.specs.declared.option.Option.TheVariants.{Some, None}
 use Rattle.path_model.specs.Prefix.{Subnet}
 use Rattle.origin_model.specs.declared.prefix_filter.PrefixFilter.{PrefixFilter}
 use Rattle.origin_model.specs.Covering.{Covers}
-use Rattle.origin_model.specs.Payload.{Payload}
+use Rattle.origin_model.specs.Vrp.{Payload}
 
 -- the filter's prefix, if it has one, covers the payload's
 abbrev pub AgreesInPrefix : Option Subnet → Payload → Type 0
