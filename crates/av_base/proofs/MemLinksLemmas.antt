@@ -4,8 +4,8 @@ use Rattle.std.proofs.lemmas.List.{length-map, length-take, take-append-le, take
 use Rattle.std.proofs.lemmas.Option.{slice_get-get_or}
 use Rattle.std.specs.Prelude.{slice_get, slice_set}
 use Rattle.av_base.specs.declared.standing.Break.{Break}
-use Rattle.av_base.specs.Connections.{Link, Connects, AddsAttempt, ToldLater, Made, Failed, Attempt, IsUsable, IsOpen, standing_of, new_standing, to_come_of, sends, receives, breaks, closes, connects}
-use Rattle.av_base.specs.LinksInMemory.{LinksInMemory, Makes, ListsFailed, listed}
+use Rattle.av_base.specs.Connections.{Link, Connects, AddsAttempt, ToldLater, Made, Attempt, IsUsable, IsOpen, standing_of, new_standing, to_come_of, sends, receives, breaks, closes, connects}
+use Rattle.av_base.specs.LinksInMemory.{Accepts, LinksInMemory, Makes, MakesNext, ListsFailed, Waiting, listed}
 use Rattle.av_base.specs.Told.{Took}
 use Rattle.std.specs.declared.option.Option.{Option}
 use Rattle.av_base.proofs.LaterLemmas.{sends_later, breaks_later, closes_later, receives_later, connects_later, ToldLater-refl}
@@ -83,29 +83,63 @@ Receiving-later {items} {seen} {link} {n} {t} {after} {buf} {piece} r =
     received_later seen (slice_set items link after) link n (piece ++ drop n buf) r.usable
     (subst (λ (l : List Link). Took (to_come_of (Some seen) link) (to_come_of (Some l) link) n (piece ++ drop n buf)) (Receiving-links r) (Receiving-took r)) (Receiving-links r)
 
--- ---- connect
+-- ---- a connection is made
 
-pub Makes-number : {old new : LinksInMemory} {place : List ℕ} {link : ℕ} → Makes old new place link → (link ≡ length (map standing_of old.links)) × (length (map standing_of old.links) < 2 ^ 32 - 1)
-Makes-number {old} {new} {place} {link} makes = (makes.number ∙ sym (length-map old.links standing_of), omega (arith, makes.room, length-map old.links standing_of))
+MakesNext-number : {old new : Waiting} {place : List ℕ} {link : ℕ} → MakesNext old new place link → (link ≡ length (map standing_of old.links)) × (length (map standing_of old.links) < 2 ^ 32 - 1)
+MakesNext-number {old} {new} {place} {link} makes = (makes.number ∙ sym (length-map old.links standing_of), omega (arith, makes.room, length-map old.links standing_of))
 
-pub Makes-connects : {old new : LinksInMemory} {place : List ℕ} {link : ℕ} → Makes old new place link → Connects (Some old.links) (Some new.links) place
-Makes-connects makes = record { to_come = makes.bytes; told = ap (λ (l : List Link). Some l) makes.links }
+MakesNext-connects : {old new : Waiting} {place : List ℕ} {link : ℕ} → MakesNext old new place link → Connects (Some old.links) (Some new.links) place
+MakesNext-connects makes = record { to_come = makes.bytes; told = ap (λ (l : List Link). Some l) makes.links }
 
-pub Makes-standings : {old new : LinksInMemory} {place : List ℕ} {link : ℕ} → Makes old new place link → map standing_of new.links ≡ map standing_of old.links ++ new_standing ∷ []
-Makes-standings {old} {new} {place} {link} makes = ap (map standing_of) makes.links ∙ standings-connects place makes.bytes old.links
+MakesNext-standings : {old new : Waiting} {place : List ℕ} {link : ℕ} → MakesNext old new place link → map standing_of new.links ≡ map standing_of old.links ++ new_standing ∷ []
+MakesNext-standings {old} {new} {place} {link} makes = ap (map standing_of) makes.links ∙ standings-connects place makes.bytes old.links
 
-pub Makes-later : {old new : LinksInMemory} {place : List ℕ} {link : ℕ} → Makes old new place link → ToldLater (Some old.links) (Some new.links)
-Makes-later {old} {new} {place} {link} makes = now_later old.links new.links (connects place makes.bytes old.links) (connects_later (Some old.links) place makes.bytes) makes.links
+MakesNext-later : {old new : Waiting} {place : List ℕ} {link : ℕ} → MakesNext old new place link → ToldLater (Some old.links) (Some new.links)
+MakesNext-later {old} {new} {place} {link} makes = now_later old.links new.links (connects place makes.bytes old.links) (connects_later (Some old.links) place makes.bytes) makes.links
 
 listed_adds : (old new : Option (List Attempt)) (attempt : Attempt) → new ≡ listed old attempt → AddsAttempt old new attempt
 listed_adds None new attempt is = record { added = λ after told. let none : ⊥ = cc in absurd none }
 listed_adds (Some before) new attempt is = record { added = λ after told. (before, refl, (let same : Some after ≡ Some (before ++ attempt ∷ []) = sym told ∙ is in cc)) }
 
-pub Makes-attempt : {old new : LinksInMemory} {place : List ℕ} {link : ℕ} → Makes old new place link → AddsAttempt old.attempts new.attempts (Made link)
-Makes-attempt {old} {new} {place} {link} makes = listed_adds old.attempts new.attempts (Made link) makes.attempts
+MakesNext-attempt : {old new : Waiting} {place : List ℕ} {link : ℕ} → MakesNext old new place link → AddsAttempt old.attempts new.attempts (Made link)
+MakesNext-attempt {old} {new} {place} {link} makes = listed_adds old.attempts new.attempts (Made link) makes.attempts
 
-pub ListsFailed-attempt : (old new : Option (List Attempt)) (place : List ℕ) → ListsFailed old new place → AddsAttempt old new (Failed place)
-ListsFailed-attempt old new place lists = elim lists [
+pub ListsFailed-attempt : (old new : Option (List Attempt)) (attempt : Attempt) → ListsFailed old new attempt → AddsAttempt old new attempt
+ListsFailed-attempt old new attempt lists = elim lists [
   | inl cut ↦ record { added = λ after told. let none : ⊥ = cc in absurd none }
-  | inr is ↦ listed_adds old new (Failed place) is
+  | inr is ↦ listed_adds old new attempt is
 ]
+
+-- by connect
+
+pub Makes-number : {old new : LinksInMemory} {place : List ℕ} {link : ℕ} → Makes old new place link → (link ≡ length (map standing_of old.links)) × (length (map standing_of old.links) < 2 ^ 32 - 1)
+Makes-number makes = MakesNext-number makes.made
+
+pub Makes-connects : {old new : LinksInMemory} {place : List ℕ} {link : ℕ} → Makes old new place link → Connects (Some old.links) (Some new.links) place
+Makes-connects makes = MakesNext-connects makes.made
+
+pub Makes-standings : {old new : LinksInMemory} {place : List ℕ} {link : ℕ} → Makes old new place link → map standing_of new.links ≡ map standing_of old.links ++ new_standing ∷ []
+Makes-standings makes = MakesNext-standings makes.made
+
+pub Makes-later : {old new : LinksInMemory} {place : List ℕ} {link : ℕ} → Makes old new place link → ToldLater (Some old.links) (Some new.links)
+Makes-later makes = MakesNext-later makes.made
+
+pub Makes-attempt : {old new : LinksInMemory} {place : List ℕ} {link : ℕ} → Makes old new place link → AddsAttempt old.attempts new.attempts (Made link)
+Makes-attempt makes = MakesNext-attempt makes.made
+
+-- by accept
+
+pub Accepts-number : {old new : LinksInMemory} {place : List ℕ} {link : ℕ} → Accepts old new place link → (link ≡ length (map standing_of old.links)) × (length (map standing_of old.links) < 2 ^ 32 - 1)
+Accepts-number accepts = MakesNext-number accepts.made
+
+pub Accepts-connects : {old new : LinksInMemory} {place : List ℕ} {link : ℕ} → Accepts old new place link → Connects (Some old.links) (Some new.links) place
+Accepts-connects accepts = MakesNext-connects accepts.made
+
+pub Accepts-standings : {old new : LinksInMemory} {place : List ℕ} {link : ℕ} → Accepts old new place link → map standing_of new.links ≡ map standing_of old.links ++ new_standing ∷ []
+Accepts-standings accepts = MakesNext-standings accepts.made
+
+pub Accepts-later : {old new : LinksInMemory} {place : List ℕ} {link : ℕ} → Accepts old new place link → ToldLater (Some old.links) (Some new.links)
+Accepts-later accepts = MakesNext-later accepts.made
+
+pub Accepts-attempt : {old new : LinksInMemory} {place : List ℕ} {link : ℕ} → Accepts old new place link → AddsAttempt old.attempts new.attempts (Made link)
+Accepts-attempt accepts = MakesNext-attempt accepts.made

@@ -1,9 +1,10 @@
 //! Links in memory.
-ghost use Rattle.std.specs.Prelude.{◌≡◌, ◌-◌, ◌^◌, ◌<◌, ◌≤◌, [], ◌∷◌, ◌++◌, length, take, drop, map, slice_get, is_some, IfOk, OnOk, OnErr, IfSome, IfNone, Some, None, refl};
+ghost use Rattle.std.specs.Prelude.{◌≡◌, ◌-◌, ◌^◌, ◌<◌, ◌≤◌, [], ◌∷◌, ◌++◌, length, take, drop, map, slice_get, is_some, IfOk, OnOk, OnErr, IfSome, IfNone, Some, None, refl, if◌then◌else◌};
+ghost use Rattle.std.specs.String.{string_bytes};
 ghost use Rattle.std.specs.Result.{result_ok};
-ghost use Rattle.av_base.specs.Connections.{Connects, AddsAttempt, ToldLater, IsUsable, IsOpen, Made, Failed, standing_of, new_standing, to_come_of, sends, receives, breaks, closes, stands_broken, stands_closed};
-ghost use Rattle.av_base.specs.LinksInMemory.{Makes, Keeps, ListsFailed, ReceivesByPlan, SameElse, listed, next_at, nothing_made, puts, standings_of};
-ghost use Rattle.av_base.specs.Kept.{IsNextAt, LeavesOthers, attempts_of, coming_of};
+ghost use Rattle.av_base.specs.Connections.{Connects, AddsAttempt, ToldLater, IsUsable, IsOpen, Made, Failed, Unaccepted, standing_of, new_standing, to_come_of, sends, receives, breaks, closes, stands_broken, stands_closed};
+ghost use Rattle.av_base.specs.LinksInMemory.{Accepts, Makes, MakesNext, Keeps, ListsFailed, ReceivesByPlan, SameElse, calls, listed, next_at, nothing_made, puts, standings_of};
+ghost use Rattle.av_base.specs.Kept.{IsNextAt, LeavesOthers, attempt_of, attempts_of, coming_of, waiting_of};
 ghost use Rattle.av_base.specs.Plan.{moved_by};
 ghost use Rattle.av_base.specs.Told.{HasCause, Took};
 ghost use Rattle.av_base.specs.declared.standing.Break.TheVariants.{BySend, ByRecv};
@@ -14,13 +15,15 @@ use crate::{Break, Fault, Links, NoMemory, Plan};
 use std::alloc::Global;
 use std::marker::Model;
 
-/// Connections in memory. They tell everything, and connect, send and receive as their plan says, a step for each such call. Where
+/// Connections in memory. They tell everything, and connect, accept, send and receive as their plan says, a step for each such call. Where
 /// they can't grow they count a fault. Where a failed attempt can't even be listed, the attempts are cut and no longer told.
 #[derive(Drop)]
 pub struct MemLinks {
     links: Vec<MemLink>,
     // what later connections will receive, those at one place in their order
     coming: Vec<KeptComing>,
+    // what later callers send, those at one place in their order
+    callers: Vec<KeptComing>,
     // `None` once there was no memory to list one
     attempts: Option<Vec<KeptAttempt>>,
     plan: Plan,
@@ -36,7 +39,7 @@ impl Model for MemLinks {
 
     ghost Value = { LinksInMemory };
 
-    ghost view = { λ s. record { links = s.links.items; coming = map coming_of s.coming.items; attempts = attempts_of s.attempts; plan = s.plan; faults = s.faults } };
+    ghost view = { λ s. record { links = s.links.items; coming = map coming_of s.coming.items; callers = map coming_of s.callers.items; attempts = attempts_of s.attempts; plan = s.plan; faults = s.faults } };
 }
 
 impl MemLinks {
@@ -47,6 +50,7 @@ impl MemLinks {
         MemLinks {
             links: Vec::new(alloc),
             coming: Vec::new(alloc),
+            callers: Vec::new(alloc),
             attempts: Some(Vec::new(alloc)),
             plan,
             faults: 0,
@@ -67,6 +71,19 @@ impl MemLinks {
         Ok(())
     }
 
+    /// Adds a caller at a place with the bytes that it sends, behind those that wait there already.
+    pub fn put_caller(&mut self, place: &str, bytes: &[u8]) -> Result<(), NoMemory>
+        ensures ok { OnOk result (self.new ≡ calls place.now bytes.now self.old) }
+        ensures err { OnErr result (self.new ≡ self.old) }
+    {
+        let caller = KeptComing {
+            place: String::from_str(self.alloc, place)?,
+            bytes: Vec::from_slice(self.alloc, bytes)?,
+        };
+        self.callers.push(caller)?;
+        Ok(())
+    }
+
     /// The bytes sent on a connection.
     pub fn sent(&self, link: u32) -> &[u8]
         requires { link < length self.now.links }
@@ -82,31 +99,38 @@ impl MemLinks {
         self.attempts.is_some()
     }
 
-    // Makes a connection where the plan, the places and memory let it.
+    // Makes a connection of what is coming, where the plan, the places and memory let it.
     fn make(&mut self, place: &str) -> Option<u32>
         ensures made { IfSome result (λ link. Makes self.old self.new place.now link) }
         ensures none { IfNone result (Keeps self.old self.new) }
         ensures plan { self.new.plan ≡ drop 1 self.old.plan }
         ensures faults { self.new.faults ≡ self.old.faults }
     {
-        self.plan.step(0)?;
-        let index = find_next(&self.coming, place)?;
-        if self.links.len() >= u32::MAX as usize {
-            return None;
-        }
-        let link = self.links.len() as u32;
-        if self.links.reserve(1).is_err() {
-            return None;
-        }
-        if list_made(&mut self.attempts, link).is_err() {
-            return None;
-        }
-        let next = self.coming.remove(index);
-        let made = MemLink::new(self.alloc, next.place, next.bytes);
-        match self.links.push(made) {
-            Ok(()) => Some(link),
-            Err(_) => None,
-        }
+        make_next(
+            self.alloc,
+            &mut self.coming,
+            &mut self.links,
+            &mut self.attempts,
+            &mut self.plan,
+            place,
+        )
+    }
+
+    // The same of a caller.
+    fn admit(&mut self, place: &str) -> Option<u32>
+        ensures made { IfSome result (λ link. Accepts self.old self.new place.now link) }
+        ensures none { IfNone result (Keeps self.old self.new) }
+        ensures plan { self.new.plan ≡ drop 1 self.old.plan }
+        ensures faults { self.new.faults ≡ self.old.faults }
+    {
+        make_next(
+            self.alloc,
+            &mut self.callers,
+            &mut self.links,
+            &mut self.attempts,
+            &mut self.plan,
+            place,
+        )
     }
 }
 
@@ -135,15 +159,45 @@ impl Links for MemLinks {
 
         // It connects only where the plan lets it and something is left for the place, which it takes.
         ensures makes { IfOk result (λ link. Makes self.old self.new place.now link) }
-        ensures fails { OnErr result (ListsFailed self.old.attempts self.new.attempts place.now) }
+        ensures fails { OnErr result (ListsFailed self.old.attempts self.new.attempts (Failed place.now)) }
         ensures coming { OnErr result (self.new.coming ≡ self.old.coming) }
+        ensures callers { self.new.callers ≡ self.old.callers }
         ensures plan { self.new.plan ≡ drop 1 self.old.plan }
     {
         match self.make(place) {
             Some(link) => Ok(link),
             None => {
                 self.faults = self.faults.saturating_add(1);
-                list_failed(self.alloc, &mut self.attempts, place);
+                list_failed(self.alloc, &mut self.attempts, place, false);
+                Err(Fault)
+            }
+        }
+    }
+
+    fn accept(&mut self, place: &str) -> Result<u32, Fault>
+        ensures number { IfOk result (λ link. link ≡ length (standings_of self.old.links)) }
+        ensures room { OnOk result (length (standings_of self.old.links) < 2 ^ 32 - 1) }
+        ensures ok { OnOk result (Connects (Some self.old.links) (Some self.new.links) place.now) }
+        ensures ok_standings { OnOk result (standings_of self.new.links ≡ standings_of self.old.links ++ new_standing ∷ []) }
+        ensures made { IfOk result (λ link. AddsAttempt self.old.attempts self.new.attempts (Made link)) }
+        ensures err { OnErr result (self.new.links ≡ self.old.links) }
+        ensures err_standings { OnErr result (standings_of self.new.links ≡ standings_of self.old.links) }
+        ensures failed { OnErr result (AddsAttempt self.old.attempts self.new.attempts (Unaccepted place.now)) }
+        ensures later { ToldLater (Some self.old.links) (Some self.new.links) }
+        ensures cause { HasCause self.old.faults self.new.faults result }
+
+        // It accepts only where the plan lets it and a caller waits at the place, who is the next.
+        ensures makes { IfOk result (λ link. Accepts self.old self.new place.now link) }
+        ensures fails { OnErr result (ListsFailed self.old.attempts self.new.attempts (Unaccepted place.now)) }
+        ensures coming { self.new.coming ≡ self.old.coming }
+        ensures callers { OnErr result (self.new.callers ≡ self.old.callers) }
+        ensures plan { self.new.plan ≡ drop 1 self.old.plan }
+    {
+        match self.admit(place) {
+            Some(link) => Ok(link),
+            None => {
+                self.faults = self.faults.saturating_add(1);
+                list_failed(self.alloc, &mut self.attempts, place, true);
                 Err(Fault)
             }
         }
@@ -219,6 +273,7 @@ impl Links for MemLinks {
         ensures standings { standings_of self.new.links ≡ stands_closed link (standings_of self.old.links) }
         ensures later { ToldLater (Some self.old.links) (Some self.new.links) }
         ensures coming { self.new.coming ≡ self.old.coming }
+        ensures callers { self.new.callers ≡ self.old.callers }
         ensures attempts { self.new.attempts ≡ self.old.attempts }
         ensures plan { self.new.plan ≡ self.old.plan }
         ensures faults { self.new.faults ≡ self.old.faults }
@@ -227,9 +282,53 @@ impl Links for MemLinks {
     }
 }
 
-// Lists an attempt that failed, or cuts the attempts.
-fn list_failed(alloc: Global, attempts: &mut Option<Vec<KeptAttempt>>, place: &str)
-    ensures { ListsFailed (attempts_of attempts.old) (attempts_of attempts.new) place.now }
+// Makes a connection of what waits next at a place, where the plan, the places and memory let it.
+fn make_next(
+    alloc: Global,
+    waiting: &mut Vec<KeptComing>,
+    links: &mut Vec<MemLink>,
+    attempts: &mut Option<Vec<KeptAttempt>>,
+    plan: &mut Plan,
+    place: &str,
+) -> Option<u32>
+    ensures made { IfSome result (λ link. MakesNext
+        (waiting_of waiting.old.items links.old.items (attempts_of attempts.old) plan.old)
+        (waiting_of waiting.new.items links.new.items (attempts_of attempts.new) plan.new)
+        place.now link) }
+    ensures waiting { IfNone result (waiting.new.items ≡ waiting.old.items) }
+    ensures links { IfNone result (links.new.items ≡ links.old.items) }
+    ensures attempts { IfNone result (attempts_of attempts.new ≡ attempts_of attempts.old) }
+    ensures plan { plan.new ≡ drop 1 plan.old }
+{
+    plan.step(0)?;
+    let index = find_next(waiting, place)?;
+    if links.len() >= u32::MAX as usize {
+        return None;
+    }
+    let link = links.len() as u32;
+    if links.reserve(1).is_err() {
+        return None;
+    }
+    if list_made(attempts, link).is_err() {
+        return None;
+    }
+    let next = waiting.remove(index);
+    let made = MemLink::new(alloc, next.place, next.bytes);
+    match links.push(made) {
+        Ok(()) => Some(link),
+        Err(_) => None,
+    }
+}
+
+// Lists an attempt to connect or to accept that failed, or cuts the attempts.
+fn list_failed(
+    alloc: Global,
+    attempts: &mut Option<Vec<KeptAttempt>>,
+    place: &str,
+    accepts: bool,
+)
+    ensures { ListsFailed (attempts_of attempts.old) (attempts_of attempts.new)
+        (if accepts then Unaccepted place.now else Failed place.now) }
 {
     let Some(kept) = attempts else {
         return;
@@ -238,8 +337,19 @@ fn list_failed(alloc: Global, attempts: &mut Option<Vec<KeptAttempt>>, place: &s
         *attempts = None;
         return;
     };
-    if kept.push(KeptAttempt::Failed(place)).is_err() {
+    let attempt = failed(place, accepts);
+    if kept.push(attempt).is_err() {
         *attempts = None;
+    }
+}
+
+fn failed(place: String, accepts: bool) -> KeptAttempt
+    ensures { attempt_of result ≡ (if accepts then Unaccepted (string_bytes place) else Failed (string_bytes place)) }
+{
+    if accepts {
+        KeptAttempt::Unaccepted(place)
+    } else {
+        KeptAttempt::Failed(place)
     }
 }
 
