@@ -1,7 +1,7 @@
 -- Which attempt made a feed's connection.
 use Rattle.std.proofs.Common.{◌≡◌, ℕ, zero, suc, ◌≤◌, inl, inr, Bool, true, false, cond, List, None, Some, refl, sym, ◌∙◌, ap, subst, arith}
 use Rattle.std.specs.declared.option.Option.{Option}
-use Rattle.av_base.specs.Connections.{Attempt, Failed, Link, Made}
+use Rattle.av_base.specs.Connections.{Attempt, Failed, Link, Made, Unaccepted}
 use Rattle.rtr_session.specs.declared.act.Act.{Act}
 use Rattle.rtr_session.specs.declared.act.Act.TheVariants.{Nothing, Send, Apply, End}
 use Rattle.rtr_session.specs.declared.act.Query.{Query}
@@ -88,6 +88,7 @@ module _ (world : World) (first : ℕ) where
   starts_on : (place : List ℕ) (number : ℕ) (attempt : Attempt) (tells : List Telling) (slot : Option Feed) → first ≤ number → IsAttempt world number attempt → StartsBy world place attempt tells slot → Owned (Some slot)
   starts_on place number (Made link) tells slot within made starts = owned_on link number slot within made (queries_on starts.t (starting link) Reset tells slot starts.so.1)
   starts_on place number (Failed at) tells slot within made starts = λ feed is. let over : slot ≡ None = starts.2 in let none : ⊥ = cc in absurd none
+  starts_on place number (Unaccepted at) tells slot within made starts = absurd starts
 
   pub connects_connected : (old new : State) (name place : List ℕ) (tells : List Telling) → AreConnectedFrom world first old → Connects world old name place tells new → AreConnectedFrom world first new
   connects_connected old new name place tells connected connects =

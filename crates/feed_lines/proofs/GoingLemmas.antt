@@ -3,7 +3,7 @@ use Rattle.std.proofs.lemmas.List.Elements.{All-append, All-cons, All-nil, All-w
 use Rattle.std.proofs.Common.{◌≡◌, ℕ, ◌+◌, ◌≤◌, arith, List, [], ◌∷◌, ◌++◌, length, None, Some, refl, sym, ◌∙◌, ap, append_assoc, append-nil, length-append}
 use Rattle.std.specs.Prelude.{slice_get, IfSome}
 use Rattle.std.specs.declared.option.Option.{Option}
-use Rattle.av_base.specs.Connections.{AddsAttempt, Attempt, Failed, Link, Made, ToldLater}
+use Rattle.av_base.specs.Connections.{AddsAttempt, Attempt, Failed, Link, Made, ToldLater, Unaccepted}
 use Rattle.av_base.proofs.LaterLemmas.{ToldLater-refl, ToldLater-trans}
 use Rattle.av_base.proofs.LinksLemmas.{length-later}
 use Rattle.feed_lines.specs.Connection.{Now}
@@ -17,6 +17,7 @@ AddsAttempts-refl wire attempts = record { added = λ after is. (after, [], is, 
 IsMadeFrom-more : (count most : ℕ) → count ≤ most → (attempt : Attempt) → IsMadeFrom most attempt → IsMadeFrom count attempt
 IsMadeFrom-more count most within (Made link) from = omega arith
 IsMadeFrom-more count most within (Failed place) from = tt
+IsMadeFrom-more count most within (Unaccepted place) from = tt
 
 pub AddsAttempts-trans : {wire_old wire_mid : Option (List Link)} {old mid new : Option (List Attempt)} → ToldLater wire_old wire_mid → AddsAttempts wire_old old mid → AddsAttempts wire_mid mid new → AddsAttempts wire_old old new
 AddsAttempts-trans later first second = record {

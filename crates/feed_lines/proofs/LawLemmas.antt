@@ -4,7 +4,7 @@ use Rattle.std.specs.Prelude.{slice_get, IfSome}
 use Rattle.std.proofs.lemmas.List.{append_cancel_left, append_cancel_right}
 use Rattle.std.specs.declared.option.Option.{Option}
 use Rattle.std.specs.declared.result.Result.{Result}
-use Rattle.av_base.specs.Connections.{Link, Attempt, Made, Failed}
+use Rattle.av_base.specs.Connections.{Link, Attempt, Made, Failed, Unaccepted}
 use Rattle.rtr_pdu.specs.declared.pdu.Pdu.{Pdu}
 use Rattle.rtr_pdu.specs.declared.pdu.PduFault.{PduFault}
 use Rattle.rtr_pdu.specs.declared.pdu.PduFault.TheVariants.{PduVersion as BadVersion, PduLength as BadLength, PduType as BadType, NoProviders as HasNoProviders, NoMemory}
@@ -266,6 +266,7 @@ starts_unique world place (Made link) one other slot last a b =
     let same : b.t ≡ a.t = (let e = a.there in let f = b.there in cc) in
     queries_unique a.t _ Reset one other slot last a.so.1 (subst (λ (t : Link). Queries t _ Reset other last) same b.so.1)
 starts_unique world place (Failed at) one other slot last a b = (a.1 ∙ sym b.1, a.2 ∙ sym b.2)
+starts_unique world place (Unaccepted at) one other slot last a b = absurd a
 
 attempt_unique : (all : Option (List Attempt)) (attempts : List Attempt) (number : ℕ) (one other : Attempt) → all ≡ Some attempts → IfSome all (λ l. slice_get l number ≡ Some one) → IfSome all (λ l. slice_get l number ≡ Some other) → one ≡ other
 attempt_unique None attempts number one other told a b = let none : ⊥ = cc in absurd none

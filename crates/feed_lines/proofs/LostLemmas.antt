@@ -3,7 +3,7 @@ use Rattle.std.proofs.Common.{◌≡◌, ◌≢◌, ◌⊎◌, ℕ, zero, suc, i
 use Rattle.std.proofs.lemmas.List.Elements.{All-append, All-cons, All-contains, All-nil}
 use Rattle.std.specs.List.{All, Contains}
 use Rattle.std.specs.declared.option.Option.{Option}
-use Rattle.av_base.specs.Connections.{Attempt, Failed, Link, Made}
+use Rattle.av_base.specs.Connections.{Attempt, Failed, Link, Made, Unaccepted}
 use Rattle.av_base.specs.declared.standing.Break.{Break}
 use Rattle.av_base.specs.declared.standing.Break.TheVariants.{BySend, ByRecv}
 use Rattle.rtr_session.specs.declared.act.Act.{Act}
@@ -125,6 +125,7 @@ starts_lost world place made (Made link) tells slot is starts has = (
   },
 )
 starts_lost world place made (Failed at) tells slot is starts has = absurd (not_lost tells (only tells (FeedEnds Unreachable) (λ e. let no : ⊥ = cc in absurd no) starts.1) has)
+starts_lost world place made (Unaccepted at) tells slot is starts has = absurd starts
 
 pub broke_or_ended : LostFeedsBrokeOrEnded
 broke_or_ended world old new name tells = record {

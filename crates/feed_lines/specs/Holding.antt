@@ -6,7 +6,7 @@ use Rattle.std.specs.List.{All}
 use Rattle.std.specs.Ordering.{nat_cmp}
 use Rattle.std.specs.declared.option.Option.{Option}
 use Rattle.std.specs.declared.option.Option.TheVariants.{None}
-use Rattle.av_base.specs.Connections.{Attempt, Failed, IsUsable, Link, Made, ToldLater}
+use Rattle.av_base.specs.Connections.{Attempt, Failed, IsUsable, Link, Made, ToldLater, Unaccepted}
 use Rattle.av_base.specs.declared.standing.Standing.{Standing}
 use Rattle.av_base.specs.Told.{Rose}
 use Rattle.rtr_session.specs.declared.act.Phase.TheVariants.{Over}
@@ -77,6 +77,7 @@ pub record IsNoFeeds (stood : List Standing) (feeds : Feeds) (link : ℕ) : Type
 abbrev pub IsMadeFrom : ℕ → Attempt → Type 0
 IsMadeFrom count (Made link) = count ≤ link
 IsMadeFrom count (Failed place) = Unit {0}
+IsMadeFrom count (Unaccepted place) = Unit {0}
 
 -- Attempts were added behind those that were made, where they are told. The connections that these made are none of those before, where
 -- these are told.

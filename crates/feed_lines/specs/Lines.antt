@@ -3,7 +3,7 @@ use Rattle.std.specs.Prelude.{◌≡◌, ◌≤◌, ℕ, ◌+◌, ◌⊎◌, nat
 use Rattle.std.specs.Cmp.Lexicographic.{pointwise}
 use Rattle.std.specs.declared.option.Option.{Option}
 use Rattle.std.specs.declared.option.Option.TheVariants.{Some, None}
-use Rattle.av_base.specs.Connections.{Link, Attempt, Made, Failed}
+use Rattle.av_base.specs.Connections.{Link, Attempt, Made, Failed, Unaccepted}
 use Rattle.rtr_session.specs.declared.act.Phase.TheVariants.{AskedWhole}
 use Rattle.rtr_session.specs.declared.act.Query.TheVariants.{Reset}
 use Rattle.rtr_session.specs.State.{fresh}
@@ -16,7 +16,7 @@ use Rattle.feed_lines.specs.declared.working.Work.TheVariants.{Ask, Take, Sync}
 use Rattle.feed_lines.specs.Tellings.{Asking, tells_text}
 use Rattle.feed_lines.specs.Feeds.{Feed, Taking, Queries, IsClosed, Stays, AsksFeed, TakesPdus, Syncs}
 
--- The outside as it stands when the run ends: its attempts to connect, unless they were cut, and its connections.
+-- The outside as it stands when the run ends: its attempts to connect and to accept, unless they were cut, and its connections.
 pub record World : Type 0 where
   pub attempts : Option (List Attempt)
   pub links : List Link
@@ -60,10 +60,11 @@ Closes world None = Unit {0}
 Closes world (Some None) = Unit {0}
 Closes world (Some (Some feed)) = InEnd world feed.link (λ t. (t.sent ≡ feed.sent) × IsClosed t)
 
--- the attempt made a connection to the place, on which everything is asked for; or it failed
+-- the attempt made a connection to the place, on which everything is asked for; or it failed. It was none to accept a caller.
 abbrev pub StartsBy : World → List ℕ → Attempt → List Telling → Option Feed → Type 0
 StartsBy world place (Made link) tells slot = InEnd world link (λ t. (t.place ≡ place) × Queries t (starting link) Reset tells slot)
 StartsBy world place (Failed at) tells slot = (at ≡ place) × (tells ≡ FeedEnds Unreachable ∷ []) × (slot ≡ None)
+StartsBy world place (Unaccepted at) tells slot = ⊥
 
 pub record Connects (world : World) (old : State) (name place : List ℕ) (tells : List Telling) (new : State) : Type 0 where
   pub closes : Closes world (old.feeds name)
