@@ -7,8 +7,8 @@ use Rattle.av_base.specs.Connections.{Agrees, Attempt, Link}
 use Rattle.av_base.specs.Files.{Files}
 use Rattle.av_base.proofs.ToldLemmas.{append_known-nil}
 use Rattle.feed_lines.specs.Holding.{HasMoved as FeedsMoved}
-use Rattle.feed_lines.specs.Lines.{World as Ends}
-use Rattle.feed_lines.proofs.GoingLemmas.{ComesTo-earlier, ComesTo-now}
+use Rattle.connection_calls.specs.World.{World as Ends}
+use Rattle.connection_calls.proofs.GoingLemmas.{ComesTo-earlier, ComesTo-now}
 use Rattle.feed_lines.proofs.NamedLemmas.{holds_moved}
 use Rattle.script_lines.specs.declared.command.Command.{Command}
 use Rattle.script_lines.specs.declared.command.LineFault.{LineFault}

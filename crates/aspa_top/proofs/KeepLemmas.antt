@@ -6,9 +6,9 @@ use Rattle.av_base.specs.Files.{Files}
 use Rattle.av_base.specs.Told.{Grows}
 use Rattle.av_base.proofs.LaterLemmas.{ToldLater-refl, ToldLater-trans}
 use Rattle.av_base.proofs.PouringLemmas.{Grows-refl, Grows-trans}
-use Rattle.feed_lines.specs.Faults.{BreaksByFault}
-use Rattle.feed_lines.proofs.FaultsLemmas.{BreaksByFault-refl, BreaksByFault-trans}
-use Rattle.feed_lines.proofs.GoingLemmas.{AddsAttempts-refl, AddsAttempts-trans}
+use Rattle.connection_calls.specs.Faults.{BreaksByFault}
+use Rattle.connection_calls.proofs.FaultsLemmas.{BreaksByFault-refl, BreaksByFault-trans}
+use Rattle.connection_calls.proofs.GoingLemmas.{AddsAttempts-refl, AddsAttempts-trans}
 use Rattle.aspa_top.specs.Outside.{Keeps, Outside}
 use Rattle.aspa_top.specs.World.{GoesOn, Links, names_of}
 

@@ -6,9 +6,8 @@ use Rattle.std.specs.declared.option.Option.{Option}
 use Rattle.std.proofs.lemmas.List.Elements.{All-head, All-tail}
 use Rattle.av_base.specs.Connections.{Attempt, Link, Made}
 use Rattle.av_base.specs.Files.{Files}
-use Rattle.feed_lines.specs.Faults.{NewAreUnbroken}
-use Rattle.feed_lines.specs.Holding.{IsMadeFrom}
-use Rattle.feed_lines.specs.Lines.{IsAttempt}
+use Rattle.connection_calls.specs.Faults.{NewAreUnbroken}
+use Rattle.connection_calls.specs.World.{IsMadeFrom, IsAttempt}
 use Rattle.feed_lines.proofs.LostLemmas.{broke_or_ended}
 use Rattle.aspa_top.specs.Laws.{UnbrokenFeedsAreLostAtEnd}
 use Rattle.aspa_top.specs.Program.{AreTold}

@@ -8,7 +8,7 @@ use Rattle.av_base.specs.Told.{AppendsFront, Grows, Rose}
 use Rattle.av_base.proofs.ToldLemmas.{append_known-nil, append_known-append}
 use Rattle.av_base.proofs.PouringLemmas.{Grows-refl, written_front, written_part}
 use Rattle.feed_lines.specs.Holding.{HasMoved as FeedsMoved}
-use Rattle.feed_lines.specs.Lines.{World as Ends}
+use Rattle.connection_calls.specs.World.{World as Ends}
 use Rattle.stream_lines.specs.declared.stop.Stop.{Stop}
 use Rattle.stream_lines.specs.declared.stop.Stop.TheVariants as stops
 use Rattle.stream_lines.specs.Counts.{refusals_in}

@@ -12,7 +12,8 @@ use Rattle.feed_lines.specs.declared.working.Work.{Work}
 use Rattle.feed_lines.specs.declared.working.Work.TheVariants.{Take as TakePdus}
 use Rattle.feed_lines.specs.Feeds.{Feed}
 use Rattle.feed_lines.specs.Lines.{WorksBy}
-use Rattle.feed_lines.specs.Lines.{State as FeedState, World as FeedWorld}
+use Rattle.feed_lines.specs.Lines.{State as FeedState}
+use Rattle.connection_calls.specs.World.{World as FeedWorld}
 use Rattle.feed_lines.specs.Tellings.{telling_text, tells_text}
 use Rattle.feed_lines.specs.Tellings.{Asking as FeedAsking}
 use Rattle.feed_lines.proofs.LawLemmas.{telling_is_one_line}

@@ -11,11 +11,12 @@ use Rattle.report_text.specs.declared.feed.FeedEnd.TheVariants.{Lost}
 use Rattle.feed_lines.specs.declared.telling.Telling.{Telling}
 use Rattle.feed_lines.specs.declared.telling.Telling.TheVariants.{End as FeedEnds}
 use Rattle.feed_lines.specs.declared.working.Work.{Work}
-use Rattle.feed_lines.specs.Faults.{NewAreUnbroken}
+use Rattle.connection_calls.specs.Faults.{NewAreUnbroken}
 use Rattle.feed_lines.specs.Feeds.{Feed as OneFeed}
 use Rattle.feed_lines.specs.Laws.{AreConnectedFrom}
-use Rattle.feed_lines.specs.Lines.{Connects, InEnd, Works}
-use Rattle.feed_lines.specs.Lines.{State as FeedState, World as Ends}
+use Rattle.feed_lines.specs.Lines.{Connects, Works}
+use Rattle.connection_calls.specs.World.{InEnd, World as Ends}
+use Rattle.feed_lines.specs.Lines.{State as FeedState}
 use Rattle.aspa_top.specs.Tasks.{State, feeds_of, start}
 use Rattle.aspa_top.specs.Evaluation.{Evaluates}
 use Rattle.aspa_top.specs.Program.{AreTold, WentThrough, WritesFront}

@@ -8,7 +8,7 @@ use Rattle.av_base.specs.declared.sink.Sink.{Ghosts as SinkOf}
 use Rattle.av_base.specs.declared.standing.Standing.{Standing}
 use Rattle.av_base.specs.Files.{Files}
 use Rattle.av_base.specs.Told.{Grows}
-use Rattle.feed_lines.specs.Faults.{BreaksByFault}
+use Rattle.connection_calls.specs.Faults.{BreaksByFault}
 use Rattle.aspa_top.specs.World.{GoesOn, Links, linked, names_of}
 
 pub record Outside : Type 0 where

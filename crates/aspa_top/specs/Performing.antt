@@ -5,7 +5,7 @@ use Rattle.std.specs.declared.result.Result.TheVariants.{Ok, Err}
 use Rattle.std.specs.Io.KnownBytes.{append_known}
 use Rattle.av_base.specs.Told.{Rose}
 use Rattle.feed_lines.specs.Holding.{HasMoved as FeedsMoved}
-use Rattle.feed_lines.specs.Lines.{World as Ends}
+use Rattle.connection_calls.specs.World.{World as Ends}
 use Rattle.report_text.specs.Reported.{AddsFront, AddsLines}
 use Rattle.script_lines.specs.declared.command.Command.{Command}
 use Rattle.script_lines.specs.declared.command.LineFault.{LineFault}

@@ -4,8 +4,7 @@ use Rattle.std.specs.Option.{option_map, unwrap_or}
 use Rattle.std.specs.declared.option.Option.{Option}
 use Rattle.av_base.specs.Connections.{Attempt, Link, ToldLater}
 use Rattle.av_base.specs.Files.{Files}
-use Rattle.feed_lines.specs.Holding.{AddsAttempts, ComesTo as Comes}
-use Rattle.feed_lines.specs.Lines.{World as Ends}
+use Rattle.connection_calls.specs.World.{AddsAttempts, ComesTo as Comes, World as Ends}
 pub use Rattle.stream_lines.specs.Frames.{names_of}
 
 -- The outside as a run's text depends on it: what each name holds, which stays while the run lasts; how many attempts to connect were

@@ -3,7 +3,7 @@ ghost use Rattle.std.specs.Prelude.{◌≡◌, ◌≢◌, ◌+◌, ◌≤◌, �
 ghost use Rattle.std.specs.String.{string_bytes};
 ghost use Rattle.std.specs.Io.KnownBytes.{IsAtEnd};
 ghost use Rattle.av_base.specs.Told.{Rose};
-ghost use Rattle.feed_lines.specs.Faults.{BreaksByFault, NewAreUnbroken};
+ghost use Rattle.connection_calls.specs.Faults.{BreaksByFault, NewAreUnbroken};
 ghost use Rattle.report_text.specs.Reported.{IsWithinRise, unreachables_in};
 ghost use Rattle.aspa_top.specs.Evaluated.{Runs, RunsSource};
 ghost use Rattle.aspa_top.specs.Outside.{Keeps, outside};

@@ -11,7 +11,8 @@ use Rattle.feed_lines.specs.declared.working.Work.{Work}
 use Rattle.feed_lines.specs.declared.working.Work.TheVariants.{Ask, Take, Sync}
 use Rattle.feed_lines.specs.Feeds.{AsksBy, BadPdu, Coming, Feed, Moves, NoMore, OnePdu, Queries, TakesComing, TakesFrom, TakesPdus, Taking, asked_of, is_enough_at}
 use Rattle.feed_lines.specs.Laws.{AreConnectedFrom}
-use Rattle.feed_lines.specs.Lines.{Connects, Does, IsAttempt, StartsBy, State, World, WorksBy, same_name, starting, taking_of, with_feed}
+use Rattle.feed_lines.specs.Lines.{Connects, Does, StartsBy, State, WorksBy, same_name, starting, taking_of, with_feed}
+use Rattle.connection_calls.specs.World.{IsAttempt, World}
 
 -- a feed that goes on is on this connection
 abbrev IsOn : ℕ → Option Feed → Type 0

@@ -1,12 +1,10 @@
 -- Starting a feed.
-use Rattle.std.proofs.Common.{◌≡◌, ◌≢◌, ℕ, zero, suc, ◌+◌, ◌≤◌, inl, inr, Bool, true, false, List, [], ◌∷◌, ◌++◌, length, None, Some, refl, sym, ◌∙◌, ap, subst, arith}
-use Rattle.std.specs.Prelude.{slice_get}
+use Rattle.std.proofs.Common.{◌≡◌, ◌≢◌, ℕ, ◌+◌, ◌≤◌, inl, inr, Bool, true, false, List, [], ◌++◌, length, None, Some, refl, sym, ◌∙◌, subst, arith}
 use Rattle.std.specs.Option.{option_map}
 use Rattle.std.specs.declared.option.Option.{Option}
 use Rattle.std.proofs.lemmas.Option.{slice_get_cases, slice_get_within}
-use Rattle.av_base.specs.Connections.{Link, Attempt, Agrees, AddsAttempt, Connects as ConnectsLink, IsUsable, Made, Failed, ToldLater, closes, connects, new_link, new_standing}
+use Rattle.av_base.specs.Connections.{Link, Attempt, AddsAttempt, Made, Failed, ToldLater, closes}
 use Rattle.av_base.specs.declared.standing.Standing.{Standing}
-use Rattle.av_base.proofs.LinksLemmas.{IsUsable-new, get-connects, length-told}
 use Rattle.rtr_session.specs.declared.act.Query.TheVariants.{Reset}
 use Rattle.rtr_session.specs.State.{State as Session, fresh}
 use Rattle.rtr_session.specs.Client.{Asks as AsksSession}
@@ -17,15 +15,17 @@ use Rattle.feed_lines.specs.declared.feed.OpenFeed.{OpenFeed}
 use Rattle.feed_lines.specs.declared.feed.Feeds.{Feeds}
 use Rattle.feed_lines.specs.declared.telling.Telling.{Telling}
 use Rattle.feed_lines.specs.declared.telling.Telling.TheVariants.{End as FeedEnds}
-use Rattle.feed_lines.specs.Connection.{Now, Has, Spares, told_at}
-use Rattle.feed_lines.specs.Moves.{Ever, Asks}
-use Rattle.feed_lines.specs.Feeds.{Feed, IsClosed, query_bytes}
-use Rattle.feed_lines.specs.Holding.{AddsAttempts, ComesTo, HoldsOr, IsNoFeeds, IsSound, StandsFor, feed_in}
-use Rattle.feed_lines.specs.Lines.{Closes, State, World, starting, with_feed}
+use Rattle.connection_calls.specs.Connection.{Now, Has, Spares}
+use Rattle.connection_calls.specs.Moves.{Ever, SendsOrCloses}
+use Rattle.feed_lines.specs.Feeds.{Feed, query_bytes}
+use Rattle.connection_calls.specs.Ends.{IsClosed}
+use Rattle.connection_calls.specs.World.{AddsAttempts, ComesTo, World}
+use Rattle.feed_lines.specs.Holding.{HoldsOr, IsNoFeeds, IsSound, StandsFor, feed_in}
+use Rattle.feed_lines.specs.Lines.{Closes, State, starting, with_feed}
 use Rattle.feed_lines.specs.Named.{ClosedAs, ConnectedNamed, IsApart, IsSlotFit, Puts, SessionStarts, StartedAs, WasHeld}
 use Rattle.feed_lines.specs.Steps.{SlotFits}
-use Rattle.feed_lines.proofs.ConnectionLemmas.{Now-change, Now-map, Ever-closed, Ever-later, Ever-now, Spares-trans, Spares-weaker}
-use Rattle.feed_lines.proofs.GoingLemmas.{AddsAttempts-one, AddsAttempts-refl, AddsAttempts-trans, Now-later, in_end, is_attempt, one_more}
+use Rattle.connection_calls.proofs.ConnectionLemmas.{Now-change, Now-map, Ever-closed, Ever-later, Ever-now, Spares-trans, Spares-weaker}
+use Rattle.connection_calls.proofs.GoingLemmas.{AddsAttempts-one, AddsAttempts-refl, AddsAttempts-trans, Now-later, in_end, is_attempt, one_more}
 use Rattle.feed_lines.proofs.NamedLemmas.{IsSound-put, Puts-twice, SlotFits-more, put_holds}
 use Rattle.feed_lines.proofs.TakingLemmas.{query_whole, query_lost}
 
@@ -44,50 +44,6 @@ slot_fit stands most feeds name (Some (Some kept)) slot there was sound =
     let had = sound.fit name kept there in
     subst (IsSlotFit stands) (sym was) (record { usable = had.0; phase = had.1 })
 
--- ---- a new connection
-
-get-push_apart : {A : Type 0} (xs : List A) (x : A) (i : ℕ) → i ≢ length xs → slice_get (xs ++ x ∷ []) i ≡ slice_get xs i
-get-push_apart [] x zero apart = absurd (apart refl)
-get-push_apart [] x (suc i) apart = refl
-get-push_apart (y ∷ xs) x zero apart = refl
-get-push_apart (y ∷ xs) x (suc i) apart = get-push_apart xs x i (λ e. apart (ap suc e))
-
-told_apart : (place to_come : List ℕ) (wire : Option (List Link)) (stood : List Standing) → Agrees wire stood → (other : ℕ) → other ≢ length stood → told_at (option_map (connects place to_come) wire) other ≡ told_at wire other
-told_apart place to_come None stood agrees other apart = refl
-told_apart place to_come (Some links) stood agrees other apart =
-    ap (λ (t : Option Link). Some t) (get-push_apart links (new_link place to_come) other (λ e. apart (e ∙ length-told links stood agrees)))
-
--- it leaves all others
-pub spares_connect : (old new : Option (List Link)) (stood stands : List Standing) (place : List ℕ) (x : Standing) → ConnectsLink old new place → Agrees old stood → stands ≡ stood ++ x ∷ [] → ToldLater old new
-    → Spares (λ other. other ≢ length stood) old new stood stands
-spares_connect old new stood stands place x made agrees is later = record {
-  later = later;
-  others = λ other apart. ap (λ (o : Option (List Link)). told_at o other) made.told ∙ told_apart place made.to_come old stood agrees other apart;
-  standing = λ other apart. ap (λ (l : List Standing). slice_get l other) is ∙ get-push_apart stood x other apart;
-}
-
-now_new : (place to_come : List ℕ) (old new : Option (List Link)) (stood : List Standing) → new ≡ option_map (connects place to_come) old → Agrees old stood
-    → (links : List Link) → new ≡ Some links → (t : Link) × (slice_get links (length stood) ≡ Some t) × ((t.place ≡ place) × Has [] [] t)
-now_new place to_come None new stood is agrees links told = let none : ⊥ = cc in absurd none
-now_new place to_come (Some before) new stood is agrees links told =
-    let whole : links ≡ connects place to_come before = cc in (
-      new_link place to_come,
-      ap (λ (l : List Link). slice_get l (length stood)) whole ∙ ap (λ k. slice_get (connects place to_come before) k) (sym (length-told before stood agrees)) ∙ get-connects place to_come before,
-      (refl, record { got = refl; gave = refl }),
-    )
-
--- nothing was received or sent on it
-pub new_now : (old new : Option (List Link)) (stood : List Standing) (place : List ℕ) (link : ℕ) → ConnectsLink old new place → Agrees old stood → link ≡ length stood
-    → Now new link (λ t. (t.place ≡ place) × Has [] [] t)
-new_now old new stood place link made agrees number =
-    subst (λ k. Now new k (λ t. (t.place ≡ place) × Has [] [] t)) (sym number) (record { told = now_new place made.to_come old new stood made.told agrees })
-
--- its number is new
-pub new_number : (old : Option (List Link)) (stood : List Standing) (link : ℕ) → Agrees old stood → link ≡ length stood → (links : List Link) → old ≡ Some links → length links ≤ link
-new_number old stood link agrees number links told =
-    let here : Agrees (Some links) stood = subst (λ (w : Option (List Link)). Agrees w stood) told agrees in
-    omega (arith, length-told links stood here, number)
-
 -- ---- its session
 
 module _ (old new : Option (List Link)) (kept : OpenFeed) (bytes : List ℕ) (framer_is : kept.framer ≡ []) (session_is : kept.session ≡ (starting kept.link).session) (taken_is : kept.taken ≡ 0)
@@ -100,12 +56,12 @@ module _ (old new : Option (List Link)) (kept : OpenFeed) (bytes : List ℕ) (fr
     now = subst (λ (f : List ℕ). Now old kept.link (Has ([] ++ f) [])) (sym framer_is) here;
   }
 
-  pub starts_whole : (whole : Bool) → whole ≡ true → ((got gave : List ℕ) → Now old kept.link (Has got gave) → Asks new kept.link got gave bytes whole) → SessionStarts new kept.link (Some kept) None
+  pub starts_whole : (whole : Bool) → whole ≡ true → ((got gave : List ℕ) → Now old kept.link (Has got gave) → SendsOrCloses new kept.link got gave bytes whole) → SessionStarts new kept.link (Some kept) None
   starts_whole whole is asks =
       let had = query_whole old new kept (starting kept.link) Reset bytes stands_new spelled whole is asks in
       record { feed = Some (record (starting kept.link) { sent = [] ++ query_bytes Reset }); stands = had.0; done = had.1 }
 
-  pub starts_lost : (whole : Bool) → whole ≡ false → ((got gave : List ℕ) → Now old kept.link (Has got gave) → Asks new kept.link got gave bytes whole) → SessionStarts new kept.link None (Some (FeedEnds LostFeed))
+  pub starts_lost : (whole : Bool) → whole ≡ false → ((got gave : List ℕ) → Now old kept.link (Has got gave) → SendsOrCloses new kept.link got gave bytes whole) → SessionStarts new kept.link None (Some (FeedEnds LostFeed))
   starts_lost whole is asks = record { feed = None; stands = tt; done = query_lost old new kept (starting kept.link) Reset bytes stands_new spelled whole is asks }
 
 -- ---- the attempt
@@ -239,13 +195,3 @@ module _ (attempts_old attempts_mid attempts_new : Option (List Attempt)) (wire_
 pub asked_fresh : (old new : Session) (query : Option Query) → old ≡ fresh → AsksSession old.phase old new query → new ≡ record fresh { phase = AskedWhole }
 asked_fresh old new query is asks = let one : AsksSession Fresh fresh new query = subst (λ (s : Session). AsksSession s.phase s new query) is asks in one.1
 
-pub usable_new : (stood stands : List Standing) (link : ℕ) → link ≡ length stood → stands ≡ stood ++ new_standing ∷ [] → IsUsable stands link
-usable_new stood stands link number is = subst (λ (l : List Standing). IsUsable l link) (sym is) (subst (λ k. IsUsable (stood ++ new_standing ∷ []) k) (sym number) (IsUsable-new stood))
-
--- nothing changed
-pub spares_same : (P : ℕ → Type 0) (old new : Option (List Link)) (stood stands : List Standing) → ToldLater old new → new ≡ old → stands ≡ stood → Spares P old new stood stands
-spares_same P old new stood stands later same stays = record {
-  later = later;
-  others = λ other apart. ap (λ (o : Option (List Link)). told_at o other) same;
-  standing = λ other apart. ap (λ (l : List Standing). slice_get l other) stays;
-}

@@ -17,14 +17,13 @@ use Rattle.feed_lines.specs.declared.feed.OpenFeed.{OpenFeed}
 use Rattle.feed_lines.specs.declared.taking.Outcome.{Outcome}
 use Rattle.feed_lines.specs.declared.taking.Outcome.TheVariants.{Open as GoesOn, Ended}
 use Rattle.feed_lines.specs.declared.telling.Telling.{Telling}
-use Rattle.feed_lines.specs.Connection.{Now}
-use Rattle.feed_lines.specs.Moves.{KeepsSent}
+use Rattle.connection_calls.specs.Connection.{Now}
+use Rattle.connection_calls.specs.Moves.{KeepsSent}
 use Rattle.feed_lines.specs.Feeds.{Feed, Taking, Counts, Stays, Follows}
 use Rattle.feed_lines.specs.Holding.{AreWithin, StandsFor}
 use Rattle.feed_lines.specs.Steps.{Before, Halted, MayDo, MovedAs, OutcomeFits, Passes, TookAs, going, over}
-use Rattle.feed_lines.proofs.ConnectionLemmas.{Now-map}
-use Rattle.feed_lines.proofs.StandingLemmas.{still_open}
-use Rattle.feed_lines.proofs.TakingLemmas.{Ever-map}
+use Rattle.connection_calls.proofs.ConnectionLemmas.{Now-map, Ever-map}
+use Rattle.connection_calls.proofs.StandingLemmas.{still_open}
 
 -- ---- events
 

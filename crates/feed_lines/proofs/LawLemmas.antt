@@ -32,9 +32,12 @@ use Rattle.feed_lines.specs.declared.telling.Telling.{Telling}
 use Rattle.feed_lines.specs.declared.telling.Telling.TheVariants.{NoName, StreamOver, Pdu as PduRefused, End as FeedEnds}
 use Rattle.feed_lines.specs.declared.working.Work.{Work}
 use Rattle.feed_lines.specs.declared.working.Work.TheVariants.{Ask, Take, Sync}
-use Rattle.feed_lines.specs.Tellings.{Asking, IsCauseOf, tells_text}
-use Rattle.feed_lines.specs.Feeds.{Feed, Taking, Coming, OnePdu, BadPdu, NoMore, HasSent, LostAtSend, Queries, IsComing, Moves, Follows, Counts, Stays, TakesPdu, TakesComing, TakesFrom, TakesPdus, Syncs, AsksFeed, AsksBy, after_pdu, asked_of, change_due, query_bytes, short_of}
-use Rattle.feed_lines.specs.Lines.{World, State, Connects, StartsBy, Does, Works, WorksBy, Writes, taking_of, with_feed, with_taking}
+use Rattle.feed_lines.specs.Tellings.{Asking, tells_text}
+use Rattle.connection_calls.specs.Refusals.{IsCauseOf}
+use Rattle.feed_lines.specs.Feeds.{Feed, Taking, Coming, OnePdu, BadPdu, NoMore, Queries, IsComing, Moves, Follows, Counts, Stays, TakesPdu, TakesComing, TakesFrom, TakesPdus, Syncs, AsksFeed, AsksBy, after_pdu, asked_of, change_due, query_bytes, short_of}
+use Rattle.connection_calls.specs.Ends.{HasSent, LostAtSend}
+use Rattle.connection_calls.specs.World.{World}
+use Rattle.feed_lines.specs.Lines.{State, Connects, StartsBy, Does, Works, WorksBy, Writes, taking_of, with_feed, with_taking}
 use Rattle.feed_lines.specs.Laws.{FeedLinesHaveOneOutcome, EachTellingIsOneLine}
 
 -- ---- what comes next

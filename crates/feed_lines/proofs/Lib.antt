@@ -1,9 +1,6 @@
 pub mod ConnectedLemmas
 pub mod ConnectingLemmas
-pub mod ConnectionLemmas
 pub mod CountingLemmas
-pub mod FaultsLemmas
-pub mod GoingLemmas
 pub mod LawLemmas
 pub mod LineLemmas
 pub mod LostLemmas

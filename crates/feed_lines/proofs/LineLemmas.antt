@@ -10,11 +10,12 @@ use Rattle.feed_lines.specs.declared.feed.Feeds.{Feeds}
 use Rattle.feed_lines.specs.declared.lines.Progress.{Progress}
 use Rattle.feed_lines.specs.declared.telling.Telling.{Telling}
 use Rattle.feed_lines.specs.declared.working.Work.{Work}
-use Rattle.feed_lines.specs.Holding.{AddsAttempts, AreWithin, Goes, HasMoved, Holds, HoldsFeeds, IsSound}
+use Rattle.connection_calls.specs.World.{AddsAttempts}
+use Rattle.feed_lines.specs.Holding.{AreWithin, Goes, HasMoved, Holds, HoldsFeeds, IsSound}
 use Rattle.feed_lines.specs.Lines.{ConnectLine, ConnectPart, State, WorkLine, WorkPart}
 use Rattle.feed_lines.specs.Named.{BeganNamed, ConnectedNamed, WorkedNamed}
 use Rattle.feed_lines.specs.Tellings.{Asking, tells_text}
-use Rattle.feed_lines.proofs.GoingLemmas.{AddsAttempts-refl}
+use Rattle.connection_calls.proofs.GoingLemmas.{AddsAttempts-refl}
 use Rattle.feed_lines.proofs.NamedLemmas.{holds_moved}
 
 -- the state with what is counted

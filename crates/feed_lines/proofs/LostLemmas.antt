@@ -17,7 +17,8 @@ use Rattle.feed_lines.specs.declared.working.Work.{Work}
 use Rattle.feed_lines.specs.declared.working.Work.TheVariants.{Ask, Take, Sync}
 use Rattle.feed_lines.specs.Feeds.{AsksBy, BadPdu, Coming, Feed, HasEnded, IsComing, Moves, NoMore, OnePdu, Queries, TakesComing, TakesFrom, TakesPdus, Taking, asked_of, short_of}
 use Rattle.feed_lines.specs.Laws.{LostFeedsBrokeOrEnded}
-use Rattle.feed_lines.specs.Lines.{Does, InEnd, IsAttempt, StartsBy, State, World, WorksBy, starting, taking_of}
+use Rattle.feed_lines.specs.Lines.{Does, StartsBy, State, WorksBy, starting, taking_of}
+use Rattle.connection_calls.specs.World.{InEnd, IsAttempt, World}
 
 -- nothing more is to come on a connection that isn't broken
 abbrev IsAtEnd : Link → Type 0

@@ -15,16 +15,17 @@ use Rattle.feed_lines.specs.declared.feed.Feeds.{Feeds}
 use Rattle.feed_lines.specs.declared.telling.Telling.{Telling}
 use Rattle.feed_lines.specs.declared.telling.Telling.TheVariants.{NoName, StreamOver}
 use Rattle.feed_lines.specs.declared.working.Work.{Work}
-use Rattle.feed_lines.specs.Connection.{IsOpenWith, Now, Spares, told_at}
-use Rattle.feed_lines.specs.Moves.{Only}
+use Rattle.connection_calls.specs.Connection.{IsOpenWith, Now, Spares, told_at}
+use Rattle.connection_calls.specs.Moves.{Only}
 use Rattle.feed_lines.specs.Feeds.{Feed, Taking}
 use Rattle.feed_lines.specs.Holding.{AreWithin, HasMoved, HoldsFeeds, HoldsOr, IsSound, StandsFor, feed_in}
-use Rattle.feed_lines.specs.Lines.{Begins, Does, InEnd, State, WorksBy, World, same_name, taking_of, with_feed, with_taking}
+use Rattle.feed_lines.specs.Lines.{Begins, Does, State, WorksBy, same_name, taking_of, with_feed, with_taking}
+use Rattle.connection_calls.specs.World.{InEnd, World}
 use Rattle.feed_lines.specs.Named.{BeganNamed, Puts, Same, WorkedNamed}
 use Rattle.feed_lines.specs.Steps.{Halted, HasSentAll, IsFit, SlotFits, StandsSlot, WorkedAs, going}
-use Rattle.feed_lines.proofs.ConnectionLemmas.{Now-map}
-use Rattle.feed_lines.proofs.GoingLemmas.{Now-later, in_end}
-use Rattle.feed_lines.proofs.StandingLemmas.{still_open}
+use Rattle.connection_calls.proofs.ConnectionLemmas.{Now-map}
+use Rattle.connection_calls.proofs.GoingLemmas.{Now-later, in_end}
+use Rattle.connection_calls.proofs.StandingLemmas.{still_open}
 
 -- ---- names
 

@@ -10,7 +10,7 @@ use Rattle.av_base.specs.Connections.{Link, ToldLater, closes}
 use Rattle.rtr_pdu.specs.declared.pdu.Pdu.{Pdu}
 use Rattle.rtr_pdu.specs.declared.pdu.PduFault.{PduFault}
 use Rattle.rtr_pdu.specs.declared.pdu.PduFault.TheVariants.{PduVersion as BadVersion, PduLength as BadLength, PduType as BadType, NoProviders as HasNoProviders, NoMemory}
-use Rattle.rtr_pdu.specs.Units.{IsReportFor, IsRefusedNow}
+use Rattle.rtr_pdu.specs.Units.{IsPartial, IsReportFor, IsRefusedNow}
 use Rattle.rtr_session.specs.declared.act.Act.{Act}
 use Rattle.rtr_session.specs.declared.act.Act.TheVariants.{Nothing, Send, Apply, End}
 use Rattle.rtr_session.specs.declared.act.Delta.{Delta}
@@ -21,30 +21,29 @@ use Rattle.rtr_session.specs.Client.{Client, code_on_end}
 use Rattle.vap_table.specs.declared.change.TableChange.{TableChange}
 use Rattle.rib_store.specs.State.{State as Analysis}
 use Rattle.report_text.specs.declared.feed.FeedEnd.TheVariants.{Lost as LostFeed}
-use Rattle.feed_lines.specs.declared.asking.Asked.{Asked}
-use Rattle.feed_lines.specs.declared.asking.Asked.TheVariants.{Pdu as Took, Refused, Lost}
+use Rattle.connection_calls.specs.declared.asking.Asked.{Asked}
+use Rattle.connection_calls.specs.declared.asking.Asked.TheVariants.{Pdu as Took, Refused, Ended as NoneCame, Lost}
 use Rattle.feed_lines.specs.declared.feed.OpenFeed.{OpenFeed}
 use Rattle.feed_lines.specs.declared.taking.Outcome.{Outcome}
 use Rattle.feed_lines.specs.declared.taking.Outcome.TheVariants.{Open as GoesOn, Ended}
 use Rattle.report_text.specs.declared.cause.Cause.{Cause}
 use Rattle.feed_lines.specs.declared.telling.Telling.{Telling}
 use Rattle.feed_lines.specs.declared.telling.Telling.TheVariants.{Pdu as PduRefused, End as FeedEnds}
-use Rattle.feed_lines.specs.Tellings.{IsCauseOf, cause_of_end}
-use Rattle.feed_lines.specs.Connection.{Now, Has}
-use Rattle.feed_lines.specs.Moves.{Ever, Answers, RefusesNow, Asks, Finishes}
-use Rattle.feed_lines.specs.Feeds.{Feed, Taking, HasEnded, IsClosed, LostAtSend, Queries, OnePdu, BadPdu, NoMore, Moves, Follows, TakesNext, TakesFrom, TakesUnit, TakesPdus, after_pdu, asked_of, change_due, is_enough_at, lost, query_bytes, report_bytes}
+use Rattle.connection_calls.specs.Refusals.{IsCauseOf, report_bytes}
+use Rattle.feed_lines.specs.Tellings.{cause_of_end}
+use Rattle.connection_calls.specs.Connection.{Now, Has}
+use Rattle.connection_calls.specs.Moves.{Ever, Answers, RefusesNow, SendsOrCloses, Finishes}
+use Rattle.feed_lines.specs.Feeds.{Feed, Taking, HasEnded, Queries, OnePdu, BadPdu, NoMore, Moves, Follows, TakesNext, TakesFrom, TakesUnit, TakesPdus, after_pdu, asked_of, change_due, is_enough_at, lost, query_bytes}
+use Rattle.connection_calls.specs.Ends.{IsClosed, LostAtSend}
 use Rattle.feed_lines.specs.Holding.{AreWithin, StandsFor}
 use Rattle.feed_lines.specs.Lines.{TakesSome}
 use Rattle.feed_lines.specs.Steps.{Before, Halted, MayDo, MovedAs, TookAs, going}
-use Rattle.feed_lines.proofs.ConnectionLemmas.{Now-change, Ever-later, Ever-now, Ever-closed}
+use Rattle.connection_calls.proofs.ConnectionLemmas.{Now-change, Now-map, Ever-later, Ever-map, Ever-now, Ever-closed, finished}
 
 -- what is said of an error
 pub on_err : {A E : Type 0} {P : Type 0} (result : Result A E) → IsErr result → P → OnErr result P
 on_err (Ok x) is p = let none : ⊥ = cc in absurd none
 on_err (Err e) is p = p
-
-pub Ever-map : {wire : Option (List Link)} {link : ℕ} {p q : Link → Type 0} → ((t : Link) → p t → q t) → Ever wire link p → Ever wire link q
-Ever-map keeps ever = λ links final is goes t there. keeps t (ever links final is goes t there)
 
 -- ---- what was done
 
@@ -75,22 +74,22 @@ Halted-with wire link known few more p r ever counts joins halted = record {
 -- ---- a query
 
 module _ (wire new : Option (List Link)) (kept : OpenFeed) (feed : Feed) (query : Query) (bytes : List ℕ) (stands : StandsFor wire kept feed) (spelled : bytes ≡ query_bytes query) where
-  pub query_whole : (whole : Bool) → whole ≡ true → ((got gave : List ℕ) → Now wire kept.link (Has got gave) → Asks new kept.link got gave bytes whole)
+  pub query_whole : (whole : Bool) → whole ≡ true → ((got gave : List ℕ) → Now wire kept.link (Has got gave) → SendsOrCloses new kept.link got gave bytes whole)
       → StandsFor new kept (record feed { sent = feed.sent ++ query_bytes query }) × Ever new kept.link (λ t. Queries t feed query [] (Some (record feed { sent = feed.sent ++ query_bytes query })))
   query_whole whole is asks =
       let after : Now new kept.link (Has (feed.used ++ kept.framer) (feed.sent ++ query_bytes query)) =
       subst (λ (b : List ℕ). Now new kept.link (Has (feed.used ++ kept.framer) (feed.sent ++ b))) spelled
-      (subst (λ (w : Bool). Asks new kept.link (feed.used ++ kept.framer) feed.sent bytes w) is (asks (feed.used ++ kept.framer) feed.sent stands.now)) in (
+      (subst (λ (w : Bool). SendsOrCloses new kept.link (feed.used ++ kept.framer) feed.sent bytes w) is (asks (feed.used ++ kept.framer) feed.sent stands.now)) in (
         record { link = stands.link; taken = stands.taken; session = stands.session; now = after },
         Ever-map (λ t sent. inl (sent, refl, refl)) (Ever-now (λ t u had later. (later.gone, later.sent ∙ ap (λ (l : List ℕ). l ++ later.gone) had.gave)) after),
       )
 
-  pub query_lost : (whole : Bool) → whole ≡ false → ((got gave : List ℕ) → Now wire kept.link (Has got gave) → Asks new kept.link got gave bytes whole)
+  pub query_lost : (whole : Bool) → whole ≡ false → ((got gave : List ℕ) → Now wire kept.link (Has got gave) → SendsOrCloses new kept.link got gave bytes whole)
       → Ever new kept.link (λ t. Queries t feed query lost None)
   query_lost whole is asks =
       let after : Now new kept.link (λ t. (t.received ≡ feed.used ++ kept.framer) × LostAtSend t feed.sent (query_bytes query) × IsClosed t) =
       subst (λ (b : List ℕ). Now new kept.link (λ t. (t.received ≡ feed.used ++ kept.framer) × LostAtSend t feed.sent b × IsClosed t)) spelled
-      (subst (λ (w : Bool). Asks new kept.link (feed.used ++ kept.framer) feed.sent bytes w) is (asks (feed.used ++ kept.framer) feed.sent stands.now)) in
+      (subst (λ (w : Bool). SendsOrCloses new kept.link (feed.used ++ kept.framer) feed.sent bytes w) is (asks (feed.used ++ kept.framer) feed.sent stands.now)) in
       Ever-map (λ t had. inr (had.1, had.2, refl, refl)) (Ever-closed (λ t had. had.2) after)
 
 -- ---- what a PDU asks for
@@ -103,7 +102,7 @@ module _ (wire : Option (List Link)) (kept : OpenFeed) (act : Act) (feed : Feed)
   moves_apply delta is = rw is (feed, stands, sym stands.link, λ links final told goes t there. (refl, refl))
 
   module _ (new : Option (List Link)) where
-    module _ (query : Query) (bytes : List ℕ) (whole : Bool) (is : act ≡ Send query) (spelled : bytes ≡ query_bytes query) (asks : (got gave : List ℕ) → Now wire kept.link (Has got gave) → Asks new kept.link got gave bytes whole) where
+    module _ (query : Query) (bytes : List ℕ) (whole : Bool) (is : act ≡ Send query) (spelled : bytes ≡ query_bytes query) (asks : (got gave : List ℕ) → Now wire kept.link (Has got gave) → SendsOrCloses new kept.link got gave bytes whole) where
       pub moves_sent : whole ≡ true → MovedAs new kept.link (λ t. Moves t feed act) (GoesOn kept)
       moves_sent went =
           let had = query_whole wire new kept feed query bytes stands spelled whole went asks in
@@ -112,14 +111,14 @@ module _ (wire : Option (List Link)) (kept : OpenFeed) (act : Act) (feed : Feed)
       pub moves_lost : whole ≡ false → MovedAs new kept.link (λ t. Moves t feed act) (Ended (FeedEnds LostFeed))
       moves_lost went = rw is (query_lost wire new kept feed query bytes stands spelled whole went asks)
 
-    pub moves_end : (ending : Ending) (code : Option ℕ) (bytes : List ℕ) (cause : Cause) → act ≡ End ending → code ≡ code_on_end ending → bytes ≡ report_bytes code → cause ≡ cause_of_end ending
-        → ((got gave : List ℕ) → Now wire kept.link (Has got gave) → Finishes new kept.link got gave bytes)
+    pub moves_end : (ending : Ending) (code : Option ℕ) (bytes : List ℕ) (cause : Cause) (went : Bool) → act ≡ End ending → code ≡ code_on_end ending → bytes ≡ report_bytes code → cause ≡ cause_of_end ending
+        → ((got gave : List ℕ) → Now wire kept.link (Has got gave) → Finishes new kept.link got gave bytes went)
         → MovedAs new kept.link (λ t. Moves t feed act) (Ended (PduRefused kept.taken cause))
-    moves_end ending code bytes cause is coded spelled caused finishes =
+    moves_end ending code bytes cause went is coded spelled caused finishes =
         let whole : bytes ≡ report_bytes (code_on_end ending) = spelled ∙ ap report_bytes coded in
         let done : Now new kept.link (λ t. (t.received ≡ feed.used ++ kept.framer) × ((t.sent ≡ feed.sent ++ report_bytes (code_on_end ending)) ⊎ LostAtSend t feed.sent (report_bytes (code_on_end ending))) × IsClosed t) =
         subst (λ (b : List ℕ). Now new kept.link (λ t. (t.received ≡ feed.used ++ kept.framer) × ((t.sent ≡ feed.sent ++ b) ⊎ LostAtSend t feed.sent b) × IsClosed t)) whole
-        (finishes (feed.used ++ kept.framer) feed.sent stands.now) in
+        (finished new kept.link (feed.used ++ kept.framer) feed.sent bytes went (finishes (feed.used ++ kept.framer) feed.sent stands.now)) in
         rw (is, caused, stands.taken) (Ever-map (λ t had. ((had.1, had.2), refl, refl)) (Ever-closed (λ t had. had.2) done))
 
 -- ---- what comes next
@@ -139,23 +138,34 @@ refused_now held asked cause is refuses =
 
 module _ (old wire new : Option (List Link)) (name : List ℕ) (kept : OpenFeed) (held : List ℕ) (asked : Asked) (feed : Feed) (stands : StandsFor old kept feed)
     (answers : (used sent : List ℕ) → Now old kept.link (Has (used ++ kept.framer) sent) → Answers wire kept.link used sent held asked) where
+  -- no more bytes come
+  next_over : IsPartial held → Now wire kept.link (λ t. Has (feed.used ++ held) feed.sent t × HasEnded t) → new ≡ option_map (closes kept.link) wire
+      → MovedAs new kept.link (λ t. Before None (TakesNext t name feed)) (Ended (FeedEnds LostFeed))
+  next_over partial now closed =
+      let done : Now new kept.link (λ t. (t.received ≡ feed.used ++ held) × (t.sent ≡ feed.sent) × HasEnded t × IsClosed t) =
+      Now-change (λ t. record t { closed = true }) closed (λ t had. (had.0.got, had.0.gave, had.1, refl)) now in
+      Ever-map (λ t had before after over stays. record { coming = NoMore; comes = ((held, had.0, partial), had.2); takes = (had.1, had.3, refl, over, stays) }) (Ever-closed (λ t had. had.3) done)
+
+  pub next_ended : asked ≡ NoneCame → new ≡ option_map (closes kept.link) wire → MovedAs new kept.link (λ t. Before None (TakesNext t name feed)) (Ended (FeedEnds LostFeed))
+  next_ended is closed =
+      let answer : Answers wire kept.link feed.used feed.sent held NoneCame = subst (Answers wire kept.link feed.used feed.sent held) is (answers feed.used feed.sent stands.now) in
+      next_over answer.0 (Now-map (λ t had. (had.0, inr had.1.1)) answer.1) closed
+
   pub next_lost : asked ≡ Lost → new ≡ option_map (closes kept.link) wire → MovedAs new kept.link (λ t. Before None (TakesNext t name feed)) (Ended (FeedEnds LostFeed))
   next_lost is closed =
       let answer : Answers wire kept.link feed.used feed.sent held Lost = subst (Answers wire kept.link feed.used feed.sent held) is (answers feed.used feed.sent stands.now) in
-      let done : Now new kept.link (λ t. (t.received ≡ feed.used ++ held) × (t.sent ≡ feed.sent) × HasEnded t × IsClosed t) =
-      Now-change (λ t. record t { closed = true }) closed (λ t had. (had.0.got, had.0.gave, had.1, refl)) answer.1 in
-      Ever-map (λ t had before after over stays. record { coming = NoMore; comes = ((held, had.0, answer.0), had.2); takes = (had.1, had.3, refl, over, stays) }) (Ever-closed (λ t had. had.3) done)
+      next_over answer.0 (Now-map (λ t had. (had.0, inl had.1)) answer.1) closed
 
-  pub next_refused : (cause : Cause) (code : Option ℕ) (bytes : List ℕ) → asked ≡ Refused cause → RefusesNow held asked → IsReportFor held code → bytes ≡ report_bytes code
-      → ((got gave : List ℕ) → Now wire kept.link (Has got gave) → Finishes new kept.link got gave bytes)
+  pub next_refused : (cause : Cause) (code : Option ℕ) (bytes : List ℕ) (went : Bool) → asked ≡ Refused cause → RefusesNow held asked → IsReportFor held code → bytes ≡ report_bytes code
+      → ((got gave : List ℕ) → Now wire kept.link (Has got gave) → Finishes new kept.link got gave bytes went)
       → MovedAs new kept.link (λ t. Before None (TakesNext t name feed)) (Ended (PduRefused (kept.taken + 1) cause))
-  next_refused cause code bytes is refuses reports spelled finishes =
+  next_refused cause code bytes went is refuses reports spelled finishes =
       let answer : Answers wire kept.link feed.used feed.sent held (Refused cause) = subst (Answers wire kept.link feed.used feed.sent held) is (answers feed.used feed.sent stands.now) in
       let one : RefusesNow held (Refused cause) = subst (RefusesNow held) is refuses in
       let known = known_of one.0 cause one.2 in
       let whole = spelled ∙ ap report_bytes (reports one.0 known one.1) in
       let done = subst (λ (b : List ℕ). Now new kept.link (λ t. (t.received ≡ feed.used ++ held) × ((t.sent ≡ feed.sent ++ b) ⊎ LostAtSend t feed.sent b) × IsClosed t)) whole
-      (finishes (feed.used ++ held) feed.sent answer) in
+      (finished new kept.link (feed.used ++ held) feed.sent bytes went (finishes (feed.used ++ held) feed.sent answer)) in
       rw stands.taken
       (Ever-map
       (λ t had before after over stays. record {

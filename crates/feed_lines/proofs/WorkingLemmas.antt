@@ -13,15 +13,15 @@ use Rattle.feed_lines.specs.declared.taking.Outcome.TheVariants.{Open as GoesOn,
 use Rattle.feed_lines.specs.declared.telling.Telling.{Telling}
 use Rattle.feed_lines.specs.declared.telling.Telling.TheVariants.{End as FeedEnds}
 use Rattle.feed_lines.specs.declared.working.Work.TheVariants.{Ask, Take, Sync}
-use Rattle.feed_lines.specs.Connection.{Now, Has}
-use Rattle.feed_lines.specs.Moves.{Asks, KeepsSent}
+use Rattle.connection_calls.specs.Connection.{Now, Has}
+use Rattle.connection_calls.specs.Moves.{KeepsSent, SendsOrCloses}
 use Rattle.feed_lines.specs.Feeds.{AsksFeed, Feed, Taking, TakesPdus, is_enough_at, query_bytes, short_of}
 use Rattle.feed_lines.specs.Holding.{AreWithin, StandsFor}
 use Rattle.feed_lines.specs.Lines.{Begins, Does}
 use Rattle.feed_lines.specs.Steps.{Halted, LeftAs, TookAs, WorkedAs, going}
-use Rattle.feed_lines.proofs.ConnectionLemmas.{Now-map}
-use Rattle.feed_lines.proofs.StandingLemmas.{still_open}
-use Rattle.feed_lines.proofs.TakingLemmas.{Ever-map, asked_feed, asked_none, query_whole, query_lost}
+use Rattle.connection_calls.proofs.ConnectionLemmas.{Now-map, Ever-map}
+use Rattle.connection_calls.proofs.StandingLemmas.{still_open}
+use Rattle.feed_lines.proofs.TakingLemmas.{asked_feed, asked_none, query_whole, query_lost}
 
 module _ (wire : Option (List Link)) (link : ℕ) (few : ℕ → Type 0) (name : List ℕ) (count : ℕ) (feed : Feed) (old : Taking) (after : Analysis) where
   pub took_on : (kept : OpenFeed) → TookAs wire link few (λ t. TakesPdus t false name count old) (GoesOn kept) after
@@ -79,7 +79,7 @@ module _ (wire new : Option (List Link)) (kept : OpenFeed) (session : Session) (
     done = λ links final told goes t there. record { query = None; session = session; asks = asks_then None is; sends = (refl, refl) };
   }
 
-  module _ (one : Query) (bytes : List ℕ) (whole : Bool) (is : query ≡ Some one) (spelled : bytes ≡ query_bytes one) (sends : (got gave : List ℕ) → Now wire kept.link (Has got gave) → Asks new kept.link got gave bytes whole) where
+  module _ (one : Query) (bytes : List ℕ) (whole : Bool) (is : query ≡ Some one) (spelled : bytes ≡ query_bytes one) (sends : (got gave : List ℕ) → Now wire kept.link (Has got gave) → SendsOrCloses new kept.link got gave bytes whole) where
     pub asked_whole : whole ≡ true → LeftAs new kept.link (λ t. AsksFeed t feed) (Some (record { framer = kept.framer; session = session; taken = kept.taken; link = kept.link })) None
     asked_whole went =
         let had = query_whole wire new (record { framer = kept.framer; session = session; taken = kept.taken; link = kept.link }) (record feed { session = session }) one bytes stands_then spelled whole went sends in

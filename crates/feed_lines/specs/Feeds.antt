@@ -1,12 +1,12 @@
 -- What a line does with a feed: each relation reads the feed's connection `t` as it stands in the end.
-use Rattle.std.specs.Prelude.{◌≡◌, ◌≢◌, ℕ, zero, suc, ◌+◌, ◌<◌, ◌⊎◌, Bool, true, false, cond, List, [], ◌∷◌, ◌++◌, length}
+use Rattle.std.specs.Prelude.{◌≡◌, ◌≢◌, ℕ, zero, suc, ◌+◌, ◌⊎◌, Bool, true, false, cond, List, [], ◌∷◌, ◌++◌}
 use Rattle.std.specs.declared.option.Option.{Option}
 use Rattle.std.specs.declared.option.Option.TheVariants.{Some, None}
 use Rattle.std.specs.FinMap as map
 use Rattle.av_base.specs.Connections.{Link}
-use Rattle.av_base.specs.declared.standing.Break.TheVariants.{BySend, ByRecv}
+use Rattle.av_base.specs.declared.standing.Break.TheVariants.{ByRecv}
 use Rattle.rtr_pdu.specs.declared.pdu.Pdu.{Pdu}
-use Rattle.rtr_pdu.specs.declared.pdu.Pdu.TheVariants.{SerialQuery, ResetQuery, ErrorReport}
+use Rattle.rtr_pdu.specs.declared.pdu.Pdu.TheVariants.{SerialQuery, ResetQuery}
 use Rattle.rtr_pdu.specs.declared.pdu.PduFault.{PduFault}
 use Rattle.rtr_pdu.specs.declared.pdu.PduFault.TheVariants.{NoMemory}
 use Rattle.rtr_pdu.specs.Pdus.{IsFrame}
@@ -33,9 +33,11 @@ use Rattle.analyser.specs.Events.{Happens}
 use Rattle.analyser.specs.Touched.{Costs}
 use Rattle.report_text.specs.declared.feed.FeedEnd.TheVariants.{Lost, Short}
 use Rattle.report_text.specs.declared.cause.Cause.{Cause}
+use Rattle.connection_calls.specs.Ends.{HasSent, IsClosed, LostAtSend}
+use Rattle.connection_calls.specs.Refusals.{IsCauseOf, report_bytes}
 use Rattle.feed_lines.specs.declared.telling.Telling.{Telling}
 use Rattle.feed_lines.specs.declared.telling.Telling.TheVariants.{Pdu as PduRefused, End as FeedEnds}
-use Rattle.feed_lines.specs.Tellings.{IsCauseOf, cause_of_end}
+use Rattle.feed_lines.specs.Tellings.{cause_of_end}
 
 -- A feed whose session goes on: the number of its connection, the bytes sent on it, the bytes of the PDUs taken, how many those were,
 -- and the session.
@@ -62,27 +64,6 @@ pdu_of (Serial session serial) = SerialQuery session serial
 
 abbrev pub query_bytes : Query → List ℕ
 query_bytes query = spelled (pdu_of query)
-
--- the error report with this code, or none
-abbrev pub report_bytes : Option ℕ → List ℕ
-report_bytes None = []
-report_bytes (Some code) = spelled (ErrorReport code)
-
--- these bytes went behind those that were sent before
-abbrev pub HasSent : Link → List ℕ → List ℕ → Type 0
-HasSent t sent bytes = (rest : List ℕ) × (t.sent ≡ sent ++ bytes ++ rest)
-
--- the connection broke before all of them had gone
-pub record LostAtSend (t : Link) (sent bytes : List ℕ) : Type 0 where
-  pub front : List ℕ
-  pub rest : List ℕ
-  pub whole : bytes ≡ front ++ rest
-  pub some_left : 0 < length rest
-  pub gave : t.sent ≡ sent ++ front
-  pub broke : t.broken ≡ Some BySend
-
-abbrev pub IsClosed : Link → Type 0
-IsClosed t = t.closed ≡ true
 
 -- a feed's end, which is reported: the connection was lost
 abbrev pub lost : List Telling

@@ -2,11 +2,10 @@
 use Rattle.std.specs.Prelude.{◌≡◌, ◌≢◌, ℕ, ◌+◌, ◌<◌, ◌≤◌, List, ◌++◌, length, Some}
 use Rattle.std.specs.BTreeMap.{get}
 use Rattle.std.specs.Cmp.Lexicographic.{slice_cmp}
-use Rattle.std.specs.List.{All}
 use Rattle.std.specs.Ordering.{nat_cmp}
 use Rattle.std.specs.declared.option.Option.{Option}
 use Rattle.std.specs.declared.option.Option.TheVariants.{None}
-use Rattle.av_base.specs.Connections.{Attempt, Failed, IsUsable, Link, Made, ToldLater, Unaccepted}
+use Rattle.av_base.specs.Connections.{Attempt, IsUsable, Link, ToldLater}
 use Rattle.av_base.specs.declared.standing.Standing.{Standing}
 use Rattle.av_base.specs.Told.{Rose}
 use Rattle.rtr_session.specs.declared.act.Phase.TheVariants.{Over}
@@ -16,9 +15,10 @@ use Rattle.feed_lines.specs.declared.feed.Feeds.{Feeds}
 use Rattle.feed_lines.specs.declared.lines.Progress.{Progress}
 use Rattle.feed_lines.specs.declared.telling.Telling.{Telling}
 use Rattle.feed_lines.specs.declared.telling.Telling.TheVariants.{End as FeedEnds}
-use Rattle.feed_lines.specs.Connection.{Now, Has, IsOpenWith}
+use Rattle.connection_calls.specs.Connection.{Now, Has, IsOpenWith}
 use Rattle.feed_lines.specs.Feeds.{Feed}
-use Rattle.feed_lines.specs.Lines.{World, State}
+use Rattle.connection_calls.specs.World.{AddsAttempts, ComesTo, World}
+use Rattle.feed_lines.specs.Lines.{State}
 
 -- ---- one feed
 
@@ -71,24 +71,7 @@ pub record IsNoFeeds (stood : List Standing) (feeds : Feeds) (link : ℕ) : Type
   pub made : link < length stood
   pub apart : (name : List ℕ) (kept : OpenFeed) → feed_in feeds name ≡ Some (Some kept) → link ≢ kept.link
 
--- ---- what becomes of the attempts and the connections
-
--- the connection that an attempt made has a number from so many on
-abbrev pub IsMadeFrom : ℕ → Attempt → Type 0
-IsMadeFrom count (Made link) = count ≤ link
-IsMadeFrom count (Failed place) = Unit {0}
-IsMadeFrom count (Unaccepted place) = Unit {0}
-
--- Attempts were added behind those that were made, where they are told. The connections that these made are none of those before, where
--- these are told.
-pub record AddsAttempts (wire : Option (List Link)) (old new : Option (List Attempt)) : Type 0 where
-  pub added : (after : List Attempt) → new ≡ Some after → (before : List Attempt) × (more : List Attempt) × (old ≡ Some before) × (after ≡ before ++ more)
-      × ((links : List Link) → wire ≡ Some links → All (IsMadeFrom (length links)) more)
-
--- the attempts and connections that are told came to this
-pub record ComesTo (attempts : Option (List Attempt)) (wire : Option (List Link)) (world : World) : Type 0 where
-  pub adds : AddsAttempts wire attempts world.attempts
-  pub goes_on : ToldLater wire (Some world.links)
+-- ---- what becomes of the state
 
 -- no more steps were taken than judgements were counted
 abbrev pub AreWithin : ℕ → ℕ → ℕ → ℕ → Type 0

@@ -10,7 +10,8 @@ use Rattle.feed_lines.specs.declared.telling.Telling.{Telling}
 use Rattle.feed_lines.specs.declared.telling.Telling.TheVariants.{End as FeedEnds}
 use Rattle.feed_lines.specs.declared.working.Work.{Work}
 use Rattle.feed_lines.specs.Feeds.{Feed}
-use Rattle.feed_lines.specs.Lines.{ConnectLine, Connects, InEnd, IsAttempt, State, WorkLine, Works, World}
+use Rattle.feed_lines.specs.Lines.{ConnectLine, Connects, State, WorkLine, Works}
+use Rattle.connection_calls.specs.World.{InEnd, IsAttempt, World}
 use Rattle.feed_lines.specs.Tellings.{Asking, telling_text}
 
 -- On the same connections, with attempts that are told, a line has no two texts, and leaves no two states.

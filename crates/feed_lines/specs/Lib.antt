@@ -1,10 +1,7 @@
-pub mod Connection
-pub mod Faults
 pub mod Feeds
 pub mod Holding
 pub mod Laws
 pub mod Lines
-pub mod Moves
 pub mod Named
 pub mod Steps
 pub mod Tellings

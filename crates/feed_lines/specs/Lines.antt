@@ -1,5 +1,5 @@
 -- What the script's lines on feeds do, by the feeds' names.
-use Rattle.std.specs.Prelude.{◌≡◌, ◌≤◌, ℕ, ◌+◌, ◌⊎◌, nat_eq, true, false, Bool, cond, List, [], ◌∷◌, length, slice_get, IfSome}
+use Rattle.std.specs.Prelude.{◌≡◌, ◌≤◌, ℕ, ◌+◌, ◌⊎◌, nat_eq, true, false, Bool, cond, List, [], ◌∷◌, length}
 use Rattle.std.specs.Cmp.Lexicographic.{pointwise}
 use Rattle.std.specs.declared.option.Option.{Option}
 use Rattle.std.specs.declared.option.Option.TheVariants.{Some, None}
@@ -9,17 +9,14 @@ use Rattle.rtr_session.specs.declared.act.Query.TheVariants.{Reset}
 use Rattle.rtr_session.specs.State.{fresh}
 use Rattle.rib_store.specs.State.{State as Analysis}
 use Rattle.report_text.specs.declared.feed.FeedEnd.TheVariants.{Unreachable}
+use Rattle.connection_calls.specs.World.{InEnd, IsAttempt, World}
 use Rattle.feed_lines.specs.declared.telling.Telling.{Telling}
 use Rattle.feed_lines.specs.declared.telling.Telling.TheVariants.{NoName, StreamOver, End as FeedEnds}
 use Rattle.feed_lines.specs.declared.working.Work.{Work}
 use Rattle.feed_lines.specs.declared.working.Work.TheVariants.{Ask, Take, Sync}
 use Rattle.feed_lines.specs.Tellings.{Asking, tells_text}
-use Rattle.feed_lines.specs.Feeds.{Feed, Taking, Queries, IsClosed, Stays, AsksFeed, TakesPdus, Syncs}
-
--- The outside as it stands when the run ends: its attempts to connect and to accept, unless they were cut, and its connections.
-pub record World : Type 0 where
-  pub attempts : Option (List Attempt)
-  pub links : List Link
+use Rattle.feed_lines.specs.Feeds.{Feed, Taking, Queries, Stays, AsksFeed, TakesPdus, Syncs}
+use Rattle.connection_calls.specs.Ends.{IsClosed}
 
 -- What some lines have left: the feeds by name, none where a session is over, the number of attempts made, the analysis, how many
 -- judgements the events so far may have cost, and how many lines of text report a refusal or a feed's end.
@@ -29,16 +26,6 @@ pub record State : Type 0 where
   pub analysis : Analysis
   pub judgements : ℕ
   pub refused : ℕ
-
--- what a connection is in the end
-pub record InEnd (world : World) (link : ℕ) (is : Link → Type 0) : Type 0 where
-  pub t : Link
-  pub there : slice_get world.links link ≡ Some t
-  pub so : is t
-
--- the attempt with this number, where the attempts are told
-abbrev pub IsAttempt : World → ℕ → Attempt → Type 0
-IsAttempt world number attempt = IfSome world.attempts (λ all. slice_get all number ≡ Some attempt)
 
 -- whether two names are the same
 abbrev pub same_name : List ℕ → List ℕ → Bool

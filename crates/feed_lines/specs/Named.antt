@@ -11,10 +11,12 @@ use Rattle.feed_lines.specs.declared.feed.OpenFeed.{OpenFeed}
 use Rattle.feed_lines.specs.declared.feed.Feeds.{Feeds}
 use Rattle.feed_lines.specs.declared.telling.Telling.{Telling}
 use Rattle.feed_lines.specs.declared.working.Work.{Work}
-use Rattle.feed_lines.specs.Moves.{Ever}
-use Rattle.feed_lines.specs.Feeds.{Feed, IsClosed, Queries}
-use Rattle.feed_lines.specs.Holding.{AddsAttempts, AreWithin, ComesTo, HasMoved, HoldsFeeds, StandsFor, feed_in}
-use Rattle.feed_lines.specs.Lines.{BeginsOn, Connects, IsAttempt, StartsBy, State, Works, World, same_name, starting}
+use Rattle.connection_calls.specs.Moves.{Ever}
+use Rattle.feed_lines.specs.Feeds.{Feed, Queries}
+use Rattle.connection_calls.specs.Ends.{IsClosed}
+use Rattle.connection_calls.specs.World.{AddsAttempts, ComesTo, IsAttempt, World}
+use Rattle.feed_lines.specs.Holding.{AreWithin, HasMoved, HoldsFeeds, StandsFor, feed_in}
+use Rattle.feed_lines.specs.Lines.{BeginsOn, Connects, StartsBy, State, Works, same_name, starting}
 use Rattle.feed_lines.specs.Steps.{IsFit, StandsSlot}
 
 -- this is held under the name, and nothing else changed

@@ -17,8 +17,8 @@ use Rattle.feed_lines.specs.declared.taking.Outcome.TheVariants.{Open as GoesOn,
 use Rattle.feed_lines.specs.declared.telling.Telling.{Telling}
 use Rattle.feed_lines.specs.declared.telling.Telling.TheVariants.{End as FeedEnds}
 use Rattle.report_text.specs.declared.feed.FeedEnd.TheVariants.{Unreachable}
-use Rattle.feed_lines.specs.Connection.{IsOpenWith, Now}
-use Rattle.feed_lines.specs.Moves.{Ever}
+use Rattle.connection_calls.specs.Connection.{IsOpenWith, Now}
+use Rattle.connection_calls.specs.Moves.{Ever}
 use Rattle.feed_lines.specs.Feeds.{Feed, Taking, Follows}
 use Rattle.feed_lines.specs.Holding.{AreWithin, StandsFor}
 

@@ -1,11 +1,9 @@
 -- What a line on a feed reports, and the line of text for each.
-use Rattle.std.specs.Prelude.{◌≡◌, ℕ, List, [], ◌∷◌, ◌++◌}
-use Rattle.rtr_pdu.specs.declared.pdu.PduFault.{PduFault}
-use Rattle.rtr_pdu.specs.declared.pdu.PduFault.TheVariants.{PduVersion as BadVersion, PduLength as BadLength, PduType as BadType, NoProviders as HasNoProviders, NoMemory}
+use Rattle.std.specs.Prelude.{ℕ, List, [], ◌∷◌, ◌++◌}
 use Rattle.rtr_session.specs.declared.act.Ending.{Ending}
 use Rattle.rtr_session.specs.declared.act.Ending.TheVariants.{Unexpected as EndsUnexpected, UnknownWithdrawal as EndsUnknown, SessionChanged as EndsChanged, PeerReported as EndsReported}
 use Rattle.report_text.specs.declared.cause.Cause.{Cause}
-use Rattle.report_text.specs.declared.cause.Cause.TheVariants.{PduVersion, PduLength, PduType, PduNoProviders, Unexpected, UnknownWithdrawal, SessionChanged, PeerReported, NoName as NameIsNone, StreamOver as StreamIsOver}
+use Rattle.report_text.specs.declared.cause.Cause.TheVariants.{Unexpected, UnknownWithdrawal, SessionChanged, PeerReported, NoName as NameIsNone, StreamOver as StreamIsOver}
 use Rattle.report_text.specs.Feeds.{feed_text}
 use Rattle.report_text.specs.Refusals.{of_line, of_unit, refusal_text}
 use Rattle.feed_lines.specs.declared.telling.Telling.{Telling}
@@ -15,14 +13,6 @@ use Rattle.feed_lines.specs.declared.telling.Telling.TheVariants.{NoName, Stream
 pub record Asking : Type 0 where
   pub line : ℕ
   pub name : List ℕ
-
--- the cause of a refused PDU; want of memory is none
-abbrev pub IsCauseOf : PduFault → Cause → Type 0
-IsCauseOf BadVersion cause = cause ≡ PduVersion
-IsCauseOf BadLength cause = cause ≡ PduLength
-IsCauseOf BadType cause = cause ≡ PduType
-IsCauseOf HasNoProviders cause = cause ≡ PduNoProviders
-IsCauseOf NoMemory cause = ⊥
 
 -- the cause of a PDU that ends its session
 abbrev pub cause_of_end : Ending → Cause

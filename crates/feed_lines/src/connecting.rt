@@ -3,9 +3,9 @@ ghost use Rattle.std.specs.Prelude.{◌≡◌, ◌≢◌, ℕ, ◌+◌, ◌^◌,
 ghost use Rattle.av_base.specs.Connections.{IsUsable, ToldLater};
 ghost use Rattle.report_text.specs.declared.feed.FeedEnd.TheVariants.{Unreachable};
 ghost use Rattle.feed_lines.specs.declared.telling.Telling.TheVariants.{End as FeedEnds};
-ghost use Rattle.feed_lines.specs.Connection.{Has, Now, Spares};
-ghost use Rattle.feed_lines.specs.Faults.{BreaksByFault};
-ghost use Rattle.feed_lines.specs.Moves.{Only};
+ghost use Rattle.connection_calls.specs.Connection.{Has, Now, Spares};
+ghost use Rattle.connection_calls.specs.Faults.{BreaksByFault};
+ghost use Rattle.connection_calls.specs.Moves.{Only};
 ghost use Rattle.feed_lines.specs.Feeds.{query_bytes};
 ghost use Rattle.feed_lines.specs.Holding.{IsCounted, IsNoFeeds, IsSound};
 ghost use Rattle.feed_lines.specs.Named.{ClosedAs, ConnectedNamed, IsApart, IsSlotFit, SessionStarts, StartedAs};
@@ -14,9 +14,10 @@ ghost use Rattle.rtr_session.specs.declared.act.Query.TheVariants.{Reset};
 
 use crate::feed::{Feeds, OpenFeed};
 use crate::named::{give, hold};
-use crate::sending::{send_query, spell_query};
+use crate::spelling::spell_query;
 use crate::telling::Telling;
 use av_base::{Links, NoMemory};
+use connection_calls::send_or_close;
 use path_model::Name;
 use report_text::FeedEnd;
 use rtr_pdu::Framer;
@@ -114,7 +115,7 @@ fn start_session<K: Links>(
         (K.standings links.old) (K.standings links.new) }
 {
     let (session, _query) = Session::new(alloc).ask();
-    if send_query(query, link, links) {
+    if send_or_close(query, link, links) {
         let feed = OpenFeed {
             framer: Framer::new(alloc),
             session,

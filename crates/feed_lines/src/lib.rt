@@ -8,19 +8,17 @@
 //! a line takes no more steps, whether it ends well or not. Two outcomes of a line on the same connections are the same one, each
 //! thing that is reported is one line of text, and a feed is lost only where its connection broke or nothing more is to come (`laws`).
 //!
-//! `asking` receives PDUs, `sending` sends queries and error reports, `taking` takes PDUs one after another, `working` performs what a
-//! line asks of a feed that goes on, `named` finds it by its name, `connecting` starts one, and `lines` writes what is reported.
-//! Lemmas for the proofs above are in `proofs/`: `GoingLemmas` for what becomes of the outside, `LawLemmas` and
-//! `LostLemmas` for the laws.
+//! `connection_calls` below asks a connection for PDUs and sends on it. `spelling` spells queries, `taking` takes PDUs one after another,
+//! `working` performs what a line asks of a feed that goes on, `named` finds it by its name, `connecting` starts one, and `lines` writes
+//! what is reported. Lemmas for the proofs above are in `proofs/`: `LawLemmas` and `LostLemmas` for the laws.
 #![tactic(auto)]
 
-mod asking;
 mod connecting;
 mod feed;
 mod laws;
 mod lines;
 mod named;
-mod sending;
+mod spelling;
 mod taking;
 mod telling;
 mod working;

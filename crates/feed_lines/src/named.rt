@@ -1,7 +1,7 @@
 //! Feeds by their names.
 ghost use Rattle.std.specs.Prelude.{◌≡◌, ◌≢◌, ℕ, ◌+◌, ◌^◌, ◌<◌, Some, None, is_some, true, IfOk, IfSome, IfNone, OnOk, OnErr};
-ghost use Rattle.feed_lines.specs.Connection.{Spares};
-ghost use Rattle.feed_lines.specs.Faults.{BreaksByFault};
+ghost use Rattle.connection_calls.specs.Connection.{Spares};
+ghost use Rattle.connection_calls.specs.Faults.{BreaksByFault};
 ghost use Rattle.report_text.specs.declared.feed.FeedEnd.TheVariants.{Unreachable};
 ghost use Rattle.feed_lines.specs.declared.telling.Telling.TheVariants.{End as FeedEnds};
 ghost use Rattle.feed_lines.specs.Holding.{IsNoFeeds, IsSound, feed_in};

@@ -3,20 +3,20 @@ ghost use Rattle.std.specs.Prelude.{◌≡◌, ◌≢◌, ℕ, ◌+◌, ◌^◌,
 ghost use Rattle.av_base.specs.Connections.{IsUsable};
 ghost use Rattle.rtr_session.specs.declared.act.Act.TheVariants.{End as EndAct};
 ghost use Rattle.rtr_session.specs.declared.act.Phase.TheVariants.{Over};
-ghost use Rattle.feed_lines.specs.Faults.{BreaksByFault};
-ghost use Rattle.feed_lines.specs.Moves.{KeepsSent, Only};
+ghost use Rattle.connection_calls.specs.Faults.{BreaksByFault};
+ghost use Rattle.connection_calls.specs.Moves.{KeepsSent, Only};
 ghost use Rattle.feed_lines.specs.Feeds.{Feed, Follows, Moves, Taking, TakesNext, TakesPdus, change_by, change_due, is_enough_at};
 ghost use Rattle.feed_lines.specs.Holding.{AreWithin, StandsFor};
 ghost use Rattle.feed_lines.specs.Lines.{TakesSome};
 ghost use Rattle.feed_lines.specs.Steps.{Before, Halted, IsFit, IsNoEnd, MayDo, MovedAs, OutcomeFits, Passes, TookAs, going};
 
-use crate::asking::{Asked, next_pdu};
 use crate::feed::OpenFeed;
-use crate::sending::{finish, send_query, spell_query, spell_report};
+use crate::spelling::spell_query;
 use crate::telling::{Telling, cause_of_end};
 use analyser::{Analyser, Event};
 use attestations::Terms;
 use av_base::{Links, NoMemory, Steps};
+use connection_calls::{Asked, finish, next_pdu, send_or_close, spell_report};
 use path_model::Name;
 use report_text::FeedEnd;
 use rtr_session::{Act, Delta, Ending, Phase};
@@ -170,6 +170,10 @@ fn move_feed<K: Links>(
     } = feed;
     let (framer, asked) = next_pdu(framer, link, links)?;
     match asked {
+        Asked::Ended => {
+            links.close(link);
+            Ok((Outcome::Ended(Telling::End(FeedEnd::Lost)), None))
+        }
         Asked::Lost => {
             links.close(link);
             Ok((Outcome::Ended(Telling::End(FeedEnd::Lost)), None))
@@ -225,7 +229,7 @@ fn perform<K: Links>(
         }
         Act::Send(query) => {
             let bytes = spell_query(alloc, query)?;
-            if send_query(bytes.as_slice(), feed.link, links) {
+            if send_or_close(bytes.as_slice(), feed.link, links) {
                 return Ok((Outcome::Open(feed), None));
             }
             Ok((Outcome::Ended(Telling::End(FeedEnd::Lost)), None))

@@ -1,11 +1,10 @@
 //! What a line reports of a feed.
-ghost use Rattle.std.specs.Prelude.{◌≡◌, ◌++◌, IfOk, OnOk, OnErr};
-ghost use Rattle.feed_lines.specs.Tellings.{IsCauseOf, cause_of_end as cause_ending, telling_text};
+ghost use Rattle.std.specs.Prelude.{◌≡◌, ◌++◌, OnOk, OnErr};
+ghost use Rattle.feed_lines.specs.Tellings.{cause_of_end as cause_ending, telling_text};
 
 use av_base::NoMemory;
 use path_model::Name;
 use report_text::{Cause, FeedEnd, Place, put_feed, put_refusal};
-use rtr_pdu::PduFault;
 use rtr_session::Ending;
 
 /// What a line reports of a feed, as a line of text.
@@ -19,19 +18,6 @@ pub enum Telling {
     Pdu { number: u64, cause: Cause },
     /// The feed's end, or that too few PDUs came.
     End(FeedEnd),
-}
-
-/// The cause of a refused PDU; want of memory is none.
-pub(crate) fn refusal(fault: PduFault) -> Result<Cause, NoMemory>
-    ensures { IfOk result (λ cause. IsCauseOf fault cause) }
-{
-    match fault {
-        PduFault::PduVersion => Ok(Cause::PduVersion),
-        PduFault::PduLength => Ok(Cause::PduLength),
-        PduFault::PduType => Ok(Cause::PduType),
-        PduFault::NoProviders => Ok(Cause::PduNoProviders),
-        PduFault::NoMemory => Err(NoMemory),
-    }
 }
 
 /// The cause of a PDU that ends its session.

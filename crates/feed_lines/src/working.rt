@@ -4,19 +4,20 @@ ghost use Rattle.av_base.specs.Connections.{IsUsable};
 ghost use Rattle.report_text.specs.declared.feed.FeedEnd.TheVariants.{Unreachable};
 ghost use Rattle.feed_lines.specs.declared.telling.Telling.TheVariants.{End as FeedEnds};
 ghost use Rattle.feed_lines.specs.declared.working.Work.TheVariants.{Sync as SyncWork, Take as TakeWork};
-ghost use Rattle.feed_lines.specs.Faults.{BreaksByFault};
-ghost use Rattle.feed_lines.specs.Moves.{KeepsSent, Only};
+ghost use Rattle.connection_calls.specs.Faults.{BreaksByFault};
+ghost use Rattle.connection_calls.specs.Moves.{KeepsSent, Only};
 ghost use Rattle.feed_lines.specs.Feeds.{AsksFeed, Feed};
 ghost use Rattle.feed_lines.specs.Holding.{AreWithin, StandsFor};
 ghost use Rattle.feed_lines.specs.Lines.{Begins, Does, units_of};
 ghost use Rattle.feed_lines.specs.Steps.{Halted, IsFit, LeftAs, SlotFits, WorkedAs, going};
 
 use crate::feed::OpenFeed;
-use crate::sending::{send_query, spell_query};
+use crate::spelling::spell_query;
 use crate::taking::{Outcome, is_enough, take_pdus};
 use crate::telling::Telling;
 use analyser::Analyser;
 use av_base::{Links, NoMemory, Steps};
+use connection_calls::send_or_close;
 use path_model::Name;
 use report_text::FeedEnd;
 use std::alloc::Global;
@@ -122,7 +123,7 @@ fn ask_feed<K: Links>(
         None => Ok((Some(feed), None)),
         Some(query) => {
             let bytes = spell_query(alloc, query)?;
-            if send_query(bytes.as_slice(), link, links) {
+            if send_or_close(bytes.as_slice(), link, links) {
                 return Ok((Some(feed), None));
             }
             Ok((None, Some(Telling::End(FeedEnd::Lost))))

@@ -1,7 +1,7 @@
 use Rattle.std.proofs.Common.{ℕ, List, subst, map}
 use Rattle.std.specs.declared.option.Option.{Option}
 use Rattle.std.specs.String.{string_bytes}
-use Rattle.feed_lines.proofs.FaultsLemmas.{BreaksByFault-refl, new_unbroken}
+use Rattle.connection_calls.proofs.FaultsLemmas.{BreaksByFault-refl, new_unbroken}
 use Rattle.report_text.specs.Reported.{AddsFront}
 use Rattle.report_text.proofs.ReportedLemmas.{few_unreachable}
 use Rattle.aspa_top.specs.declared.words.Form.{Form}

@@ -1,6 +1,6 @@
-use Rattle.feed_lines.proofs.ConnectionLemmas.{Spares-refl, Only-loud}
+use Rattle.connection_calls.proofs.ConnectionLemmas.{Spares-refl, Only-loud}
 use Rattle.feed_lines.proofs.ConnectingLemmas.{closed_as}
-use Rattle.feed_lines.proofs.FaultsLemmas.{BreaksByFault-refl, breaks_closed}
+use Rattle.connection_calls.proofs.FaultsLemmas.{BreaksByFault-refl, breaks_closed}
 use Rattle.feed_lines.proofs.connecting.close.Goals as goal
 
 pub returns-in-Some-clause-closed : goal.returns-in-Some-clause-closed

@@ -1,8 +1,8 @@
 use Rattle.std.proofs.Common.{◌^◌, None, refl}
 use Rattle.feed_lines.specs.Holding.{feed_in}
-use Rattle.feed_lines.proofs.ConnectionLemmas.{Spares-refl}
+use Rattle.connection_calls.proofs.ConnectionLemmas.{Spares-refl}
 use Rattle.feed_lines.proofs.ConnectingLemmas.{connected_named, connected_others, connected_sound, slot_fit}
-use Rattle.feed_lines.proofs.FaultsLemmas.{BreaksByFault-refl, BreaksByFault-trans}
+use Rattle.connection_calls.proofs.FaultsLemmas.{BreaksByFault-refl, BreaksByFault-trans}
 use Rattle.feed_lines.proofs.NamedLemmas.{there_some}
 use Rattle.feed_lines.proofs.connecting.connect_named.Goals as goal
 

@@ -1,9 +1,10 @@
 use Rattle.std.proofs.Common.{subst}
-use Rattle.feed_lines.specs.Moves.{Only}
+use Rattle.connection_calls.specs.Moves.{Only}
 use Rattle.feed_lines.specs.Steps.{SlotFits}
-use Rattle.feed_lines.proofs.ConnectionLemmas.{Spares-trans}
-use Rattle.feed_lines.proofs.ConnectingLemmas.{spares_connect, new_now, new_number, started_made, started_failed, usable_new, spares_same}
-use Rattle.feed_lines.proofs.FaultsLemmas.{BreaksByFault-trans, breaks_made, breaks_none}
+use Rattle.connection_calls.proofs.ConnectionLemmas.{Spares-trans}
+use Rattle.connection_calls.proofs.NewLemmas.{spares_connect, new_now, new_number, usable_new, spares_same}
+use Rattle.feed_lines.proofs.ConnectingLemmas.{started_made, started_failed}
+use Rattle.connection_calls.proofs.FaultsLemmas.{BreaksByFault-trans, breaks_made, breaks_none}
 use Rattle.feed_lines.proofs.connecting.start.Goals as goal
 
 pub start_session-requires-clause-usable : goal.start_session-requires-clause-usable

@@ -4,8 +4,8 @@ use Rattle.feed_lines.specs.declared.feed.OpenFeed.{OpenFeed}
 use Rattle.feed_lines.specs.declared.telling.Telling.TheVariants.{NoName, StreamOver}
 use Rattle.feed_lines.specs.Holding.{feed_in}
 use Rattle.feed_lines.specs.Lines.{units_of}
-use Rattle.feed_lines.proofs.ConnectionLemmas.{Spares-refl, Spares-weaker}
-use Rattle.feed_lines.proofs.FaultsLemmas.{BreaksByFault-refl}
+use Rattle.connection_calls.proofs.ConnectionLemmas.{Spares-refl, Spares-weaker}
+use Rattle.connection_calls.proofs.FaultsLemmas.{BreaksByFault-refl}
 use Rattle.feed_lines.proofs.TakingLemmas.{on_err}
 use Rattle.feed_lines.proofs.NamedLemmas.{works_named, began_named, refused_named, no_name, is_over, Puts-over, Puts-twice, IsSound-same, IsSound-put, on_its_own, SlotFits-more, there_some}
 use Rattle.feed_lines.proofs.named.work_named.Goals as goal

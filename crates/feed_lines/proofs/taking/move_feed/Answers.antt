@@ -1,17 +1,25 @@
 use Rattle.std.proofs.Common.{◌∙◌}
-use Rattle.feed_lines.proofs.ConnectionLemmas.{Spares-trans, Only-loud, KeepsSent-trans}
-use Rattle.feed_lines.proofs.FaultsLemmas.{BreaksByFault-trans, breaks_closed}
+use Rattle.connection_calls.proofs.ConnectionLemmas.{Spares-trans, Only-loud, KeepsSent-trans}
+use Rattle.connection_calls.proofs.FaultsLemmas.{BreaksByFault-trans, breaks_closed}
 use Rattle.feed_lines.proofs.PduLemmas.{goes_on}
-use Rattle.feed_lines.proofs.TakingLemmas.{next_lost, next_refused, next_pdu, refused_now, on_err}
+use Rattle.feed_lines.proofs.TakingLemmas.{next_ended, next_lost, next_refused, next_pdu, refused_now, on_err}
 use Rattle.feed_lines.proofs.taking.move_feed.Goals as goal
+
+pub returns-in-Ended-clause-moved : goal.returns-in-Ended-clause-moved
+returns-in-Ended-clause-moved g c = λ state stands.
+    next_ended _ (g.K.Links.wire c.next_pdu.new.links) _ c.args.name.now c.args.feed c.in_ok-framer.framer c.in_ok-framer.asked state stands
+    c.in_ok-framer.ensures.answer c.in-Ended.is c.close.ensures.closed
+
+pub returns-in-Ended-clause-only : goal.returns-in-Ended-clause-only
+returns-in-Ended-clause-only g c = Spares-trans c.in_ok-framer.ensures.only (Only-loud _ _ c.close.ensures.later c.close.ensures.closed c.close.ensures.standings)
 
 pub returns-in-Lost-clause-moved : goal.returns-in-Lost-clause-moved
 returns-in-Lost-clause-moved g c = λ state stands.
     next_lost _ (g.K.Links.wire c.next_pdu.new.links) _ c.args.name.now c.args.feed c.in_ok-framer.framer c.in_ok-framer.asked state stands
-    c.in_ok-framer.ensures.answer c.in-Lost.is c.close.ensures.closed
+    c.in_ok-framer.ensures.answer c.in-Lost.is c.close-in-Lost.ensures.closed
 
 pub returns-in-Lost-clause-only : goal.returns-in-Lost-clause-only
-returns-in-Lost-clause-only g c = Spares-trans c.in_ok-framer.ensures.only (Only-loud _ _ c.close.ensures.later c.close.ensures.closed c.close.ensures.standings)
+returns-in-Lost-clause-only g c = Spares-trans c.in_ok-framer.ensures.only (Only-loud _ _ c.close-in-Lost.ensures.later c.close-in-Lost.ensures.closed c.close-in-Lost.ensures.standings)
 
 pub report-requires : goal.report-requires
 report-requires g c = refused_now c.in_ok-framer.framer c.in_ok-framer.asked c.in-Refused.cause c.in-Refused.is c.in_ok-framer.ensures.refused
@@ -19,7 +27,7 @@ report-requires g c = refused_now c.in_ok-framer.framer c.in_ok-framer.asked c.i
 pub returns-in_ok-report-in-Refused-clause-moved : goal.returns-in_ok-report-in-Refused-clause-moved
 returns-in_ok-report-in-Refused-clause-moved g c = λ state stands.
     next_refused _ (g.K.Links.wire c.next_pdu.new.links) _ c.args.name.now c.args.feed c.in_ok-framer.framer c.in_ok-framer.asked state stands
-    c.in_ok-framer.ensures.answer c.in-Refused.cause c.report.result _ c.in-Refused.is c.in_ok-framer.ensures.refused c.report.ensures
+    c.in_ok-framer.ensures.answer c.in-Refused.cause c.report.result _ c.finish.result c.in-Refused.is c.in_ok-framer.ensures.refused c.report.ensures
     (c.as_slice.ensures.value ∙ c.in_ok-report-in-Refused.ensures) c.finish.ensures.finishes
 
 pub returns-in_ok-report-in-Refused-clause-only : goal.returns-in_ok-report-in-Refused-clause-only
@@ -65,7 +73,10 @@ pub returns-in_err-session-in-Pdu-clause-only : goal.returns-in_err-session-in-P
 returns-in_err-session-in-Pdu-clause-only g c = c.next_pdu.ensures.only
 
 pub returns-in-Lost-clause-broke : goal.returns-in-Lost-clause-broke
-returns-in-Lost-clause-broke g c = BreaksByFault-trans c.next_pdu.ensures.broke (breaks_closed _ _ _ c.close.ensures.faults c.close.ensures.standings)
+returns-in-Lost-clause-broke g c = BreaksByFault-trans c.next_pdu.ensures.broke (breaks_closed _ _ _ c.close-in-Lost.ensures.faults c.close-in-Lost.ensures.standings)
+
+pub returns-in-Ended-clause-broke : goal.returns-in-Ended-clause-broke
+returns-in-Ended-clause-broke g c = BreaksByFault-trans c.next_pdu.ensures.broke (breaks_closed _ _ _ c.close.ensures.faults c.close.ensures.standings)
 
 pub returns-in_ok-report-in-Refused-clause-broke : goal.returns-in_ok-report-in-Refused-clause-broke
 returns-in_ok-report-in-Refused-clause-broke g c = BreaksByFault-trans c.next_pdu.ensures.broke c.finish.ensures.broke

@@ -1,6 +1,6 @@
 use Rattle.std.proofs.Common.{◌∙◌}
-use Rattle.feed_lines.proofs.ConnectionLemmas.{Spares-refl}
-use Rattle.feed_lines.proofs.FaultsLemmas.{BreaksByFault-refl}
+use Rattle.connection_calls.proofs.ConnectionLemmas.{Spares-refl}
+use Rattle.connection_calls.proofs.FaultsLemmas.{BreaksByFault-refl}
 use Rattle.feed_lines.proofs.TakingLemmas.{moves_nothing, moves_apply, moves_sent, moves_lost, moves_end}
 use Rattle.feed_lines.proofs.taking.perform.Goals as goal
 
@@ -10,19 +10,19 @@ returns-in-Nothing-clause-moved g c = λ state stands. moves_nothing _ c.args.fe
 pub returns-in_ok-change-in-Apply-clause-moved : goal.returns-in_ok-change-in-Apply-clause-moved
 returns-in_ok-change-in-Apply-clause-moved g c = λ state stands. moves_apply _ c.args.feed c.args.act state stands c.in-Apply.delta c.in-Apply.is
 
-pub returns-then-send_query-clause-moved : goal.returns-then-send_query-clause-moved
-returns-then-send_query-clause-moved g c = λ state stands.
-    moves_sent _ c.args.feed c.args.act state stands (g.K.Links.wire c.send_query.new.links) c.in-Send.query _ c.send_query.result c.in-Send.is
-    (c.as_slice.ensures.value ∙ c.in_ok-bytes-in-Send.ensures) c.send_query.ensures.asks c.if-send_query.true
+pub returns-then-send_or_close-clause-moved : goal.returns-then-send_or_close-clause-moved
+returns-then-send_or_close-clause-moved g c = λ state stands.
+    moves_sent _ c.args.feed c.args.act state stands (g.K.Links.wire c.send_or_close.new.links) c.in-Send.query _ c.send_or_close.result c.in-Send.is
+    (c.as_slice.ensures.value ∙ c.in_ok-bytes-in-Send.ensures) c.send_or_close.ensures.sends c.if-send_or_close.true
 
-pub returns-else-send_query-clause-moved : goal.returns-else-send_query-clause-moved
-returns-else-send_query-clause-moved g c = λ state stands.
-    moves_lost _ c.args.feed c.args.act state stands (g.K.Links.wire c.send_query.new.links) c.in-Send.query _ c.send_query.result c.in-Send.is
-    (c.as_slice.ensures.value ∙ c.in_ok-bytes-in-Send.ensures) c.send_query.ensures.asks c.if-send_query.false
+pub returns-else-send_or_close-clause-moved : goal.returns-else-send_or_close-clause-moved
+returns-else-send_or_close-clause-moved g c = λ state stands.
+    moves_lost _ c.args.feed c.args.act state stands (g.K.Links.wire c.send_or_close.new.links) c.in-Send.query _ c.send_or_close.result c.in-Send.is
+    (c.as_slice.ensures.value ∙ c.in_ok-bytes-in-Send.ensures) c.send_or_close.ensures.sends c.if-send_or_close.false
 
 pub returns-in_ok-report-in-End-clause-moved : goal.returns-in_ok-report-in-End-clause-moved
 returns-in_ok-report-in-End-clause-moved g c = λ state stands.
-    moves_end _ c.args.feed c.args.act state stands (g.K.Links.wire c.finish.new.links) c.in-End.ending c.report.result _ c.cause_of_end.result
+    moves_end _ c.args.feed c.args.act state stands (g.K.Links.wire c.finish.new.links) c.in-End.ending c.report.result _ c.cause_of_end.result c.finish.result
     c.in-End.is c.report.ensures (c.as_slice-in-End.ensures.value ∙ c.in_ok-report-in-End.ensures) c.cause_of_end.ensures c.finish.ensures.finishes
 
 pub returns-in-Nothing-clause-only : goal.returns-in-Nothing-clause-only

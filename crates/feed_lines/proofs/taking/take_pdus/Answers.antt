@@ -1,11 +1,11 @@
 use Rattle.std.proofs.Common.{◌≡◌, ◌+◌, ℕ, refl, sym, subst, ◌∙◌, arith}
 use Rattle.feed_lines.specs.declared.taking.Outcome.{Outcome}
 use Rattle.feed_lines.specs.declared.taking.Outcome.TheVariants.{Open as GoesOn, Ended}
-use Rattle.feed_lines.specs.Moves.{Only}
+use Rattle.connection_calls.specs.Moves.{Only}
 use Rattle.feed_lines.specs.Holding.{AreWithin}
 use Rattle.feed_lines.specs.Steps.{OutcomeFits, going}
-use Rattle.feed_lines.proofs.ConnectionLemmas.{Spares-refl, Spares-trans}
-use Rattle.feed_lines.proofs.FaultsLemmas.{BreaksByFault-refl, BreaksByFault-trans}
+use Rattle.connection_calls.proofs.ConnectionLemmas.{Spares-refl, Spares-trans}
+use Rattle.connection_calls.proofs.FaultsLemmas.{BreaksByFault-refl, BreaksByFault-trans}
 use Rattle.feed_lines.proofs.TakingLemmas.{pdus_start, pdus_next, pdus_ended, pdus_enough, pdus_halted, on_err}
 use Rattle.feed_lines.proofs.taking.take_pdus.Goals as goal
 

@@ -1,7 +1,7 @@
 use Rattle.std.proofs.Common.{◌≡◌, ℕ, ◌+◌, ◌≤◌}
 use Rattle.feed_lines.specs.declared.taking.Outcome.TheVariants.{Open as GoesOn}
-use Rattle.feed_lines.specs.Faults.{BreaksByFault}
-use Rattle.feed_lines.specs.Moves.{Only}
+use Rattle.connection_calls.specs.Faults.{BreaksByFault}
+use Rattle.connection_calls.specs.Moves.{Only}
 use Rattle.feed_lines.specs.Feeds.{Feed, TakesPdus}
 use Rattle.feed_lines.specs.Holding.{AreWithin, StandsFor}
 use Rattle.feed_lines.specs.Steps.{IsFit, TookAs, going}

@@ -1,6 +1,6 @@
 use Rattle.std.proofs.Common.{◌∙◌}
-use Rattle.feed_lines.proofs.ConnectionLemmas.{KeepsSent-refl, Spares-refl}
-use Rattle.feed_lines.proofs.FaultsLemmas.{BreaksByFault-refl}
+use Rattle.connection_calls.proofs.ConnectionLemmas.{KeepsSent-refl, Spares-refl}
+use Rattle.connection_calls.proofs.FaultsLemmas.{BreaksByFault-refl}
 use Rattle.feed_lines.proofs.TakingLemmas.{on_err}
 use Rattle.feed_lines.proofs.WorkingLemmas.{asked_nothing, asked_whole, asked_lost}
 use Rattle.feed_lines.proofs.working.ask_feed.Goals as goal
@@ -18,15 +18,15 @@ returns-in_err-bytes-in-Some-clause-halts g c = on_err c.from_residual.result c.
 pub returns-in_err-bytes-in-Some-clause-only : goal.returns-in_err-bytes-in-Some-clause-only
 returns-in_err-bytes-in-Some-clause-only g c = Spares-refl _ _ _
 
-pub returns-then-send_query-clause-asks : goal.returns-then-send_query-clause-asks
-returns-then-send_query-clause-asks g c = λ state stands.
-    asked_whole _ (g.K.Links.wire c.send_query.new.links) c.args.feed c.ask-session.result.0 c.ask-session.result.1 c.ask-session.ensures state stands
-    c.in-Some.query _ c.send_query.result c.in-Some.is (c.as_slice.ensures.value ∙ c.in_ok-bytes-in-Some.ensures) c.send_query.ensures.asks c.if-send_query.true
+pub returns-then-send_or_close-clause-asks : goal.returns-then-send_or_close-clause-asks
+returns-then-send_or_close-clause-asks g c = λ state stands.
+    asked_whole _ (g.K.Links.wire c.send_or_close.new.links) c.args.feed c.ask-session.result.0 c.ask-session.result.1 c.ask-session.ensures state stands
+    c.in-Some.query _ c.send_or_close.result c.in-Some.is (c.as_slice.ensures.value ∙ c.in_ok-bytes-in-Some.ensures) c.send_or_close.ensures.sends c.if-send_or_close.true
 
-pub returns-else-send_query-clause-asks : goal.returns-else-send_query-clause-asks
-returns-else-send_query-clause-asks g c = λ state stands.
-    asked_lost _ (g.K.Links.wire c.send_query.new.links) c.args.feed c.ask-session.result.0 c.ask-session.result.1 c.ask-session.ensures state stands
-    c.in-Some.query _ c.send_query.result c.in-Some.is (c.as_slice.ensures.value ∙ c.in_ok-bytes-in-Some.ensures) c.send_query.ensures.asks c.if-send_query.false
+pub returns-else-send_or_close-clause-asks : goal.returns-else-send_or_close-clause-asks
+returns-else-send_or_close-clause-asks g c = λ state stands.
+    asked_lost _ (g.K.Links.wire c.send_or_close.new.links) c.args.feed c.ask-session.result.0 c.ask-session.result.1 c.ask-session.ensures state stands
+    c.in-Some.query _ c.send_or_close.result c.in-Some.is (c.as_slice.ensures.value ∙ c.in_ok-bytes-in-Some.ensures) c.send_or_close.ensures.sends c.if-send_or_close.false
 
 pub returns-in-None-clause-broke : goal.returns-in-None-clause-broke
 returns-in-None-clause-broke g c = BreaksByFault-refl _ _

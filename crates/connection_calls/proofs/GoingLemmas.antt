@@ -6,10 +6,9 @@ use Rattle.std.specs.declared.option.Option.{Option}
 use Rattle.av_base.specs.Connections.{AddsAttempt, Attempt, Failed, Link, Made, ToldLater, Unaccepted}
 use Rattle.av_base.proofs.LaterLemmas.{ToldLater-refl, ToldLater-trans}
 use Rattle.av_base.proofs.LinksLemmas.{length-later}
-use Rattle.feed_lines.specs.Connection.{Now}
-use Rattle.feed_lines.specs.Moves.{Ever}
-use Rattle.feed_lines.specs.Holding.{AddsAttempts, ComesTo, IsMadeFrom}
-use Rattle.feed_lines.specs.Lines.{World, InEnd, IsAttempt}
+use Rattle.connection_calls.specs.Connection.{Now}
+use Rattle.connection_calls.specs.Moves.{Ever}
+use Rattle.connection_calls.specs.World.{AddsAttempts, ComesTo, InEnd, IsAttempt, IsMadeFrom, World}
 
 pub AddsAttempts-refl : (wire : Option (List Link)) (attempts : Option (List Attempt)) → AddsAttempts wire attempts attempts
 AddsAttempts-refl wire attempts = record { added = λ after is. (after, [], is, sym (append-nil after), λ links told. All-nil (IsMadeFrom (length links))) }

@@ -1,9 +1,9 @@
 use Rattle.std.proofs.Common.{◌≡◌, ◌<◌, length, refl, ◌∙◌, arith}
 use Rattle.std.proofs.lemmas.Grind.{common_steps}
 use Rattle.av_base.specs.declared.standing.Break.TheVariants.{BySend}
-use Rattle.feed_lines.proofs.ConnectionLemmas.{Spares-refl, Spares-trans, Only-quiet, Only-loud, open_broken, Sending-start, Sending-more, Sending-part, Sending-all}
-use Rattle.feed_lines.proofs.FaultsLemmas.{BreaksByFault-refl, BreaksByFault-trans, breaks_failed, breaks_none}
-use Rattle.feed_lines.proofs.sending.send_all.Goals as goal
+use Rattle.connection_calls.proofs.ConnectionLemmas.{Spares-refl, Spares-trans, Only-quiet, Only-loud, open_broken, Sending-start, Sending-more, Sending-part, Sending-all}
+use Rattle.connection_calls.proofs.FaultsLemmas.{BreaksByFault-refl, BreaksByFault-trans, breaks_failed, breaks_none}
+use Rattle.connection_calls.proofs.sending.send_all.Goals as goal
 
 pub loop-rest-init : goal.loop-rest-init
 loop-rest-init g c = record { so_far = Sending-start _ _ _; usable = c.requires; only = Spares-refl _ _ _; attempts = refl; broke = BreaksByFault-refl _ _ }

@@ -10,9 +10,12 @@ use Rattle.av_base.specs.declared.standing.Break.{Break}
 use Rattle.av_base.specs.declared.standing.Standing.{Standing}
 use Rattle.av_base.proofs.LinksLemmas.{length-told}
 use Rattle.av_base.proofs.PlacesLemmas.{map-change_unseen}
-use Rattle.feed_lines.specs.Faults.{BreaksByFault, NewAreUnbroken, broken_at}
+use Rattle.connection_calls.specs.Faults.{BreaksByFault, NewAreUnbroken, broken_at}
 
 -- ---- several calls in a row
+
+pub sooner : (before mid now : ℕ) → before ≤ mid → Rose mid now → Rose before now
+sooner before mid now later rose = omega arith
 
 pub BreaksByFault-refl : (count : ℕ) (stands : List Standing) → BreaksByFault count count stands stands
 BreaksByFault-refl count stands = record { later = omega arith; cause = inl (λ link call broken. broken) }
@@ -29,9 +32,6 @@ BreaksByFault-trans {before} {mid} {now} first second = record {
   ];
 }
   where
-    sooner : (before mid now : ℕ) → before ≤ mid → Rose mid now → Rose before now
-    sooner before mid now later rose = omega arith
-
     longer : (before mid now : ℕ) → Rose before mid → mid ≤ now → Rose before now
     longer before mid now rose later = omega arith
 

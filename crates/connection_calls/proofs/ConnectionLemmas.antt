@@ -1,20 +1,21 @@
 -- What calls leave of what is known of a connection, and what becomes of it.
-use Rattle.std.proofs.Common.{◌≡◌, ◌≢◌, ℕ, ◌<◌, inl, inr, Bool, true, false, List, [], ◌∷◌, ◌++◌, length, take, drop, Some, None, refl, sym, ap, subst, ◌∙◌, arith, append_assoc, append-nil, take-append-drop}
+use Rattle.std.proofs.Common.{◌≡◌, ◌≢◌, ℕ, ◌<◌, ◌⊎◌, inl, inr, Bool, true, false, List, [], ◌∷◌, ◌++◌, length, take, drop, Some, None, refl, sym, ap, subst, ◌∙◌, arith, append_assoc, append-nil, take-append-drop}
 use Rattle.std.specs.Prelude.{slice_get}
 use Rattle.std.specs.Option.{option_map}
 use Rattle.std.specs.Io.KnownBytes.{IsAtEnd}
 use Rattle.std.specs.declared.option.Option.{Option}
 use Rattle.av_base.specs.Places.{change_at}
-use Rattle.av_base.specs.Connections.{Link, LinkLater, ToldLater, IsUsable, IsOpen, receives, sends, breaks, closes, to_come_of, stands_broken}
+use Rattle.av_base.specs.Connections.{Agrees, Link, LinkLater, ToldLater, IsUsable, IsOpen, receives, sends, breaks, closes, to_come_of, stands_broken}
 use Rattle.av_base.specs.declared.standing.Standing.{Standing}
 use Rattle.av_base.specs.declared.standing.Break.{Break}
 use Rattle.av_base.specs.declared.standing.Break.TheVariants.{BySend, ByRecv}
 use Rattle.av_base.proofs.PlacesLemmas.{get-change_at, get-change_other}
 use Rattle.av_base.proofs.LinksLemmas.{IsOpen-usable, IsOpen-broken}
 use Rattle.av_base.proofs.LaterLemmas.{Later-trans, ToldLater-refl, ToldLater-trans}
-use Rattle.feed_lines.specs.Connection.{Now, Has, Spares, told_at}
-use Rattle.feed_lines.specs.Moves.{Ever, Only, Sending, KeepsSent, Asks, Finishes, Sends}
-use Rattle.feed_lines.specs.Feeds.{HasEnded, IsClosed}
+use Rattle.connection_calls.proofs.StandingLemmas.{stands_open}
+use Rattle.connection_calls.specs.Connection.{Now, Has, Spares, told_at}
+use Rattle.connection_calls.specs.Moves.{Ever, Only, Sending, KeepsSent, Finishes, Sends, SendsOrCloses}
+use Rattle.connection_calls.specs.Ends.{BrokeByReceive, CameToEnd, IsClosed, LostAtSend}
 
 -- ---- one connection
 
@@ -42,9 +43,9 @@ received_more {wire} {new} {link} bytes before held sent is now =
     Now-change (λ t. record t { received = t.received ++ bytes; to_come = drop (length bytes) t.to_come }) is
     (λ t had. record { got = ap (λ (l : List ℕ). l ++ bytes) had.got ∙ append_assoc before held bytes; gave = had.gave }) now
 
-pub received_end : {wire new : Option (List Link)} {link : ℕ} (n : ℕ) (buf got sent : List ℕ) → new ≡ option_map (receives link (take n buf)) wire → n ≡ 0 → IsAtEnd (to_come_of new link)
-    → Now wire link (Has got sent) → Now new link (λ t. Has got sent t × HasEnded t)
-received_end {wire} {new} {link} n buf got sent is none ended now =
+pub received_end : {wire new : Option (List Link)} {link : ℕ} (stands : List Standing) → Agrees new stands → IsUsable stands link → (n : ℕ) (buf got sent : List ℕ) → new ≡ option_map (receives link (take n buf)) wire → n ≡ 0 → IsAtEnd (to_come_of new link)
+    → Now wire link (Has got sent) → Now new link (λ t. Has got sent t × CameToEnd t)
+received_end {wire} {new} {link} stands agrees usable n buf got sent is none ended now =
     let nothing : take n buf ≡ [] = ap (λ k. take k buf) none in
     let after : Now new link (Has got sent) =
     Now-change (λ t. record t { received = t.received ++ take n buf; to_come = drop (length (take n buf)) t.to_come }) is
@@ -54,11 +55,11 @@ received_end {wire} {new} {link} n buf got sent is none ended now =
           let had = after.told links told in
           let at_end : IsAtEnd (to_come_of (Some links) link) = subst (λ (o : Option (List Link)). IsAtEnd (to_come_of o link)) told ended in
           let last : IsAtEnd (Some had.0.to_come) = subst (λ (o : Option (List ℕ)). IsAtEnd o) (ap (option_map (λ (t : Link). t.to_come)) had.1) at_end in
-          (had.0, had.1, (had.2, inr last));
+          (had.0, had.1, (had.2, ((stands_open new stands link agrees usable links told had.0 had.1).1, last)));
     }
 
-pub broke_end : {wire new : Option (List Link)} {link : ℕ} (got sent : List ℕ) → new ≡ option_map (breaks link ByRecv) wire → Now wire link (Has got sent) → Now new link (λ t. Has got sent t × HasEnded t)
-broke_end got sent is now = Now-change (λ t. record t { broken = Some ByRecv }) is (λ t had. (record { got = had.got; gave = had.gave }, inl refl)) now
+pub broke_end : {wire new : Option (List Link)} {link : ℕ} (got sent : List ℕ) → new ≡ option_map (breaks link ByRecv) wire → Now wire link (Has got sent) → Now new link (λ t. Has got sent t × BrokeByReceive t)
+broke_end got sent is now = Now-change (λ t. record t { broken = Some ByRecv }) is (λ t had. (record { got = had.got; gave = had.gave }, refl)) now
 
 -- ---- what was sent
 
@@ -148,13 +149,18 @@ Sending-all {old} {mid} {link} {bytes} {rest} so_far empty got gave now =
 
 -- and closing
 
-pub asks_lost : {mid new : Option (List Link)} {link : ℕ} {got gave bytes : List ℕ} → Sends mid link got gave bytes false → new ≡ option_map (closes link) mid → Asks new link got gave bytes false
-asks_lost sends closed = Now-change (λ t. record t { closed = true }) closed
+pub sends_lost : {mid new : Option (List Link)} {link : ℕ} {got gave bytes : List ℕ} → Sends mid link got gave bytes false → new ≡ option_map (closes link) mid → SendsOrCloses new link got gave bytes false
+sends_lost sends closed = Now-change (λ t. record t { closed = true }) closed
     (λ t had. (had.0, record { front = had.1.front; rest = had.1.rest; whole = had.1.whole; some_left = had.1.some_left; gave = had.1.gave; broke = had.1.broke }, refl)) sends
 
-pub finishes : (mid : Option (List Link)) {new : Option (List Link)} {link : ℕ} (got gave bytes : List ℕ) (whole : Bool) → Sends mid link got gave bytes whole → new ≡ option_map (closes link) mid → Finishes new link got gave bytes
-finishes mid got gave bytes true sends closed = Now-change (λ t. record t { closed = true }) closed (λ t had. (had.got, inl had.gave, refl)) sends
-finishes mid got gave bytes false sends closed = Now-map (λ t had. (had.0, inr had.1, had.2)) (asks_lost sends closed)
+pub finishes : (mid new : Option (List Link)) (link : ℕ) (got gave bytes : List ℕ) (whole : Bool) → Sends mid link got gave bytes whole → new ≡ option_map (closes link) mid → Finishes new link got gave bytes whole
+finishes mid new link got gave bytes true sent closed = Now-change (λ t. record t { closed = true }) closed (λ t had. (had.got, had.gave, refl)) sent
+finishes mid new link got gave bytes false sent closed = sends_lost sent closed
+
+-- they went or not, and it was closed
+pub finished : (new : Option (List Link)) (link : ℕ) (got gave bytes : List ℕ) (whole : Bool) → Finishes new link got gave bytes whole → Now new link (λ t. (t.received ≡ got) × ((t.sent ≡ gave ++ bytes) ⊎ LostAtSend t gave bytes) × IsClosed t)
+finished new link got gave bytes true had = Now-map (λ t h. (h.0, inl h.1, h.2)) had
+finished new link got gave bytes false had = Now-map (λ t h. (h.0, inr h.1, h.2)) had
 
 -- ---- whatever becomes of it
 
@@ -171,3 +177,6 @@ Ever-now {wire} {link} {p} {q} keeps now = λ links final is goes t there.
 -- a connection that is closed stands in the end as it was closed
 pub Ever-closed : {wire : Option (List Link)} {link : ℕ} {p : Link → Type 0} → ((t : Link) → p t → IsClosed t) → Now wire link p → Ever wire link p
 Ever-closed {wire} {link} {p} closed now = Ever-now (λ t u is later. subst p (sym (later.after_close (closed t is))) is) now
+
+pub Ever-map : {wire : Option (List Link)} {link : ℕ} {p q : Link → Type 0} → ((t : Link) → p t → q t) → Ever wire link p → Ever wire link q
+Ever-map keeps ever = λ links final is goes t there. keeps t (ever links final is goes t there)

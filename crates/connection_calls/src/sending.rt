@@ -1,29 +1,18 @@
-//! Sending queries and error reports.
+//! Sending PDUs.
 ghost use Rattle.std.specs.Prelude.{◌≡◌, ℕ, List, true, IfOk};
 ghost use Rattle.av_base.specs.Connections.{IsOpen, IsUsable};
 ghost use Rattle.rtr_pdu.specs.Spelled.{IsWritable, spelled};
-ghost use Rattle.feed_lines.specs.Connection.{Has, Now};
-ghost use Rattle.feed_lines.specs.Faults.{BreaksByFault};
-ghost use Rattle.feed_lines.specs.Moves.{Asks, Finishes, Only, Sends};
-ghost use Rattle.feed_lines.specs.Feeds.{query_bytes, report_bytes};
+ghost use Rattle.connection_calls.specs.Connection.{Has, Now};
+ghost use Rattle.connection_calls.specs.Faults.{BreaksByFault};
+ghost use Rattle.connection_calls.specs.Moves.{Finishes, Only, Sends, SendsOrCloses};
+ghost use Rattle.connection_calls.specs.Refusals.{report_bytes};
 
 use av_base::{Links, NoMemory};
 use rtr_pdu::{Pdu, write};
-use rtr_session::Query;
 use std::alloc::Global;
 
-/// The bytes of a query.
-pub(crate) fn spell_query(alloc: Global, query: Query) -> Result<Vec<u8>, NoMemory>
-    ensures { IfOk result (λ bytes. bytes.items ≡ query_bytes query) }
-{
-    match query {
-        Query::Reset => spell(alloc, Pdu::ResetQuery),
-        Query::Serial { session, serial } => spell(alloc, Pdu::SerialQuery { session, serial }),
-    }
-}
-
 /// The bytes of the error report with this code, or none.
-pub(crate) fn spell_report(alloc: Global, code: Option<u16>) -> Result<Vec<u8>, NoMemory>
+pub fn spell_report(alloc: Global, code: Option<u16>) -> Result<Vec<u8>, NoMemory>
     ensures { IfOk result (λ bytes. bytes.items ≡ report_bytes code) }
 {
     match code {
@@ -32,8 +21,8 @@ pub(crate) fn spell_report(alloc: Global, code: Option<u16>) -> Result<Vec<u8>, 
     }
 }
 
-// The bytes of a PDU.
-fn spell(alloc: Global, pdu: Pdu) -> Result<Vec<u8>, NoMemory>
+/// The bytes of a PDU.
+pub fn spell(alloc: Global, pdu: Pdu) -> Result<Vec<u8>, NoMemory>
     requires { IsWritable pdu }
     ensures { IfOk result (λ bytes. bytes.items ≡ spelled pdu) }
 {
@@ -42,11 +31,11 @@ fn spell(alloc: Global, pdu: Pdu) -> Result<Vec<u8>, NoMemory>
     Ok(bytes)
 }
 
-/// Sends a query, and answers whether all of it went. Otherwise the connection is closed.
-pub(crate) fn send_query<K: Links>(bytes: &[u8], link: u32, links: &mut K) -> bool
+/// Sends bytes, and answers whether all of them went. Otherwise the connection is closed.
+pub fn send_or_close<K: Links>(bytes: &[u8], link: u32, links: &mut K) -> bool
     requires { IsUsable (K.standings links.old) link }
-    ensures asks { (got gave : List ℕ) → Now (K.wire links.old) link (Has got gave)
-        → Asks (K.wire links.new) link got gave bytes.now result }
+    ensures sends { (got gave : List ℕ) → Now (K.wire links.old) link (Has got gave)
+        → SendsOrCloses (K.wire links.new) link got gave bytes.now result }
     ensures usable { result ≡ true → IsUsable (K.standings links.new) link }
     ensures only { Only link (K.wire links.old) (K.wire links.new)
         (K.standings links.old) (K.standings links.new) }
@@ -61,19 +50,20 @@ pub(crate) fn send_query<K: Links>(bytes: &[u8], link: u32, links: &mut K) -> bo
     false
 }
 
-/// Sends the last bytes, as many of them as go, and closes the connection.
-pub(crate) fn finish<K: Links>(bytes: &[u8], link: u32, links: &mut K)
+/// Sends the last bytes, as many of them as go, closes the connection, and answers whether all of them went.
+pub fn finish<K: Links>(bytes: &[u8], link: u32, links: &mut K) -> bool
     requires { IsUsable (K.standings links.old) link }
     ensures finishes { (got gave : List ℕ) → Now (K.wire links.old) link (Has got gave)
-        → Finishes (K.wire links.new) link got gave bytes.now }
+        → Finishes (K.wire links.new) link got gave bytes.now result }
     ensures only { Only link (K.wire links.old) (K.wire links.new)
         (K.standings links.old) (K.standings links.new) }
     ensures attempts { K.attempts links.new ≡ K.attempts links.old }
     ensures broke { BreaksByFault (K.faults links.old) (K.faults links.new)
         (K.standings links.old) (K.standings links.new) }
 {
-    send_all(bytes, link, links);
+    let whole = send_all(bytes, link, links);
     links.close(link);
+    whole
 }
 
 // Sends all these bytes, and answers whether they went.

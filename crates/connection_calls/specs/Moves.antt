@@ -1,5 +1,5 @@
--- What the calls on one connection leave, now and whatever becomes of it; only private contracts cite this.
-use Rattle.std.specs.Prelude.{◌≡◌, ◌≢◌, ℕ, ◌<◌, ◌⊎◌, Bool, true, false, List, ◌++◌, length, slice_get}
+-- What the calls on one connection leave, now and whatever becomes of it.
+use Rattle.std.specs.Prelude.{◌≡◌, ◌≢◌, ℕ, ◌<◌, Bool, true, false, List, ◌++◌, length, slice_get}
 use Rattle.std.specs.declared.option.Option.{Option}
 use Rattle.std.specs.declared.option.Option.TheVariants.{Some}
 use Rattle.av_base.specs.Connections.{Link, Later, IsUsable, IsOpen}
@@ -7,13 +7,13 @@ use Rattle.av_base.specs.declared.standing.Standing.{Standing}
 use Rattle.rtr_pdu.specs.declared.pdu.PduFault.{PduFault}
 use Rattle.rtr_pdu.specs.Pdus.{IsFrame}
 use Rattle.rtr_pdu.specs.Units.{IsPartial, IsRefused}
-use Rattle.feed_lines.specs.declared.asking.Asked.{Asked}
-use Rattle.feed_lines.specs.declared.asking.Asked.TheVariants.{Pdu as Took, Refused, Lost}
-use Rattle.feed_lines.specs.declared.asking.Turn.{Turn}
-use Rattle.feed_lines.specs.declared.asking.Turn.TheVariants.{More, End}
-use Rattle.feed_lines.specs.Connection.{Now, Has, Spares}
-use Rattle.feed_lines.specs.Tellings.{IsCauseOf}
-use Rattle.feed_lines.specs.Feeds.{HasEnded, IsClosed, LostAtSend}
+use Rattle.connection_calls.specs.declared.asking.Asked.{Asked}
+use Rattle.connection_calls.specs.declared.asking.Asked.TheVariants.{Pdu as Took, Refused, Ended, Lost}
+use Rattle.connection_calls.specs.declared.asking.Turn.{Turn}
+use Rattle.connection_calls.specs.declared.asking.Turn.TheVariants.{More, End, Broke}
+use Rattle.connection_calls.specs.Connection.{Now, Has, Spares}
+use Rattle.connection_calls.specs.Ends.{BrokeByReceive, CameToEnd, IsClosed, LostAtSend}
+use Rattle.connection_calls.specs.Refusals.{IsCauseOf}
 
 -- so it will be, whatever becomes of the connections that are told
 abbrev pub Ever : Option (List Link) → ℕ → (Link → Type 0) → Type 0
@@ -29,40 +29,46 @@ pub record KeepsSent (link : ℕ) (old new : Option (List Link)) : Type 0 where
 
 -- ---- receiving
 
--- some bytes came and are held behind the others, or nothing more comes
+-- some bytes came and are held behind the others, or there are none any more, or the call failed
 abbrev pub AnswersTurn : Option (List Link) → ℕ → List ℕ → List ℕ → List ℕ → Turn → Type 0
 AnswersTurn wire link before sent held (More framer) = Now wire link (Has (before ++ framer) sent)
-AnswersTurn wire link before sent held (End framer) = Now wire link (λ t. Has (before ++ held) sent t × HasEnded t)
+AnswersTurn wire link before sent held (End framer) = Now wire link (λ t. Has (before ++ held) sent t × CameToEnd t)
+AnswersTurn wire link before sent held (Broke framer) = Now wire link (λ t. Has (before ++ held) sent t × BrokeByReceive t)
 
 -- the connection may still be used, or at least closed
 abbrev pub TurnsUsable : List Standing → ℕ → Turn → Type 0
 TurnsUsable stands link (More framer) = IsUsable stands link
-TurnsUsable stands link (End framer) = IsOpen stands link
+TurnsUsable stands link (End framer) = IsUsable stands link
+TurnsUsable stands link (Broke framer) = IsOpen stands link
 
 -- some bytes more are held
 abbrev pub Grows : List ℕ → Turn → Type 0
 Grows held (More framer) = length held < length framer
 Grows held (End framer) = framer ≡ held
+Grows held (Broke framer) = framer ≡ held
 
 -- turn by turn, all that is received is held behind what was held
 pub record Asking (old now : Option (List Link)) (link : ℕ) (held_old held : List ℕ) : Type 0 where
   pub keeps : (used sent : List ℕ) → Now old link (Has (used ++ held_old) sent) → Now now link (Has (used ++ held) sent)
 
--- the next PDU was asked for: what follows the used bytes begins with it, or with a refused one, or nothing more comes
+-- the next PDU was asked for: what follows the used bytes begins with it, or with a refused one, or less than a PDU is left
 abbrev pub Answers : Option (List Link) → ℕ → List ℕ → List ℕ → List ℕ → Asked → Type 0
 Answers wire link used sent held (Took pdu) = (bytes : List ℕ) × IsFrame bytes pdu × Now wire link (Has (used ++ bytes ++ held) sent)
 Answers wire link used sent held (Refused cause) = Now wire link (Has (used ++ held) sent)
-Answers wire link used sent held Lost = IsPartial held × Now wire link (λ t. Has (used ++ held) sent t × HasEnded t)
+Answers wire link used sent held Ended = IsPartial held × Now wire link (λ t. Has (used ++ held) sent t × CameToEnd t)
+Answers wire link used sent held Lost = IsPartial held × Now wire link (λ t. Has (used ++ held) sent t × BrokeByReceive t)
 
 -- what is held is refused
 abbrev pub RefusesNow : List ℕ → Asked → Type 0
 RefusesNow held (Took pdu) = Unit {0}
 RefusesNow held (Refused cause) = (fault : PduFault) × IsRefused held fault × IsCauseOf fault cause
+RefusesNow held Ended = Unit {0}
 RefusesNow held Lost = Unit {0}
 
 abbrev pub StaysUsable : List Standing → ℕ → Asked → Type 0
 StaysUsable stands link (Took pdu) = IsUsable stands link
 StaysUsable stands link (Refused cause) = IsUsable stands link
+StaysUsable stands link Ended = IsUsable stands link
 StaysUsable stands link Lost = IsOpen stands link
 
 -- ---- sending
@@ -79,10 +85,11 @@ pub record Sending (old now : Option (List Link)) (link : ℕ) (bytes rest : Lis
   pub keeps : (got gave : List ℕ) → Now old link (Has got gave) → Now now link (Has got (gave ++ front))
 
 -- they went whole, or the connection broke and was closed
-abbrev pub Asks : Option (List Link) → ℕ → List ℕ → List ℕ → List ℕ → Bool → Type 0
-Asks wire link got gave bytes true = Now wire link (Has got (gave ++ bytes))
-Asks wire link got gave bytes false = Now wire link (λ t. (t.received ≡ got) × LostAtSend t gave bytes × IsClosed t)
+abbrev pub SendsOrCloses : Option (List Link) → ℕ → List ℕ → List ℕ → List ℕ → Bool → Type 0
+SendsOrCloses wire link got gave bytes true = Now wire link (Has got (gave ++ bytes))
+SendsOrCloses wire link got gave bytes false = Now wire link (λ t. (t.received ≡ got) × LostAtSend t gave bytes × IsClosed t)
 
--- they went, or a front of them where it broke, and it was closed
-abbrev pub Finishes : Option (List Link) → ℕ → List ℕ → List ℕ → List ℕ → Type 0
-Finishes wire link got gave bytes = Now wire link (λ t. (t.received ≡ got) × ((t.sent ≡ gave ++ bytes) ⊎ LostAtSend t gave bytes) × IsClosed t)
+-- they went whole or not, and it was closed in either case
+abbrev pub Finishes : Option (List Link) → ℕ → List ℕ → List ℕ → List ℕ → Bool → Type 0
+Finishes wire link got gave bytes true = Now wire link (λ t. (t.received ≡ got) × (t.sent ≡ gave ++ bytes) × IsClosed t)
+Finishes wire link got gave bytes false = Now wire link (λ t. (t.received ≡ got) × LostAtSend t gave bytes × IsClosed t)

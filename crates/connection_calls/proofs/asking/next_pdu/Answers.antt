@@ -1,7 +1,7 @@
 use Rattle.std.proofs.Common.{refl, ◌++◌, List, ℕ, sym, ap, ◌∙◌}
-use Rattle.feed_lines.proofs.ConnectionLemmas.{Spares-refl, Spares-trans, Now-got, KeepsSent-refl, KeepsSent-trans}
-use Rattle.feed_lines.proofs.FaultsLemmas.{BreaksByFault-refl, BreaksByFault-trans}
-use Rattle.feed_lines.proofs.asking.next_pdu.Goals as goal
+use Rattle.connection_calls.proofs.ConnectionLemmas.{Spares-refl, Spares-trans, Now-got, KeepsSent-refl, KeepsSent-trans}
+use Rattle.connection_calls.proofs.FaultsLemmas.{BreaksByFault-refl, BreaksByFault-trans}
+use Rattle.connection_calls.proofs.asking.next_pdu.Goals as goal
 
 pub pieces-init : goal.pieces-init
 pieces-init g c = record {
@@ -50,3 +50,12 @@ returns-in_err-more-in-Ok-None-clause-broke g c = BreaksByFault-trans c.pieces.i
 
 pub returns-in-End-clause-broke : goal.returns-in-End-clause-broke
 returns-in-End-clause-broke g c = BreaksByFault-trans c.pieces.invariant.broke c.receive.ensures.broke
+
+pub returns-in-Broke-clause-only : goal.returns-in-Broke-clause-only
+returns-in-Broke-clause-only g c = Spares-trans c.pieces.invariant.only c.receive.ensures.only
+
+pub returns-in-Broke-clause-keeps : goal.returns-in-Broke-clause-keeps
+returns-in-Broke-clause-keeps g c = KeepsSent-trans c.pieces.invariant.keeps c.receive.ensures.keeps
+
+pub returns-in-Broke-clause-broke : goal.returns-in-Broke-clause-broke
+returns-in-Broke-clause-broke g c = BreaksByFault-trans c.pieces.invariant.broke c.receive.ensures.broke

@@ -1,8 +1,8 @@
 use Rattle.std.proofs.Common.{◌≡◌, ◌-◌, length}
 use Rattle.av_base.specs.Connections.{IsUsable}
-use Rattle.feed_lines.specs.Faults.{BreaksByFault}
-use Rattle.feed_lines.specs.Moves.{Asking, Only, KeepsSent}
-use Rattle.feed_lines.proofs.asking.next_pdu.Given as goal
+use Rattle.connection_calls.specs.Faults.{BreaksByFault}
+use Rattle.connection_calls.specs.Moves.{Asking, Only, KeepsSent}
+use Rattle.connection_calls.proofs.asking.next_pdu.Given as goal
 
 abbrev pub invariant-pieces : goal.invariant-pieces
 invariant-pieces g l = record {

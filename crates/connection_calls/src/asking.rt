@@ -1,32 +1,42 @@
 //! Asking a connection for its next PDU.
-ghost use Rattle.std.specs.Prelude.{◌≡◌, ℕ, ◌<◌, List, ◌++◌, length, IfOk, OnErr};
+ghost use Rattle.std.specs.Prelude.{◌≡◌, ℕ, ◌<◌, List, ◌++◌, IfOk, OnErr};
 ghost use Rattle.av_base.specs.Connections.{IsUsable};
-ghost use Rattle.feed_lines.specs.Connection.{Has, Now};
-ghost use Rattle.feed_lines.specs.Faults.{BreaksByFault};
-ghost use Rattle.feed_lines.specs.Moves.{Answers, AnswersTurn, Grows, KeepsSent, Only, RefusesNow, StaysUsable, TurnsUsable};
+ghost use Rattle.connection_calls.specs.Connection.{Has, Now};
+ghost use Rattle.connection_calls.specs.Faults.{BreaksByFault};
+ghost use Rattle.connection_calls.specs.Moves.{Answers, AnswersTurn, Grows, KeepsSent, Only, RefusesNow, StaysUsable, TurnsUsable};
 
-use crate::telling::refusal;
+use crate::refusing::refusal;
 use av_base::{Links, NoMemory, PIECE};
 use report_text::Cause;
 use rtr_pdu::{Framer, Pdu};
 
 /// What a connection answered that was asked for a PDU.
 #[derive(Drop)]
-pub(crate) enum Asked {
+pub enum Asked {
+    /// The next PDU, which the framer doesn't hold any more.
     Pdu(Pdu),
+    /// What the framer holds is refused for this cause, 15 to 18.
     Refused(Cause),
+    /// The bytes came to their end, and what the framer holds is no whole PDU. The connection may still be used.
+    Ended,
+    /// The connection broke at a receive.
     Lost,
 }
 
 /// What one receive gave.
 #[derive(Drop)]
 pub(crate) enum Turn {
+    /// Some bytes more are held.
     More(Framer),
+    /// There are none any more.
     End(Framer),
+    /// The call failed.
+    Broke(Framer),
 }
 
-/// Takes the next PDU that a connection gives. Those that are held come before bytes are received.
-pub(crate) fn next_pdu<K: Links>(
+/// Takes the next PDU that a connection gives (RFC 8210, section 5). Those that are held come before bytes are received, and at most one PDU
+/// and a piece of 65,536 bytes are held. Where memory runs out nothing was sent, and the connection may still be used.
+pub fn next_pdu<K: Links>(
     framer: Framer,
     link: u32,
     links: &mut K,
@@ -51,7 +61,8 @@ pub(crate) fn next_pdu<K: Links>(
             Ok(Some(pdu)) => return Ok((framer, Asked::Pdu(pdu))),
             Ok(None) => match receive(framer, link, links)? {
                 Turn::More(more) => framer = more,
-                Turn::End(held) => return Ok((held, Asked::Lost)),
+                Turn::End(held) => return Ok((held, Asked::Ended)),
+                Turn::Broke(held) => return Ok((held, Asked::Lost)),
             },
             Err(fault) => return Ok((framer, Asked::Refused(refusal(fault)?))),
         }
@@ -82,6 +93,6 @@ fn receive<K: Links>(framer: Framer, link: u32, links: &mut K) -> Result<Turn, N
             let (piece, _) = buffer.split_at(count);
             Ok(Turn::More(framer.feed(piece)?))
         }
-        Err(_) => Ok(Turn::End(framer)),
+        Err(_) => Ok(Turn::Broke(framer)),
     }
 }

@@ -1,0 +1,5 @@
+pub mod ConnectionLemmas
+pub mod FaultsLemmas
+pub mod GoingLemmas
+pub mod NewLemmas
+pub mod StandingLemmas

@@ -1,0 +1,20 @@
+//! Refused PDUs.
+ghost use Rattle.std.specs.Prelude.{IfOk};
+ghost use Rattle.connection_calls.specs.Refusals.{IsCauseOf};
+
+use av_base::NoMemory;
+use report_text::Cause;
+use rtr_pdu::PduFault;
+
+/// The cause of a refused PDU, 15 to 18; want of memory is none.
+pub fn refusal(fault: PduFault) -> Result<Cause, NoMemory>
+    ensures { IfOk result (λ cause. IsCauseOf fault cause) }
+{
+    match fault {
+        PduFault::PduVersion => Ok(Cause::PduVersion),
+        PduFault::PduLength => Ok(Cause::PduLength),
+        PduFault::PduType => Ok(Cause::PduType),
+        PduFault::NoProviders => Ok(Cause::PduNoProviders),
+        PduFault::NoMemory => Err(NoMemory),
+    }
+}
