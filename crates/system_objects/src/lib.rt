@@ -4,8 +4,8 @@
 //! each error of the system as a fault, and tells no bytes; those that the reader, writer, file or stream behind it knows go through
 //! unchanged, as the clauses of its own say. What the system really gives and takes is trusted.
 //!
-//! `again` has a call made again that was interrupted or has to wait, `connection` is a connection of `tcp_links`, and `opened_file` a file of
-//! `file_shelf`. Begin reading in `input`.
+//! `again` has a call made again that was interrupted or has to wait, `connection` is a connection of `tcp_links`, `listening` waits for those
+//! that others make to it, and `opened_file` is a file of `file_shelf`. Begin reading in `input`.
 #![tactic(auto)]
 
 mod again;
@@ -14,6 +14,7 @@ mod file_shelf;
 #[cfg(test)]
 mod hesitant;
 mod input;
+mod listening;
 #[cfg(test)]
 mod loopback;
 mod opened_file;

@@ -4,7 +4,7 @@ ghost use Rattle.av_base.specs.Connections.{IsUsable};
 use crate::tcp_links::{TcpLinks, dial_any};
 use av_base::{Fault, Links};
 use std::io::{self, ErrorKind, Read, Write};
-use std::net::{OpenStream, Shutdown, TcpListener};
+use std::net::{OpenStream, Shutdown, TcpListener, TcpStream};
 use std::time::Instant;
 
 // What the other end hears, what this one hears then, and how many bytes each call moved: the last meets the other's end.
@@ -46,6 +46,31 @@ fn a_connection_carries_bytes_both_ways(rt: HostRuntime) -> io::Result<()> {
     assert_eq!(rt; other.read(&mut [0u8; 4]).ok(), Some(0));
     drop(listener);
     assert_eq!(rt; links.connect(place.as_str()), Err(Fault));
+    Ok(())
+}
+
+// Two callers, one after the other at one listener; and places at which none is waited for.
+#[test]
+fn an_accepted_connection_carries_bytes_both_ways(rt: HostRuntime) -> io::Result<()> {
+    // A place of the system's choice, which is free again for the links to listen at.
+    let free = TcpListener::bind(&rt, "127.0.0.1:0")?;
+    let place = format!(in rt.alloc(); "{}", free.local_addr()?)?;
+    drop(free);
+    let mut links = TcpLinks::new(rt.alloc(), &rt);
+    let _ = links.listen(place.as_str())?;
+    for number in 0..2 {
+        let mut other = TcpStream::connect(&rt, place.as_str())?;
+        let Ok(link) = links.accept(place.as_str()) else {
+            return Err(io::Error::from(ErrorKind::NotConnected));
+        };
+        assert_eq!(rt; link, number);
+        assert_eq!(rt;
+            talk(&mut links, link, &mut other),
+            Ok((*b"ping", *b"pong", [4, 4, 0]))
+        );
+    }
+    assert_eq!(rt; links.accept("no such place"), Err(Fault));
+    assert_eq!(rt; links.accept("127.0.0.1"), Err(Fault));
     Ok(())
 }
 

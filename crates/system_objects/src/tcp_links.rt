@@ -9,6 +9,7 @@ ghost use Rattle.av_text.specs.HostPort.{IsNoHostPort};
 ghost use Rattle.system_objects.specs.Known.{new_known, standings_of};
 
 use crate::connection::Connection;
+use crate::listening::Listeners;
 use av_base::{Fault, Links};
 use av_text::read_host_port;
 use std::alloc::{AllocError, Global};
@@ -23,12 +24,13 @@ const LIMIT: u64 = 30;
 
 /// TCP connections of the system as links, to places that `read_host_port` reads: a host is a name, an IPv4 address, or an IPv6 address
 /// in brackets. Another place is a fault, and the system isn't asked. They count each error as a fault, and each attempt that takes over
-/// 30 seconds; a receive waits. As links they tell how the
-/// connections stand, and no bytes and no attempts; what a call does to bytes that a stream knows is said by its own clause.
+/// 30 seconds; a receive waits, and so does an accept. As links they tell how the connections stand, and no bytes and no attempts; what a
+/// call does to bytes that a stream knows is said by its own clause.
 #[derive(Drop)]
 pub struct TcpLinks<R: Net + Clock> {
     runtime: R,
     links: Vec<Connection<R::Stream>>,
+    listeners: Listeners<R>,
     faults: u64,
     alloc: Global,
 }
@@ -50,9 +52,16 @@ impl<R: Net + Clock> TcpLinks<R> {
         TcpLinks {
             runtime,
             links: Vec::new(alloc),
+            listeners: Listeners::new(alloc),
             faults: 0,
             alloc,
         }
+    }
+
+    /// Begins to listen at a place, which the first `accept` there does otherwise.
+    #[cfg(test)]
+    pub fn listen(&mut self, place: &str) -> io::Result<usize> {
+        self.listeners.listen(&self.runtime, place)
     }
 
     /// What an attempt came to: the number of the connection over this stream. A failed attempt is a fault, and so is one over the
@@ -123,6 +132,23 @@ impl<R: Net + Clock> Links for TcpLinks<R> {
         ensures no_place { IsNoHostPort place.now → IsErr result }
     {
         let made = reach(self.alloc, &self.runtime, place);
+        self.answer(made)
+    }
+
+    #[tactic(auto, using(av_base::proofs::LaterLemmas::link_steps))]
+    fn accept(&mut self, place: &str) -> Result<u32, Fault>
+        ensures number { IfOk result (λ link. link ≡ length (standings_of self.old.links)) }
+        ensures room { OnOk result (length (standings_of self.old.links) < 2 ^ 32 - 1) }
+        ensures ok_standings { OnOk result
+            (standings_of self.new.links ≡ standings_of self.old.links ++ new_standing ∷ []) }
+        ensures err_standings { OnErr result
+            (standings_of self.new.links ≡ standings_of self.old.links) }
+        ensures cause { HasCause self.old.faults self.new.faults result }
+
+        // At a place that is no host with a port nobody is waited for.
+        ensures no_place { IsNoHostPort place.now → IsErr result }
+    {
+        let made = admit(&mut self.listeners, &self.runtime, place);
         self.answer(made)
     }
 
@@ -199,6 +225,16 @@ fn reach<R: Net + Clock>(alloc: Global, runtime: &R, place: &str) -> io::Result<
 {
     match read_host_port(place.as_bytes()) {
         Some(_) => dial(alloc, runtime, place),
+        None => Err(io::Error::from(ErrorKind::InvalidInput)),
+    }
+}
+
+// Waits for the next connection to a place. The system is asked only where it is a host with a port.
+fn admit<R: Net>(listeners: &mut Listeners<R>, runtime: &R, place: &str) -> io::Result<R::Stream>
+    ensures { IsNoHostPort place.now → IsErr result }
+{
+    match read_host_port(place.as_bytes()) {
+        Some(_) => listeners.accept(runtime, place),
         None => Err(io::Error::from(ErrorKind::InvalidInput)),
     }
 }
