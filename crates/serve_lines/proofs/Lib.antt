@@ -1,0 +1,4 @@
+pub mod AnswersLemmas
+pub mod OutcomesLemmas
+pub mod RoutersLemmas
+pub mod ServingLemmas

@@ -1,0 +1,4 @@
+pub mod Outcomes
+pub mod Routers
+pub mod Serving
+pub mod Steps
