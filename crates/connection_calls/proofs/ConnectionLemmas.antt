@@ -61,6 +61,12 @@ received_end {wire} {new} {link} stands agrees usable n buf got sent is none end
 pub broke_end : {wire new : Option (List Link)} {link : ℕ} (got sent : List ℕ) → new ≡ option_map (breaks link ByRecv) wire → Now wire link (Has got sent) → Now new link (λ t. Has got sent t × BrokeByReceive t)
 broke_end got sent is now = Now-change (λ t. record t { broken = Some ByRecv }) is (λ t had. (record { got = had.got; gave = had.gave }, refl)) now
 
+-- one that may be used isn't broken
+pub Now-usable : (wire : Option (List Link)) (stands : List Standing) (link : ℕ) {p : Link → Type 0} → Agrees wire stands → IsUsable stands link → Now wire link p → Now wire link (λ t. p t × (t.broken ≡ None))
+Now-usable wire stands link agrees usable now = record {
+  told = λ links is. let had = now.told links is in (had.0, had.1, (had.2, (stands_open wire stands link agrees usable links is had.0 had.1).1));
+}
+
 -- ---- what was sent
 
 pub KeepsSent-refl : (link : ℕ) (wire : Option (List Link)) → KeepsSent link wire wire
@@ -153,9 +159,10 @@ pub sends_lost : {mid new : Option (List Link)} {link : ℕ} {got gave bytes : L
 sends_lost sends closed = Now-change (λ t. record t { closed = true }) closed
     (λ t had. (had.0, record { front = had.1.front; rest = had.1.rest; whole = had.1.whole; some_left = had.1.some_left; gave = had.1.gave; broke = had.1.broke }, refl)) sends
 
-pub finishes : (mid new : Option (List Link)) (link : ℕ) (got gave bytes : List ℕ) (whole : Bool) → Sends mid link got gave bytes whole → new ≡ option_map (closes link) mid → Finishes new link got gave bytes whole
-finishes mid new link got gave bytes true sent closed = Now-change (λ t. record t { closed = true }) closed (λ t had. (had.got, had.gave, refl)) sent
-finishes mid new link got gave bytes false sent closed = sends_lost sent closed
+pub finishes : (mid new : Option (List Link)) (stands : List Standing) (link : ℕ) (got gave bytes : List ℕ) (whole : Bool) → Agrees mid stands → (whole ≡ true → IsUsable stands link) → Sends mid link got gave bytes whole → new ≡ option_map (closes link) mid → Finishes new link got gave bytes whole
+finishes mid new stands link got gave bytes true agrees usable sent closed =
+    Now-change (λ t. record t { closed = true }) closed (λ t had. (had.0.got, had.0.gave, refl, had.1)) (Now-usable mid stands link agrees (usable refl) sent)
+finishes mid new stands link got gave bytes false agrees usable sent closed = sends_lost sent closed
 
 -- they went or not, and it was closed
 pub finished : (new : Option (List Link)) (link : ℕ) (got gave bytes : List ℕ) (whole : Bool) → Finishes new link got gave bytes whole → Now new link (λ t. (t.received ≡ got) × ((t.sent ≡ gave ++ bytes) ⊎ LostAtSend t gave bytes) × IsClosed t)

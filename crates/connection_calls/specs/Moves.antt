@@ -1,7 +1,7 @@
 -- What the calls on one connection leave, now and whatever becomes of it.
 use Rattle.std.specs.Prelude.{◌≡◌, ◌≢◌, ℕ, ◌<◌, Bool, true, false, List, ◌++◌, length, slice_get}
 use Rattle.std.specs.declared.option.Option.{Option}
-use Rattle.std.specs.declared.option.Option.TheVariants.{Some}
+use Rattle.std.specs.declared.option.Option.TheVariants.{Some, None}
 use Rattle.av_base.specs.Connections.{Link, Later, IsUsable, IsOpen}
 use Rattle.av_base.specs.declared.standing.Standing.{Standing}
 use Rattle.rtr_pdu.specs.declared.pdu.PduFault.{PduFault}
@@ -89,7 +89,7 @@ abbrev pub SendsOrCloses : Option (List Link) → ℕ → List ℕ → List ℕ 
 SendsOrCloses wire link got gave bytes true = Now wire link (Has got (gave ++ bytes))
 SendsOrCloses wire link got gave bytes false = Now wire link (λ t. (t.received ≡ got) × LostAtSend t gave bytes × IsClosed t)
 
--- they went whole or not, and it was closed in either case
+-- they went whole, or the connection broke, and it was closed in either case
 abbrev pub Finishes : Option (List Link) → ℕ → List ℕ → List ℕ → List ℕ → Bool → Type 0
-Finishes wire link got gave bytes true = Now wire link (λ t. (t.received ≡ got) × (t.sent ≡ gave ++ bytes) × IsClosed t)
+Finishes wire link got gave bytes true = Now wire link (λ t. (t.received ≡ got) × (t.sent ≡ gave ++ bytes) × IsClosed t × (t.broken ≡ None))
 Finishes wire link got gave bytes false = Now wire link (λ t. (t.received ≡ got) × LostAtSend t gave bytes × IsClosed t)

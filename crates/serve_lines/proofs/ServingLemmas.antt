@@ -6,7 +6,8 @@ use Rattle.std.specs.declared.result.Result.{Result}
 use Rattle.std.specs.declared.result.Result.TheVariants.{Ok, Err}
 use Rattle.std.specs.Prelude.{IfOk, OnErr}
 use Rattle.std.specs.Option.{option_map}
-use Rattle.av_base.specs.Connections.{Link, LinkLater, ToldLater, closes}
+use Rattle.av_base.specs.Connections.{Agrees, IsUsable, Link, LinkLater, ToldLater, closes}
+use Rattle.av_base.specs.declared.standing.Standing.{Standing}
 use Rattle.rtr_pdu.specs.declared.pdu.Pdu.{Pdu}
 use Rattle.rtr_pdu.specs.declared.pdu.PduFault.{PduFault}
 use Rattle.rtr_pdu.specs.declared.pdu.PduFault.TheVariants.{PduVersion, PduLength, PduType, NoProviders, NoMemory}
@@ -30,7 +31,7 @@ use Rattle.connection_calls.specs.Ends.{BrokeByReceive, CameToEnd, IsClosed, Los
 use Rattle.connection_calls.specs.Refusals.{IsCauseOf, report_bytes}
 use Rattle.serve_lines.specs.Serving.{OnePdu, BadPdu, NoMore, CallFailed, Serves, ServesFirst, ServesNext, ServesOne, Serving, AfterReply, after_reply, answers_in, started}
 use Rattle.serve_lines.specs.Steps.{GoesOn, Halted, IsRefusedBy, SoFar, SteppedAs}
-use Rattle.connection_calls.proofs.ConnectionLemmas.{Now-change, Now-map, Ever-closed, Ever-later, Ever-map, Ever-now}
+use Rattle.connection_calls.proofs.ConnectionLemmas.{Now-change, Now-map, Now-usable, Ever-closed, Ever-later, Ever-map, Ever-now}
 
 -- a connection that was closed as it stood
 closes_now : {wire new : Option (List Link)} {link : ℕ} (p q : Link → Type 0) → ((t : Link) → p t → q (record t { closed = true })) → ((t : Link) → q t → IsClosed t) → new ≡ option_map (closes link) wire → Now wire link p → Ever new link q
@@ -42,21 +43,21 @@ module _ (cache : Versions) (old : Serving) (count : ℕ) where
       → Ever new link (λ t. ServesNext t cache old (Serves t cache count) (record { answers = old.answers; refused = None; end = None }))
   over_ended held partial now closed =
       Ever-map {p = λ t. (t.received ≡ old.used ++ held) × (t.sent ≡ old.sent) × CameToEnd t × IsClosed t} {q = λ t. ServesNext t cache old (Serves t cache count) (record { answers = old.answers; refused = None; end = None })}
-      (λ t h. record { coming = NoMore; comes = ((held, h.0, partial), h.2); does = record { gave = h.1; closed = h.3; same = refl } })
+      (λ t h. record { coming = NoMore; comes = ((held, h.0, partial), h.2); does = record { gave = h.1; closed = h.3; unbroken = h.2.0; same = refl } })
       (closes_now (λ t. Has (old.used ++ held) old.sent t × CameToEnd t) (λ t. (t.received ≡ old.used ++ held) × (t.sent ≡ old.sent) × CameToEnd t × IsClosed t) (λ t h. (h.0.got, h.0.gave, h.1, refl)) (λ t h. h.3) closed now)
 
   pub over_failed : {wire new : Option (List Link)} {link : ℕ} (held : List ℕ) → IsPartial held → Now wire link (λ t. Has (old.used ++ held) old.sent t × BrokeByReceive t) → new ≡ option_map (closes link) wire
       → Ever new link (λ t. ServesNext t cache old (Serves t cache count) (record { answers = old.answers; refused = None; end = Some Lost }))
   over_failed held partial now closed =
       Ever-map {p = λ t. (t.received ≡ old.used ++ held) × (t.sent ≡ old.sent) × BrokeByReceive t × IsClosed t} {q = λ t. ServesNext t cache old (Serves t cache count) (record { answers = old.answers; refused = None; end = Some Lost })}
-      (λ t h. record { coming = CallFailed; comes = ((held, h.0, partial), h.2); does = record { gave = h.1; closed = h.3; same = refl } })
+      (λ t h. record { coming = CallFailed; comes = ((held, h.0, partial), h.2); does = (h.1, h.3, refl) })
       (closes_now (λ t. Has (old.used ++ held) old.sent t × BrokeByReceive t) (λ t. (t.received ≡ old.used ++ held) × (t.sent ≡ old.sent) × BrokeByReceive t × IsClosed t) (λ t h. (h.0.got, h.0.gave, h.1, refl)) (λ t h. h.3) closed now)
 
   -- a reply with the turn Close was sent whole
-  pub over_closed : {wire new : Option (List Link)} {link : ℕ} (framer bytes reply : List ℕ) (pdu : Pdu) (turn : Turn) (answers : ℕ) (replies : Replies cache pdu reply turn) → turn ≡ Close → IsFrame bytes pdu → answers ≡ old.answers + answers_in replies.pdus
+  pub over_closed : {wire new : Option (List Link)} {link : ℕ} (stands : List Standing) → Agrees wire stands → IsUsable stands link → (framer bytes reply : List ℕ) (pdu : Pdu) (turn : Turn) (answers : ℕ) (replies : Replies cache pdu reply turn) → turn ≡ Close → IsFrame bytes pdu → answers ≡ old.answers + answers_in replies.pdus
       → Now wire link (Has (old.used ++ bytes ++ framer) (old.sent ++ reply)) → new ≡ option_map (closes link) wire → Ever new link (λ t. ServesNext t cache old (Serves t cache count) (record { answers = answers; refused = None; end = None }))
-  over_closed framer bytes reply pdu turn answers replies close frame counted now closed =
-      Ever-map {p = λ t. (t.received ≡ old.used ++ bytes ++ framer) × (t.sent ≡ old.sent ++ reply) × IsClosed t} {q = λ t. ServesNext t cache old (Serves t cache count) (record { answers = answers; refused = None; end = None })}
+  over_closed stands agrees usable framer bytes reply pdu turn answers replies close frame counted now closed =
+      Ever-map {p = λ t. (t.received ≡ old.used ++ bytes ++ framer) × (t.sent ≡ old.sent ++ reply) × (t.broken ≡ None) × IsClosed t} {q = λ t. ServesNext t cache old (Serves t cache count) (record { answers = answers; refused = None; end = None })}
       (λ t h. record {
         coming = OnePdu bytes pdu;
         comes = (frame, (framer, h.0));
@@ -67,11 +68,12 @@ module _ (cache : Versions) (old : Serving) (count : ℕ) where
           sends = inl (
             ([], h.1 ∙ sym (append-nil (old.sent ++ reply))),
             subst (λ (tn : Turn). AfterReply t tn (after_reply old bytes reply replies.pdus) (Serves t cache count) (record { answers = answers; refused = None; end = None })) (sym close)
-            (record { gave = h.1; closed = h.2; same = λ i. record { answers = counted i; refused = None; end = None } }),
+            (record { gave = h.1; closed = h.3; unbroken = h.2; same = λ i. record { answers = counted i; refused = None; end = None } }),
           );
         };
       })
-      (closes_now (Has (old.used ++ bytes ++ framer) (old.sent ++ reply)) (λ t. (t.received ≡ old.used ++ bytes ++ framer) × (t.sent ≡ old.sent ++ reply) × IsClosed t) (λ t h. (h.got, h.gave, refl)) (λ t h. h.2) closed now)
+      (closes_now (λ t. Has (old.used ++ bytes ++ framer) (old.sent ++ reply) t × (t.broken ≡ None)) (λ t. (t.received ≡ old.used ++ bytes ++ framer) × (t.sent ≡ old.sent ++ reply) × (t.broken ≡ None) × IsClosed t)
+      (λ t h. (h.0.got, h.0.gave, h.1, refl)) (λ t h. h.3) closed (Now-usable _ stands _ agrees usable now))
 
   -- the connection broke at a reply, and was closed
   pub over_lost : {new : Option (List Link)} {link : ℕ} (framer bytes reply : List ℕ) (pdu : Pdu) (turn : Turn) (replies : Replies cache pdu reply turn) → IsFrame bytes pdu
@@ -145,16 +147,17 @@ so_far_next {wire} {new} {link} {cache} {framer} {held} {taken} {answers} {more}
           }));
     }
 
-pub so_far_short : {wire new : Option (List Link)} {link : ℕ} {cache : Versions} {framer : List ℕ} {taken answers : ℕ} (s : SoFar wire link cache framer taken answers) → taken ≡ 65536 → ToldLater wire new → new ≡ option_map (closes link) wire
+pub so_far_short : {wire new : Option (List Link)} {link : ℕ} {cache : Versions} {framer : List ℕ} {taken answers : ℕ} (s : SoFar wire link cache framer taken answers) (stands : List Standing) → Agrees wire stands → IsUsable stands link → taken ≡ 65536 → ToldLater wire new → new ≡ option_map (closes link) wire
     → Ever new link (λ t. Serves t cache 65536 started (record { answers = answers; refused = None; end = Some Short }))
-so_far_short {wire} {new} {link} {cache} {framer} {taken} {answers} s all later closed = λ links final is goes t there.
+so_far_short {wire} {new} {link} {cache} {framer} {taken} {answers} s stands agrees usable all later closed = λ links final is goes t there.
     let old : Serving = record { used = s.used; sent = s.sent; taken = taken; answers = answers } in
     let last : Outcome = record { answers = answers; refused = None; end = Some Short } in
-    let at_end : Ever new link (λ u. (u.sent ≡ s.sent) × IsClosed u) = closes_now (Has (s.used ++ framer) s.sent) (λ u. (u.sent ≡ s.sent) × IsClosed u) (λ u h. (h.gave, refl)) (λ u h. h.1) closed s.now in
+    let at_end : Ever new link (λ u. (u.sent ≡ s.sent) × (u.broken ≡ None) × IsClosed u) =
+    closes_now (λ u. Has (s.used ++ framer) s.sent u × (u.broken ≡ None)) (λ u. (u.sent ≡ s.sent) × (u.broken ≡ None) × IsClosed u) (λ u h. (h.0.gave, h.1, refl)) (λ u h. h.2) closed (Now-usable wire stands link agrees usable s.now) in
     let none : 65536 - taken ≡ 0 = omega (arith, all) in
     let had = at_end links final is goes t there in
     Ever-later link (λ u. (out : Outcome) → Serves u cache (65536 - taken) old out → Serves u cache 65536 started out) later s.keeps links final is goes t there last
-    (subst (λ n. Serves t cache n old last) (sym none) (record { gave = had.0; closed = had.1; same = refl }))
+    (subst (λ n. Serves t cache n old last) (sym none) (record { gave = had.0; closed = had.2; unbroken = had.1; same = refl }))
 
 -- ---- a step, by its parts
 
@@ -211,11 +214,11 @@ pub over_refused : (cache : Versions) (wire : Option (List Link)) (link : ℕ) (
     → Ever wire link (λ t. ServesNext t cache (record { used = used; sent = sent; taken = taken; answers = answers }) (Serves t cache count) (record { answers = answers; refused = Some (record { number = taken + 1; cause = cause }); end = end }))
 over_refused cache wire link used sent held report code cause taken answers true end r for is done ends count =
     let bytes : report ≡ report_bytes (code_on_refusal held r.fault) = is ∙ ap report_bytes (for r.fault (known r.fault cause r.cause_is) r.refused) in
-    Ever-map {p = λ t. (t.received ≡ used ++ held) × (t.sent ≡ sent ++ report) × IsClosed t}
+    Ever-map {p = λ t. (t.received ≡ used ++ held) × (t.sent ≡ sent ++ report) × IsClosed t × (t.broken ≡ None)}
     (λ t h. record {
       coming = BadPdu held r.fault;
       comes = (r.refused, known r.fault cause r.cause_is, h.0);
-      does = record { refusal = record { number = taken + 1; cause = cause }; number = refl; cause = r.cause_is; reports = inl (record { gave = h.1 ∙ ap (λ (l : List ℕ). sent ++ l) bytes; closed = h.2; same = λ i. record { answers = answers; refused = Some (record { number = taken + 1; cause = cause }); end = ends i } }) };
+      does = record { refusal = record { number = taken + 1; cause = cause }; number = refl; cause = r.cause_is; reports = inl (record { gave = h.1 ∙ ap (λ (l : List ℕ). sent ++ l) bytes; closed = h.2; unbroken = h.3; same = λ i. record { answers = answers; refused = Some (record { number = taken + 1; cause = cause }); end = ends i } }) };
     })
     (Ever-closed (λ t h. h.2) done)
 over_refused cache wire link used sent held report code cause taken answers false end r for is done ends count =

@@ -56,10 +56,11 @@ answers_in (pdu ∷ more) = answers_in more
 abbrev pub after_reply : Serving → List ℕ → List ℕ → List Pdu → Serving
 after_reply old bytes reply pdus = record { used = old.used ++ bytes; sent = old.sent ++ reply; taken = old.taken + 1; answers = old.answers + answers_in pdus }
 
--- the connection is closed with this much sent on it, and this is the outcome
+-- the connection is closed with this much sent on it and no failed call, and this is the outcome
 pub record Ends (t : Link) (sent : List ℕ) (is out : Outcome) : Type 0 where
   pub gave : t.sent ≡ sent
   pub closed : IsClosed t
+  pub unbroken : t.broken ≡ None
   pub same : out ≡ is
 
 -- behind a reply that was sent whole
@@ -88,7 +89,7 @@ abbrev pub OnComing : Link → Versions → Serving → Coming → (Serving → 
 OnComing t cache old (OnePdu bytes pdu) goes_on out = AnswersPdu t cache old bytes pdu goes_on out
 OnComing t cache old (BadPdu left fault) goes_on out = RefusesPdu t old left fault out
 OnComing t cache old NoMore goes_on out = Ends t old.sent (record { answers = old.answers; refused = None; end = None }) out
-OnComing t cache old CallFailed goes_on out = Ends t old.sent (record { answers = old.answers; refused = None; end = Some Lost }) out
+OnComing t cache old CallFailed goes_on out = (t.sent ≡ old.sent) × IsClosed t × (out ≡ record { answers = old.answers; refused = None; end = Some Lost })
 
 -- a line asks for the router's next PDU
 pub record ServesNext (t : Link) (cache : Versions) (old : Serving) (goes_on : Serving → Outcome → Type 0) (out : Outcome) : Type 0 where

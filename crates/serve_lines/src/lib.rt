@@ -10,12 +10,14 @@
 //! and `routers` serves one after another.
 #![tactic(auto)]
 
+mod laws;
 mod outcome;
 mod routers;
 mod serving;
 mod stop;
 mod telling;
 
+pub use laws::lost_routers_broke;
 pub use outcome::{Outcome, Refusal, RouterEnd};
 pub use routers::{Served, serve};
 pub use stop::Stop;

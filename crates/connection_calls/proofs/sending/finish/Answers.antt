@@ -3,7 +3,9 @@ use Rattle.connection_calls.proofs.FaultsLemmas.{BreaksByFault-trans, breaks_clo
 use Rattle.connection_calls.proofs.sending.finish.Goals as goal
 
 pub returns-clause-finishes : goal.returns-clause-finishes
-returns-clause-finishes g c = λ got gave now. finishes _ _ c.args.link got gave c.args.bytes.now c.send_all-whole.result (c.send_all-whole.ensures.sends got gave now) c.close.ensures.closed
+returns-clause-finishes g c = λ got gave now. 
+    finishes _ _ (g.K.Links.standings c.send_all-whole.new.links) c.args.link got gave c.args.bytes.now c.send_all-whole.result (g.met.K.Links.agrees c.send_all-whole.new.links) c.send_all-whole.ensures.usable
+    (c.send_all-whole.ensures.sends got gave now) c.close.ensures.closed
 
 pub returns-clause-only : goal.returns-clause-only
 returns-clause-only g c = Spares-trans c.send_all-whole.ensures.only (Only-loud _ _ c.close.ensures.later c.close.ensures.closed c.close.ensures.standings)

@@ -18,7 +18,7 @@ pub returns-in-Close-clause-steps : goal.returns-in-Close-clause-steps
 returns-in-Close-clause-steps g c = λ cache used sent bytes reply pdu taken before replies frame counted now.
     let old : Serving = record { used = used; sent = sent; taken = taken; answers = before } in
     subst (λ (step : Step). SteppedAs (g.K.Links.wire c.close.new.self) c.args.link cache old step) (sym c.ended.ensures)
-    (λ count. over_closed cache old count c.args.framer bytes reply pdu c.args.turn c.args.answers replies c.in-Close.is frame counted now c.close.ensures.closed)
+    (λ count. over_closed cache old count (g.K.Links.standings c.args.links.now) (g.met.K.Links.agrees c.args.links.now) c.requires.usable c.args.framer bytes reply pdu c.args.turn c.args.answers replies c.in-Close.is frame counted now c.close.ensures.closed)
 
 pub returns-in-Close-clause-only : goal.returns-in-Close-clause-only
 returns-in-Close-clause-only g c = Only-loud _ _ c.close.ensures.later c.close.ensures.closed c.close.ensures.standings

@@ -44,7 +44,7 @@ loop-taken-preserved g c =
     }
 
 pub returns-clause-serves : goal.returns-clause-serves
-returns-clause-serves g c = λ now. so_far_short (c.loop-taken.invariant.so_far now) (omega (arith, c.loop-taken-test.false, c.loop-taken.auto.taken-end)) c.close.ensures.later c.close.ensures.closed
+returns-clause-serves g c = λ now. so_far_short (c.loop-taken.invariant.so_far now) (g.K.Links.standings c.loop-taken.links) (g.met.K.Links.agrees c.loop-taken.links) c.loop-taken.invariant.usable (omega (arith, c.loop-taken-test.false, c.loop-taken.auto.taken-end)) c.close.ensures.later c.close.ensures.closed
 
 pub returns-clause-only : goal.returns-clause-only
 returns-clause-only g c = Spares-trans c.loop-taken.invariant.only (Only-loud _ _ c.close.ensures.later c.close.ensures.closed c.close.ensures.standings)
