@@ -6,7 +6,7 @@ use Rattle.av_text.proofs.WordLemmas.{length-words_of}
 use Rattle.script_lines.specs.declared.command.Command.{Command}
 use Rattle.script_lines.specs.declared.command.Command.TheVariants.{Judge}
 use Rattle.script_lines.specs.declared.command.CommandName.{CommandName}
-use Rattle.script_lines.specs.declared.command.CommandName.TheVariants.{Aspa as AspaName, Aspa64 as Aspa64Name, Slurm as SlurmName, Filter as FilterName, Unfilter as UnfilterName, Assert as AssertName, Unassert as UnassertName, At as AtName, Role as RoleName, Open as OpenName, Bmp as BmpName, Take as TakeName, Feed as FeedName, Ask as AskName, Sync as SyncName, Judge as JudgeName, Changes as ChangesName, Why as WhyName, Show as ShowName}
+use Rattle.script_lines.specs.declared.command.CommandName.TheVariants.{Aspa as AspaName, Aspa64 as Aspa64Name, Slurm as SlurmName, Filter as FilterName, Unfilter as UnfilterName, Assert as AssertName, Unassert as UnassertName, At as AtName, Role as RoleName, Open as OpenName, Bmp as BmpName, Take as TakeName, Feed as FeedName, Ask as AskName, Sync as SyncName, Serve as ServeName, Judge as JudgeName, Changes as ChangesName, Why as WhyName, Show as ShowName}
 use Rattle.script_lines.specs.Kinds.{ValueOf}
 use Rattle.script_lines.specs.Forms.{Form, end, ases, optional, ◌then◌, Builds, IsSpelled}
 use Rattle.script_lines.specs.Commands.{form_of, sets_role, made_by}
@@ -45,6 +45,7 @@ makes_short TakeName = λ name count role neighbour path is. cc
 makes_short FeedName = λ name place role neighbour path is. cc
 makes_short AskName = λ name role neighbour path is. cc
 makes_short SyncName = λ name count role neighbour path is. cc
+makes_short ServeName = λ place session count role neighbour path is. cc
 makes_short JudgeName = λ role neighbour path r n p is. let same : path ≡ p = cc in let as_long : length path ≡ length p = ap length same in omega (arith, as_long)
 makes_short ChangesName = λ role neighbour path is. cc
 makes_short WhyName = λ addr asn prefix identifier role neighbour path is. cc

@@ -1,17 +1,17 @@
--- The name that a command gives to a source or a stream is a name, and the number of units that it takes isn't over the most.
+-- The name that a command gives to a source or a stream is a name, and its numbers of units, routers and sessions aren't over the most.
 use Rattle.std.proofs.Common.{inl, inr, ℕ, ◌≤◌, List, [], ◌∷◌, Option, Some, None, Ok, sym, subst}
 use Rattle.path_model.specs.declared.role.Role.{Role as RoleOf}
 use Rattle.path_model.specs.Name.{IsName}
 use Rattle.script_lines.specs.declared.command.Command.{Command}
-use Rattle.script_lines.specs.declared.command.Command.TheVariants.{Idle, Aspa, Aspa64, Slurm, Filter, Unfilter, Assert, Unassert, At, Role, RoleDefault, Open, Bmp, Take, Feed, Ask, Sync, Judge, Changes, Why, Show}
+use Rattle.script_lines.specs.declared.command.Command.TheVariants.{Idle, Aspa, Aspa64, Slurm, Filter, Unfilter, Assert, Unassert, At, Role, RoleDefault, Open, Bmp, Take, Feed, Ask, Sync, Serve, Judge, Changes, Why, Show}
 use Rattle.script_lines.specs.declared.command.CommandName.{CommandName}
-use Rattle.script_lines.specs.declared.command.CommandName.TheVariants.{Aspa as AspaName, Aspa64 as Aspa64Name, Slurm as SlurmName, Filter as FilterName, Unfilter as UnfilterName, Assert as AssertName, Unassert as UnassertName, At as AtName, Role as RoleName, Open as OpenName, Bmp as BmpName, Take as TakeName, Feed as FeedName, Ask as AskName, Sync as SyncName, Judge as JudgeName, Changes as ChangesName, Why as WhyName, Show as ShowName}
+use Rattle.script_lines.specs.declared.command.CommandName.TheVariants.{Aspa as AspaName, Aspa64 as Aspa64Name, Slurm as SlurmName, Filter as FilterName, Unfilter as UnfilterName, Assert as AssertName, Unassert as UnassertName, At as AtName, Role as RoleName, Open as OpenName, Bmp as BmpName, Take as TakeName, Feed as FeedName, Ask as AskName, Sync as SyncName, Serve as ServeName, Judge as JudgeName, Changes as ChangesName, Why as WhyName, Show as ShowName}
 use Rattle.script_lines.specs.Kinds.{WordKind, NAME, TEXT, ROLE, VIEW, ADDRESS, PREFIX, NUMBER, WHOM, ValueOf, Spells}
 use Rattle.script_lines.specs.Forms.{Form, end, ases, optional, ◌then◌, Builds, IsSpelled}
 use Rattle.script_lines.specs.Commands.{form_of, sets_role, made_by}
 use Rattle.script_lines.specs.Grammar.{IsReading}
 
--- the command's name, if it has one, is a name, and its number of units, if it has one, isn't over the most
+-- the command's name, if it has one, is a name, and its numbers of units, routers and sessions, if it has some, aren't over the most
 abbrev pub IsNamed : Command → Type 0
 IsNamed Idle = Unit {0}
 IsNamed (Aspa name file) = IsName name
@@ -30,6 +30,7 @@ IsNamed (Take name count) = IsName name × (count ≤ 100000000)
 IsNamed (Feed name place) = IsName name
 IsNamed (Ask name) = IsName name
 IsNamed (Sync name count) = IsName name × (count ≤ 100000000)
+IsNamed (Serve place session count) = (session ≤ 65535) × (count ≤ 100000000)
 IsNamed (Judge role neighbour path) = Unit {0}
 IsNamed Changes = Unit {0}
 IsNamed (Why addr asn prefix path) = Unit {0}
@@ -84,6 +85,7 @@ makes_named TakeName = λ name is count within. (is, within)
 makes_named FeedName = λ name is place any. is
 makes_named AskName = λ name is. is
 makes_named SyncName = λ name is count within. (is, within)
+makes_named ServeName = λ place any session most count within. (most, within)
 makes_named JudgeName = λ role any neighbour other path. tt
 makes_named ChangesName = tt
 makes_named WhyName = λ addr any asn within prefix other path. tt

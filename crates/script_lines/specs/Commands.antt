@@ -4,15 +4,15 @@ use Rattle.std.specs.declared.option.Option.{Option}
 use Rattle.std.specs.declared.option.Option.TheVariants.{Some, None}
 use Rattle.path_model.specs.declared.role.Role.{Role as RoleOf}
 use Rattle.script_lines.specs.declared.command.Command.{Command}
-use Rattle.script_lines.specs.declared.command.Command.TheVariants.{Aspa, Aspa64, Slurm, Filter, Unfilter, Assert, Unassert, At, Role, RoleDefault, Open, Bmp, Take, Feed, Ask, Sync, Judge, Changes, Why, Show}
+use Rattle.script_lines.specs.declared.command.Command.TheVariants.{Aspa, Aspa64, Slurm, Filter, Unfilter, Assert, Unassert, At, Role, RoleDefault, Open, Bmp, Take, Feed, Ask, Sync, Serve, Judge, Changes, Why, Show}
 use Rattle.script_lines.specs.declared.command.CommandName.{CommandName}
-use Rattle.script_lines.specs.declared.command.CommandName.TheVariants.{Aspa as AspaName, Aspa64 as Aspa64Name, Slurm as SlurmName, Filter as FilterName, Unfilter as UnfilterName, Assert as AssertName, Unassert as UnassertName, At as AtName, Role as RoleName, Open as OpenName, Bmp as BmpName, Take as TakeName, Feed as FeedName, Ask as AskName, Sync as SyncName, Judge as JudgeName, Changes as ChangesName, Why as WhyName, Show as ShowName}
+use Rattle.script_lines.specs.declared.command.CommandName.TheVariants.{Aspa as AspaName, Aspa64 as Aspa64Name, Slurm as SlurmName, Filter as FilterName, Unfilter as UnfilterName, Assert as AssertName, Unassert as UnassertName, At as AtName, Role as RoleName, Open as OpenName, Bmp as BmpName, Take as TakeName, Feed as FeedName, Ask as AskName, Sync as SyncName, Serve as ServeName, Judge as JudgeName, Changes as ChangesName, Why as WhyName, Show as ShowName}
 use Rattle.script_lines.specs.declared.command.Show.{Show as ShowOf}
 use Rattle.script_lines.specs.declared.command.Show.TheVariants.{Report, Summary}
 use Rattle.script_lines.specs.Kinds.{WordKind, NAME, TEXT, ROLE, VIEW, ADDRESS, PREFIX, NUMBER, WHOM}
 use Rattle.script_lines.specs.Forms.{Form, end, ases, optional, ◌then◌, Builds, IsSpelled}
 
--- an AS, a moment, a path identifier, and how many units of a stream
+-- an AS, a moment, a path identifier, how many units of a stream or routers, and a session of a cache (RFC 8210, section 5.1)
 abbrev pub AS : WordKind
 AS = NUMBER 0 4294967295
 
@@ -24,6 +24,9 @@ IDENTIFIER = NUMBER 0 4294967295
 
 abbrev pub COUNT : WordKind
 COUNT = NUMBER 1 100000000
+
+abbrev pub SESSION : WordKind
+SESSION = NUMBER 0 65535
 
 -- the one word of the lines that show what is held
 abbrev pub show_text : ShowOf → List ℕ
@@ -47,6 +50,7 @@ name_text TakeName = codes "take"
 name_text FeedName = codes "feed"
 name_text AskName = codes "ask"
 name_text SyncName = codes "sync"
+name_text ServeName = codes "serve"
 name_text JudgeName = codes "judge"
 name_text ChangesName = codes "changes"
 name_text WhyName = codes "why"
@@ -69,6 +73,7 @@ form_of TakeName = NAME then COUNT then end
 form_of FeedName = NAME then TEXT then end
 form_of AskName = NAME then end
 form_of SyncName = NAME then COUNT then end
+form_of ServeName = TEXT then SESSION then COUNT then end
 form_of JudgeName = ROLE then AS then ases 0
 form_of ChangesName = end
 form_of WhyName = ADDRESS then AS then PREFIX then optional IDENTIFIER
@@ -96,6 +101,7 @@ made_by TakeName = λ name count. Take name count
 made_by FeedName = λ name place. Feed name place
 made_by AskName = λ name. Ask name
 made_by SyncName = λ name count. Sync name count
+made_by ServeName = λ place session count. Serve place session count
 made_by JudgeName = λ role neighbour path. Judge role neighbour path
 made_by ChangesName = Changes
 made_by WhyName = λ addr asn prefix path. Why addr asn prefix path

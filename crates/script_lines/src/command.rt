@@ -45,6 +45,9 @@ pub enum Command {
     Ask(Name),
     /// `sync NAME N`: PDUs of the feed until it is up to date or over, and at most so many, 1 to 100,000,000.
     Sync(Name, u32),
+    /// `serve PLACE SESSION N`: so many routers are served at the place, 1 to 100,000,000 of them, one after another, as by a cache of that
+    /// session (RFC 8210, section 5.1).
+    Serve(Word, u16, u32),
     /// `judge ROLE NEIGHBOUR AS..`: the verdict of the path, written neighbour first.
     Judge(Role, u32, AsList),
     /// `changes`: each route that stands otherwise than it was marked; all are marked then.
@@ -83,6 +86,7 @@ pub(crate) enum CommandName {
     Feed,
     Ask,
     Sync,
+    Serve,
     Judge,
     Changes,
     Why,

@@ -9,7 +9,7 @@ use crate::command::{Command, CommandName, LineFault, Show};
 use crate::fields::{Ases, End, Fields, Optional, Then};
 use crate::kinds::{
     AddressWord, AsWord, CountWord, IdentifierWord, MomentWord, NameWord, PrefixWord, RoleWord,
-    TextWord, ViewWord, WhomWord,
+    SessionWord, TextWord, ViewWord, WhomWord,
 };
 use av_text::{Words, words};
 use path_model::Role;
@@ -79,6 +79,7 @@ fn command_name(word: &[u8]) -> Option<CommandName>
         b"feed" => Some(CommandName::Feed),
         b"ask" => Some(CommandName::Ask),
         b"sync" => Some(CommandName::Sync),
+        b"serve" => Some(CommandName::Serve),
         b"judge" => Some(CommandName::Judge),
         b"changes" => Some(CommandName::Changes),
         b"why" => Some(CommandName::Why),
@@ -156,6 +157,13 @@ fn read_fields(alloc: Global, name: CommandName, words: Words<'_>) -> Result<Com
         CommandName::Sync => {
             let (name, (count, ())) = <Then<NameWord, Then<CountWord, End>>>::read(alloc, words)?;
             Ok(Command::Sync(name, count))
+        }
+        CommandName::Serve => {
+            let (place, (session, (count, ()))) = <Then<
+                TextWord,
+                Then<SessionWord, Then<CountWord, End>>,
+            >>::read(alloc, words)?;
+            Ok(Command::Serve(place, session, count))
         }
         CommandName::Judge => {
             let (role, (neighbour, path)) = <Then<RoleWord, Then<AsWord, Ases<0>>>>::read(

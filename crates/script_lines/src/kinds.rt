@@ -169,7 +169,7 @@ pub(crate) type MomentWord = NumberWord<0, 4_294_967_295>;
 /// A path identifier (RFC 7911, section 3).
 pub(crate) type IdentifierWord = NumberWord<0, 4_294_967_295>;
 
-/// How many units of a stream are taken.
+/// How many units of a stream are taken, or routers are served.
 pub(crate) type CountWord = NumberWord<1, 100_000_000>;
 
 #[tactic(auto, using(crate::proofs::KindLemmas::number_steps))]
@@ -185,6 +185,27 @@ impl<const LEAST: u32, const MOST: u32> Kind for NumberWord<LEAST, MOST> {
     fn read(_alloc: Global, word: &[u8]) -> Result<u32, LineFault> {
         match read_u32(word) {
             Some(n) if LEAST <= n && n <= MOST => Ok(n),
+            _ => Err(LineFault::Number),
+        }
+    }
+}
+
+/// The session of a cache (RFC 8210, section 5.1).
+pub(crate) struct SessionWord;
+
+#[tactic(auto, using(crate::proofs::KindLemmas::number_steps))]
+impl Kind for SessionWord {
+    ghost use Rattle.script_lines.specs.Commands.{SESSION};
+
+    type Value = u16;
+
+    ghost kind = { SESSION };
+
+    ghost value = { λ n. n };
+
+    fn read(_alloc: Global, word: &[u8]) -> Result<u16, LineFault> {
+        match read_u32(word) {
+            Some(n) if n <= 65_535 => Ok(n as u16),
             _ => Err(LineFault::Number),
         }
     }

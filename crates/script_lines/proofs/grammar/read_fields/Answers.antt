@@ -2,7 +2,7 @@ use Rattle.std.proofs.Common.{ℕ, Option, subst}
 use Rattle.std.proofs.lemmas.Iterator.Adapters.{option_map_id}
 use Rattle.av_text.specs.Words.{words_left}
 use Rattle.script_lines.specs.declared.command.Command.TheVariants.{Why}
-use Rattle.script_lines.specs.declared.command.CommandName.TheVariants.{Aspa as AspaName, Aspa64 as Aspa64Name, Slurm as SlurmName, Filter as FilterName, Unfilter as UnfilterName, Assert as AssertName, Unassert as UnassertName, At as AtName, Role as RoleName, Open as OpenName, Bmp as BmpName, Take as TakeName, Feed as FeedName, Ask as AskName, Sync as SyncName, Judge as JudgeName, Changes as ChangesName, Why as WhyName, Show as ShowName}
+use Rattle.script_lines.specs.declared.command.CommandName.TheVariants.{Aspa as AspaName, Aspa64 as Aspa64Name, Slurm as SlurmName, Filter as FilterName, Unfilter as UnfilterName, Assert as AssertName, Unassert as UnassertName, At as AtName, Role as RoleName, Open as OpenName, Bmp as BmpName, Take as TakeName, Feed as FeedName, Ask as AskName, Sync as SyncName, Serve as ServeName, Judge as JudgeName, Changes as ChangesName, Why as WhyName, Show as ShowName}
 use Rattle.script_lines.specs.Commands.{made_by, SpellsCommand}
 use Rattle.script_lines.proofs.grammar.read_fields.Goals as goal
 
@@ -50,6 +50,9 @@ returns-in_ok-name-in-Ask-clause-spelled c = rw c.in-Ask.is (c.in_ok-name-in-Ask
 
 pub returns-in_ok-name-in-Sync-clause-spelled : goal.returns-in_ok-name-in-Sync-clause-spelled
 returns-in_ok-name-in-Sync-clause-spelled c = rw c.in-Sync.is (c.in_ok-name-in-Sync.ensures.spelled (made_by SyncName))
+
+pub returns-in_ok-place-in-Serve-clause-spelled : goal.returns-in_ok-place-in-Serve-clause-spelled
+returns-in_ok-place-in-Serve-clause-spelled c = rw c.in-Serve.is (c.in_ok-place-in-Serve.ensures.spelled (made_by ServeName))
 
 pub returns-in_ok-role-in-Judge-clause-spelled : goal.returns-in_ok-role-in-Judge-clause-spelled
 returns-in_ok-role-in-Judge-clause-spelled c = rw c.in-Judge.is (c.in_ok-role-in-Judge.ensures.spelled (made_by JudgeName))
