@@ -28,6 +28,7 @@ use Rattle.report_text.specs.Change.{mark_text, marks_text, change_line, changed
 use Rattle.report_text.specs.Keys.{identifier_text, key_text}
 use Rattle.report_text.specs.Laws.{IsAnswerLine}
 use Rattle.report_text.specs.Rows.{row_line}
+use Rattle.report_text.specs.Served.{served_line}
 use Rattle.report_text.specs.Summary.{verdicts_part, sources_part, summary_line}
 use Rattle.report_text.specs.Why.{hops_text, labelling_text, witness_text, why_line}
 use Rattle.report_text.proofs.InLineLemmas.{clean, both, number}
@@ -183,6 +184,16 @@ summary_is_one_line summary = record {
 
 pub changed_is_one_line : (changes : ℕ) → IsAnswerLine (changed_line changes)
 changed_is_one_line changes = record { in_line = worded (codes "changed ") changes (clean (codes "changed ") refl); unmarked = refl }
+
+-- ---- what came of serving routers
+
+pub served_is_one_line : (accepted answers : ℕ) → IsAnswerLine (served_line accepted answers)
+served_is_one_line accepted answers = record {
+  in_line =
+      counted (codes "served " ++ decimal accepted) (codes " answers ") answers
+      (worded (codes "served ") accepted (clean (codes "served ") refl)) (clean (codes " answers ") refl);
+  unmarked = refl;
+}
 
 -- ---- reasons
 

@@ -25,6 +25,10 @@ place-in_line (of_unit name unit) in_line =
 pub slurm-in_line : IsInLine (codes "slurm")
 slurm-in_line = clean (codes "slurm") refl
 
+-- the name of routers that are served
+pub serve-in_line : IsInLine (codes "serve")
+serve-in_line = clean (codes "serve") refl
+
 -- one line that begins with `! `
 pub refusal_is_one_line : (line : ℕ) (place : AnyPlace) (cause : Cause) → IsPlaceInLine place → IsRefusalLine (refusal_line line place cause)
 refusal_is_one_line line place cause in_line =

@@ -1,4 +1,4 @@
--- Lines that are added to a text, and how many of them say that a feed's place wasn't to be had.
+-- Lines that are added to a text, and how many of them say that a place wasn't to be had.
 use Rattle.std.proofs.Common.{◌≡◌, ◌≢◌, ℕ, ◌+◌, ◌-◌, ◌^◌, ◌<◌, ◌≤◌, min, ◌⊎◌, inl, inr, ⊎_elim, Bool, true, false, cond, nat_eq, nat_le, add-zero, List, [], ◌∷◌, ◌++◌, length, take, reverse, codes, decimal, Some, refl, sym, ap, subst, ◌∙◌, append_assoc, append-nil, arith}
 use Rattle.std.specs.Io.KnownBytes.{append_known}
 use Rattle.std.specs.List.{All, count_by, slice_split, starts_with, ends_with}

@@ -1,4 +1,4 @@
--- The line that reports a feed's end.
+-- The line that reports a feed's end, or, with the name `serve`, that of a router that is served.
 use Rattle.std.specs.Prelude.{ℕ, List, [], ◌∷◌, ◌++◌, codes, decimal}
 use Rattle.report_text.specs.declared.feed.FeedEnd.{FeedEnd}
 use Rattle.report_text.specs.declared.feed.FeedEnd.TheVariants.{Unreachable, Lost, Short}

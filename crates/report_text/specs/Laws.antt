@@ -13,6 +13,7 @@ use Rattle.report_text.specs.declared.feed.FeedEnd.{FeedEnd}
 use Rattle.report_text.specs.Feeds.{feed_line}
 use Rattle.report_text.specs.Refusals.{AnyPlace, of_line, of_unit, refusal_line}
 use Rattle.report_text.specs.Rows.{row_line}
+use Rattle.report_text.specs.Served.{served_line}
 use Rattle.report_text.specs.Summary.{summary_line}
 use Rattle.report_text.specs.Why.{why_line}
 
@@ -49,6 +50,9 @@ EachCountOfChangesIsOneLine = (changes : ℕ) → IsAnswerLine (changed_line cha
 
 abbrev pub EachSummaryIsOneLine : Type 0
 EachSummaryIsOneLine = (summary : Summary) → IsAnswerLine (summary_line summary)
+
+abbrev pub EachServedIsOneLine : Type 0
+EachServedIsOneLine = (accepted answers : ℕ) → IsAnswerLine (served_line accepted answers)
 
 abbrev pub EachReasonIsOneLine : Type 0
 EachReasonIsOneLine = (verdict : Verdict) (witness : Witness) → IsAnswerLine (why_line verdict witness)

@@ -8,6 +8,7 @@ pub mod Places
 pub mod Refusals
 pub mod Reported
 pub mod Rows
+pub mod Served
 pub mod Summary
 pub mod Why
 pub mod Writes

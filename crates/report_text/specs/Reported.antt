@@ -1,4 +1,4 @@
--- Lines that are added to a text, and how many of them say that a feed's place wasn't to be had.
+-- Lines that are added to a text, and how many of them say that a place wasn't to be had.
 use Rattle.std.specs.Prelude.{◌≡◌, ℕ, ◌+◌, ◌-◌, ◌^◌, ◌≤◌, ◌⊎◌, nat_eq, Bool, ◌&&◌, List, [], ◌∷◌, ◌++◌, codes, All}
 use Rattle.std.specs.Io.KnownBytes.{append_known}
 use Rattle.std.specs.List.{count_by, slice_split, starts_with, ends_with}

@@ -85,6 +85,9 @@ pub enum Cause {
     // of files of base64 lines
     /// 41: what stands behind the space of a line is no moment.
     Moment,
+    // of tables that are served (RFC 8210)
+    /// 44: some row of the current table has more than 65,533 providers, and so doesn't fit a PDU.
+    RowLong,
     // of messages in dumps of BMP (RFC 7854)
     /// 45: the message isn't of version 3.
     BmpVersion,
@@ -152,6 +155,7 @@ impl Cause {
             Cause::NoRoute => (39, "NoRoute"),
             Cause::FileLong => (40, "FileLong"),
             Cause::Moment => (41, "Moment"),
+            Cause::RowLong => (44, "RowLong"),
             Cause::BmpVersion => (45, "BmpVersion"),
             Cause::BmpLength => (46, "BmpLength"),
             Cause::BmpBody => (47, "BmpBody"),

@@ -1,4 +1,4 @@
-use Rattle.report_text.proofs.AnswerLemmas.{row_is_one_line, change_is_one_line, changed_is_one_line, summary_is_one_line, reason_is_one_line}
+use Rattle.report_text.proofs.AnswerLemmas.{row_is_one_line, change_is_one_line, changed_is_one_line, summary_is_one_line, served_is_one_line, reason_is_one_line}
 use Rattle.report_text.proofs.laws.no_answer_reads_as_a_refusal.Goals as goal
 
 pub returns-clause-rows : goal.returns-clause-rows
@@ -12,6 +12,9 @@ returns-clause-counts c = changed_is_one_line
 
 pub returns-clause-summaries : goal.returns-clause-summaries
 returns-clause-summaries c = summary_is_one_line
+
+pub returns-clause-servings : goal.returns-clause-servings
+returns-clause-servings c = served_is_one_line
 
 pub returns-clause-reasons : goal.returns-clause-reasons
 returns-clause-reasons c = reason_is_one_line
