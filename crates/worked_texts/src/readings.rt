@@ -26,6 +26,8 @@ enum Reading {
     Feed(&'static str, &'static str),
     Ask(&'static str),
     Sync(&'static str, u32),
+    // at this place, in this session, so many routers
+    Serve(&'static str, u16, u32),
     Judge(Role, u32, &'static [u32]),
     Report,
     // of the peer 192.0.2.1 in AS 64501 and the prefix 198.51.100.0/24, with a path identifier or without
@@ -158,6 +160,28 @@ const FEEDS: [Row; 16] = [
     (b"Sync c 1", Reading::Refused(LineFault::Command)),
 ];
 
+const SERVINGS: [Row; 13] = [
+    (b"serve here 7 1", Reading::Serve("here", 7, 1)),
+    (b"serve\t[::]:323 0 1 ", Reading::Serve("[::]:323", 0, 1)),
+    (
+        b"serve here 65535 100000000",
+        Reading::Serve("here", 65_535, 100_000_000),
+    ),
+    (b"serve here 7", Reading::Refused(LineFault::Words)),
+    (b"serve here 7 1 1", Reading::Refused(LineFault::Words)),
+    (b"serve her\xc3\xa9 x 1", Reading::Refused(LineFault::Words)),
+    (b"serve here 65536 1", Reading::Refused(LineFault::Number)),
+    (b"serve here 07 1", Reading::Refused(LineFault::Number)),
+    (b"serve here x 1", Reading::Refused(LineFault::Number)),
+    (b"serve 7 here 1", Reading::Refused(LineFault::Number)),
+    (b"serve here 7 0", Reading::Refused(LineFault::Number)),
+    (
+        b"serve here 7 100000001",
+        Reading::Refused(LineFault::Number),
+    ),
+    (b"serves here 7 1", Reading::Refused(LineFault::Command)),
+];
+
 const JUDGEMENTS: [Row; 14] = [
     (b"judge rs-client 5", Reading::Judge(Role::RsClient, 5, &[])),
     (
@@ -271,6 +295,9 @@ fn is_read_so(read: &Result<Command, LineFault>, reading: Reading) -> bool {
         (Ok(Command::Sync(name, count)), Reading::Sync(called, wanted)) => {
             name.text() == called && *count == wanted
         }
+        (Ok(Command::Serve(place, session, count)), Reading::Serve(at, of, wanted)) => {
+            place.text() == at && *session == of && *count == wanted
+        }
         (Ok(Command::Show(Show::Report)), Reading::Report) => true,
         (Ok(Command::Judge(role, neighbour, path)), Reading::Judge(of, wanted, all)) => {
             *role == of && *neighbour == wanted && path.as_slice() == all
@@ -305,6 +332,7 @@ fn reads_lines(rt: HostRuntime) {
     test_lines(&rt, alloc, &AMENDMENTS);
     test_lines(&rt, alloc, &DUMPS);
     test_lines(&rt, alloc, &FEEDS);
+    test_lines(&rt, alloc, &SERVINGS);
     test_lines(&rt, alloc, &JUDGEMENTS);
     test_lines(&rt, alloc, &QUESTIONS);
 }
