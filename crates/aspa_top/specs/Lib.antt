@@ -10,6 +10,7 @@ pub mod Outside
 pub mod Performing
 pub mod Program
 pub mod Reporting
+pub mod Serving
 pub mod Standing
 pub mod State
 pub mod Tasks

@@ -21,6 +21,7 @@ mod loading;
 mod performing;
 mod program;
 mod script;
+mod serving;
 mod short;
 mod tables;
 mod task;

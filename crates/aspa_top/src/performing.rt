@@ -11,6 +11,7 @@ use crate::answering::answer;
 use crate::dumps::{open, take};
 use crate::feeding::{connect_feed, work_on};
 use crate::listing::list_changes;
+use crate::serving::serve_routers;
 use crate::short::perform_short;
 use crate::tables::load;
 use crate::task::{Task, task_of};
@@ -109,6 +110,11 @@ fn perform_task<F: Shelf, K: Links, W: Sink, L: Ledger>(
         Task::Connect(name, place) => {
             connect_feed(
                 alloc, working, &name, &place, shelf, links, out, text, steps,
+            )
+        }
+        Task::Serve(place, session, count) => {
+            serve_routers(
+                alloc, working, &place, session, count, shelf, links, out, text, steps,
             )
         }
         Task::OnFeed(name, work) => {

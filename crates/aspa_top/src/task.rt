@@ -23,6 +23,8 @@ pub(crate) enum Task {
     Take(Name, u32),
     /// It connects a feed under a name to a place.
     Connect(Name, Word),
+    /// It serves so many routers at a place, as the cache of a session.
+    Serve(Word, u16, u32),
     /// It works on the feed of that name.
     OnFeed(Name, Work),
     /// It asks, and changes nothing.
@@ -75,6 +77,7 @@ pub(crate) fn task_of(command: Command) -> Task
         Command::Feed(name, place) => Task::Connect(name, place),
         Command::Ask(name) => Task::OnFeed(name, Work::Ask),
         Command::Sync(name, count) => Task::OnFeed(name, Work::Sync(count)),
+        Command::Serve(place, session, count) => Task::Serve(place, session, count),
         Command::Judge(role, neighbour, path) => {
             Task::Short(Short::Judge(role, neighbour, path))
         }

@@ -7,6 +7,7 @@ use analyser::Analyser;
 use av_base::NoMemory;
 use feed_lines::Feeds;
 use path_model::Name;
+use rtr_cache::Cache;
 use std::alloc::Global;
 use std::collections::{BTreeMap, BTreeSet};
 use stream_lines::OpenDump;
@@ -22,6 +23,8 @@ pub(crate) struct Working {
     pub(crate) dumps: BTreeMap<Name, OpenDump>,
     /// The feeds that were connected, by name.
     pub(crate) feeds: Feeds,
+    /// The caches that were served, by session.
+    pub(crate) caches: BTreeMap<u16, Cache>,
     /// How many lines there were.
     pub(crate) lines: u64,
     /// How many units of dumps were passed over.
@@ -67,6 +70,7 @@ impl Working {
             sources: BTreeSet::new(alloc),
             dumps: BTreeMap::new(alloc),
             feeds: Feeds::new(alloc),
+            caches: BTreeMap::new(alloc),
             lines: 0,
             passed: 0,
             refused: 0,

@@ -1,0 +1,94 @@
+//! `serve`: the program as a cache.
+ghost use Rattle.std.specs.Prelude.{Ok};
+ghost use Rattle.aspa_top.specs.declared.task.Task.TheVariants.{Serve};
+ghost use Rattle.aspa_top.specs.Outside.{Keeps, outside};
+ghost use Rattle.aspa_top.specs.Performing.{Did};
+ghost use Rattle.aspa_top.specs.Standing.{IsBegun};
+
+use crate::acting::refuse;
+use crate::working::Working;
+use av_base::{Links, NoMemory, Shelf, Sink, Steps};
+use report_text::{Cause, Place, put_served};
+use rtr_cache::{Cache, fits_pdus};
+use script_lines::Word;
+use serve_lines::serve;
+use std::alloc::Global;
+use std::collections::BTreeMap;
+use std::sync::ledger::Ledger;
+use stream_lines::Stop;
+use vap_table::Vaps;
+
+/// Serves so many routers at a place, one after another, as the cache of a session, which has the current table from then on.
+#[inline(never)]
+pub(crate) fn serve_routers<F: Shelf, K: Links, W: Sink, L: Ledger>(
+    alloc: Global,
+    working: Working,
+    place: &Word,
+    session: u16,
+    count: u32,
+    shelf: &mut F,
+    links: &mut K,
+    out: &mut W,
+    text: &mut Vec<u8>,
+    steps: &mut Steps<L>,
+) -> Result<Working, Stop>
+    requires begun { IsBegun
+        (outside F.Shelf K.Links W.Sink shelf.old links.old out.old text.old.items steps.old) working }
+    ensures keeps { Keeps
+        (outside F.Shelf K.Links W.Sink shelf.old links.old out.old text.old.items steps.old)
+        (outside F.Shelf K.Links W.Sink shelf.new links.new out.new text.new.items steps.new) }
+    ensures did { Did working (Ok (Serve place.now session count))
+        (outside F.Shelf K.Links W.Sink shelf.old links.old out.old text.old.items steps.old)
+        (outside F.Shelf K.Links W.Sink shelf.new links.new out.new text.new.items steps.new) result }
+{
+    if !fits_pdus(working.analyser.store().table()) {
+        return Ok(refuse(working, Place::Line, Cause::RowLong, text)?);
+    }
+    let Working {
+        analyser,
+        sources,
+        dumps,
+        feeds,
+        mut caches,
+        lines,
+        passed,
+        refused,
+    } = working;
+    let cache = cache_of(alloc, &mut caches, session, analyser.store().table())?;
+    let served = match serve(alloc, lines, &cache, place.text(), count, links, out, text) {
+        Ok(served) => served,
+        Err(serve_lines::Stop::Sink) => return Err(Stop::Sink),
+        Err(serve_lines::Stop::NoMemory) => return Err(Stop::NoMemory),
+    };
+    keep(&mut caches, session, cache)?;
+    put_served(text, served.accepted, served.answers)?;
+    Ok(Working {
+        analyser,
+        sources,
+        dumps,
+        feeds,
+        caches,
+        lines,
+        passed,
+        refused: refused + served.refused,
+    })
+}
+
+// The session's cache, taken out, once it has the current table.
+fn cache_of(
+    alloc: Global,
+    caches: &mut BTreeMap<u16, Cache>,
+    session: u16,
+    table: &Vaps,
+) -> Result<Cache, NoMemory> {
+    match caches.remove(&session) {
+        Some(cache) => cache.update(table),
+        None => Cache::new(alloc, session, table),
+    }
+}
+
+// Keeps a cache in its session.
+fn keep(caches: &mut BTreeMap<u16, Cache>, session: u16, cache: Cache) -> Result<(), NoMemory> {
+    caches.insert(session, cache)?;
+    Ok(())
+}
