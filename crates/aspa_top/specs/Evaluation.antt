@@ -8,7 +8,7 @@ use Rattle.vap_table.specs.declared.change.TableChange.{TableChange}
 use Rattle.vap_table.specs.declared.change.TableChange.TheVariants.{At as SetMoment, Filter as FilterByHand, Unfilter as UnfilterByHand, Assert as AssertByHand, Unassert as UnassertByHand}
 use Rattle.analyser.specs.declared.event.Event.TheVariants.{Table as TableEvent, Role as RoleEvent, DefaultRole}
 use Rattle.script_lines.specs.declared.command.Command.{Command}
-use Rattle.script_lines.specs.declared.command.Command.TheVariants.{Idle, Aspa, Aspa64, Slurm, At, Filter, Unfilter, Assert, Unassert, Role as SetRole, RoleDefault, Open, Bmp, Take, Feed, Ask, Sync, Judge, Changes, Why, Show}
+use Rattle.script_lines.specs.declared.command.Command.TheVariants.{Idle, Aspa, Aspa64, Slurm, At, Filter, Unfilter, Assert, Unassert, Role as SetRole, RoleDefault, Open, Bmp, Take, Feed, Ask, Sync, Serve, Judge, Changes, Why, Show}
 use Rattle.script_lines.specs.declared.command.LineFault.{LineFault}
 use Rattle.script_lines.specs.declared.command.LineFault.TheVariants.{Long, Command as NoCommand, Words, Number, NoMemory}
 use Rattle.stream_lines.specs.declared.kind.DumpKind.{DumpKind}
@@ -22,7 +22,7 @@ use Rattle.aspa_top.specs.declared.loading.FileKind.TheVariants.{Payloads, Paylo
 use Rattle.aspa_top.specs.declared.task.Question.TheVariants.{Show as ShowAll, Why as WhyRoute}
 use Rattle.aspa_top.specs.declared.task.Short.TheVariants.{Idle as Nothing, Happen, Judge as JudgePath}
 use Rattle.aspa_top.specs.declared.task.Task.{Task}
-use Rattle.aspa_top.specs.declared.task.Task.TheVariants.{Short, Load, Open as OpenDump, Take as TakeUnits, Connect, OnFeed, Answer, Changes as ListChanges}
+use Rattle.aspa_top.specs.declared.task.Task.TheVariants.{Short, Load, Open as OpenDump, Take as TakeUnits, Connect, OnFeed, Serve as ServeRouters, Answer, Changes as ListChanges}
 use Rattle.aspa_top.specs.Tasks.{State, Refuses, DoesTask, Moves, TaskCostsWhatItCameTo, TaskUsesFile}
 use Rattle.aspa_top.specs.World.{World}
 
@@ -62,6 +62,7 @@ task_of (Take name count) = TakeUnits name count
 task_of (Feed name place) = Connect name place
 task_of (Ask name) = OnFeed name AskNow
 task_of (Sync name count) = OnFeed name (SyncTo count)
+task_of (Serve place session count) = ServeRouters place session count
 task_of (Judge role neighbour path) = Short (JudgePath role neighbour path)
 task_of Changes = ListChanges
 task_of (Why addr asn prefix path) = Answer (WhyRoute (record { peer = record { addr = addr; asn = asn }; prefix = prefix; path = path }))
@@ -128,19 +129,19 @@ pub record WritesSome (world : World) (before : State) (line part : List ℕ) (t
   pub judged : ticks ≤ next.judgements - before.judgements
   pub came_to : CostsWhatItCameTo world (counted before) (asked_of performs.reading) part ticks
 
--- a line on a feed made some of its moves, perhaps all, and wrote nothing
-pub record MovesSome (world : World) (before : State) (line : List ℕ) (ticks : ℕ) (moved : State) : Type 0 where
+-- a line on connections made some of its moves, perhaps all, and wrote this part of its text
+pub record MovesSome (world : World) (before : State) (line part : List ℕ) (ticks : ℕ) (moved : State) : Type 0 where
   pub command : Command
   pub reads : IsReading line (Ok command)
-  pub moves : Moves world (counted before) (task_of command) moved
+  pub moves : Moves world (counted before) (task_of command) part moved
   pub judged : ticks ≤ moved.judgements - before.judgements
 
--- A line went some way, and ended early: it did nothing, it wrote a front of its own text, or it made some moves on a feed. The feeds stand
--- as `moved` says.
+-- A line went some way, and ended early: it did nothing, it wrote a front of its own text, or it made some moves on connections. The feeds
+-- stand as `moved` says, and the router that was served last.
 abbrev pub Begins : World → State → List ℕ → List ℕ → ℕ → State → Type 0
 Begins world before line part ticks moved = ((part ≡ []) × (ticks ≡ 0) × (moved ≡ before))
     ⊎ (WritesSome world before line part ticks × (moved ≡ before))
-    ⊎ ((part ≡ []) × MovesSome world before line ticks moved)
+    ⊎ MovesSome world before line part ticks moved
 
 -- what opens or reads a file
 abbrev pub UsesFile : State → Asked → Type 0

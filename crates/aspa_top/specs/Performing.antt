@@ -10,6 +10,7 @@ use Rattle.report_text.specs.Reported.{AddsFront, AddsLines}
 use Rattle.script_lines.specs.declared.command.Command.{Command}
 use Rattle.script_lines.specs.declared.command.LineFault.{LineFault}
 use Rattle.script_lines.specs.Grammar.{IsReading}
+use Rattle.serve_lines.specs.Routers.{HasSentAll}
 use Rattle.stream_lines.specs.declared.stop.Stop.{Stop}
 use Rattle.stream_lines.specs.declared.stop.Stop.TheVariants as stops
 use Rattle.aspa_top.specs.declared.task.Task.{Task}
@@ -60,22 +61,25 @@ abbrev pub GoesSome : Working → Asked → Outside → Outside → Type 0
 GoesSome working asked old new = (world : World) → Tells old.files world → (state : State) → StandsFor old.files old.links working state
     → Went world state asked old new
 
--- a task on a feed made some of its moves, and the counter ticked at most as often as they may judge
+-- a task on connections made some of its moves, a part of its text was added, and the counter ticked at most as often as they may judge
 pub record Moved (world : World) (state : State) (task : Task) (old new : Outside) : Type 0 where
+  pub part : List ℕ
   pub after : State
-  pub moves : (ends : Ends) → ComesTo new.links ends → Moves (ending world ends) state task after
+  pub moves : (ends : Ends) → ComesTo new.links ends → Moves (ending world ends) state task part after
+  pub added : all_of new ≡ append_known (all_of old) part
   pub sent : FeedsMoved new.links.attempts new.links.wire (feeds_of after)
+  pub router : HasSentAll new.links.wire after.begun
   pub ticked : new.ticks - old.ticks ≤ after.judgements - state.judgements
 
 abbrev pub MovesPart : Working → Task → Outside → Outside → Type 0
 MovesPart working task old new = (world : World) (state : State) → StandsFor old.files old.links working state → Moved world state task old new
 
--- it did nothing, or added a front of its text, or made some moves on a feed
+-- it did nothing, or added a front of its text, or made some moves on connections
 abbrev pub GoesPart : Working → Asked → Outside → Outside → Type 0
 GoesPart working asked old new =
     ((new.links ≡ old.links) × (all_of new ≡ all_of old) × (new.ticks ≡ old.ticks))
     ⊎ ((new.links ≡ old.links) × GoesSome working asked old new)
-    ⊎ ((all_of new ≡ all_of old) × ((task : Task) × (asked ≡ Ok task) × MovesPart working task old new))
+    ⊎ ((task : Task) × (asked ≡ Ok task) × MovesPart working task old new)
 
 -- it opens or reads a file
 abbrev pub Uses : Working → Asked → Outside → Type 0

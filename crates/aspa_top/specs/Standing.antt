@@ -7,6 +7,8 @@ use Rattle.av_base.specs.declared.standing.Standing.{Standing}
 use Rattle.av_base.specs.Files.{Files}
 use Rattle.feed_lines.specs.Holding.{feed_in}
 use Rattle.feed_lines.specs.Holding.{HoldsOr as HoldsFeed, IsSound as FeedsAreSound}
+use Rattle.rtr_cache.specs.Cache.{Versions}
+use Rattle.serve_lines.specs.Routers.{NoneMore}
 use Rattle.stream_lines.specs.Held.{HeldDump}
 use Rattle.stream_lines.specs.Holding.{HoldsDump}
 use Rattle.stream_lines.specs.Streams.{Dump}
@@ -14,7 +16,7 @@ use Rattle.aspa_top.specs.declared.working.Working.{Working}
 use Rattle.aspa_top.specs.Bounds.{most}
 use Rattle.aspa_top.specs.Outside.{Outside}
 use Rattle.aspa_top.specs.Tasks.{State}
-use Rattle.aspa_top.specs.Working.{dump_in, has_source}
+use Rattle.aspa_top.specs.Working.{cache_in, dump_in, has_source}
 use Rattle.aspa_top.specs.World.{Links}
 
 abbrev pub HoldsOr : Option Files → Option HeldDump → Option Dump → Type 0
@@ -29,17 +31,21 @@ pub record StandsFor (files : Option Files) (links : Links) (working : Working) 
   pub sources : (name : List ℕ) → has_source working name ≡ state.sources name
   pub dumps : (name : List ℕ) → HoldsOr files (dump_in working name) (state.dumps name)
   pub feeds : (name : List ℕ) → HoldsFeed links.wire (feed_in working.feeds name) (state.feeds name)
+  pub caches : (session : ℕ) → cache_in working session ≡ state.caches session
+  pub begun : state.begun ≡ NoneMore
   pub made : (attempts : List Attempt) → links.attempts ≡ Some attempts → state.made ≡ length attempts
   pub lines : working.lines ≡ state.lines
   pub passed : working.passed ≡ state.passed
   pub refused : working.refused ≡ state.refused
 
--- Whatever the world: after so many lines each dump's file was opened, no two share one, and the counts are small.
+-- Whatever the world: after so many lines each dump's file was opened, no two share one, each cache has had an update a line at most, and the
+-- counts are small: of each unit of a line, two refusals at most.
 pub record IsSound (opened lines : ℕ) (working : Working) : Type 0 where
   pub given : (name : List ℕ) (dump : HeldDump) → dump_in working name ≡ Some dump → (dump.file < opened) × (dump.taken ≤ lines * most)
   pub apart : (one other : List ℕ) (a b : HeldDump) → one ≢ other → dump_in working one ≡ Some a → dump_in working other ≡ Some b → a.file ≢ b.file
   pub passed : working.passed ≤ lines * most
-  pub refused : working.refused ≤ lines * most
+  pub refused : working.refused ≤ lines * (2 * most)
+  pub caches : (session : ℕ) (cache : Versions) → cache_in working session ≡ Some cache → cache.current.serial < lines
 
 -- after so many lines each feed that goes on has a connection of its own that may be used, and hasn't taken too many PDUs
 abbrev pub AreSound : List Standing → ℕ → Working → Type 0

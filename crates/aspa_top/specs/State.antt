@@ -7,17 +7,22 @@ use Rattle.feed_lines.specs.Feeds.{Feed}
 use Rattle.report_text.specs.declared.cause.Cause.{Cause}
 use Rattle.report_text.specs.Refusals.{AnyPlace, refusal_text}
 use Rattle.rib_store.specs.State.{State as Analysis, no_state}
+use Rattle.rtr_cache.specs.Cache.{Versions}
+use Rattle.serve_lines.specs.Routers.{Begun, NoneMore}
 use Rattle.stream_lines.specs.Streams.{Dump}
 use Rattle.aspa_top.specs.World.{World}
 
 -- What some lines have left: the analysis, which names are those of attestation sources, of dumps and of feeds (none where a session is
--- over), how many attempts to connect were made, how many lines, passed units and refused lines there were, and how many judgements
--- they may have cost. A line of text that reports a feed's end counts as refused.
+-- over), the caches that were served, by session, how many attempts to connect and to accept were made, how many lines, passed units and
+-- refused lines there were, and how many judgements they may have cost; and, of a `serve` line that ended early, what its last attempt came
+-- to. A line of text that reports the end of a feed, or of a router, counts as refused.
 pub record State : Type 0 where
   pub analysis : Analysis
   pub sources : List ℕ → Bool
   pub dumps : List ℕ → Option Dump
   pub feeds : List ℕ → Option (Option Feed)
+  pub caches : ℕ → Option Versions
+  pub begun : Begun
   pub made : ℕ
   pub lines : ℕ
   pub passed : ℕ
@@ -31,6 +36,8 @@ start world = record {
   sources = λ name. false;
   dumps = λ name. None;
   feeds = λ name. None;
+  caches = λ session. None;
+  begun = NoneMore;
   made = world.made;
   lines = 0;
   passed = 0;

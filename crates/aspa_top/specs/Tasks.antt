@@ -34,9 +34,10 @@ use Rattle.aspa_top.specs.declared.loading.Outcome.TheVariants.{NoFile, Long as 
 use Rattle.aspa_top.specs.declared.task.Short.{Short as ShortTask}
 use Rattle.aspa_top.specs.declared.task.Short.TheVariants.{Idle, Happen, Judge}
 use Rattle.aspa_top.specs.declared.task.Task.{Task}
-use Rattle.aspa_top.specs.declared.task.Task.TheVariants.{Short, Load, Open, Take, Connect, OnFeed, Answer, Changes}
+use Rattle.aspa_top.specs.declared.task.Task.TheVariants.{Short, Load, Open, Take, Connect, OnFeed, Serve, Answer, Changes}
 use Rattle.aspa_top.specs.Answers.{Replies}
 use Rattle.aspa_top.specs.Loading.{ComesOf, unit_name}
+use Rattle.aspa_top.specs.Serving.{ServesTable, ServesTablePart}
 pub use Rattle.aspa_top.specs.State.{State, start, same_name, is_stream, Refuses}
 use Rattle.aspa_top.specs.World.{World}
 
@@ -242,6 +243,7 @@ DoesTask world state (Open kind name file) text next = Opens world state kind na
 DoesTask world state (Take name count) text next = Takes world state name count text next
 DoesTask world state (Connect name place) text next = Connects world state name place text next
 DoesTask world state (OnFeed name work) text next = Works world state name work text next
+DoesTask world state (Serve place session count) text next = ServesTable world state place session count text next
 DoesTask world state (Answer question) text next = Replies state question text next
 DoesTask world state Changes text next = ShowsChanges state text next
 
@@ -252,18 +254,19 @@ TaskUsesFile state (Open kind name file) = Unit {0}
 TaskUsesFile state (Take name count) = (dump : Dump) × (state.dumps name ≡ Some dump)
 TaskUsesFile state task = ⊥
 
--- ---- lines on feeds that ended early
+-- ---- lines on connections that ended early
 
 -- some first moves of a work on the feed of the name
 abbrev pub WorksPart : World → State → List ℕ → Work → State → Type 0
 WorksPart world state name work next = OnFeeds state (WorkPart world.ends (asking_on state name) work (feeds_of state)) next
 
--- What a line on a feed had done when it ended early, and wrote nothing.
-abbrev pub Moves : World → State → Task → State → Type 0
-Moves world state (Take name count) next = (state.dumps name ≡ None) × WorksPart world state name (TakePdus count) next
-Moves world state (Connect name place) next = OnFeeds state (ConnectPart world.ends (asking_on state name) place (feeds_of state)) next
-Moves world state (OnFeed name work) next = WorksPart world state name work next
-Moves world state task next = ⊥
+-- What a line on a feed, or one that serves routers, had done and written when it ended early. One on a feed wrote nothing.
+abbrev pub Moves : World → State → Task → List ℕ → State → Type 0
+Moves world state (Take name count) part next = (part ≡ []) × (state.dumps name ≡ None) × WorksPart world state name (TakePdus count) next
+Moves world state (Connect name place) part next = (part ≡ []) × OnFeeds state (ConnectPart world.ends (asking_on state name) place (feeds_of state)) next
+Moves world state (OnFeed name work) part next = (part ≡ []) × WorksPart world state name work next
+Moves world state (Serve place session count) part next = ServesTablePart world state place session count part next
+Moves world state task part next = ⊥
 
 -- ---- lines on dumps that ended early
 

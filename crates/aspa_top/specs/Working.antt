@@ -19,6 +19,7 @@ use Rattle.analyser.specs.Touched.{TicksWithin}
 use Rattle.report_text.specs.declared.cause.Cause.{Cause}
 use Rattle.report_text.specs.declared.cause.Cause.TheVariants as causes
 use Rattle.report_text.specs.Refusals.{AnyPlace, of_line, of_unit, refusal_text}
+use Rattle.rtr_cache.specs.Cache.{Versions}
 use Rattle.stream_lines.specs.Held.{HeldDump}
 use Rattle.aspa_top.specs.declared.loading.FileKind.{FileKind}
 use Rattle.aspa_top.specs.declared.loading.FileKind.TheVariants.{Payloads, PayloadLines, Slurm as SlurmFile}
@@ -31,6 +32,10 @@ use Rattle.aspa_top.specs.Tasks.{IsJudged, same_name}
 -- the dump that is open under a name
 abbrev pub dump_in : Working → List ℕ → Option HeldDump
 dump_in working name = get (slice_cmp nat_cmp) working.dumps name
+
+-- the cache of a session
+abbrev pub cache_in : Working → ℕ → Option Versions
+cache_in working session = get nat_cmp working.caches session
 
 -- whether a source has the name
 abbrev pub has_source : Working → List ℕ → Bool
@@ -116,6 +121,7 @@ counted_in working = record working { lines = working.lines + 1 }
 -- the streams stayed, and at most one refusal was counted
 pub record KeepsStreams (working next : Working) : Type 0 where
   pub feeds : next.feeds ≡ working.feeds
+  pub caches : next.caches ≡ working.caches
   pub dumps : (name : List ℕ) → dump_in next name ≡ dump_in working name
   pub lines : next.lines ≡ working.lines
   pub passed : next.passed ≡ working.passed
