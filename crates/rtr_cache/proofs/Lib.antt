@@ -9,4 +9,5 @@ pub mod TellingLemmas
 pub mod UniqueLemmas
 pub mod UnitLemmas
 pub mod UpdatingLemmas
+pub mod VersionLemmas
 pub mod VisitLemmas
