@@ -6,13 +6,14 @@ use Rattle.std.specs.Io.KnownBytes.{append_known}
 use Rattle.av_base.specs.Connections.{Agrees, Attempt, Link}
 use Rattle.av_base.specs.Files.{Files}
 use Rattle.av_base.proofs.ToldLemmas.{append_known-nil}
-use Rattle.feed_lines.specs.Holding.{HasMoved as FeedsMoved}
 use Rattle.connection_calls.specs.World.{World as Ends}
 use Rattle.connection_calls.proofs.GoingLemmas.{ComesTo-earlier, ComesTo-now}
 use Rattle.feed_lines.proofs.NamedLemmas.{holds_moved}
 use Rattle.script_lines.specs.declared.command.Command.{Command}
 use Rattle.script_lines.specs.declared.command.LineFault.{LineFault}
 use Rattle.script_lines.specs.Grammar.{IsReading}
+use Rattle.serve_lines.specs.Routers.{Begun, HasSentAll}
+use Rattle.aspa_top.specs.Moving.{HaveMoved}
 use Rattle.aspa_top.specs.declared.task.Task.{Task}
 use Rattle.aspa_top.specs.declared.working.Working.{Working}
 use Rattle.aspa_top.specs.Bounds.{most}
@@ -42,9 +43,11 @@ earlier on ends comes = ComesTo-earlier on.attempts on.wire ends comes
 
 -- as many attempts were made as the state says, and such bytes sent
 pub stands_moved : (now : Outside) (working : Working) (state : State) → Agrees now.links.wire now.standings → IsReady now working
-    → StandsFor now.files now.links working state → FeedsMoved now.links.attempts now.links.wire (feeds_of state)
-stands_moved now working state agrees ready stands =
-    holds_moved now.links.wire now.standings agrees (working.lines * most) now.links.attempts working.feeds (feeds_of state) ready.feeds (record { made = stands.made; each = stands.feeds })
+    → StandsFor now.files now.links working state → HaveMoved now.links.attempts now.links.wire state
+stands_moved now working state agrees ready stands = record {
+  feeds = holds_moved now.links.wire now.standings agrees (working.lines * most) now.links.attempts working.feeds (feeds_of state) ready.feeds (record { made = stands.made; each = stands.feeds });
+  router = subst (λ (b : Begun). HasSentAll now.links.wire b) (sym stands.begun) tt;
+}
 
 -- where the run ends, its world's ends are what the links tell
 pub comes_here : (files : Option Files) (before after : Links) (world : World) → Meets files before after world → ComesTo after world.ends
@@ -52,10 +55,10 @@ comes_here files before after world meets =
     subst (λ (attempts : Option (List Attempt)). ComesTo (record { attempts = attempts; wire = after.wire }) world.ends) (sym meets.attempts)
     (subst (λ (wire : Option (List Link)). ComesTo (record { attempts = world.ends.attempts; wire = wire }) world.ends) (sym meets.wire) (ComesTo-now world.ends.attempts world.ends.links))
 
-pub moved_here : (files : Option Files) (before after : Links) (world : World) (state : State) → Meets files before after world → FeedsMoved after.attempts after.wire (feeds_of state) → HasMoved world state
+pub moved_here : (files : Option Files) (before after : Links) (world : World) (state : State) → Meets files before after world → HaveMoved after.attempts after.wire state → HasMoved world state
 moved_here files before after world state meets moved =
-    subst (λ (attempts : Option (List Attempt)). FeedsMoved attempts (Some world.ends.links) (feeds_of state)) meets.attempts
-    (subst (λ (wire : Option (List Link)). FeedsMoved after.attempts wire (feeds_of state)) meets.wire moved)
+    subst (λ (attempts : Option (List Attempt)). HaveMoved attempts (Some world.ends.links) state) meets.attempts
+    (subst (λ (wire : Option (List Link)). HaveMoved after.attempts wire state) meets.wire moved)
 
 -- ---- one line
 
@@ -64,26 +67,26 @@ pub record BeginsBy (world : World) (state : State) (line : List ℕ) (old new :
   pub part : List ℕ
   pub moved : State
   pub begins : (ends : Ends) → ComesTo new.links ends → Begins (ending world ends) state line part (new.ticks - old.ticks) moved
-  pub sent : FeedsMoved new.links.attempts new.links.wire (feeds_of moved)
+  pub sent : HaveMoved new.links.attempts new.links.wire moved
   pub added : all_of new ≡ append_known (all_of old) part
 
 -- only a command has a task that moves
-moves_some : (world : World) (state : State) (line : List ℕ) (reading : Result Command LineFault) (task : Task) (ticks : ℕ) (after : State) → IsReading line reading → asked_of reading ≡ Ok task
-    → Moves world (counted state) task after → ticks ≤ after.judgements - state.judgements → MovesSome world state line ticks after
-moves_some world state line (Ok command) task ticks after reads is moves judged =
+moves_some : (world : World) (state : State) (line part : List ℕ) (reading : Result Command LineFault) (task : Task) (ticks : ℕ) (after : State) → IsReading line reading → asked_of reading ≡ Ok task
+    → Moves world (counted state) task part after → ticks ≤ after.judgements - state.judgements → MovesSome world state line part ticks after
+moves_some world state line part (Ok command) task ticks after reads is moves judged =
     let same : task_of command ≡ task = cc in
-    record { command = command; reads = reads; moves = subst (λ (t : Task). Moves world (counted state) t after) (sym same) moves; judged = judged }
-moves_some world state line (Err fault) task ticks after reads is moves judged = let none : ⊥ = cc in absurd none
+    record { command = command; reads = reads; moves = subst (λ (t : Task). Moves world (counted state) t part after) (sym same) moves; judged = judged }
+moves_some world state line part (Err fault) task ticks after reads is moves judged = let none : ⊥ = cc in absurd none
 
 pub begins_by : (world : World) (working : Working) (state : State) (line : List ℕ) (reading : Result Command LineFault) (old new : Outside) → IsReading line reading
-    → Tells old.files world → StandsFor old.files old.links working state → FeedsMoved old.links.attempts old.links.wire (feeds_of state)
+    → Tells old.files world → StandsFor old.files old.links working state → HaveMoved old.links.attempts old.links.wire state
     → GoesPart (counted_in working) (asked_of reading) old new → BeginsBy world state line old new
 begins_by world working state line reading old new reads tells stands moved part = elim part [
   | inl nothing ↦ record {
     part = [];
     moved = state;
     begins = λ ends comes. inl (refl, omega (arith, nothing.2), refl);
-    sent = subst (λ (links : Links). FeedsMoved links.attempts links.wire (feeds_of state)) (sym nothing.0) moved;
+    sent = subst (λ (links : Links). HaveMoved links.attempts links.wire state) (sym nothing.0) moved;
     added = nothing.1 ∙ sym (append_known-nil (all_of old));
   }
   | inr more ↦ elim more [
@@ -104,17 +107,17 @@ begins_by world working state line reading old new reads tells stands moved part
             },
             refl,
           ));
-          sent = subst (λ (links : Links). FeedsMoved links.attempts links.wire (feeds_of state)) (sym writes.0) moved;
+          sent = subst (λ (links : Links). HaveMoved links.attempts links.wire state) (sym writes.0) moved;
           added = went.added;
         }
     | inr moves ↦
-        let went = moves.1.2 world (counted state) (counted_stands old.files old.links working state stands) in
+        let went = moves.2 world (counted state) (counted_stands old.files old.links working state stands) in
         record {
-          part = [];
+          part = went.part;
           moved = went.after;
-          begins = λ ends comes. inr (inr (refl, moves_some (ending world ends) state line reading moves.1.0 (new.ticks - old.ticks) went.after reads moves.1.1 (went.moves ends comes) went.ticked));
+          begins = λ ends comes. inr (inr (moves_some (ending world ends) state line went.part reading moves.0 (new.ticks - old.ticks) went.after reads moves.1 (went.moves ends comes) went.ticked));
           sent = went.sent;
-          added = moves.0 ∙ sym (append_known-nil (all_of old));
+          added = went.added;
         }
   ]
 ]

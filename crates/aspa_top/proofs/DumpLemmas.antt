@@ -34,7 +34,7 @@ use Rattle.aspa_top.specs.Outside.{Outside, all_of}
 use Rattle.aspa_top.specs.Performing.{Done, EndedEarly, GoesSome, IsStoppedBy}
 use Rattle.aspa_top.specs.Standing.{IsBegun, StandsFor}
 use Rattle.aspa_top.specs.Tasks.{State, OpensNamed, Takes, TakesNamed, TakesOpen, is_stream, new_dump, with_dump, same_name, taking_of, after_taking}
-use Rattle.aspa_top.specs.Working.{NamesDump, dump_in, has_source, has_stream}
+use Rattle.aspa_top.specs.Working.{NamesDump, cache_in, dump_in, has_source, has_stream}
 use Rattle.aspa_top.specs.World.{Links, World, ending, names_of}
 use Rattle.aspa_top.proofs.DidLemmas.{done_refused, some_done}
 use Rattle.aspa_top.proofs.ReadyLemmas.{IsSound-put, feeds_kept}
@@ -106,6 +106,8 @@ module _ (working next : Working) (kind : DumpKind) (name file : List ℕ) (old 
                   dumps = λ q. rw (names.dumps q) (HoldsOr-put (same_name name q) files kept (new_dump kind opens.bytes) (dump_in working q) (state.dumps q)
                       (rw is_new (record { over = refl; taken = refl; left = λ yet. ap (prepend_known []) (left ∙ bytes); known = λ yet. refl })) (λ other. stayed.dumps q));
                   feeds = subst (λ (held : Feeds). (q : List ℕ) → HoldsFeed old.links.wire (feed_in held q) (state.feeds q)) (sym (ap (λ (w : Working). w.feeds) is)) stayed.feeds;
+                  caches = λ q. ap (λ (w : Working). cache_in w q) is ∙ stayed.caches q;
+                  begun = stayed.begun;
                   made = stayed.made;
                   lines = lines ∙ stands.lines;
                   passed = passed ∙ stands.passed;
@@ -212,6 +214,8 @@ module _ (working : Working) (name : List ℕ) (count : ℕ) (before after : Hel
                 dumps = λ q. rw (dumps q) (HoldsOr-put (same_name name q) files after done.0.dump (dump_in working q) (state.dumps q) done.1.holds
                     (λ other. HoldsOr-leaves old.files files (dump_in working q) (state.dumps q) (λ d e. leaves.files d.file (λ equal. begun.sound.apart name q before d (differ name q other) here e (sym equal))) (stands.dumps q)));
                 feeds = subst (λ (held : Feeds). (q : List ℕ) → HoldsFeed old.links.wire (feed_in held q) (state.feeds q)) (sym (ap (λ (w : Working). w.feeds) is)) stands.feeds;
+                caches = λ q. ap (λ (w : Working). cache_in w q) is ∙ stands.caches q;
+                begun = stands.begun;
                 made = stands.made;
                 lines = lines ∙ stands.lines;
                 passed = passed ∙ done.1.passed;

@@ -99,8 +99,11 @@ WentThrough-start files links connections told lines old ticks =
       moved = start world;
       begins = begins_none world (start world) lines;
       sent = record {
-        made = λ now is. ap count_of is;
-        sent = λ name feed is. let none : ⊥ = cc in absurd none;
+        feeds = record {
+          made = λ now is. ap count_of is;
+          sent = λ name feed is. let none : ⊥ = cc in absurd none;
+        };
+        router = tt;
       };
       written = AppendsFront-start old [];
       ticked = omega arith;

@@ -7,11 +7,11 @@ use Rattle.av_base.specs.Files.{Files}
 use Rattle.av_base.specs.Told.{AppendsFront, Grows, Rose}
 use Rattle.av_base.proofs.ToldLemmas.{append_known-nil, append_known-append}
 use Rattle.av_base.proofs.PouringLemmas.{Grows-refl, written_front, written_part}
-use Rattle.feed_lines.specs.Holding.{HasMoved as FeedsMoved}
 use Rattle.connection_calls.specs.World.{World as Ends}
 use Rattle.stream_lines.specs.declared.stop.Stop.{Stop}
 use Rattle.stream_lines.specs.declared.stop.Stop.TheVariants as stops
 use Rattle.stream_lines.specs.Counts.{refusals_in}
+use Rattle.aspa_top.specs.Moving.{HaveMoved}
 use Rattle.aspa_top.specs.declared.working.Working.{Working}
 use Rattle.aspa_top.specs.Tasks.{State, feeds_of, start}
 use Rattle.aspa_top.specs.Evaluated.{EvaluatedIn, Poured}
@@ -62,7 +62,7 @@ record Reached (world : World) (lines : List (List ℕ)) (begun now : Outside) :
   ticks : ℕ
   moved : State
   begins : (ends : Ends) → ComesTo now.links ends → BeginsNext (ending world ends) state left part ticks moved
-  sent : FeedsMoved now.links.attempts now.links.wire (feeds_of moved)
+  sent : HaveMoved now.links.attempts now.links.wire moved
   added : all_of now ≡ append_known begun.written (text ++ part)
   ticked : now.ticks ≤ begun.ticks + state.judgements + ticks
 
@@ -78,7 +78,7 @@ module _ (world : World) (lines : List (List ℕ)) (begun : Outside) where
     evaluates = λ ends comes. (refl, refl);
     added = ap (append_known begun.written) none;
     stands = stands;
-    moved = record { made = stands.made; sent = λ name feed is. let no_feed : ⊥ = cc in absurd no_feed };
+    moved = record { feeds = record { made = stands.made; sent = λ name feed is. let no_feed : ⊥ = cc in absurd no_feed }; router = tt };
     ticked = omega arith;
   }
 
@@ -215,7 +215,7 @@ module _ (world : World) (lines : List (List ℕ)) (begun : Outside) where
     ticks = 0;
     moved = start world;
     begins = λ ends comes. begins_none (ending world ends) (start world) lines;
-    sent = record { made = begins; sent = λ name feed is. let no_feed : ⊥ = cc in absurd no_feed };
+    sent = record { feeds = record { made = begins; sent = λ name feed is. let no_feed : ⊥ = cc in absurd no_feed }; router = tt };
     added = ap (append_known begun.written) none;
     ticked = omega arith;
   }

@@ -103,6 +103,8 @@ module _ (working : Working) (old : Outside) (begun : IsBegun old working) where
             sources = stands.sources;
             dumps = stands.dumps;
             feeds = stands.feeds;
+            caches = stands.caches;
+            begun = stands.begun;
             made = stands.made;
             lines = stands.lines;
             passed = stands.passed;

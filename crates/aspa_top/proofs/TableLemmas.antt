@@ -152,6 +152,8 @@ module _ (working : Working) (kind : FileKind) (file : List ℕ) (old : Outside)
                 sources = named_after kind holds.mid next state holds.names (λ q. ap (λ (w : Working). has_source w q) mid_is ∙ stands.sources q);
                 dumps = λ q. subst (λ (d : Option HeldDump). HoldsOr files d (state.dumps q)) (sym (keeps.dumps q)) (stayed.dumps q);
                 feeds = subst (λ (held : Feeds). (q : List ℕ) → HoldsFeed old.links.wire (feed_in held q) (state.feeds q)) (sym keeps.feeds) stayed.feeds;
+                caches = λ q. keeps.caches q ∙ stayed.caches q;
+                begun = stayed.begun;
                 made = stayed.made;
                 lines = keeps.lines ∙ stands.lines;
                 passed = keeps.passed ∙ stands.passed;

@@ -6,6 +6,7 @@ pub mod Laws
 pub mod Lines
 pub mod Loading
 pub mod LoadingSteps
+pub mod Moving
 pub mod Outside
 pub mod Performing
 pub mod Program

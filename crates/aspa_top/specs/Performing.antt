@@ -4,13 +4,11 @@ use Rattle.std.specs.declared.result.Result.{Result}
 use Rattle.std.specs.declared.result.Result.TheVariants.{Ok, Err}
 use Rattle.std.specs.Io.KnownBytes.{append_known}
 use Rattle.av_base.specs.Told.{Rose}
-use Rattle.feed_lines.specs.Holding.{HasMoved as FeedsMoved}
 use Rattle.connection_calls.specs.World.{World as Ends}
 use Rattle.report_text.specs.Reported.{AddsFront, AddsLines}
 use Rattle.script_lines.specs.declared.command.Command.{Command}
 use Rattle.script_lines.specs.declared.command.LineFault.{LineFault}
 use Rattle.script_lines.specs.Grammar.{IsReading}
-use Rattle.serve_lines.specs.Routers.{HasSentAll}
 use Rattle.stream_lines.specs.declared.stop.Stop.{Stop}
 use Rattle.stream_lines.specs.declared.stop.Stop.TheVariants as stops
 use Rattle.aspa_top.specs.declared.task.Task.{Task}
@@ -18,7 +16,8 @@ use Rattle.aspa_top.specs.declared.working.Working.{Working}
 use Rattle.aspa_top.specs.Evaluation.{Asked, CostsWhatItCameTo, DoesAsked, Evaluates, UsesFile, asked_of}
 use Rattle.aspa_top.specs.Outside.{Outside, all_of}
 use Rattle.aspa_top.specs.Standing.{IsReady, StandsFor}
-use Rattle.aspa_top.specs.Tasks.{State, Moves, feeds_of, start}
+use Rattle.aspa_top.specs.Moving.{HaveMoved}
+use Rattle.aspa_top.specs.Tasks.{State, Moves, start}
 use Rattle.aspa_top.specs.Working.{counted_in}
 use Rattle.aspa_top.specs.World.{ComesTo, World, Tells, ending}
 
@@ -67,8 +66,7 @@ pub record Moved (world : World) (state : State) (task : Task) (old new : Outsid
   pub after : State
   pub moves : (ends : Ends) → ComesTo new.links ends → Moves (ending world ends) state task part after
   pub added : all_of new ≡ append_known (all_of old) part
-  pub sent : FeedsMoved new.links.attempts new.links.wire (feeds_of after)
-  pub router : HasSentAll new.links.wire after.begun
+  pub sent : HaveMoved new.links.attempts new.links.wire after
   pub ticked : new.ticks - old.ticks ≤ after.judgements - state.judgements
 
 abbrev pub MovesPart : Working → Task → Outside → Outside → Type 0
@@ -121,5 +119,5 @@ pub record Performing (world : World) (lines left : List (List ℕ)) (begun now 
   pub evaluates : (ends : Ends) → ComesTo now.links ends → Evaluates (ending world ends) (start world) done text state
   pub added : all_of now ≡ append_known begun.written text
   pub stands : StandsFor now.files now.links working state
-  pub moved : FeedsMoved now.links.attempts now.links.wire (feeds_of state)
+  pub moved : HaveMoved now.links.attempts now.links.wire state
   pub ticked : now.ticks ≤ begun.ticks + state.judgements

@@ -8,16 +8,15 @@ use Rattle.av_text.specs.Number.{IsNumber}
 use Rattle.stated_workload.specs.Text as demo
 use Rattle.av_base.specs.Connections.{Attempt}
 use Rattle.av_base.specs.Files.{Files}
-use Rattle.feed_lines.specs.Holding.{HasMoved as FeedsMoved}
 use Rattle.av_base.specs.Told.{AppendsFront, AppendsPart}
 use Rattle.script_lines.specs.declared.command.Command.{Command}
 use Rattle.script_lines.specs.declared.command.LineFault.{LineFault}
 use Rattle.aspa_top.specs.Lines.{performed}
 use Rattle.script_lines.specs.Grammar.{IsReading}
 use Rattle.aspa_top.specs.World.{Links, World, world_of}
-use Rattle.serve_lines.specs.Routers.{HasSentAll}
 use Rattle.stream_lines.specs.Counts.{refusals_in}
-use Rattle.aspa_top.specs.Tasks.{State, feeds_of, start}
+use Rattle.aspa_top.specs.Moving.{HaveMoved}
+use Rattle.aspa_top.specs.Tasks.{State, start}
 use Rattle.aspa_top.specs.Evaluation.{Evaluates, Begins, UsesFile, asked_of, counted}
 
 -- The forms of words that the program is called with: `run` performs a script,
@@ -39,11 +38,9 @@ abbrev pub BeginsNext : World → State → List (List ℕ) → List ℕ → ℕ
 BeginsNext world state [] part ticks moved = (part ≡ []) × (ticks ≡ 0) × (moved ≡ state)
 BeginsNext world state (line ∷ more) part ticks moved = Begins world state line part ticks moved
 
--- As many attempts were made as in this state. These bytes were sent on the connections of the feeds that go on, none of which is closed or
--- broken, and to the router that is served still, if one is.
-pub record HasMoved (world : World) (state : State) : Type 0 where
-  pub feeds : FeedsMoved world.ends.attempts (Some world.ends.links) (feeds_of state)
-  pub router : HasSentAll (Some world.ends.links) state.begun
+-- where the run ends, as many attempts were made and such bytes sent
+abbrev pub HasMoved : World → State → Type 0
+HasMoved world state = HaveMoved world.ends.attempts (Some world.ends.links) state
 
 -- Some first lines were evaluated, and the next went some way, with this said of their text; as many attempts were made, and such bytes
 -- were sent. The counter ticked at most as often as the first lines may judge, and the next one on its way.

@@ -121,7 +121,7 @@ counted_in working = record working { lines = working.lines + 1 }
 -- the streams stayed, and at most one refusal was counted
 pub record KeepsStreams (working next : Working) : Type 0 where
   pub feeds : next.feeds ≡ working.feeds
-  pub caches : next.caches ≡ working.caches
+  pub caches : (session : ℕ) → cache_in next session ≡ cache_in working session
   pub dumps : (name : List ℕ) → dump_in next name ≡ dump_in working name
   pub lines : next.lines ≡ working.lines
   pub passed : next.passed ≡ working.passed
