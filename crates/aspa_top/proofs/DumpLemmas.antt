@@ -37,7 +37,7 @@ use Rattle.aspa_top.specs.Tasks.{State, OpensNamed, Takes, TakesNamed, TakesOpen
 use Rattle.aspa_top.specs.Working.{NamesDump, cache_in, dump_in, has_source, has_stream}
 use Rattle.aspa_top.specs.World.{Links, World, ending, names_of}
 use Rattle.aspa_top.proofs.DidLemmas.{done_refused, some_done}
-use Rattle.aspa_top.proofs.ReadyLemmas.{IsSound-put, feeds_kept}
+use Rattle.aspa_top.proofs.ReadyLemmas.{IsSound-put, caches_kept, feeds_kept}
 use Rattle.aspa_top.proofs.ReportingLemmas.{front_none, text_none}
 use Rattle.aspa_top.proofs.StandsLemmas.{HoldsOr-leaves, HoldsOr-some, HoldsOr-put, StandsFor-leaves, differ, same_stream}
 
@@ -119,6 +119,7 @@ module _ (working next : Working) (kind : DumpKind) (name file : List ℕ) (old 
             sound = IsSound-put old.opened opened (working.lines - 1) next.lines name kept working next (omega (arith, lines, begun.counted)) (omega (arith, opens.count)) begun.sound names.dumps
                 (omega (arith, opens.count, opens.number, own)) (omega (arith, taken))
                 (λ q d other there equal. let below = (begun.sound.given q d there).0 in omega (arith, below, equal, opens.number, own)) (omega (arith, passed)) (omega (arith, refused));
+            caches = caches_kept (working.lines - 1) next.lines working next (omega (arith, lines)) (λ q. ap (λ (w : Working). cache_in w q) is) begun.caches;
             feeds = feeds_kept old.standings (working.lines - 1) next.lines working next (omega (arith, lines)) (ap (λ (w : Working). w.feeds) is) begun.feeds;
           };
           lines = lines;
@@ -228,6 +229,7 @@ module _ (working : Working) (name : List ℕ) (count : ℕ) (before after : Hel
               (omega (arith, given.0, file, same)) (omega (arith, given.1, grew.taken, few, lines, begun.counted))
               (λ q d other there equal. begun.sound.apart name q before d other here there (sym file ∙ equal))
               (omega (arith, grew.passed, few, passed, passed_at)) (omega (arith, grew.refused, few, refused, refused_at));
+          caches = caches_kept (working.lines - 1) next.lines working next (omega (arith, lines)) (λ q. ap (λ (w : Working). cache_in w q) is) begun.caches;
           feeds = feeds_kept old.standings (working.lines - 1) next.lines working next (omega (arith, lines)) (ap (λ (w : Working). w.feeds) is) begun.feeds;
         };
         lines = lines;

@@ -21,6 +21,7 @@ use Rattle.stream_lines.specs.declared.stop.Stop.{Stop}
 use Rattle.stream_lines.specs.declared.stop.Stop.TheVariants as stops
 use Rattle.stream_lines.specs.Streams.{Dump}
 use Rattle.stream_lines.proofs.FrameLemmas.{Leaves-refl}
+use Rattle.serve_lines.specs.Routers.{Begun, HasSentAll}
 use Rattle.aspa_top.specs.declared.task.Task.{Task}
 use Rattle.aspa_top.specs.declared.task.Task.TheVariants.{Connect, OnFeed, Take}
 use Rattle.aspa_top.specs.declared.working.Working.{Working}
@@ -30,10 +31,10 @@ use Rattle.aspa_top.specs.Performing.{Did, Done, EndedEarly, GoesPart, IsStopped
 use Rattle.aspa_top.specs.Reporting.{AddsEnds}
 use Rattle.aspa_top.specs.Standing.{IsBegun, IsReady, StandsFor}
 use Rattle.aspa_top.specs.Tasks.{State, ConnectsUnless, TakesNamed, asking_on, feeds_of, with_feeds}
-use Rattle.aspa_top.specs.Working.{dump_in, has_source}
+use Rattle.aspa_top.specs.Working.{cache_in, dump_in, has_source}
 use Rattle.aspa_top.specs.World.{Links, ending}
 use Rattle.aspa_top.proofs.DidLemmas.{done_refused}
-use Rattle.aspa_top.proofs.ReadyLemmas.{IsSound-kept}
+use Rattle.aspa_top.proofs.ReadyLemmas.{IsSound-kept, caches_kept}
 use Rattle.aspa_top.proofs.ReportingLemmas.{front_none}
 use Rattle.aspa_top.proofs.StandsLemmas.{HoldsOr-is_some, HoldsOr-none, added_text}
 
@@ -43,6 +44,10 @@ use Rattle.aspa_top.proofs.StandsLemmas.{HoldsOr-is_some, HoldsOr-none, added_te
 asks_for : (files : Option Files) (links : Links) (working : Working) (state : State) (name : List ℕ) (asking : FeedAsking) → asking ≡ record { line = working.lines; name = name }
     → StandsFor files links working state → asking ≡ asking_on state name
 asks_for files links working state name asking asks stands = asks ∙ (λ i. record { line = stands.lines i; name = name })
+
+-- between two lines no router is served
+no_router : (wire : Option (List Link)) (old : Outside) {working : Working} (state : State) → StandsFor old.files old.links working state → HasSentAll wire state.begun
+no_router wire old state stands = subst (λ (b : Begun). HasSentAll wire b) (sym stands.begun) tt
 
 module _ (working : Working) (name : List ℕ) (old : Outside) (links : Links) (standings : List Standing) (faults : ℕ) (held : List ℕ) (ticks : ℕ) (progress : Progress) (asking : FeedAsking)
     (begun : IsBegun old working) (starts : progress ≡ record { analyser = working.analyser; refused = working.refused }) (asks : asking ≡ record { line = working.lines; name = name }) where
@@ -63,6 +68,8 @@ module _ (working : Working) (name : List ℕ) (old : Outside) (links : Links) (
     sources = stands.sources;
     dumps = stands.dumps;
     feeds = holds.held.each;
+    caches = stands.caches;
+    begun = stands.begun;
     made = holds.held.made;
     lines = stands.lines;
     passed = stands.passed;
@@ -80,6 +87,7 @@ module _ (working : Working) (name : List ℕ) (old : Outside) (links : Links) (
       record {
         sound = IsSound-kept old.opened old.opened (working.lines - 1) next.lines working next (omega (arith, lines, begun.counted)) (omega arith) begun.sound
             (λ q. ap (λ (w : Working). dump_in w q) is) (omega (arith, passed)) (omega (arith, refused, few, before));
+        caches = caches_kept (working.lines - 1) next.lines working next (omega (arith, lines)) (λ q. ap (λ (w : Working). cache_in w q) is) begun.caches;
         feeds = subst (λ (f : Feeds). FeedsAreSound standings (next.lines * most) f) (sym (ap (λ (w : Working). w.feeds) is)) sound;
       }
 
@@ -122,20 +130,19 @@ module _ (working : Working) (name : List ℕ) (old : Outside) (links : Links) (
         → EndedEarly working (Ok (Connect name place)) old (record old { links = links; standings = standings; link_faults = faults; held = held; ticks = ticks }) stops.NoMemory
     connect_stopped goes silent unticked later = record {
       part = inr (inr (
-        ap (append_known old.written) silent,
-        (
-          Connect name place,
-          refl,
-          λ world state stands.
-              let did = goes.goes (feeds_of state) (feeds_held state stands) in
-              let asks_same = asks_for old.files old.links working state name asking asks stands in
-              record {
+        Connect name place,
+        refl,
+        λ world state stands.
+            let did = goes.goes (feeds_of state) (feeds_held state stands) in
+            let asks_same = asks_for old.files old.links working state name asking asks stands in
+            record {
+                part = [];
                 after = with_feeds state did.0;
-                moves = λ ends comes. record { after = did.0; does = subst (λ (a : FeedAsking). ConnectPart ends a place (feeds_of state) did.0) asks_same (did.2 ends comes); left = refl };
-                sent = did.1.0;
+                moves = λ ends comes. (refl, record { after = did.0; does = subst (λ (a : FeedAsking). ConnectPart ends a place (feeds_of state) did.0) asks_same (did.2 ends comes); left = refl });
+                added = ap (append_known old.written) silent ∙ sym (append_known-nil (all_of old));
+                sent = record { feeds = did.1.0; router = no_router links.wire old state stands };
                 ticked = omega (arith, unticked);
               },
-        ),
       ));
       adds = front_none (all_of old) (append_known old.written held) old.link_faults faults later (ap (append_known old.written) silent);
       cause = tt;
@@ -174,20 +181,19 @@ module _ (working : Working) (name : List ℕ) (old : Outside) (links : Links) (
         → EndedEarly working (Ok (OnFeed name work)) old (record old { links = links; standings = standings; link_faults = faults; held = held; ticks = ticks }) stops.NoMemory
     work_stopped goes silent later = record {
       part = inr (inr (
-        ap (append_known old.written) silent,
-        (
-          OnFeed name work,
-          refl,
-          λ world state stands.
-              let did = goes.goes (feeds_of state) (feeds_held state stands) in
-              let asks_same = asks_for old.files old.links working state name asking asks stands in
-              record {
+        OnFeed name work,
+        refl,
+        λ world state stands.
+            let did = goes.goes (feeds_of state) (feeds_held state stands) in
+            let asks_same = asks_for old.files old.links working state name asking asks stands in
+            record {
+                part = [];
                 after = with_feeds state did.0;
-                moves = λ ends comes. record { after = did.0; does = subst (λ (a : FeedAsking). WorkPart ends a work (feeds_of state) did.0) asks_same (did.2 ends comes); left = refl };
-                sent = did.1.0;
+                moves = λ ends comes. (refl, record { after = did.0; does = subst (λ (a : FeedAsking). WorkPart ends a work (feeds_of state) did.0) asks_same (did.2 ends comes); left = refl });
+                added = ap (append_known old.written) silent ∙ sym (append_known-nil (all_of old));
+                sent = record { feeds = did.1.0; router = no_router links.wire old state stands };
                 ticked = omega (arith, did.1.1);
               },
-        ),
       ));
       adds = front_none (all_of old) (append_known old.written held) old.link_faults faults later (ap (append_known old.written) silent);
       cause = tt;
@@ -249,15 +255,19 @@ module _ (working : Working) (name : List ℕ) (count : ℕ) (old new : Outside)
               },
         ))
         | inr moves ↦ inr (inr (
-          moves.0,
-          (
-            Take name count,
-            refl,
-            λ world state stands.
-                let is : moves.1.0 ≡ OnFeed name (TakePdus count) = let same = moves.1.1 in cc in
-                let went = (subst (λ (task : Task). MovesPart working task old new) is moves.1.2) world state stands in
-                record { after = went.after; moves = λ ends comes. (no_dump state stands, went.moves ends comes); sent = went.sent; ticked = went.ticked },
-          ),
+          Take name count,
+          refl,
+          λ world state stands.
+              let is : moves.0 ≡ OnFeed name (TakePdus count) = let same = moves.1 in cc in
+              let went = (subst (λ (task : Task). MovesPart working task old new) is moves.2) world state stands in
+              record {
+                part = went.part;
+                after = went.after;
+                moves = λ ends comes. let some = went.moves ends comes in (some.0, no_dump state stands, some.1);
+                added = went.added;
+                sent = went.sent;
+                ticked = went.ticked;
+              },
         ))
       ]
     ]

@@ -8,16 +8,16 @@ use Rattle.stream_lines.specs.Held.{HeldDump}
 use Rattle.aspa_top.specs.declared.working.Working.{Working}
 use Rattle.aspa_top.specs.Bounds.{most}
 use Rattle.aspa_top.specs.Outside.{Outside}
-use Rattle.aspa_top.specs.Standing.{AreSound, IsBegun, IsReady, IsSound}
+use Rattle.aspa_top.specs.Standing.{AreFewUpdates, AreSound, IsBegun, IsReady, IsSound}
 use Rattle.aspa_top.specs.Tasks.{same_name}
-use Rattle.aspa_top.specs.Working.{KeepsStreams, counted_in, dump_in}
+use Rattle.aspa_top.specs.Working.{KeepsStreams, cache_in, counted_in, dump_in}
 use Rattle.aspa_top.proofs.StandsLemmas.{differ, is_same}
 
 -- ---- dumps
 
 -- no dump changed
 pub IsSound-kept : (opened more fewer lines : ℕ) (working next : Working) → fewer + 1 ≤ lines → opened ≤ more → IsSound opened fewer working
-    → ((q : List ℕ) → dump_in next q ≡ dump_in working q) → next.passed ≤ working.passed + most → next.refused ≤ working.refused + most
+    → ((q : List ℕ) → dump_in next q ≡ dump_in working q) → next.passed ≤ working.passed + most → next.refused ≤ working.refused + 2 * most
     → IsSound more lines next
 IsSound-kept opened more fewer lines working next later within sound dumps passed refused = record {
   given = λ n d e. let g = sound.given n d (sym (dumps n) ∙ e) in (omega (arith, g.0, within), omega (arith, g.1, later));
@@ -48,7 +48,7 @@ module _ (opened more fewer lines : ℕ) (name : List ℕ) (new : HeldDump) (wor
   apart_put a b d e apart (inr x) (inl y) = λ same. others a d (differ name a x.0) x.1 (ap (λ (o : HeldDump). o.file) y.1 ∙ sym same)
   apart_put a b d e apart (inr x) (inr y) = sound.apart a b d e apart x.1 y.1
 
-  pub IsSound-put : next.passed ≤ working.passed + most → next.refused ≤ working.refused + most → IsSound more lines next
+  pub IsSound-put : next.passed ≤ working.passed + most → next.refused ≤ working.refused + 2 * most → IsSound more lines next
   IsSound-put passed refused = record {
     given = λ q d e. given_put q d (found_put (same_name name q) new d (dump_in working q) (sym (dumps q) ∙ e));
     apart = λ a b d e apart x y. apart_put a b d e apart (found_put (same_name name a) new d (dump_in working a) (sym (dumps a) ∙ x)) (found_put (same_name name b) new e (dump_in working b) (sym (dumps b) ∙ y));
@@ -70,6 +70,10 @@ pub feeds_kept : (stands : List Standing) (fewer lines : ℕ) (working next : Wo
 feeds_kept stands fewer lines working next later same sound =
     sound_weaker stands (fewer * most) (lines * most) next.feeds (omega (arith, later)) (subst (λ (held : Feeds). FeedsAreSound stands (fewer * most) held) (sym same) sound)
 
+-- the caches stayed
+pub caches_kept : (fewer lines : ℕ) (working next : Working) → fewer ≤ lines → ((session : ℕ) → cache_in next session ≡ cache_in working session) → AreFewUpdates fewer working → AreFewUpdates lines next
+caches_kept fewer lines working next later same few = λ session cache is. let below = few session cache (sym (same session) ∙ is) in omega (arith, below, later)
+
 -- ---- lines
 
 -- a line begins
@@ -81,6 +85,7 @@ begun now working few ready =
       few = omega (arith, few);
       sound = subst (λ (n : ℕ). IsSound now.opened n (counted_in working)) same
           (record { given = ready.sound.given; apart = ready.sound.apart; passed = ready.sound.passed; refused = ready.sound.refused });
+      caches = subst (λ (n : ℕ). AreFewUpdates n (counted_in working)) same ready.caches;
       feeds = subst (λ (n : ℕ). AreSound now.standings n (counted_in working)) same ready.feeds;
     }
 
@@ -96,19 +101,21 @@ few_taken now working begun = sound_weaker now.standings ((working.lines - 1) * 
 pub ready_streams : (old new : Outside) (working next : Working) → old.opened ≤ new.opened → new.standings ≡ old.standings → IsBegun old working → KeepsStreams working next → IsReady new next
 ready_streams old new working next opened stands begun keeps = record {
   sound = IsSound-kept old.opened new.opened (working.lines - 1) next.lines working next (omega (arith, keeps.lines, begun.counted)) opened begun.sound keeps.dumps (omega (arith, keeps.passed)) (omega (arith, keeps.refused));
+  caches = caches_kept (working.lines - 1) next.lines working next (omega (arith, keeps.lines)) keeps.caches begun.caches;
   feeds = subst (λ (s : List Standing). AreSound s next.lines next) (sym stands) (feeds_kept old.standings (working.lines - 1) next.lines working next (omega (arith, keeps.lines)) keeps.feeds begun.feeds);
 }
 
 -- ---- lines that keep the streams
 
 pub kept_all : (working : Working) → KeepsStreams working working
-kept_all working = record { feeds = refl; dumps = λ name. refl; lines = refl; passed = refl; refused = omega arith }
+kept_all working = record { feeds = refl; caches = λ session. refl; dumps = λ name. refl; lines = refl; passed = refl; refused = omega arith }
 
 pub kept_refused : (working next : Working) → next ≡ record working { refused = working.refused + 1 } → KeepsStreams working next
 kept_refused working next is =
     let refused : next.refused ≡ working.refused + 1 = ap (λ (w : Working). w.refused) is in
     record {
       feeds = ap (λ (w : Working). w.feeds) is;
+      caches = λ session. ap (λ (w : Working). cache_in w session) is;
       dumps = λ name. ap (λ (w : Working). dump_in w name) is;
       lines = ap (λ (w : Working). w.lines) is;
       passed = ap (λ (w : Working). w.passed) is;
@@ -120,6 +127,7 @@ kept_analysed working next is =
     let refused : next.refused ≡ working.refused = ap (λ (w : Working). w.refused) is in
     record {
       feeds = ap (λ (w : Working). w.feeds) is;
+      caches = λ session. ap (λ (w : Working). cache_in w session) is;
       dumps = λ name. ap (λ (w : Working). dump_in w name) is;
       lines = ap (λ (w : Working). w.lines) is;
       passed = ap (λ (w : Working). w.passed) is;

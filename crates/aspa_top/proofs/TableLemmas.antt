@@ -39,7 +39,7 @@ use Rattle.aspa_top.specs.Outside.{Outside, all_of}
 use Rattle.aspa_top.specs.Performing.{Done, EndedEarly, GoesSome}
 use Rattle.aspa_top.specs.Standing.{HoldsOr, IsBegun, StandsFor}
 use Rattle.aspa_top.specs.Tasks.{State, Refuses, TakesFile, LoadsUnless, is_taken, same_name, with_name}
-use Rattle.aspa_top.specs.Working.{Acted, ActedWithin, Loaded, IsTakenIn, KeepsStreams, NamesBy, dump_in, has_source}
+use Rattle.aspa_top.specs.Working.{Acted, ActedWithin, Loaded, IsTakenIn, KeepsStreams, NamesBy, cache_in, dump_in, has_source}
 use Rattle.aspa_top.specs.World.{Links, World, Tells}
 use Rattle.aspa_top.proofs.DidLemmas.{done_refused, some_done}
 use Rattle.aspa_top.proofs.ReadyLemmas.{ready_streams}
@@ -81,6 +81,7 @@ Loaded-kept kind working next change held =
     let refused : next.refused ≡ working.refused = ap (λ (w : Working). w.refused) is ∙ ap (λ (w : Working). w.refused) mid in
     record {
       feeds = ap (λ (w : Working). w.feeds) is ∙ ap (λ (w : Working). w.feeds) mid;
+      caches = λ q. ap (λ (w : Working). cache_in w q) is ∙ ap (λ (w : Working). cache_in w q) mid;
       dumps = λ q. ap (λ (w : Working). dump_in w q) is ∙ ap (λ (w : Working). dump_in w q) mid;
       lines = ap (λ (w : Working). w.lines) is ∙ ap (λ (w : Working). w.lines) mid;
       passed = ap (λ (w : Working). w.passed) is ∙ ap (λ (w : Working). w.passed) mid;

@@ -38,22 +38,26 @@ pub record StandsFor (files : Option Files) (links : Links) (working : Working) 
   pub passed : working.passed ≡ state.passed
   pub refused : working.refused ≡ state.refused
 
--- Whatever the world: after so many lines each dump's file was opened, no two share one, each cache has had an update a line at most, and the
--- counts are small: of each unit of a line, two refusals at most.
+-- Whatever the world: after so many lines each dump's file was opened, no two share one, and the counts are small: of each unit of a line,
+-- two refusals at most.
 pub record IsSound (opened lines : ℕ) (working : Working) : Type 0 where
   pub given : (name : List ℕ) (dump : HeldDump) → dump_in working name ≡ Some dump → (dump.file < opened) × (dump.taken ≤ lines * most)
   pub apart : (one other : List ℕ) (a b : HeldDump) → one ≢ other → dump_in working one ≡ Some a → dump_in working other ≡ Some b → a.file ≢ b.file
   pub passed : working.passed ≤ lines * most
   pub refused : working.refused ≤ lines * (2 * most)
-  pub caches : (session : ℕ) (cache : Versions) → cache_in working session ≡ Some cache → cache.current.serial < lines
 
 -- after so many lines each feed that goes on has a connection of its own that may be used, and hasn't taken too many PDUs
 abbrev pub AreSound : List Standing → ℕ → Working → Type 0
 AreSound stands lines working = FeedsAreSound stands (lines * most) working.feeds
 
+-- after so many lines each cache has had an update a line at most
+abbrev pub AreFewUpdates : ℕ → Working → Type 0
+AreFewUpdates lines working = (session : ℕ) (cache : Versions) → cache_in working session ≡ Some cache → cache.current.serial < lines
+
 -- so it is between two lines
 pub record IsReady (now : Outside) (working : Working) : Type 0 where
   pub sound : IsSound now.opened working.lines working
+  pub caches : AreFewUpdates working.lines working
   pub feeds : AreSound now.standings working.lines working
 
 -- and within a line, which is counted already
@@ -61,4 +65,5 @@ pub record IsBegun (now : Outside) (working : Working) : Type 0 where
   pub counted : 0 < working.lines
   pub few : working.lines < 2 ^ 32
   pub sound : IsSound now.opened (working.lines - 1) working
+  pub caches : AreFewUpdates (working.lines - 1) working
   pub feeds : AreSound now.standings (working.lines - 1) working

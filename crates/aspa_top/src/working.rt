@@ -40,7 +40,7 @@ impl Working {
     ghost use Rattle.feed_lines.specs.Holding.{feed_in};
     ghost use Rattle.aspa_top.specs.Tasks.{start};
     ghost use Rattle.aspa_top.specs.Standing.{IsSound, StandsFor};
-    ghost use Rattle.aspa_top.specs.Working.{IsTakenIn, dump_in, has_source, has_stream};
+    ghost use Rattle.aspa_top.specs.Working.{IsTakenIn, cache_in, dump_in, has_source, has_stream};
     ghost use Rattle.aspa_top.specs.World.{BeginsAt, Links, World};
 
     /// Before the first line.
@@ -50,6 +50,7 @@ impl Working {
         ensures sound { IfOk result (λ working. (opened : ℕ) → IsSound opened 0 working) }
         ensures feeds { IfOk result (λ working. (name : List ℕ)
             → feed_in working.feeds name ≡ None) }
+        ensures caches { IfOk result (λ working. (session : ℕ) → cache_in working session ≡ None) }
         ensures lines { IfOk result (λ working. working.lines ≡ 0) }
     {
         let analyser = Analyser::new(alloc)?;
@@ -63,6 +64,7 @@ impl Working {
             → StandsFor files links result (start world) }
         ensures sound { (opened : ℕ) → IsSound opened 0 result }
         ensures feeds { (name : List ℕ) → feed_in result.feeds name ≡ None }
+        ensures caches { (session : ℕ) → cache_in result session ≡ None }
         ensures lines { result.lines ≡ 0 }
     {
         Working {

@@ -28,6 +28,7 @@ loop-line-init g c =
       count = omega (arith, none);
       ready = record {
         sound = subst (λ (n : ℕ). IsSound (g.F.Shelf.opened c.args.shelf.now) n c.in-Ok.working) (sym none) (c.in-Ok.ensures.sound (g.F.Shelf.opened c.args.shelf.now));
+        caches = λ session cache is. let no_cache : ⊥ = (let none = c.in-Ok.ensures.caches session in cc) in absurd no_cache;
         feeds = start_sound _ _ _ c.in-Ok.ensures.feeds;
       };
       adds = lines_begun _ _ _ c.new-text.ensures.items;
