@@ -10,7 +10,7 @@ use Rattle.feed_lines.specs.Feeds.{Feed}
 use Rattle.feed_lines.specs.Lines.{WorksBy}
 use Rattle.feed_lines.specs.Lines.{State as FeedState}
 use Rattle.script_lines.specs.declared.command.Command.{Command}
-use Rattle.script_lines.specs.declared.command.Command.TheVariants.{Idle, Aspa, Aspa64, Slurm, At, Filter, Unfilter, Assert, Unassert, Role as SetRole, RoleDefault, Open as OpenDump, Bmp as OpenBmp, Take as TakeUnits, Feed as FeedLine, Ask, Sync, Judge as JudgePath, Changes as ListChanges, Why as WhyRoute, Show as ShowAll}
+use Rattle.script_lines.specs.declared.command.Command.TheVariants.{Idle, Aspa, Aspa64, Slurm, At, Filter, Unfilter, Assert, Unassert, Role as SetRole, RoleDefault, Open as OpenDump, Bmp as OpenBmp, Take as TakeUnits, Feed as FeedLine, Ask, Sync, Serve as ServeLine, Judge as JudgePath, Changes as ListChanges, Why as WhyRoute, Show as ShowAll}
 use Rattle.script_lines.specs.declared.command.LineFault.{LineFault}
 use Rattle.script_lines.specs.declared.command.LineFault.TheVariants.{Long, Command as NoCommand, Words, Number, NoMemory}
 use Rattle.script_lines.specs.Grammar.{IsReading}
@@ -24,14 +24,15 @@ use Rattle.aspa_top.specs.declared.task.Short.{Short as ShortTask}
 use Rattle.aspa_top.specs.declared.task.Short.TheVariants.{Idle as Nothing, Happen, Judge}
 use Rattle.aspa_top.specs.declared.task.Question.{Question}
 use Rattle.aspa_top.specs.declared.task.Task.{Task}
-use Rattle.aspa_top.specs.declared.task.Task.TheVariants.{Short, Load, Open, Take, Connect, OnFeed, Answer, Changes}
-use Rattle.aspa_top.specs.Tasks.{State, TakesFile, LoadsUnless, OpensNamed, TakesOpen, TakesNamed, Works, DoesShort, DoesTask, feeds_of, is_stream, is_taken}
+use Rattle.aspa_top.specs.declared.task.Task.TheVariants.{Short, Load, Open, Take, Connect, OnFeed, Serve, Answer, Changes}
+use Rattle.aspa_top.specs.Tasks.{State, Moves, TakesFile, LoadsUnless, OpensNamed, TakesOpen, TakesNamed, Works, DoesShort, DoesTask, feeds_of, is_stream, is_taken}
 use Rattle.aspa_top.specs.Answers.{AnswersUnless, Replies, refused_for}
-use Rattle.aspa_top.specs.Evaluation.{Asked, Begins, Does, DoesAsked, asked_of, counted, Performs, Evaluates}
+use Rattle.aspa_top.specs.Evaluation.{Asked, Begins, Does, DoesAsked, asked_of, counted, task_of, Performs, Evaluates}
 use Rattle.aspa_top.specs.Laws.{ConnectNoFeed, IsNoFeedLine}
 use Rattle.std.proofs.lemmas.List.Elements.{All-head, All-tail}
 use Rattle.aspa_top.specs.Program.{BeginsNext}
 use Rattle.aspa_top.specs.World.{World}
+use Rattle.aspa_top.proofs.ServingLemmas.{table_front}
 use Rattle.aspa_top.proofs.TaskLemmas.{ConnectsNone, both, some_task, DoesTask-unique}
 
 -- ---- one text, where no feed is connected
@@ -92,6 +93,7 @@ task_keeps world state (Open kind name file) text next other none does = open_ke
 task_keeps world state (Take name count) text next other none does = take_keeps (state.dumps name) world state name count text next (none name) does
 task_keeps world state (Connect name place) text next other none does = absurd other
 task_keeps world state (OnFeed name work) text next other none does = work_keeps world state name work text next (none name) does
+task_keeps world state (Serve place session count) text next other none does = absurd other
 task_keeps world state (Answer question) text next other none does = reply_keeps state question text next does
 task_keeps world state Changes text next other none does = ap (λ (s : State). s.feeds) does.left
 
@@ -133,6 +135,7 @@ no_feed line (Ok (OpenBmp name file post)) reads other = tt
 no_feed line (Ok (TakeUnits name count)) reads other = tt
 no_feed line (Ok (Ask name)) reads other = tt
 no_feed line (Ok (Sync name count)) reads other = tt
+no_feed line (Ok (ServeLine place session count)) reads other = tt
 no_feed line (Ok (JudgePath role neighbour path)) reads other = tt
 no_feed line (Ok ListChanges) reads other = tt
 no_feed line (Ok (WhyRoute addr asn prefix path)) reads other = tt
@@ -244,6 +247,19 @@ Evaluates-split world before (line ∷ more) left text end evaluates =
       text_is = evaluates.text_is ∙ ap (λ (t : List ℕ). evaluates.first ++ t) split.text_is ∙ sym (append_assoc evaluates.first split.first split.rest);
     }
 
+-- a task that ended early wrote a front of its text
+front_of_task : (world : World) (attempts : List Attempt) → world.ends.attempts ≡ Some attempts → (state : State) (task : Task) (part text : List ℕ) (moved next : State)
+    → Moves world state task part moved → DoesTask world state task text next → (more : List ℕ) × (text ≡ part ++ more)
+front_of_task world attempts told state (Take name count) part text moved next moves does = (text, ap (λ (t : List ℕ). t ++ text) (sym moves.0))
+front_of_task world attempts told state (Connect name place) part text moved next moves does = (text, ap (λ (t : List ℕ). t ++ text) (sym moves.0))
+front_of_task world attempts told state (OnFeed name work) part text moved next moves does = (text, ap (λ (t : List ℕ). t ++ text) (sym moves.0))
+front_of_task world attempts told state (Serve place session count) part text moved next moves does = table_front world attempts told state place session count part text moved next moves does
+front_of_task world attempts told state (Short short) part text moved next moves does = absurd moves
+front_of_task world attempts told state (Load kind file) part text moved next moves does = absurd moves
+front_of_task world attempts told state (Open kind name file) part text moved next moves does = absurd moves
+front_of_task world attempts told state (Answer question) part text moved next moves does = absurd moves
+front_of_task world attempts told state Changes part text moved next moves does = absurd moves
+
 -- a front of the next line's text is a front of the text of all lines that are left
 front_of_line : (world : World) (attempts : List Attempt) → world.ends.attempts ≡ Some attempts → (state : State) (line part : List ℕ) (ticks : ℕ) (moved : State) (text : List ℕ) (next : State)
     → Begins world state line part ticks moved → Performs world state line text next → (more : List ℕ) × (text ≡ part ++ more)
@@ -253,7 +269,10 @@ front_of_line world attempts told state line part ticks moved text next begins p
     | inl writes ↦
         let same = Performs-unique world attempts told state line text writes.0.own next writes.0.next performs writes.0.performs in
         (writes.0.rest, same.0 ∙ writes.0.whole)
-    | inr moves ↦ (text, ap (λ (t : List ℕ). t ++ text) (sym moves.0))
+    | inr moves ↦
+        let same : performs.reading ≡ Ok moves.command = IsReading-unique line performs.reading (Ok moves.command) performs.reads moves.reads in
+        front_of_task world attempts told (counted state) (task_of moves.command) part text moved next moves.moves
+        (subst (λ (r : Result Command LineFault). Does world (counted state) r text next) same performs.does)
   ]
 ]
 

@@ -5,7 +5,7 @@ use Rattle.av_text.specs.Spellings.{IsInLine}
 use Rattle.av_text.proofs.AnySpellingLemmas.{names_in_line}
 use Rattle.report_text.proofs.RefusalLemmas.{slurm-in_line}
 use Rattle.script_lines.specs.declared.command.Command.{Command}
-use Rattle.script_lines.specs.declared.command.Command.TheVariants.{Idle, Aspa, Aspa64, Slurm, At, Filter, Unfilter, Assert, Unassert, Role as SetRole, RoleDefault, Open, Bmp, Take, Feed, Ask, Sync, Judge, Changes, Why, Show}
+use Rattle.script_lines.specs.declared.command.Command.TheVariants.{Idle, Aspa, Aspa64, Slurm, At, Filter, Unfilter, Assert, Unassert, Role as SetRole, RoleDefault, Open, Bmp, Take, Feed, Ask, Sync, Serve, Judge, Changes, Why, Show}
 use Rattle.script_lines.specs.declared.command.LineFault.{LineFault}
 use Rattle.script_lines.specs.Grammar.{IsReading}
 use Rattle.script_lines.proofs.SourceNameLemmas.{reading_named}
@@ -45,6 +45,7 @@ reading_in_line line (Ok (Take name count)) reads = names_in_line name (reading_
 reading_in_line line (Ok (Feed name place)) reads = names_in_line name (reading_named line (Feed name place) reads)
 reading_in_line line (Ok (Ask name)) reads = names_in_line name (reading_named line (Ask name) reads)
 reading_in_line line (Ok (Sync name count)) reads = names_in_line name (reading_named line (Sync name count) reads).0
+reading_in_line line (Ok (Serve place session count)) reads = tt
 reading_in_line line (Ok (Judge role neighbour path)) reads = tt
 reading_in_line line (Ok Changes) reads = tt
 reading_in_line line (Ok (Why addr asn prefix path)) reads = tt

@@ -4,7 +4,7 @@ use Rattle.std.specs.declared.option.Option.{Option}
 use Rattle.report_text.specs.declared.cause.Cause.{Cause}
 use Rattle.report_text.specs.Refusals.{of_line, refusal_text}
 use Rattle.script_lines.specs.declared.command.Command.{Command}
-use Rattle.script_lines.specs.declared.command.Command.TheVariants.{Idle, Aspa, Aspa64, Slurm, At, Filter, Unfilter, Assert, Unassert, Role as SetRole, RoleDefault, Open, Bmp, Take, Feed, Ask, Sync, Judge, Changes, Why, Show}
+use Rattle.script_lines.specs.declared.command.Command.TheVariants.{Idle, Aspa, Aspa64, Slurm, At, Filter, Unfilter, Assert, Unassert, Role as SetRole, RoleDefault, Open, Bmp, Take, Feed, Ask, Sync, Serve, Judge, Changes, Why, Show}
 use Rattle.script_lines.specs.declared.command.LineFault.{LineFault}
 use Rattle.script_lines.specs.Grammar.{IsReading}
 use Rattle.script_lines.proofs.LengthLemmas.{judged_short}
@@ -37,6 +37,7 @@ IsWithinBounds-IsReading line (Take name count) is = (reading_named line (Take n
 IsWithinBounds-IsReading line (Feed name place) is = tt
 IsWithinBounds-IsReading line (Ask name) is = omega arith
 IsWithinBounds-IsReading line (Sync name count) is = (reading_named line (Sync name count) is).1
+IsWithinBounds-IsReading line (Serve place session count) is = (reading_named line (Serve place session count) is).1
 IsWithinBounds-IsReading line (Judge role neighbour path) is = let short = judged_short line role neighbour path is in omega arith
 IsWithinBounds-IsReading line Changes is = tt
 IsWithinBounds-IsReading line (Why addr asn prefix path) is = tt

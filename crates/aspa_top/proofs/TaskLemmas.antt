@@ -31,12 +31,13 @@ use Rattle.aspa_top.specs.declared.loading.Outcome.TheVariants.{NoFile, Long as 
 use Rattle.aspa_top.specs.declared.task.Short.{Short as ShortTask}
 use Rattle.aspa_top.specs.declared.task.Short.TheVariants.{Idle, Happen, Judge}
 use Rattle.aspa_top.specs.declared.task.Task.{Task}
-use Rattle.aspa_top.specs.declared.task.Task.TheVariants.{Short, Load, Open, Take, Connect, OnFeed, Answer, Changes}
+use Rattle.aspa_top.specs.declared.task.Task.TheVariants.{Short, Load, Open, Take, Connect, OnFeed, Serve, Answer, Changes}
 use Rattle.aspa_top.specs.Tasks.{State, MakesHappen, Holds, TakesFile, LoadsUnless, OpensNamed, TakesOpen, TakesNamed, Works, ConnectsUnless, ShowsChanges, DoesShort, DoesTask, is_stream, is_taken, with_name, asking_of, asking_on, feeds_of, with_feeds, taking_of, after_taking}
 use Rattle.aspa_top.specs.World.{World}
 use Rattle.aspa_top.proofs.JudgedLemmas.{IsJudged-unique}
 use Rattle.aspa_top.proofs.OutcomeLemmas.{some_outcome, outcome_unique}
 use Rattle.aspa_top.proofs.QuestionLemmas.{replies_unique, some_reply}
+use Rattle.aspa_top.proofs.ServingLemmas.{ServesTable-unique}
 
 -- ---- a text
 
@@ -128,6 +129,7 @@ some_short state (Judge role neighbour path) =
 -- the task connects no feed
 abbrev pub ConnectsNone : Task → Type 0
 ConnectsNone (Connect name place) = ⊥
+ConnectsNone (Serve place session count) = ⊥
 ConnectsNone other = Unit {0}
 
 -- each task has a text that connects no feed, where there is none
@@ -138,6 +140,7 @@ some_task world state (Open kind name file) other none = some_opening (state.sou
 some_task world state (Take name count) other none = some_take (state.dumps name) world state name count (none name)
 some_task world state (Connect name place) other none = absurd other
 some_task world state (OnFeed name work) other none = some_work world state name work (none name)
+some_task world state (Serve place session count) other none = absurd other
 some_task world state (Answer question) other none = some_reply state question
 some_task world state Changes other none = some_changes state
 
@@ -238,5 +241,6 @@ DoesTask-unique world attempts told state (Take name count) one other end last a
 DoesTask-unique world attempts told state (Connect name place) one other end last a b =
     Connects-unique (state.sources name || is_some (state.dumps name)) world attempts told state name place one other end last a b
 DoesTask-unique world attempts told state (OnFeed name work) one other end last a b = Works-unique world attempts told state name work one other end last a b
+DoesTask-unique world attempts told state (Serve place session count) one other end last a b = ServesTable-unique world attempts told state place session count one other end last a b
 DoesTask-unique world attempts told state (Answer question) one other end last a b = replies_unique state question one other end last a b
 DoesTask-unique world attempts told state Changes one other end last a b = ShowsChanges-unique state one other end last a b

@@ -37,7 +37,7 @@ use Rattle.aspa_top.specs.declared.task.Short.{Short as ShortTask}
 use Rattle.aspa_top.specs.declared.task.Short.TheVariants.{Idle as Nothing, Happen, Judge as JudgePath}
 use Rattle.aspa_top.specs.declared.task.Question.{Question}
 use Rattle.aspa_top.specs.declared.task.Task.{Task}
-use Rattle.aspa_top.specs.declared.task.Task.TheVariants.{Short, Load, Open, Take, Connect, OnFeed, Answer, Changes}
+use Rattle.aspa_top.specs.declared.task.Task.TheVariants.{Short, Load, Open, Take, Connect, OnFeed, Serve, Answer, Changes}
 use Rattle.aspa_top.specs.Loading.{unit_name}
 use Rattle.aspa_top.specs.Tasks.{State, MakesHappen, Refuses, TakesFile, LoadsUnless, OpensNamed, TakesOpen, TakesNamed, Works, ConnectsUnless, DoesShort, DoesTask, is_stream, is_taken, asking_of, asking_on, feeds_of, with_feeds, taking_of}
 use Rattle.aspa_top.specs.Answers.{AnswersUnless, Replies, refused_for}
@@ -181,6 +181,7 @@ DoesTask-refused world state (Take name count) text next rest in_line does = Tak
 DoesTask-refused world state (Connect name place) text next rest in_line does =
     Connects-refused (state.sources name || is_some (state.dumps name)) world state name place text next rest in_line does
 DoesTask-refused world state (OnFeed name work) text next rest in_line does = Works-refused world state name work text next rest in_line does
+DoesTask-refused world state (Serve place session count) text next rest in_line does = ServesTable-refused world state place session count text next rest does
 DoesTask-refused world state (Answer question) text next rest in_line does = Replies-refused state question text next rest does
 DoesTask-refused world state Changes text next rest in_line does =
     answered state next text (changes_text does.changes) rest does.text_is (changes_counted does.changes rest) (ap (λ (s : State). s.refused) does.left)

@@ -5,7 +5,7 @@ use Rattle.script_lines.specs.declared.command.Command.{Command}
 use Rattle.aspa_top.specs.declared.task.Short.{Short as ShortTask}
 use Rattle.aspa_top.specs.declared.task.Short.TheVariants.{Judge}
 use Rattle.aspa_top.specs.declared.task.Task.{Task}
-use Rattle.aspa_top.specs.declared.task.Task.TheVariants.{Short, Take, OnFeed}
+use Rattle.aspa_top.specs.declared.task.Task.TheVariants.{Short, Take, OnFeed, Serve}
 use Rattle.aspa_top.specs.Evaluation.{task_of}
 
 -- the most units that a line takes
@@ -21,6 +21,7 @@ abbrev pub IsWithinTask : Task → Type 0
 IsWithinTask (Short short) = IsWithinShort short
 IsWithinTask (Take name count) = count ≤ most
 IsWithinTask (OnFeed name work) = units_of work ≤ most
+IsWithinTask (Serve place session count) = count ≤ most
 IsWithinTask task = Unit {0}
 
 abbrev pub IsWithinBounds : Command → Type 0
