@@ -1,15 +1,10 @@
 -- A line on a feed has no two outcomes on the same connections.
-use Rattle.std.proofs.Common.{◌≡◌, ◌≢◌, ℕ, zero, suc, ◌+◌, inl, inr, Bool, true, false, List, [], ◌∷◌, ◌++◌, length, None, Some, Ok, Err, refl, sym, ◌∙◌, ap, subst, append_assoc, length-append, arith}
+use Rattle.std.proofs.Common.{◌≡◌, ℕ, zero, suc, ◌+◌, inl, inr, Bool, true, false, List, [], ◌∷◌, ◌++◌, length, None, Some, Ok, refl, sym, ◌∙◌, ap, subst}
 use Rattle.std.specs.Prelude.{slice_get, IfSome}
-use Rattle.std.proofs.lemmas.List.{append_cancel_left, append_cancel_right}
+use Rattle.std.proofs.lemmas.List.{append_cancel_right}
 use Rattle.std.specs.declared.option.Option.{Option}
-use Rattle.std.specs.declared.result.Result.{Result}
 use Rattle.av_base.specs.Connections.{Link, Attempt, Made, Failed, Unaccepted}
 use Rattle.rtr_pdu.specs.declared.pdu.Pdu.{Pdu}
-use Rattle.rtr_pdu.specs.declared.pdu.PduFault.{PduFault}
-use Rattle.rtr_pdu.specs.declared.pdu.PduFault.TheVariants.{PduVersion as BadVersion, PduLength as BadLength, PduType as BadType, NoProviders as HasNoProviders, NoMemory}
-use Rattle.rtr_pdu.specs.Units.{Answers}
-use Rattle.rtr_pdu.proofs.NextLemmas.{one_next}
 use Rattle.rtr_session.specs.declared.act.Act.{Act}
 use Rattle.rtr_session.specs.declared.act.Act.TheVariants.{Nothing, Send, Apply, End}
 use Rattle.rtr_session.specs.declared.act.Query.{Query}
@@ -33,63 +28,14 @@ use Rattle.feed_lines.specs.declared.telling.Telling.TheVariants.{NoName, Stream
 use Rattle.feed_lines.specs.declared.working.Work.{Work}
 use Rattle.feed_lines.specs.declared.working.Work.TheVariants.{Ask, Take, Sync}
 use Rattle.feed_lines.specs.Tellings.{Asking, tells_text}
-use Rattle.connection_calls.specs.Refusals.{IsCauseOf}
+use Rattle.connection_calls.proofs.RefusedLemmas.{cause_unique}
+use Rattle.connection_calls.proofs.NextLemmas.{same_shown, shown_bad, shown_none, shown_pdu, whole_or_cut}
 use Rattle.feed_lines.specs.Feeds.{Feed, Taking, Coming, OnePdu, BadPdu, NoMore, Queries, IsComing, Moves, Follows, Counts, Stays, TakesPdu, TakesComing, TakesFrom, TakesPdus, Syncs, AsksFeed, AsksBy, after_pdu, asked_of, change_due, query_bytes, short_of}
-use Rattle.connection_calls.specs.Ends.{HasSent, LostAtSend}
 use Rattle.connection_calls.specs.World.{World}
 use Rattle.feed_lines.specs.Lines.{State, Connects, StartsBy, Does, Works, WorksBy, Writes, taking_of, with_feed, with_taking}
 use Rattle.feed_lines.specs.Laws.{FeedLinesHaveOneOutcome, EachTellingIsOneLine}
 
 -- ---- what comes next
-
--- what is left of the received bytes, and how it begins
-record Shown (t : Link) (used : List ℕ) : Type 0 where
-  left : List ℕ
-  rest : List ℕ
-  answer : Result (Option Pdu) PduFault
-  received : t.received ≡ used ++ left
-  known : answer ≢ Err NoMemory
-  answers : Answers left rest answer
-
-no_err : (found : Option Pdu) → Ok found ≢ Err NoMemory
-no_err found = λ e. let none : ⊥ = cc in absurd none
-
-abbrev shown_pdu : (t : Link) (used bytes : List ℕ) (pdu : Pdu) → IsComing t used (OnePdu bytes pdu) → Shown t used
-shown_pdu t used bytes pdu is = record {
-  left = bytes ++ is.1.0;
-  rest = is.1.0;
-  answer = Ok (Some pdu);
-  received = is.1.1 ∙ append_assoc used bytes is.1.0;
-  known = no_err (Some pdu);
-  answers = (bytes, refl, is.0);
-}
-
-abbrev shown_bad : (t : Link) (used left : List ℕ) (fault : PduFault) → IsComing t used (BadPdu left fault) → Shown t used
-shown_bad t used left fault is = record {
-  left = left;
-  rest = left;
-  answer = Err fault;
-  received = is.2;
-  known = λ e. is.1 (let same : fault ≡ NoMemory = cc in same);
-  answers = (is.0, refl);
-}
-
-abbrev shown_none : (t : Link) (used : List ℕ) → IsComing t used NoMore → Shown t used
-shown_none t used is = record { left = is.0.0; rest = is.0.0; answer = Ok None; received = is.0.1; known = no_err None; answers = (is.0.2, refl) }
-
--- both show the same bytes, and the same answer
-record SameShown (left other rest more : List ℕ) (one two : Result (Option Pdu) PduFault) : Type 0 where
-  lefts : left ≡ other
-  rests : rest ≡ more
-  answers : one ≡ two
-
-same_shown : (t : Link) (used : List ℕ) (one two : Shown t used) → SameShown one.left two.left one.rest two.rest one.answer two.answer
-same_shown t used one two =
-    let left = append_cancel_left used one.left two.left (sym one.received ∙ two.received) in
-    let next = one_next one.left in
-    let first = next.only one.rest one.answer (one.known, one.answers) in
-    let second = next.only two.rest two.answer (two.known, subst (λ (l : List ℕ). Answers l two.rest two.answer) (sym left) two.answers) in
-    record { lefts = left; rests = first.0 ∙ sym second.0; answers = first.1 ∙ sym second.1 }
 
 same_coming : (t : Link) (used : List ℕ) (a b : Coming) → IsComing t used a → IsComing t used b → a ≡ b
 same_coming t used (OnePdu x p) (OnePdu y q) a b =
@@ -104,7 +50,7 @@ same_coming t used (OnePdu x p) (BadPdu l f) a b =
     let none : ⊥ = cc in
     absurd none
 same_coming t used (OnePdu x p) NoMore a b =
-    let e = (same_shown t used (shown_pdu t used x p a) (shown_none t used b)).answers in
+    let e = (same_shown t used (shown_pdu t used x p a) (shown_none t used b.0)).answers in
     let none : ⊥ = cc in
     absurd none
 same_coming t used (BadPdu l f) (OnePdu y q) a b =
@@ -116,15 +62,15 @@ same_coming t used (BadPdu l f) (BadPdu k h) a b =
     let faults : f ≡ h = (let e = same.answers in cc) in
     λ i. BadPdu (same.lefts i) (faults i)
 same_coming t used (BadPdu l f) NoMore a b =
-    let e = (same_shown t used (shown_bad t used l f a) (shown_none t used b)).answers in
+    let e = (same_shown t used (shown_bad t used l f a) (shown_none t used b.0)).answers in
     let none : ⊥ = cc in
     absurd none
 same_coming t used NoMore (OnePdu y q) a b =
-    let e = (same_shown t used (shown_none t used a) (shown_pdu t used y q b)).answers in
+    let e = (same_shown t used (shown_none t used a.0) (shown_pdu t used y q b)).answers in
     let none : ⊥ = cc in
     absurd none
 same_coming t used NoMore (BadPdu k h) a b =
-    let e = (same_shown t used (shown_none t used a) (shown_bad t used k h b)).answers in
+    let e = (same_shown t used (shown_none t used a.0) (shown_bad t used k h b)).answers in
     let none : ⊥ = cc in
     absurd none
 same_coming t used NoMore NoMore a b = refl
@@ -134,20 +80,6 @@ same_coming t used NoMore NoMore a b = refl
 -- two that are said to be the same
 both : {A S : Type 0} (one other text : A) (end last state : S) → (one ≡ text) × (end ≡ state) → (other ≡ text) × (last ≡ state) → (one ≡ other) × (end ≡ last)
 both {A} {S} one other text end last state a b = (a.0 ∙ sym b.0, a.1 ∙ sym b.1)
-
--- bytes don't go whole on a connection that broke at them
-whole_or_cut : (t : Link) (sent bytes : List ℕ) → HasSent t sent bytes → LostAtSend t sent bytes → ⊥
-whole_or_cut t sent bytes whole cut = omega (
-  arith,
-  ap length whole.1,
-  length-append (sent ++ bytes) whole.0,
-  length-append sent bytes,
-  ap length cut.gave,
-  length-append sent cut.front,
-  ap length cut.whole,
-  length-append cut.front cut.rest,
-  cut.some_left,
-)
 
 queries_unique : (t : Link) (feed : Feed) (query : Query) (one other : List Telling) (slot last : Option Feed) → Queries t feed query one slot → Queries t feed query other last → (one ≡ other) × (slot ≡ last)
 queries_unique t feed query one other slot last a b = elim a [
@@ -193,13 +125,6 @@ pdu_unique t name feed old bytes pdu one other end last a b =
     (subst (λ (act : Act). Moves t (after_pdu feed bytes a.session) act other last.feed) acts
     (subst (λ (session : Session). Moves t (after_pdu feed bytes session) b.act other last.feed) sessions b.moves)) in
     (moved.0, follows_unique (change_due name a.act) old end last a.follows (subst (λ (act : Act). Follows (change_due name act) old last) acts b.follows) moved.1)
-
-cause_unique : (fault : PduFault) (one other : Cause) → IsCauseOf fault one → IsCauseOf fault other → one ≡ other
-cause_unique BadVersion one other a b = a ∙ sym b
-cause_unique BadLength one other a b = a ∙ sym b
-cause_unique BadType one other a b = a ∙ sym b
-cause_unique HasNoProviders one other a b = a ∙ sym b
-cause_unique NoMemory one other a b = absurd a
 
 coming_unique : (t : Link) (name : List ℕ) (feed : Feed) (old : Taking) (coming : Coming) (one other : List Telling) (end last : Taking) → TakesComing t name feed old coming one end
     → TakesComing t name feed old coming other last → (one ≡ other) × (end ≡ last)

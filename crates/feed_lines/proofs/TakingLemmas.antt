@@ -1,5 +1,5 @@
 -- PDUs taken one after another.
-use Rattle.std.proofs.Common.{◌≡◌, ◌≢◌, ℕ, zero, suc, ◌+◌, ◌-◌, ◌≤◌, ◌⊎◌, inl, inr, Bool, true, false, cond, List, [], ◌++◌, None, Some, refl, sym, ◌∙◌, ap, subst, append_assoc, append-nil, arith, zero-add}
+use Rattle.std.proofs.Common.{◌≡◌, ℕ, zero, suc, ◌+◌, ◌-◌, ◌≤◌, ◌⊎◌, inl, inr, Bool, true, false, cond, List, [], ◌++◌, None, Some, refl, sym, ◌∙◌, ap, subst, append_assoc, append-nil, arith, zero-add}
 use Rattle.std.specs.Prelude.{OnErr}
 use Rattle.std.specs.Option.{option_map}
 use Rattle.std.specs.Result.{IsErr}
@@ -8,8 +8,6 @@ use Rattle.std.specs.declared.result.Result.{Result}
 use Rattle.std.specs.declared.result.Result.TheVariants.{Ok, Err}
 use Rattle.av_base.specs.Connections.{Link, ToldLater, closes}
 use Rattle.rtr_pdu.specs.declared.pdu.Pdu.{Pdu}
-use Rattle.rtr_pdu.specs.declared.pdu.PduFault.{PduFault}
-use Rattle.rtr_pdu.specs.declared.pdu.PduFault.TheVariants.{PduVersion as BadVersion, PduLength as BadLength, PduType as BadType, NoProviders as HasNoProviders, NoMemory}
 use Rattle.rtr_pdu.specs.Units.{IsPartial, IsReportFor, IsRefusedNow}
 use Rattle.rtr_session.specs.declared.act.Act.{Act}
 use Rattle.rtr_session.specs.declared.act.Act.TheVariants.{Nothing, Send, Apply, End}
@@ -29,7 +27,7 @@ use Rattle.feed_lines.specs.declared.taking.Outcome.TheVariants.{Open as GoesOn,
 use Rattle.report_text.specs.declared.cause.Cause.{Cause}
 use Rattle.feed_lines.specs.declared.telling.Telling.{Telling}
 use Rattle.feed_lines.specs.declared.telling.Telling.TheVariants.{Pdu as PduRefused, End as FeedEnds}
-use Rattle.connection_calls.specs.Refusals.{IsCauseOf, report_bytes}
+use Rattle.connection_calls.specs.Refusals.{report_bytes}
 use Rattle.feed_lines.specs.Tellings.{cause_of_end}
 use Rattle.connection_calls.specs.Connection.{Now, Has}
 use Rattle.connection_calls.specs.Moves.{Ever, Answers, RefusesNow, SendsOrCloses, Finishes}
@@ -38,6 +36,7 @@ use Rattle.connection_calls.specs.Ends.{IsClosed, LostAtSend}
 use Rattle.feed_lines.specs.Holding.{AreWithin, StandsFor}
 use Rattle.feed_lines.specs.Lines.{TakesSome}
 use Rattle.feed_lines.specs.Steps.{Before, Halted, MayDo, MovedAs, TookAs, going}
+use Rattle.connection_calls.proofs.RefusedLemmas.{known_of}
 use Rattle.connection_calls.proofs.ConnectionLemmas.{Now-change, Now-map, Ever-later, Ever-map, Ever-now, Ever-closed, finished}
 
 -- what is said of an error
@@ -122,13 +121,6 @@ module _ (wire : Option (List Link)) (kept : OpenFeed) (act : Act) (feed : Feed)
         rw (is, caused, stands.taken) (Ever-map (λ t had. ((had.1, had.2), refl, refl)) (Ever-closed (λ t had. had.2) done))
 
 -- ---- what comes next
-
-pub known_of : (fault : PduFault) (cause : Cause) → IsCauseOf fault cause → fault ≢ NoMemory
-known_of BadVersion cause has is = let none : ⊥ = cc in absurd none
-known_of BadLength cause has is = let none : ⊥ = cc in absurd none
-known_of BadType cause has is = let none : ⊥ = cc in absurd none
-known_of HasNoProviders cause has is = let none : ⊥ = cc in absurd none
-known_of NoMemory cause has is = absurd has
 
 -- a refused PDU is held
 pub refused_now : (held : List ℕ) (asked : Asked) (cause : Cause) → asked ≡ Refused cause → RefusesNow held asked → IsRefusedNow held

@@ -1,16 +1,19 @@
 -- What a line reports is whole lines, of which one says that the place wasn't to be had where an attempt to accept failed. Only the layer above
 -- cites this.
-use Rattle.std.proofs.Common.{◌≡◌, ℕ, ◌≤◌, Bool, true, false, List, [], ◌∷◌, ◌++◌, refl, sym, subst, ◌∙◌, arith}
+use Rattle.std.proofs.Common.{◌≡◌, ℕ, ◌≤◌, Bool, true, false, nat_le, List, [], ◌∷◌, ◌++◌, refl, sym, subst, ◌∙◌, arith}
 use Rattle.std.specs.Io.KnownBytes.{append_known}
+use Rattle.std.proofs.lemmas.Bool.{leb-true}
+use Rattle.std.proofs.lemmas.List.Elements.{All-weaker}
+use Rattle.std.proofs.lemmas.List.Sums.{AllPass-from_list_all}
 use Rattle.std.specs.declared.option.Option.{Option}
 use Rattle.std.specs.declared.option.Option.TheVariants.{Some, None}
 use Rattle.av_base.specs.Told.{Rose}
 use Rattle.av_base.proofs.ToldLemmas.{append_known-append, append_known-nil}
 use Rattle.av_text.specs.Spellings.{IsInLine}
+use Rattle.av_text.proofs.LackLemmas.{from-lacks}
 use Rattle.report_text.specs.Refusals.{of_unit}
 use Rattle.report_text.specs.Reported.{AddsLines, AddsQuiet}
 use Rattle.report_text.specs.declared.feed.FeedEnd.TheVariants.{Unreachable, Lost as FeedLost, Short as FeedShort}
-use Rattle.report_text.proofs.InLineLemmas.{clean}
 use Rattle.report_text.proofs.ReportedLemmas.{adds_end, adds_later, adds_more, adds_refusal, adds_quiet_none, quiet_more}
 use Rattle.serve_lines.specs.declared.outcome.Refusal.{Refusal}
 use Rattle.serve_lines.specs.declared.outcome.RouterEnd.{RouterEnd}
@@ -19,7 +22,9 @@ use Rattle.serve_lines.specs.declared.outcome.Outcome.{Outcome}
 use Rattle.serve_lines.specs.Outcomes.{end_text, outcome_text, outcomes_text, reached_text, refused_text, serve_name, served_text}
 
 name_in_line : IsInLine serve_name
-name_in_line = clean serve_name refl
+name_in_line =
+    from-lacks 32 10 serve_name (omega arith)
+    (All-weaker (λ byte. nat_le 32 byte ≡ true) (λ byte. 32 ≤ byte) (λ byte passes. leb-true 32 byte passes) serve_name (AllPass-from_list_all (λ byte. nat_le 32 byte) serve_name refl))
 
 -- a text behind another one
 two : (old new : Option (List ℕ)) (first second : List ℕ) → new ≡ append_known old (first ++ second) → new ≡ append_known (append_known old first) second

@@ -1,5 +1,5 @@
 -- What comes of a router, whatever becomes of its connection.
-use Rattle.std.proofs.Common.{◌≡◌, ◌≢◌, cond, ℕ, zero, suc, ◌+◌, ◌-◌, ◌<◌, ◌≤◌, Bool, true, false, inl, inr, List, [], ◌++◌, refl, sym, ap, subst, ◌∙◌, arith, append_assoc, append-nil}
+use Rattle.std.proofs.Common.{◌≡◌, cond, ℕ, zero, suc, ◌+◌, ◌-◌, ◌<◌, ◌≤◌, Bool, true, false, inl, inr, List, [], ◌++◌, refl, sym, ap, subst, ◌∙◌, arith, append_assoc, append-nil}
 use Rattle.std.specs.declared.option.Option.{Option}
 use Rattle.std.specs.declared.option.Option.TheVariants.{Some, None}
 use Rattle.std.specs.declared.result.Result.{Result}
@@ -9,8 +9,6 @@ use Rattle.std.specs.Option.{option_map}
 use Rattle.av_base.specs.Connections.{Agrees, IsUsable, Link, LinkLater, ToldLater, closes}
 use Rattle.av_base.specs.declared.standing.Standing.{Standing}
 use Rattle.rtr_pdu.specs.declared.pdu.Pdu.{Pdu}
-use Rattle.rtr_pdu.specs.declared.pdu.PduFault.{PduFault}
-use Rattle.rtr_pdu.specs.declared.pdu.PduFault.TheVariants.{PduVersion, PduLength, PduType, NoProviders, NoMemory}
 use Rattle.rtr_pdu.specs.Pdus.{IsFrame}
 use Rattle.rtr_pdu.specs.Units.{IsPartial, IsRefusedNow, IsReportFor, code_on_refusal}
 use Rattle.rtr_cache.specs.declared.turn.Turn.{Turn}
@@ -28,9 +26,10 @@ use Rattle.serve_lines.specs.declared.serving.Step.TheVariants.{On, Over}
 use Rattle.report_text.specs.declared.cause.Cause.{Cause}
 use Rattle.connection_calls.specs.Moves.{Answers, Ever, Finishes, KeepsSent, RefusesNow}
 use Rattle.connection_calls.specs.Ends.{BrokeByReceive, CameToEnd, IsClosed, LostAtSend}
-use Rattle.connection_calls.specs.Refusals.{IsCauseOf, report_bytes}
+use Rattle.connection_calls.specs.Refusals.{report_bytes}
 use Rattle.serve_lines.specs.Serving.{OnePdu, BadPdu, NoMore, CallFailed, Serves, ServesFirst, ServesNext, ServesOne, Serving, AfterReply, after_reply, answers_in, started}
 use Rattle.serve_lines.specs.Steps.{GoesOn, Halted, IsRefusedBy, SoFar, SteppedAs}
+use Rattle.connection_calls.proofs.RefusedLemmas.{known_of}
 use Rattle.connection_calls.proofs.ConnectionLemmas.{Now-change, Now-map, Now-usable, Ever-closed, Ever-later, Ever-map, Ever-now}
 
 -- a connection that was closed as it stood
@@ -198,35 +197,28 @@ asked_lost wire link used sent held asked is answers = subst (λ (a : Asked). An
 pub refused_now : (held : List ℕ) (cause : Cause) (asked : Asked) → asked ≡ Refused cause → RefusesNow held asked → IsRefusedBy held cause
 refused_now held cause asked is refuses = let r = subst (λ (a : Asked). RefusesNow held a) is refuses in record { fault = r.0; refused = r.1; cause_is = r.2 }
 
-known : (fault : PduFault) (cause : Cause) → IsCauseOf fault cause → fault ≢ NoMemory
-known PduVersion cause is = λ e. let never : ⊥ = cc in never
-known PduLength cause is = λ e. let never : ⊥ = cc in never
-known PduType cause is = λ e. let never : ⊥ = cc in never
-known NoProviders cause is = λ e. let never : ⊥ = cc in never
-known NoMemory cause is = absurd is
-
 pub refused_known : (held : List ℕ) (cause : Cause) → IsRefusedBy held cause → IsRefusedNow held
-refused_known held cause r = record { fault = r.fault; known = known r.fault cause r.cause_is; refused = r.refused }
+refused_known held cause r = record { fault = r.fault; known = known_of r.fault cause r.cause_is; refused = r.refused }
 
 -- a refused PDU was reported, whole or not
 pub over_refused : (cache : Versions) (wire : Option (List Link)) (link : ℕ) (used sent held report : List ℕ) (code : Option ℕ) (cause : Cause) (taken answers : ℕ) (whole : Bool) (end : Option RouterEnd) → IsRefusedBy held cause → IsReportFor held code → report ≡ report_bytes code
     → Finishes wire link (used ++ held) sent report whole → end ≡ cond whole None (Some Lost) → (count : ℕ)
     → Ever wire link (λ t. ServesNext t cache (record { used = used; sent = sent; taken = taken; answers = answers }) (Serves t cache count) (record { answers = answers; refused = Some (record { number = taken + 1; cause = cause }); end = end }))
 over_refused cache wire link used sent held report code cause taken answers true end r for is done ends count =
-    let bytes : report ≡ report_bytes (code_on_refusal held r.fault) = is ∙ ap report_bytes (for r.fault (known r.fault cause r.cause_is) r.refused) in
+    let bytes : report ≡ report_bytes (code_on_refusal held r.fault) = is ∙ ap report_bytes (for r.fault (known_of r.fault cause r.cause_is) r.refused) in
     Ever-map {p = λ t. (t.received ≡ used ++ held) × (t.sent ≡ sent ++ report) × IsClosed t × (t.broken ≡ None)}
     (λ t h. record {
       coming = BadPdu held r.fault;
-      comes = (r.refused, known r.fault cause r.cause_is, h.0);
+      comes = (r.refused, known_of r.fault cause r.cause_is, h.0);
       does = record { refusal = record { number = taken + 1; cause = cause }; number = refl; cause = r.cause_is; reports = inl (record { gave = h.1 ∙ ap (λ (l : List ℕ). sent ++ l) bytes; closed = h.2; unbroken = h.3; same = λ i. record { answers = answers; refused = Some (record { number = taken + 1; cause = cause }); end = ends i } }) };
     })
     (Ever-closed (λ t h. h.2) done)
 over_refused cache wire link used sent held report code cause taken answers false end r for is done ends count =
-    let bytes : report ≡ report_bytes (code_on_refusal held r.fault) = is ∙ ap report_bytes (for r.fault (known r.fault cause r.cause_is) r.refused) in
+    let bytes : report ≡ report_bytes (code_on_refusal held r.fault) = is ∙ ap report_bytes (for r.fault (known_of r.fault cause r.cause_is) r.refused) in
     Ever-map {p = λ t. (t.received ≡ used ++ held) × LostAtSend t sent report × IsClosed t}
     (λ t h. record {
       coming = BadPdu held r.fault;
-      comes = (r.refused, known r.fault cause r.cause_is, h.0);
+      comes = (r.refused, known_of r.fault cause r.cause_is, h.0);
       does = record { refusal = record { number = taken + 1; cause = cause }; number = refl; cause = r.cause_is; reports = inr (subst (λ (l : List ℕ). LostAtSend t sent l) bytes h.1, h.2, λ i. record { answers = answers; refused = Some (record { number = taken + 1; cause = cause }); end = ends i }) };
     })
     (Ever-closed (λ t h. h.2) done)
