@@ -19,6 +19,7 @@ pub mod QuestionLemmas
 pub mod ReadyLemmas
 pub mod ReportingLemmas
 pub mod RunLemmas
+pub mod ServingLemmas
 pub mod ShortLemmas
 pub mod StandsLemmas
 pub mod StopLemmas

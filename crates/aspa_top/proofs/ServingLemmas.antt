@@ -13,7 +13,7 @@ use Rattle.serve_lines.specs.Routers.{ServesLine, attempts_in}
 use Rattle.aspa_top.specs.State.{State}
 use Rattle.aspa_top.specs.Serving.{TakesTable, HasCache, ServesAll, ServesTable, ServesSome, ServesUnsummed, ServesTablePart, serving_of, with_cache}
 use Rattle.aspa_top.specs.World.{World}
-use Rattle.serve_lines.proofs.OneLemmas.{line_one, part_first}
+use Rattle.serve_lines.proofs.FrontLemmas.{line_one, part_first}
 use Rattle.rtr_cache.proofs.VersionLemmas.{made_one, updated_one}
 
 takes_one : (held : Option Versions) (session : ℕ) (parts : Parts) (one other : Versions) → TakesTable held session parts one → TakesTable held session parts other → one ≡ other

@@ -30,6 +30,16 @@ use Rattle.stream_lines.specs.Changes.{changes_text}
 use Rattle.stream_lines.specs.Counts.{refusals_in}
 use Rattle.stream_lines.specs.Streams.{Dump}
 use Rattle.stream_lines.proofs.RefusalLemmas.{begins, lacks, refusals_in-line, silent, refused, units_counted}
+use Rattle.serve_lines.specs.declared.outcome.Outcome.{Outcome}
+use Rattle.serve_lines.specs.declared.outcome.Refusal.{Refusal}
+use Rattle.serve_lines.specs.declared.outcome.RouterEnd.{RouterEnd}
+use Rattle.serve_lines.specs.Outcomes.{serve_name, refused_text, feed_end, end_text, one_if, outcome_text, outcomes_text, all_lines, reached_text, reached_lines}
+use Rattle.report_text.specs.declared.feed.FeedEnd.TheVariants.{Unreachable}
+use Rattle.report_text.specs.Feeds.{feed_line}
+use Rattle.report_text.specs.Served.{served_line, served_text as summed_text}
+use Rattle.report_text.proofs.RefusalLemmas.{feed_end_is_one_line, refusal_is_one_line, serve-in_line}
+use Rattle.report_text.proofs.AnswerLemmas.{served_is_one_line}
+use Rattle.aspa_top.specs.Serving.{ServesTable}
 use Rattle.aspa_top.specs.declared.loading.FileKind.{FileKind}
 use Rattle.aspa_top.specs.declared.loading.Outcome.{Outcome}
 use Rattle.aspa_top.specs.declared.loading.Outcome.TheVariants.{NoFile, Long as FileLong, Flawed, Good}
@@ -151,6 +161,50 @@ Takes-refused : (dump : Option Dump) (world : World) (state : State) (name : Lis
     → TakesNamed dump world state name count text next → next.refused + refusals_in rest ≡ state.refused + refusals_in (text ++ rest)
 Takes-refused None world state name count text next rest in_line takes = Works-refused world state name (TakePdus count) text next rest in_line takes
 Takes-refused (Some dump) world state name count text next rest in_line takes = TakesOpen-refused dump.over state name count dump text next rest in_line takes
+
+-- ---- routers
+
+refusal_counted : (line : ℕ) (refused : Option Refusal) (rest : List ℕ) → refusals_in (refused_text line refused ++ rest) ≡ one_if refused + refusals_in rest
+refusal_counted line None rest = sym (zero-add (refusals_in rest))
+refusal_counted line (Some refusal) rest =
+    refused_line (refusal_line line (of_unit serve_name refusal.number) refusal.cause) rest (refusal_is_one_line line (of_unit serve_name refusal.number) refusal.cause serve-in_line)
+
+end_counted : (line : ℕ) (end : Option RouterEnd) (rest : List ℕ) → refusals_in (end_text line end ++ rest) ≡ one_if end + refusals_in rest
+end_counted line None rest = sym (zero-add (refusals_in rest))
+end_counted line (Some end) rest = refused_line (feed_line line serve_name (feed_end end)) rest (feed_end_is_one_line line serve_name (feed_end end) serve-in_line)
+
+outcomes_counted : (line : ℕ) (outcomes : List Outcome) (rest : List ℕ) → refusals_in (outcomes_text line outcomes ++ rest) ≡ all_lines outcomes + refusals_in rest
+outcomes_counted line [] rest = sym (zero-add (refusals_in rest))
+outcomes_counted line (out ∷ more) rest =
+    let tail = outcomes_counted line more rest in
+    let end = end_counted line out.end (outcomes_text line more ++ rest) in
+    let first = refusal_counted line out.refused (end_text line out.end ++ (outcomes_text line more ++ rest)) in
+    let whole : refusals_in (outcomes_text line (out ∷ more) ++ rest) ≡ refusals_in (refused_text line out.refused ++ (end_text line out.end ++ (outcomes_text line more ++ rest))) =
+    ap (λ (t : List ℕ). refusals_in t) (append_assoc (outcome_text line out) (outcomes_text line more) rest
+    ∙ append_assoc (refused_text line out.refused) (end_text line out.end) (outcomes_text line more ++ rest)) in
+    omega (arith, whole, first, end, tail)
+
+reached_counted : (line : ℕ) (reached : Bool) (rest : List ℕ) → refusals_in (reached_text line reached ++ rest) ≡ reached_lines reached + refusals_in rest
+reached_counted line true rest = sym (zero-add (refusals_in rest))
+reached_counted line false rest = refused_line (feed_line line serve_name Unreachable) rest (feed_end_is_one_line line serve_name Unreachable serve-in_line)
+
+-- what is reported of routers counts, and what came of serving them doesn't
+ServesTable-refused : (world : World) (state : State) (place : List ℕ) (session count : ℕ) (text : List ℕ) (next : State) (rest : List ℕ)
+    → ServesTable world state place session count text next → next.refused + refusals_in rest ≡ state.refused + refusals_in (text ++ rest)
+ServesTable-refused world state place session count text next rest (inl refuses) = Refuses-refused state of_line causes.RowLong text next rest tt refuses.1
+ServesTable-refused world state place session count text next rest (inr serves) =
+    let all = serves.1 in
+    let outs = all.serves.outcomes in
+    let last = summed_text all.served.accepted all.served.answers in
+    let none : refusals_in (last ++ rest) ≡ refusals_in rest = answer_counted (served_line all.served.accepted all.served.answers) rest (served_is_one_line all.served.accepted all.served.answers) in
+    let reached = reached_counted state.lines all.served.reached (last ++ rest) in
+    let some = outcomes_counted state.lines outs (reached_text state.lines all.served.reached ++ (last ++ rest)) in
+    let whole : refusals_in (text ++ rest) ≡ refusals_in (outcomes_text state.lines outs ++ (reached_text state.lines all.served.reached ++ (last ++ rest))) =
+    ap (λ (t : List ℕ). refusals_in t) (ap (λ (t : List ℕ). t ++ rest) all.text_is ∙ append_assoc all.reported last rest
+    ∙ ap (λ (t : List ℕ). t ++ (last ++ rest)) all.serves.reports.text_is ∙ append_assoc (outcomes_text state.lines outs) (reached_text state.lines all.served.reached) (last ++ rest)) in
+    let counted = all.serves.reports.refused in
+    let after : next.refused ≡ state.refused + all.served.refused = ap (λ (s : State). s.refused) all.left in
+    omega (arith, none, reached, some, whole, counted, after)
 
 -- an answer is written, and no refusal is counted
 answered : (state next : State) (text answer rest : List ℕ) → text ≡ answer → refusals_in (answer ++ rest) ≡ refusals_in rest → next.refused ≡ state.refused

@@ -1,4 +1,5 @@
 pub mod AnswersLemmas
+pub mod FrontLemmas
 pub mod LineLemmas
 pub mod LostLemmas
 pub mod OneLemmas
