@@ -24,6 +24,7 @@ use Rattle.stream_lines.specs.Summary.{IsSummary}
 use Rattle.stream_lines.specs.declared.stop.Stop.{Stop}
 use Rattle.stream_lines.specs.declared.stop.Stop.TheVariants as stops
 use Rattle.stream_lines.proofs.FrameLemmas.{Leaves-refl}
+use Rattle.serve_lines.specs.Routers.{NoneMore}
 use Rattle.aspa_top.specs.declared.task.Question.{Question}
 use Rattle.aspa_top.specs.declared.task.Question.TheVariants.{Show, Why}
 use Rattle.aspa_top.specs.declared.task.Task.TheVariants.{Answer}
@@ -50,6 +51,8 @@ read_state working = record {
   sources = λ name. false;
   dumps = λ name. None;
   feeds = λ name. None;
+  caches = λ session. None;
+  begun = NoneMore;
   made = 0;
   lines = working.lines;
   passed = working.passed;

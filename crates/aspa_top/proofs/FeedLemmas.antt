@@ -1,6 +1,7 @@
 -- Lines on feeds.
-use Rattle.std.proofs.Common.{◌≡◌, ℕ, ◌+◌, ◌-◌, ◌*◌, ◌≤◌, Bool, true, false, ◌||◌, is_some, List, ◌++◌, None, Ok, inl, inr, refl, sym, ap, subst, ◌∙◌, arith}
+use Rattle.std.proofs.Common.{◌≡◌, ℕ, ◌+◌, ◌-◌, ◌*◌, ◌≤◌, Bool, true, false, ◌||◌, is_some, List, ◌++◌, None, Ok, inl, inr, refl, sym, ap, subst, ◌∙◌, arith, []}
 use Rattle.std.specs.declared.option.Option.{Option}
+use Rattle.av_base.specs.Connections.{Link}
 use Rattle.std.specs.declared.result.Result.{Result}
 use Rattle.std.specs.declared.result.Result.TheVariants.{Err}
 use Rattle.std.specs.Io.KnownBytes.{append_known}

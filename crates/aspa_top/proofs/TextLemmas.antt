@@ -30,7 +30,7 @@ use Rattle.stream_lines.specs.Changes.{changes_text}
 use Rattle.stream_lines.specs.Counts.{refusals_in}
 use Rattle.stream_lines.specs.Streams.{Dump}
 use Rattle.stream_lines.proofs.RefusalLemmas.{begins, lacks, refusals_in-line, silent, refused, units_counted}
-use Rattle.serve_lines.specs.declared.outcome.Outcome.{Outcome}
+use Rattle.serve_lines.specs.declared.outcome.Outcome.{Outcome as RouterOutcome}
 use Rattle.serve_lines.specs.declared.outcome.Refusal.{Refusal}
 use Rattle.serve_lines.specs.declared.outcome.RouterEnd.{RouterEnd}
 use Rattle.serve_lines.specs.Outcomes.{serve_name, refused_text, feed_end, end_text, one_if, outcome_text, outcomes_text, all_lines, reached_text, reached_lines}
@@ -173,7 +173,7 @@ end_counted : (line : ℕ) (end : Option RouterEnd) (rest : List ℕ) → refusa
 end_counted line None rest = sym (zero-add (refusals_in rest))
 end_counted line (Some end) rest = refused_line (feed_line line serve_name (feed_end end)) rest (feed_end_is_one_line line serve_name (feed_end end) serve-in_line)
 
-outcomes_counted : (line : ℕ) (outcomes : List Outcome) (rest : List ℕ) → refusals_in (outcomes_text line outcomes ++ rest) ≡ all_lines outcomes + refusals_in rest
+outcomes_counted : (line : ℕ) (outcomes : List RouterOutcome) (rest : List ℕ) → refusals_in (outcomes_text line outcomes ++ rest) ≡ all_lines outcomes + refusals_in rest
 outcomes_counted line [] rest = sym (zero-add (refusals_in rest))
 outcomes_counted line (out ∷ more) rest =
     let tail = outcomes_counted line more rest in

@@ -321,12 +321,7 @@ fn make_next(
 }
 
 // Lists an attempt to connect or to accept that failed, or cuts the attempts.
-fn list_failed(
-    alloc: Global,
-    attempts: &mut Option<Vec<KeptAttempt>>,
-    place: &str,
-    accepts: bool,
-)
+fn list_failed(alloc: Global, attempts: &mut Option<Vec<KeptAttempt>>, place: &str, accepts: bool)
     ensures { ListsFailed (attempts_of attempts.old) (attempts_of attempts.new)
         (if accepts then Unaccepted place.now else Failed place.now) }
 {

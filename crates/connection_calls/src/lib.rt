@@ -8,7 +8,8 @@
 //!
 //! `asking` receives PDUs, `sending` sends replies, queries and error reports, and `refusing` names the cause of a refused PDU. Lemmas for
 //! the proofs above are in `proofs/`: `ConnectionLemmas` for one connection, `NewLemmas` for one that was made, `StandingLemmas` for one
-//! that may be used, `FaultsLemmas` for the count of faults, and `GoingLemmas` for the end of the run.
+//! that may be used, `NextLemmas` and `RefusedLemmas` for what comes next, `FaultsLemmas` for the count of faults, and `GoingLemmas` for the
+//! end of the run.
 #![tactic(auto)]
 
 mod asking;

@@ -194,4 +194,3 @@ module _ (attempts_old attempts_mid attempts_new : Option (List Attempt)) (wire_
 -- a new session asks for everything
 pub asked_fresh : (old new : Session) (query : Option Query) → old ≡ fresh → AsksSession old.phase old new query → new ≡ record fresh { phase = AskedWhole }
 asked_fresh old new query is asks = let one : AsksSession Fresh fresh new query = subst (λ (s : Session). AsksSession s.phase s new query) is asks in one.1
-

@@ -42,4 +42,3 @@ HoldsOr-is_some wire (Some None) (Some (Some feed)) holds = absurd holds
 HoldsOr-is_some wire (Some (Some kept)) None holds = absurd holds
 HoldsOr-is_some wire (Some (Some kept)) (Some None) holds = absurd holds
 HoldsOr-is_some wire (Some (Some kept)) (Some (Some feed)) holds = refl
-

@@ -67,7 +67,7 @@ module _ (cache : Versions) (old : Serving) (count : ℕ) where
           sends = inl (
             ([], h.1 ∙ sym (append-nil (old.sent ++ reply))),
             subst (λ (tn : Turn). AfterReply t tn (after_reply old bytes reply replies.pdus) (Serves t cache count) (record { answers = answers; refused = None; end = None })) (sym close)
-            (record { gave = h.1; closed = h.3; unbroken = h.2; same = λ i. record { answers = counted i; refused = None; end = None } }),
+                (record { gave = h.1; closed = h.3; unbroken = h.2; same = λ i. record { answers = counted i; refused = None; end = None } }),
           );
         };
       })

@@ -17,9 +17,7 @@ mod serving;
 mod stop;
 mod telling;
 
-pub use laws::{
-    lost_routers_broke, routers_have_one_outcome, serve_lines_have_one_outcome,
-};
+pub use laws::{lost_routers_broke, routers_have_one_outcome, serve_lines_have_one_outcome};
 pub use outcome::{Outcome, Refusal, RouterEnd};
 pub use routers::{Served, serve};
 pub use stop::Stop;

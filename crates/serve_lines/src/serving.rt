@@ -146,13 +146,7 @@ fn answer<K: Links>(
 }
 
 // What comes behind a reply that was sent whole.
-fn behind<K: Links>(
-    turn: Turn,
-    framer: Framer,
-    answers: u64,
-    link: u32,
-    links: &mut K,
-) -> Step
+fn behind<K: Links>(turn: Turn, framer: Framer, answers: u64, link: u32, links: &mut K) -> Step
     requires usable { IsUsable (K.standings links.old) link }
     ensures steps { (cache : Versions) (used sent bytes reply : List ℕ) (pdu : PduOf) (taken before : ℕ)
         (replies : Replies cache pdu reply turn) → IsFrame bytes pdu
@@ -193,13 +187,7 @@ fn answers_in(turn: Turn, reply: &Vec<u8>) -> u64
     ensures most { result ≤ 1 }
 {
     match turn {
-        Turn::More => {
-            if reply.len() > 8 {
-                1
-            } else {
-                0
-            }
-        }
+        Turn::More => { if reply.len() > 8 { 1 } else { 0 } }
         Turn::Close => 0,
     }
 }

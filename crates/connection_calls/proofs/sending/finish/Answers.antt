@@ -3,7 +3,7 @@ use Rattle.connection_calls.proofs.FaultsLemmas.{BreaksByFault-trans, breaks_clo
 use Rattle.connection_calls.proofs.sending.finish.Goals as goal
 
 pub returns-clause-finishes : goal.returns-clause-finishes
-returns-clause-finishes g c = λ got gave now. 
+returns-clause-finishes g c = λ got gave now.
     finishes _ _ (g.K.Links.standings c.send_all-whole.new.links) c.args.link got gave c.args.bytes.now c.send_all-whole.result (g.met.K.Links.agrees c.send_all-whole.new.links) c.send_all-whole.ensures.usable
     (c.send_all-whole.ensures.sends got gave now) c.close.ensures.closed
 
