@@ -1,5 +1,5 @@
 -- Which attempts made the connections of feeds, line by line.
-use Rattle.std.proofs.Common.{◌≡◌, ℕ, ◌||◌, is_some, Bool, true, false, List, [], ◌∷◌, None, Some, Ok, Err, refl, sym, ap, ◌∙◌, subst, arith}
+use Rattle.std.proofs.Common.{◌≡◌, ℕ, ◌||◌, is_some, Bool, true, false, List, [], ◌∷◌, ◌≤◌, None, Some, Ok, Err, inl, inr, refl, sym, ap, ◌∙◌, subst, arith}
 use Rattle.std.specs.declared.option.Option.{Option}
 use Rattle.report_text.specs.declared.cause.Cause.{Cause}
 use Rattle.feed_lines.specs.declared.working.Work.{Work}
@@ -16,20 +16,23 @@ use Rattle.aspa_top.specs.declared.task.Short.{Short as ShortTask}
 use Rattle.aspa_top.specs.declared.task.Short.TheVariants.{Idle as Nothing, Happen, Judge as JudgePath}
 use Rattle.aspa_top.specs.declared.task.Question.{Question}
 use Rattle.aspa_top.specs.declared.task.Task.{Task}
-use Rattle.aspa_top.specs.declared.task.Task.TheVariants.{Short, Load, Open, Take, Connect, OnFeed, Answer, Changes}
+use Rattle.aspa_top.specs.declared.task.Task.TheVariants.{Short, Load, Open, Take, Connect, OnFeed, Serve, Answer, Changes}
 use Rattle.aspa_top.specs.Answers.{AnswersUnless, Replies, refused_for}
 use Rattle.aspa_top.specs.Evaluation.{Asked, DoesAsked, Evaluates, asked_of, counted}
 use Rattle.aspa_top.specs.Laws.{FeedsWereConnected}
+use Rattle.aspa_top.specs.Serving.{ServesTable}
 use Rattle.aspa_top.specs.Tasks.{ConnectsUnless, DoesShort, DoesTask, LoadsUnless, OpensNamed, State, TakesFile, TakesNamed, TakesOpen, Works, feeds_of, is_stream, is_taken, start}
 use Rattle.aspa_top.specs.World.{World}
 
--- the feeds and the number of attempts stayed
+-- the feeds stayed, and attempts were added, if anything
 record KeepsFeeds (old new : State) : Type 0 where
   feeds : new.feeds ≡ old.feeds
-  made : new.made ≡ old.made
+  made : old.made ≤ new.made
 
 kept : (old next built : State) → built.feeds ≡ old.feeds → built.made ≡ old.made → next ≡ built → KeepsFeeds old next
-kept old next built feeds made is = record { feeds = ap (λ (s : State). s.feeds) is ∙ feeds; made = ap (λ (s : State). s.made) is ∙ made }
+kept old next built feeds made is =
+    let same : next.made ≡ old.made = ap (λ (s : State). s.made) is ∙ made in
+    record { feeds = ap (λ (s : State). s.feeds) is ∙ feeds; made = omega (arith, same) }
 
 -- ---- lines that leave the feeds
 
@@ -62,6 +65,12 @@ DoesShort-keeps : (state : State) (short : ShortTask) (text : List ℕ) (next : 
 DoesShort-keeps state Nothing text next does = kept state next _ refl refl does.1
 DoesShort-keeps state (Happen event) text next does = kept state next _ refl refl does.left
 DoesShort-keeps state (JudgePath role neighbour path) text next does = kept state next _ refl refl does.1
+
+ServesTable-keeps : (world : World) (state : State) (place : List ℕ) (session count : ℕ) (text : List ℕ) (next : State) → ServesTable world state place session count text next → KeepsFeeds state next
+ServesTable-keeps world state place session count text next (inl refuses) = kept state next _ refl refl refuses.1.1
+ServesTable-keeps world state place session count text next (inr serves) =
+    let made = ap (λ (s : State). s.made) serves.1.left in
+    record { feeds = ap (λ (s : State). s.feeds) serves.1.left; made = omega (arith, made) }
 
 -- ---- each line
 
@@ -101,6 +110,7 @@ module _ (world : World) where
   DoesTask-connected state next (Connect name place) text connected does =
       Connects-connected (state.sources name || is_some (state.dumps name)) state next name place text connected does
   DoesTask-connected state next (OnFeed name work) text connected does = Works-connected state next name work text connected does
+  DoesTask-connected state next (Serve place session count) text connected does = keeps_connected state next (ServesTable-keeps world state place session count text next does) connected
   DoesTask-connected state next (Answer question) text connected does = keeps_connected state next (Replies-keeps state question text next does) connected
   DoesTask-connected state next Changes text connected does = keeps_connected state next (kept state next _ refl refl does.left) connected
 

@@ -28,14 +28,14 @@ use Rattle.aspa_top.specs.declared.task.Task.TheVariants.{Short, Load, Open, Tak
 use Rattle.aspa_top.specs.Tasks.{State, Moves, TakesFile, LoadsUnless, OpensNamed, TakesOpen, TakesNamed, Works, DoesShort, DoesTask, feeds_of, is_stream, is_taken}
 use Rattle.aspa_top.specs.Answers.{AnswersUnless, Replies, refused_for}
 use Rattle.aspa_top.specs.Evaluation.{Asked, Begins, Does, DoesAsked, asked_of, counted, task_of, Performs, Evaluates}
-use Rattle.aspa_top.specs.Laws.{ConnectNoFeed, IsNoFeedLine}
+use Rattle.aspa_top.specs.Laws.{NeedNoAttempts, NeedsNoAttempt}
 use Rattle.std.proofs.lemmas.List.Elements.{All-head, All-tail}
 use Rattle.aspa_top.specs.Program.{BeginsNext}
 use Rattle.aspa_top.specs.World.{World}
 use Rattle.aspa_top.proofs.ServingLemmas.{table_front}
 use Rattle.aspa_top.proofs.TaskLemmas.{ConnectsNone, both, some_task, DoesTask-unique}
 
--- ---- one text, where no feed is connected
+-- ---- one text, where nothing is connected or accepted
 
 -- no name is a feed's
 abbrev pub HasNoFeeds : State → Type 0
@@ -112,35 +112,35 @@ is_asked line (Err Words) reads = tt
 is_asked line (Err Number) reads = tt
 is_asked line (Err NoMemory) reads = absurd reads
 
--- the line is no `feed` line
-abbrev pub AsksNoFeed : Asked → Type 0
-AsksNoFeed (Ok task) = ConnectsNone task
-AsksNoFeed (Err cause) = Unit {0}
+-- the line is neither a `feed` line nor a `serve` line
+abbrev pub AsksNoAttempt : Asked → Type 0
+AsksNoAttempt (Ok task) = ConnectsNone task
+AsksNoAttempt (Err cause) = Unit {0}
 
-no_feed : (line : List ℕ) (reading : Result Command LineFault) → IsReading line reading → ((name place : List ℕ) → IsReading line (Ok (FeedLine name place)) → ⊥) → AsksNoFeed (asked_of reading)
-no_feed line (Ok (FeedLine name place)) reads other = other name place reads
-no_feed line (Ok Idle) reads other = tt
-no_feed line (Ok (Aspa name file)) reads other = tt
-no_feed line (Ok (Aspa64 name file)) reads other = tt
-no_feed line (Ok (Slurm file)) reads other = tt
-no_feed line (Ok (At moment)) reads other = tt
-no_feed line (Ok (Filter customer)) reads other = tt
-no_feed line (Ok (Unfilter customer)) reads other = tt
-no_feed line (Ok (Assert customer providers)) reads other = tt
-no_feed line (Ok (Unassert customer)) reads other = tt
-no_feed line (Ok (SetRole asn role)) reads other = tt
-no_feed line (Ok (RoleDefault role)) reads other = tt
-no_feed line (Ok (OpenDump name file)) reads other = tt
-no_feed line (Ok (OpenBmp name file post)) reads other = tt
-no_feed line (Ok (TakeUnits name count)) reads other = tt
-no_feed line (Ok (Ask name)) reads other = tt
-no_feed line (Ok (Sync name count)) reads other = tt
-no_feed line (Ok (ServeLine place session count)) reads other = tt
-no_feed line (Ok (JudgePath role neighbour path)) reads other = tt
-no_feed line (Ok ListChanges) reads other = tt
-no_feed line (Ok (WhyRoute addr asn prefix path)) reads other = tt
-no_feed line (Ok (ShowAll show)) reads other = tt
-no_feed line (Err fault) reads other = tt
+no_attempt : (line : List ℕ) (reading : Result Command LineFault) → IsReading line reading → NeedsNoAttempt line → AsksNoAttempt (asked_of reading)
+no_attempt line (Ok (FeedLine name place)) reads other = other.no_feed name place reads
+no_attempt line (Ok Idle) reads other = tt
+no_attempt line (Ok (Aspa name file)) reads other = tt
+no_attempt line (Ok (Aspa64 name file)) reads other = tt
+no_attempt line (Ok (Slurm file)) reads other = tt
+no_attempt line (Ok (At moment)) reads other = tt
+no_attempt line (Ok (Filter customer)) reads other = tt
+no_attempt line (Ok (Unfilter customer)) reads other = tt
+no_attempt line (Ok (Assert customer providers)) reads other = tt
+no_attempt line (Ok (Unassert customer)) reads other = tt
+no_attempt line (Ok (SetRole asn role)) reads other = tt
+no_attempt line (Ok (RoleDefault role)) reads other = tt
+no_attempt line (Ok (OpenDump name file)) reads other = tt
+no_attempt line (Ok (OpenBmp name file post)) reads other = tt
+no_attempt line (Ok (TakeUnits name count)) reads other = tt
+no_attempt line (Ok (Ask name)) reads other = tt
+no_attempt line (Ok (Sync name count)) reads other = tt
+no_attempt line (Ok (ServeLine place session count)) reads other = other.no_serve place session count reads
+no_attempt line (Ok (JudgePath role neighbour path)) reads other = tt
+no_attempt line (Ok ListChanges) reads other = tt
+no_attempt line (Ok (WhyRoute addr asn prefix path)) reads other = tt
+no_attempt line (Ok (ShowAll show)) reads other = tt
+no_attempt line (Err fault) reads other = tt
 
 -- what a line writes, and leaves
 pub record DoesSome (world : World) (state : State) (asked : Asked) : Type 0 where
@@ -149,7 +149,7 @@ pub record DoesSome (world : World) (state : State) (asked : Asked) : Type 0 whe
   pub does : DoesAsked world state asked text next
   pub none : HasNoFeeds next
 
-some_done : (world : World) (state : State) (asked : Asked) → IsAsked asked → AsksNoFeed asked → HasNoFeeds state → DoesSome world state asked
+some_done : (world : World) (state : State) (asked : Asked) → IsAsked asked → AsksNoAttempt asked → HasNoFeeds state → DoesSome world state asked
 some_done world state (Ok task) is other none =
     let done = some_task world state task other none in
     record {
@@ -167,13 +167,13 @@ pub record HasEvaluation (world : World) (before : State) (lines : List (List �
   pub end : State
   pub evaluates : Evaluates world before lines text end
 
--- each list of lines has a text that connects no feed
-pub some_text : (world : World) (before : State) (lines : List (List ℕ)) → ConnectNoFeed lines → HasNoFeeds before → HasEvaluation world before lines
+-- each list of lines has a text that needs no attempt
+pub some_text : (world : World) (before : State) (lines : List (List ℕ)) → NeedNoAttempts lines → HasNoFeeds before → HasEvaluation world before lines
 some_text world before [] other none = record { text = []; end = before; evaluates = (refl, refl) }
 some_text world before (line ∷ more) other none =
     let read = some_reading line in
-    let done = some_done world (counted before) (asked_of read.0) (is_asked line read.0 read.1) (no_feed line read.0 read.1 (All-head IsNoFeedLine line more other)) none in
-    let rest = some_text world done.next more (All-tail IsNoFeedLine line more other) done.none in
+    let done = some_done world (counted before) (asked_of read.0) (is_asked line read.0 read.1) (no_attempt line read.0 read.1 (All-head NeedsNoAttempt line more other)) none in
+    let rest = some_text world done.next more (All-tail NeedsNoAttempt line more other) done.none in
     record {
       text = done.text ++ rest.text;
       end = rest.end;

@@ -47,7 +47,7 @@ asks_for : (files : Option Files) (links : Links) (working : Working) (state : S
 asks_for files links working state name asking asks stands = asks ∙ (λ i. record { line = stands.lines i; name = name })
 
 -- between two lines no router is served
-no_router : (wire : Option (List Link)) (old : Outside) {working : Working} (state : State) → StandsFor old.files old.links working state → HasSentAll wire state.begun
+pub no_router : (wire : Option (List Link)) (old : Outside) {working : Working} (state : State) → StandsFor old.files old.links working state → HasSentAll wire state.begun
 no_router wire old state stands = subst (λ (b : Begun). HasSentAll wire b) (sym stands.begun) tt
 
 module _ (working : Working) (name : List ℕ) (old : Outside) (links : Links) (standings : List Standing) (faults : ℕ) (held : List ℕ) (ticks : ℕ) (progress : Progress) (asking : FeedAsking)

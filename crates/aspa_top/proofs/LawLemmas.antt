@@ -5,7 +5,7 @@ use Rattle.av_base.proofs.ToldLemmas.{append_known-nil, AppendsFront-trans}
 use Rattle.aspa_top.specs.Tasks.{State, start}
 use Rattle.aspa_top.specs.Evaluation.{Evaluates}
 use Rattle.aspa_top.specs.Program.{AreTold, WentThrough, WritesFront}
-use Rattle.aspa_top.specs.Laws.{ConnectNoFeed, HasText}
+use Rattle.aspa_top.specs.Laws.{NeedNoAttempts, HasText}
 use Rattle.aspa_top.specs.World.{World}
 use Rattle.aspa_top.proofs.EvaluationLemmas.{Evaluates-unique, goes_on_behind, some_text}
 
@@ -14,8 +14,8 @@ pub one_text : (world : World) → AreTold world → (lines : List (List ℕ)) (
     → Evaluates world (start world) lines one end → Evaluates world (start world) lines other last → (one ≡ other) × (end ≡ last)
 one_text world told lines one other end last a b = Evaluates-unique world told.0 told.1 (start world) lines one other end last a b
 
--- a script that connects no feed has one
-pub a_text : (world : World) (lines : List (List ℕ)) → ConnectNoFeed lines → HasText world lines
+-- a script that connects no feed and serves no routers has one
+pub a_text : (world : World) (lines : List (List ℕ)) → NeedNoAttempts lines → HasText world lines
 a_text world lines none =
     let found = some_text world (start world) lines none (λ name. refl) in
     record { text = found.text; end = found.end; evaluates = found.evaluates }

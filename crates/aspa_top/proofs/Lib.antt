@@ -18,6 +18,7 @@ pub mod ProgramLemmas
 pub mod QuestionLemmas
 pub mod ReadyLemmas
 pub mod ReportingLemmas
+pub mod RoutersLemmas
 pub mod RunLemmas
 pub mod ServingLemmas
 pub mod ShortLemmas

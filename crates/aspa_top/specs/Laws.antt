@@ -3,7 +3,7 @@ use Rattle.std.specs.Prelude.{◌≡◌, ℕ, List, [], Some}
 use Rattle.std.specs.List.{All, Contains}
 use Rattle.std.specs.declared.option.Option.{Option}
 use Rattle.std.specs.declared.result.Result.TheVariants.{Ok}
-use Rattle.script_lines.specs.declared.command.Command.TheVariants.{Feed}
+use Rattle.script_lines.specs.declared.command.Command.TheVariants.{Feed, Serve}
 use Rattle.script_lines.specs.Grammar.{IsReading}
 use Rattle.stream_lines.specs.Counts.{refusals_in}
 use Rattle.av_base.specs.Files.{Files}
@@ -27,13 +27,14 @@ abbrev pub NoScriptHasTwoTexts : Type 0
 NoScriptHasTwoTexts = (world : World) → AreTold world → (lines : List (List ℕ)) (one other : List ℕ) (end last : State)
     → Evaluates world (start world) lines one end → Evaluates world (start world) lines other last → (one ≡ other) × (end ≡ last)
 
--- the line is no `feed` line
-abbrev pub IsNoFeedLine : List ℕ → Type 0
-IsNoFeedLine line = (name place : List ℕ) → IsReading line (Ok (Feed name place)) → ⊥
+-- the line is neither a `feed` line nor a `serve` line
+pub record NeedsNoAttempt (line : List ℕ) : Type 0 where
+  pub no_feed : (name place : List ℕ) → IsReading line (Ok (Feed name place)) → ⊥
+  pub no_serve : (place : List ℕ) (session count : ℕ) → IsReading line (Ok (Serve place session count)) → ⊥
 
--- none of the lines is one
-abbrev pub ConnectNoFeed : List (List ℕ) → Type 0
-ConnectNoFeed lines = All IsNoFeedLine lines
+-- each of the lines is neither
+abbrev pub NeedNoAttempts : List (List ℕ) → Type 0
+NeedNoAttempts lines = All NeedsNoAttempt lines
 
 -- lines have a text, and leave a state
 pub record HasText (world : World) (lines : List (List ℕ)) : Type 0 where
@@ -41,9 +42,10 @@ pub record HasText (world : World) (lines : List (List ℕ)) : Type 0 where
   pub end : State
   pub evaluates : Evaluates world (start world) lines text end
 
--- In each world lines that connect no feed have a text. One that does has none where the world has too few attempts for it.
-abbrev pub EachScriptWithoutFeedsHasAText : Type 0
-EachScriptWithoutFeedsHasAText = (world : World) (lines : List (List ℕ)) → ConnectNoFeed lines → HasText world lines
+-- In each world lines that connect no feed and serve no routers have a text. One that does has none where the world has too few attempts
+-- for it.
+abbrev pub EachScriptWithoutAttemptsHasAText : Type 0
+EachScriptWithoutAttemptsHasAText = (world : World) (lines : List (List ℕ)) → NeedNoAttempts lines → HasText world lines
 
 -- what a run that went through some lines has written is a front of the text of all lines
 abbrev pub RunsWriteFronts : Type 0

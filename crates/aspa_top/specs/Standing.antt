@@ -54,6 +54,11 @@ AreSound stands lines working = FeedsAreSound stands (lines * most) working.feed
 abbrev pub AreFewUpdates : ℕ → Working → Type 0
 AreFewUpdates lines working = (session : ℕ) (cache : Versions) → cache_in working session ≡ Some cache → cache.current.serial < lines
 
+-- a cache's serial may still be followed by another one
+abbrev pub HasRoom : Option Versions → Type 0
+HasRoom None = Unit {0}
+HasRoom (Some cache) = cache.current.serial < 2 ^ 32 - 1
+
 -- so it is between two lines
 pub record IsReady (now : Outside) (working : Working) : Type 0 where
   pub sound : IsSound now.opened working.lines working

@@ -1,14 +1,14 @@
 //! Laws of the definitions: the contract of each function is the law, and its body does nothing.
-ghost use Rattle.aspa_top.specs.Laws.{EachScriptWithoutFeedsHasAText, FeedsWereConnected, NoScriptHasTwoTexts, RefusalsAreCounted, RunsWriteFronts, UnbrokenFeedsAreLostAtEnd};
+ghost use Rattle.aspa_top.specs.Laws.{EachScriptWithoutAttemptsHasAText, FeedsWereConnected, NoScriptHasTwoTexts, RefusalsAreCounted, RunsWriteFronts, UnbrokenFeedsAreLostAtEnd};
 
 /// In a world whose attempts to connect are told no script has two texts.
 pub fn no_script_has_two_texts()
     ensures { NoScriptHasTwoTexts }
 {}
 
-/// In each world each script that connects no feed has a text.
-pub fn each_script_without_feeds_has_a_text()
-    ensures { EachScriptWithoutFeedsHasAText }
+/// In each world each script that connects no feed and serves no routers has a text.
+pub fn each_script_without_attempts_has_a_text()
+    ensures { EachScriptWithoutAttemptsHasAText }
 {}
 
 /// What a run that ends early has written is a front of the text of all lines that it was to perform.

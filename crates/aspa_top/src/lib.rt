@@ -29,7 +29,7 @@ mod words;
 mod working;
 
 pub use laws::{
-    each_script_without_feeds_has_a_text, feeds_were_connected, no_script_has_two_texts,
+    each_script_without_attempts_has_a_text, feeds_were_connected, no_script_has_two_texts,
     refusals_are_counted, runs_write_fronts, unbroken_feeds_are_lost_at_end,
 };
 pub use program::{SCRIPT_LIMIT, run};

@@ -1,9 +1,14 @@
 //! `serve`: the program as a cache.
-ghost use Rattle.std.specs.Prelude.{Ok};
+ghost use Rattle.std.specs.Prelude.{◌≡◌, ◌≤◌, cond, ℕ, None, Ok, Some, IfOk, OnOk};
+ghost use Rattle.std.specs.BTreeMap.{get, is_at};
+ghost use Rattle.std.specs.Ordering.{nat_cmp};
+ghost use Rattle.rtr_cache.specs.Cache.{FitsPdus};
 ghost use Rattle.aspa_top.specs.declared.task.Task.TheVariants.{Serve};
+ghost use Rattle.aspa_top.specs.Bounds.{most};
 ghost use Rattle.aspa_top.specs.Outside.{Keeps, outside};
 ghost use Rattle.aspa_top.specs.Performing.{Did};
-ghost use Rattle.aspa_top.specs.Standing.{IsBegun};
+ghost use Rattle.aspa_top.specs.Serving.{TakesTable};
+ghost use Rattle.aspa_top.specs.Standing.{HasRoom, IsBegun};
 
 use crate::acting::refuse;
 use crate::working::Working;
@@ -32,6 +37,7 @@ pub(crate) fn serve_routers<F: Shelf, K: Links, W: Sink, L: Ledger>(
     text: &mut Vec<u8>,
     steps: &mut Steps<L>,
 ) -> Result<Working, Stop>
+    requires few { count ≤ most }
     requires begun { IsBegun
         (outside F.Shelf K.Links W.Sink shelf.old links.old out.old text.old.items steps.old) working }
     ensures keeps { Keeps
@@ -80,7 +86,13 @@ fn cache_of(
     caches: &mut BTreeMap<u16, Cache>,
     session: u16,
     table: &Vaps,
-) -> Result<Cache, NoMemory> {
+) -> Result<Cache, NoMemory>
+    requires fits { FitsPdus table.now }
+    requires room { HasRoom (get nat_cmp caches.old session) }
+    ensures takes { IfOk result (TakesTable (get nat_cmp caches.old session) session table.now) }
+    ensures gone { (other : ℕ) → get nat_cmp caches.new other
+        ≡ cond (is_at (nat_cmp session) other) None (get nat_cmp caches.old other) }
+{
     match caches.remove(&session) {
         Some(cache) => cache.update(table),
         None => Cache::new(alloc, session, table),
@@ -88,7 +100,10 @@ fn cache_of(
 }
 
 // Keeps a cache in its session.
-fn keep(caches: &mut BTreeMap<u16, Cache>, session: u16, cache: Cache) -> Result<(), NoMemory> {
+fn keep(caches: &mut BTreeMap<u16, Cache>, session: u16, cache: Cache) -> Result<(), NoMemory>
+    ensures { OnOk result ((other : ℕ) → get nat_cmp caches.new other
+        ≡ cond (is_at (nat_cmp session) other) (Some cache) (get nat_cmp caches.old other)) }
+{
     caches.insert(session, cache)?;
     Ok(())
 }

@@ -1,5 +1,5 @@
 //! Serving routers, one after another.
-ghost use Rattle.std.specs.Prelude.{◌≡◌, ◌<◌, ◌≤◌, None, false, length, IfOk, IfSome, IsErrOf, OnErr};
+ghost use Rattle.std.specs.Prelude.{◌≡◌, ◌*◌, ◌<◌, ◌≤◌, None, false, length, IfOk, IfSome, IsErrOf, OnErr};
 ghost use Rattle.std.specs.Io.KnownBytes.{append_known};
 ghost use Rattle.av_base.specs.Told.{Grows, Rose};
 ghost use Rattle.connection_calls.specs.Connection.{Spares};
@@ -51,6 +51,7 @@ pub fn serve<K: Links, W: Sink>(
         cache.now line place.now count served
         (append_known (W.written out.old) text.old.items)
         (append_known (W.written out.new) text.new.items)) }
+    ensures few { IfOk result (λ served. served.refused ≤ 2 * count) }
 
     // Where it ended early: some first routers with their text, and perhaps one more of which nothing is reported.
     ensures halts { OnErr result (HaltedAs

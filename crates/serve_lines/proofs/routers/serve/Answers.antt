@@ -54,6 +54,9 @@ returns-in-None-clause-serves g c =
     served_failed _ _ _ _ _ c.args.cache.now c.args.line c.args.place.now c.loop-accepted.accepted c.loop-accepted.answers c.loop-accepted.refused _ _ _ c.loop-accepted.invariant.so_far c.serve_next.ensures.attempts c.serve_next.ensures.others.later
     c.args.count _ turned (omega (arith, c.loop-accepted-test.true)) refl
 
+pub returns-in-None-clause-few : goal.returns-in-None-clause-few
+returns-in-None-clause-few g c = omega (arith, c.loop-accepted.invariant.few_lines, c.loop-accepted-test.true)
+
 pub returns-in-None-clause-attempts : goal.returns-in-None-clause-attempts
 returns-in-None-clause-attempts g c = AddsAttempts-trans c.loop-accepted.invariant.others.later c.loop-accepted.invariant.attempts c.serve_next.ensures.attempts
 
@@ -113,3 +116,6 @@ pub returns-clause-serves : goal.returns-clause-serves
 returns-clause-serves g c =
     served_all _ _ _ c.args.cache.now c.args.line c.args.place.now c.loop-accepted.accepted c.loop-accepted.answers c.loop-accepted.refused _ _ c.loop-accepted.invariant.so_far c.args.count _
     (omega (arith, c.loop-accepted-test.false, c.loop-accepted.auto.accepted-end)) refl
+
+pub returns-clause-few : goal.returns-clause-few
+returns-clause-few g c = omega (arith, c.loop-accepted.invariant.few_lines, c.loop-accepted-test.false, c.loop-accepted.auto.accepted-end)
