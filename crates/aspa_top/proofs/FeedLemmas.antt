@@ -7,6 +7,7 @@ use Rattle.std.specs.declared.result.Result.TheVariants.{Err}
 use Rattle.std.specs.Io.KnownBytes.{append_known}
 use Rattle.av_base.specs.declared.standing.Standing.{Standing}
 use Rattle.av_base.specs.Files.{Files}
+use Rattle.av_base.proofs.ToldLemmas.{append_known-nil}
 use Rattle.feed_lines.specs.declared.feed.Feeds.{Feeds}
 use Rattle.feed_lines.specs.declared.lines.Progress.{Progress}
 use Rattle.feed_lines.specs.declared.working.Work.{Work}
@@ -137,13 +138,13 @@ module _ (working : Working) (name : List ℕ) (old : Outside) (links : Links) (
             let did = goes.goes (feeds_of state) (feeds_held state stands) in
             let asks_same = asks_for old.files old.links working state name asking asks stands in
             record {
-                part = [];
-                after = with_feeds state did.0;
-                moves = λ ends comes. (refl, record { after = did.0; does = subst (λ (a : FeedAsking). ConnectPart ends a place (feeds_of state) did.0) asks_same (did.2 ends comes); left = refl });
-                added = ap (append_known old.written) silent ∙ sym (append_known-nil (all_of old));
-                sent = record { feeds = did.1.0; router = no_router links.wire old state stands };
-                ticked = omega (arith, unticked);
-              },
+              part = [];
+              after = with_feeds state did.0;
+              moves = λ ends comes. (refl, record { after = did.0; does = subst (λ (a : FeedAsking). ConnectPart ends a place (feeds_of state) did.0) asks_same (did.2 ends comes); left = refl });
+              added = ap (append_known old.written) silent ∙ sym (append_known-nil (all_of old));
+              sent = record { feeds = did.1.0; router = no_router links.wire old state stands };
+              ticked = omega (arith, unticked);
+            },
       ));
       adds = front_none (all_of old) (append_known old.written held) old.link_faults faults later (ap (append_known old.written) silent);
       cause = tt;
@@ -188,13 +189,13 @@ module _ (working : Working) (name : List ℕ) (old : Outside) (links : Links) (
             let did = goes.goes (feeds_of state) (feeds_held state stands) in
             let asks_same = asks_for old.files old.links working state name asking asks stands in
             record {
-                part = [];
-                after = with_feeds state did.0;
-                moves = λ ends comes. (refl, record { after = did.0; does = subst (λ (a : FeedAsking). WorkPart ends a work (feeds_of state) did.0) asks_same (did.2 ends comes); left = refl });
-                added = ap (append_known old.written) silent ∙ sym (append_known-nil (all_of old));
-                sent = record { feeds = did.1.0; router = no_router links.wire old state stands };
-                ticked = omega (arith, did.1.1);
-              },
+              part = [];
+              after = with_feeds state did.0;
+              moves = λ ends comes. (refl, record { after = did.0; does = subst (λ (a : FeedAsking). WorkPart ends a work (feeds_of state) did.0) asks_same (did.2 ends comes); left = refl });
+              added = ap (append_known old.written) silent ∙ sym (append_known-nil (all_of old));
+              sent = record { feeds = did.1.0; router = no_router links.wire old state stands };
+              ticked = omega (arith, did.1.1);
+            },
       ));
       adds = front_none (all_of old) (append_known old.written held) old.link_faults faults later (ap (append_known old.written) silent);
       cause = tt;

@@ -88,3 +88,16 @@ keeps_links old links standings faults held ticks later broke = record {
   grows = Grows-refl old.written;
   sink_faults = omega arith;
 }
+
+-- the links and the sink
+pub keeps_talk : (old : Outside) (links : Links) (standings : List Standing) (faults : ℕ) (written : Option (List ℕ)) (sink_faults : ℕ) (held : List ℕ) (ticks : ℕ) → GoesOn old.links links
+    → BreaksByFault old.link_faults faults old.standings standings → Grows old.written written → old.sink_faults ≤ sink_faults
+    → Keeps old (record old { links = links; standings = standings; link_faults = faults; written = written; sink_faults = sink_faults; held = held; ticks = ticks })
+keeps_talk old links standings faults written sink_faults held ticks later broke grows more = record {
+  names = refl;
+  shelf_faults = omega arith;
+  later = later;
+  broke = broke;
+  grows = grows;
+  sink_faults = more;
+}

@@ -4,7 +4,6 @@ use Rattle.std.specs.declared.option.Option.{Option}
 use Rattle.std.specs.declared.result.Result.{Result}
 use Rattle.std.proofs.lemmas.Bool.Decides.{nat_tests}
 use Rattle.av_base.specs.One.{HasOne}
-use Rattle.path_model.specs.Rows.{RowMap}
 use Rattle.attestations.specs.Terms.{TermMap, terms_of}
 use Rattle.report_text.specs.declared.cause.Cause.{Cause}
 use Rattle.vap_table.specs.declared.change.TableChange.{TableChange}

@@ -1,5 +1,5 @@
 -- A `serve` line that is done, and one that ended early.
-use Rattle.std.proofs.Common.{◌≡◌, ℕ, ◌+◌, ◌-◌, ◌*◌, ◌^◌, ◌<◌, ◌≤◌, ◌==◌, nat_eq, Bool, true, false, cond, List, ◌++◌, length, None, Some, Ok, inl, inr, refl, sym, ap, subst, ◌∙◌, arith}
+use Rattle.std.proofs.Common.{◌≡◌, ℕ, ◌+◌, ◌-◌, ◌*◌, ◌^◌, ◌<◌, ◌≤◌, nat_eq, Bool, true, false, cond, List, ◌++◌, length, None, Some, Ok, inl, inr, refl, sym, ap, subst, ◌∙◌, arith}
 use Rattle.std.proofs.lemmas.Option.{slice_get_within}
 use Rattle.std.specs.BTreeMap.{is_at}
 use Rattle.std.specs.Cmp.{unsigned_ties}
@@ -8,25 +8,24 @@ use Rattle.std.specs.Ordering.{nat_cmp}
 use Rattle.std.specs.declared.option.Option.{Option}
 use Rattle.av_base.specs.Connections.{Agrees}
 use Rattle.av_base.specs.declared.standing.Standing.{Standing}
-use Rattle.av_base.specs.Told.{Grows, Rose}
+use Rattle.av_base.specs.Told.{Rose}
 use Rattle.av_base.proofs.ToldLemmas.{append_known-append}
 use Rattle.attestations.specs.CurrentTable.{Parts}
 use Rattle.connection_calls.specs.Connection.{Spares}
 use Rattle.connection_calls.specs.Faults.{BreaksByFault}
-use Rattle.connection_calls.specs.World.{AddsAttempts, World as Ends}
 use Rattle.feed_lines.specs.declared.feed.OpenFeed.{OpenFeed}
 use Rattle.feed_lines.specs.Holding.{feed_in, HasMoved as FeedsMoved, HoldsOr as HoldsFeed}
 use Rattle.feed_lines.proofs.NamedLemmas.{HoldsOr-spared, holds_moved}
 use Rattle.report_text.specs.declared.cause.Cause.TheVariants as causes
 use Rattle.report_text.specs.Refusals.{of_line, refusal_text}
-use Rattle.report_text.specs.Reported.{AddsFront, AddsLines}
+use Rattle.report_text.specs.Reported.{AddsLines}
 use Rattle.report_text.specs.Served.{served_line, served_text as summed}
 use Rattle.report_text.proofs.AnswerLemmas.{served_is_one_line}
 use Rattle.report_text.proofs.ReportedLemmas.{adds_answer, adds_front, adds_later, adds_more}
 use Rattle.rtr_cache.specs.Cache.{Comes, FitsPdus, Versions}
 use Rattle.serve_lines.specs.declared.routers.Served.{Served}
 use Rattle.serve_lines.specs.Outcomes.{outcomes_text}
-use Rattle.serve_lines.specs.Routers.{AreMade, Begun, HaltedAs, HasSentAll, ServedAs, attempts_begun, attempts_in}
+use Rattle.serve_lines.specs.Routers.{AreMade, HaltedAs, ServedAs, attempts_begun, attempts_in}
 use Rattle.serve_lines.proofs.ReportLemmas.{outcomes_add, served_adds}
 use Rattle.stream_lines.specs.declared.stop.Stop.{Stop}
 use Rattle.stream_lines.specs.declared.stop.Stop.TheVariants as stops
@@ -34,11 +33,10 @@ use Rattle.stream_lines.proofs.FrameLemmas.{Leaves-refl}
 use Rattle.aspa_top.specs.declared.task.Task.TheVariants.{Serve}
 use Rattle.aspa_top.specs.declared.working.Working.{Working}
 use Rattle.aspa_top.specs.Bounds.{most}
-use Rattle.aspa_top.specs.Moving.{HaveMoved}
 use Rattle.aspa_top.specs.Outside.{Outside, all_of}
-use Rattle.aspa_top.specs.Performing.{Done, EndedEarly, IsStoppedBy, Moved}
+use Rattle.aspa_top.specs.Performing.{Done, EndedEarly, IsStoppedBy}
 use Rattle.aspa_top.specs.Serving.{HasCache, TakesTable, with_cache}
-use Rattle.aspa_top.specs.Standing.{AreFewUpdates, AreSound, HasRoom, HoldsOr, IsBegun, IsReady, StandsFor}
+use Rattle.aspa_top.specs.Standing.{AreSound, HasRoom, HoldsOr, IsBegun, StandsFor}
 use Rattle.aspa_top.specs.State.{State}
 use Rattle.aspa_top.specs.Tasks.{feeds_of}
 use Rattle.aspa_top.specs.Working.{cache_in, dump_in, has_source}
@@ -73,7 +71,7 @@ put_twice false cache mid old is = is
 pub put_back : (session other : ℕ) (cache : Versions) (old mid new : Option Versions) → mid ≡ cond (is_at (nat_cmp session) other) None old → new ≡ cond (is_at (nat_cmp session) other) (Some cache) mid
     → new ≡ cond (nat_eq session other) (Some cache) old
 put_back session other cache old mid new taken put =
-    put ∙ put_twice (is_at (nat_cmp session) other) cache mid old taken ∙ (λ i. cond (unsigned_ties session other (~ i)) (Some cache) old)
+    put ∙ put_twice (is_at (nat_cmp session) other) cache mid old taken ∙ ap (λ (b : Bool). cond b (Some cache) old) (sym (unsigned_ties session other))
 
 put_few : (b : Bool) (cache other : Versions) (old : Option Versions) (bound : ℕ) → cache.current.serial < bound → ((c : Versions) → old ≡ Some c → c.current.serial < bound) → cond b (Some cache) old ≡ Some other
     → other.current.serial < bound
@@ -109,7 +107,7 @@ module _ (working : Working) (place : List ℕ) (session count : ℕ) (cache : V
     (written : Option (List ℕ)) (sink_faults : ℕ) (begun : IsBegun old working) (fits : FitsPdus working.analyser.parts) (takes : TakesTable (cache_in working session) session working.analyser.parts cache)
     (others : Spares (λ other. other < length old.standings) old.links.wire links.wire old.standings standings) (broke : BreaksByFault old.link_faults faults old.standings standings) where
   -- the evaluation's cache is the one that is held
-  has_cache : (state : State) → StandsFor old.files old.links working state → HasCache state session
+  abbrev has_cache : (state : State) → StandsFor old.files old.links working state → HasCache state session
   has_cache state stands = record {
     cache = cache;
     takes = subst (λ (held : Option Versions). TakesTable held session state.analysis.parts cache) (stands.caches session)
@@ -122,8 +120,8 @@ module _ (working : Working) (place : List ℕ) (session count : ℕ) (cache : V
   -- all that a line reports is whole lines
   reported_adds : (served : Served) (all_now : Option (List ℕ)) → ServedAs old.links.attempts links.attempts links.wire cache working.lines place count served (all_of old) all_now
       → (served.reached ≡ false → Rose old.link_faults faults) → AddsLines (all_of old) all_now old.link_faults faults
-  reported_adds served all_now as rose =
-      served_adds working.lines as.outcomes served.reached (all_of old) all_now old.link_faults faults broke.later rose (as.added ∙ ap (append_known (all_of old)) as.reports.text_is)
+  reported_adds served all_now did rose =
+      served_adds working.lines did.outcomes served.reached (all_of old) all_now old.link_faults faults broke.later rose (did.added ∙ ap (append_known (all_of old)) did.reports.text_is)
 
   -- the routers were served, and this was said of it at last
   pub serve_done : (next : Working) (served : Served) (mid held : List ℕ) (ticks : ℕ)
@@ -134,7 +132,7 @@ module _ (working : Working) (place : List ℕ) (session count : ℕ) (cache : V
       → next ≡ record working { caches = next.caches; refused = working.refused + served.refused }
       → Done working (Ok (Serve place session count)) old
       (record old { links = links; standings = standings; link_faults = faults; written = written; sink_faults = sink_faults; held = held; ticks = ticks }) next
-  serve_done next served mid held ticks as few within rose said unticked caches is =
+  serve_done next served mid held ticks did few within rose said unticked caches is =
       let lines : next.lines ≡ working.lines = ap (λ (w : Working). w.lines) is in
       let passed : next.passed ≡ working.passed = ap (λ (w : Working). w.passed) is in
       let refused : next.refused ≡ working.refused + served.refused = ap (λ (w : Working). w.refused) is in
@@ -142,9 +140,9 @@ module _ (working : Working) (place : List ℕ) (session count : ℕ) (cache : V
       let whole : append_known written held ≡ append_known (append_known written mid) last = added_text written mid held last said in
       record {
         goes = λ world tells state stands.
-            let as_at = subst (λ (n : ℕ). ServedAs old.links.attempts links.attempts links.wire cache n place count served (all_of old) (append_known written mid)) stands.lines as in
+            let there = subst (λ (n : ℕ). ServedAs old.links.attempts links.attempts links.wire cache n place count served (all_of old) (append_known written mid)) stands.lines did in
             record {
-              text = as_at.text ++ last;
+              text = there.text ++ last;
               after = record state {
                 caches = with_cache session cache state.caches;
                 made = state.made + attempts_in served;
@@ -155,13 +153,13 @@ module _ (working : Working) (place : List ℕ) (session count : ℕ) (cache : V
                 record {
                   has = has_cache state stands;
                   served = served;
-                  reported = as_at.text;
-                  serves = record { outcomes = as_at.outcomes; serves = as_at.serves state.made stands.made ends comes; reports = as_at.reports };
+                  reported = there.text;
+                  serves = record { outcomes = there.outcomes; serves = there.serves state.made stands.made ends comes; reports = there.reports };
                   text_is = refl;
                   left = refl;
                 },
               );
-              added = whole ∙ ap (λ (m : Option (List ℕ)). append_known m last) as_at.added ∙ append_known-append (all_of old) as_at.text last;
+              added = whole ∙ ap (λ (m : Option (List ℕ)). append_known m last) there.added ∙ append_known-append (all_of old) there.text last;
               stands = record {
                 analysis = ap (λ (w : Working). w.analyser) is ∙ stands.analysis;
                 sources = λ q. ap (λ (w : Working). has_source w q) is ∙ stands.sources q;
@@ -170,7 +168,7 @@ module _ (working : Working) (place : List ℕ) (session count : ℕ) (cache : V
                     (feeds_stand working old links standings (working.lines - 1) others begun.feeds state stands q);
                 caches = λ q. caches q ∙ ap (λ (o : Option Versions). cond (nat_eq session q) (Some cache) o) (stands.caches q);
                 begun = stands.begun;
-                made = as_at.made state.made stands.made;
+                made = there.made state.made stands.made;
                 lines = lines ∙ stands.lines;
                 passed = passed ∙ stands.passed;
                 refused = refused ∙ ap (λ (n : ℕ). n + served.refused) stands.refused;
@@ -187,45 +185,47 @@ module _ (working : Working) (place : List ℕ) (session count : ℕ) (cache : V
               (feeds_sound working old links standings (working.lines - 1) others begun.feeds);
         };
         lines = lines;
-        adds = adds_more (all_of old) (append_known written mid) (append_known written held) old.link_faults faults faults (reported_adds served (append_known written mid) as rose)
+        adds = adds_more (all_of old) (append_known written mid) (append_known written held) old.link_faults faults faults (reported_adds served (append_known written mid) did rose)
             (adds_answer (append_known written mid) (append_known written held) (served_line served.accepted served.answers) (served_is_one_line served.accepted served.answers) whole faults);
       }
 
   -- all were served, and then there was no memory
-  pub serve_unsummed : (served : Served) (held : List ℕ) (ticks : ℕ) → Agrees links.wire standings
-      → ServedAs old.links.attempts links.attempts links.wire cache working.lines place count served (all_of old) (append_known written held)
+  pub serve_unsummed : (served : Served) (mid held : List ℕ) (ticks : ℕ) → Agrees links.wire standings
+      → ServedAs old.links.attempts links.attempts links.wire cache working.lines place count served (all_of old) (append_known written mid) → held ≡ mid
       → (served.reached ≡ false → Rose old.link_faults faults) → ticks ≡ old.ticks
       → EndedEarly working (Ok (Serve place session count)) old
       (record old { links = links; standings = standings; link_faults = faults; written = written; sink_faults = sink_faults; held = held; ticks = ticks }) stops.NoMemory
-  serve_unsummed served held ticks agrees as rose unticked = record {
-    part = inr (inr (
-      Serve place session count,
-      refl,
-      λ world state stands.
-          let as_at = subst (λ (n : ℕ). ServedAs old.links.attempts links.attempts links.wire cache n place count served (all_of old) (append_known written held)) stands.lines as in
-          record {
-            part = as_at.text;
-            after = record state { made = state.made + attempts_in served };
-            moves = λ ends comes. (
-              fits_state state stands,
-              inr (record {
-                has = has_cache state stands;
-                served = served;
-                serves = record { outcomes = as_at.outcomes; serves = as_at.serves state.made stands.made ends comes; reports = as_at.reports };
-                left = refl;
-              }),
-            );
-            added = as_at.added;
-            sent = record {
-              feeds = feeds_moved working old links standings (working.lines - 1) others begun.feeds state (state.made + attempts_in served) agrees stands (as_at.made state.made stands.made);
-              router = no_router links.wire old state stands;
-            };
-            ticked = omega (arith, unticked);
-          },
-    ));
-    adds = adds_front (all_of old) (append_known written held) old.link_faults faults (reported_adds served (append_known written held) as rose);
-    cause = tt;
-  }
+  serve_unsummed served mid held ticks agrees first same rose unticked =
+      let did = subst (λ (text : List ℕ). ServedAs old.links.attempts links.attempts links.wire cache working.lines place count served (all_of old) (append_known written text)) (sym same) first in
+      record {
+        part = inr (inr (
+          Serve place session count,
+          refl,
+          λ world state stands.
+              let there = subst (λ (n : ℕ). ServedAs old.links.attempts links.attempts links.wire cache n place count served (all_of old) (append_known written held)) stands.lines did in
+              record {
+                part = there.text;
+                after = record state { made = state.made + attempts_in served };
+                moves = λ ends comes. (
+                  fits_state state stands,
+                  inr (record {
+                    has = has_cache state stands;
+                    served = served;
+                    serves = record { outcomes = there.outcomes; serves = there.serves state.made stands.made ends comes; reports = there.reports };
+                    left = refl;
+                  }),
+                );
+                added = there.added;
+                sent = record {
+                  feeds = feeds_moved working old links standings (working.lines - 1) others begun.feeds state (state.made + attempts_in served) agrees stands (there.made state.made stands.made);
+                  router = no_router links.wire old state stands;
+                };
+                ticked = omega (arith, unticked);
+              },
+        ));
+        adds = adds_front (all_of old) (append_known written held) old.link_faults faults (reported_adds served (append_known written held) did rose);
+        cause = tt;
+      }
 
   -- it ended early at a router
   pub serve_halted : (stop : Stop) (held : List ℕ) (ticks : ℕ) → Agrees links.wire standings
@@ -234,37 +234,37 @@ module _ (working : Working) (place : List ℕ) (session count : ℕ) (cache : V
       (record old { links = links; standings = standings; link_faults = faults; written = written; sink_faults = sink_faults; held = held; ticks = ticks }) stop
       → EndedEarly working (Ok (Serve place session count)) old
       (record old { links = links; standings = standings; link_faults = faults; written = written; sink_faults = sink_faults; held = held; ticks = ticks }) stop
-  serve_halted stop held ticks agrees as unticked cause = record {
+  serve_halted stop held ticks agrees did unticked cause = record {
     part = inr (inr (
       Serve place session count,
       refl,
       λ world state stands.
-          let as_at = subst (λ (n : ℕ). HaltedAs old.links.attempts links.attempts links.wire cache n place count (all_of old) (append_known written held)) stands.lines as in
-          let made = state.made + length as_at.outcomes + attempts_begun as_at.begun in
+          let there = subst (λ (n : ℕ). HaltedAs old.links.attempts links.attempts links.wire cache n place count (all_of old) (append_known written held)) stands.lines did in
+          let made = state.made + length there.outcomes + attempts_begun there.begun in
           record {
-            part = outcomes_text state.lines as_at.outcomes;
-            after = record state { made = made; begun = as_at.begun };
+            part = outcomes_text state.lines there.outcomes;
+            after = record state { made = made; begun = there.begun };
             moves = λ ends comes. (
               fits_state state stands,
               inl (record {
                 has = has_cache state stands;
-                outcomes = as_at.outcomes;
-                begun = as_at.begun;
-                serves = as_at.serves state.made stands.made ends comes;
+                outcomes = there.outcomes;
+                begun = there.begun;
+                serves = there.serves state.made stands.made ends comes;
                 part_is = refl;
                 left = refl;
               }),
             );
-            added = as_at.added;
+            added = there.added;
             sent = record {
-              feeds = feeds_moved working old links standings (working.lines - 1) others begun.feeds state made agrees stands (as_at.made state.made stands.made);
-              router = as_at.sent;
+              feeds = feeds_moved working old links standings (working.lines - 1) others begun.feeds state made agrees stands (there.made state.made stands.made);
+              router = there.sent;
             };
             ticked = omega (arith, unticked);
           },
     ));
     adds = adds_front (all_of old) (append_known written held) old.link_faults faults
-        (adds_later (all_of old) (append_known written held) old.link_faults old.link_faults faults (outcomes_add working.lines as.outcomes (all_of old) (append_known written held) as.added old.link_faults) broke.later);
+        (adds_later (all_of old) (append_known written held) old.link_faults old.link_faults faults (outcomes_add working.lines did.outcomes (all_of old) (append_known written held) did.added old.link_faults) broke.later);
     cause = cause;
   }
 
@@ -275,4 +275,4 @@ pub serve_refused : (working next : Working) (place : List ℕ) (session count :
 serve_refused working next place session count old held begun unfit added is =
     done_refused working (Ok (Serve place session count)) old (record old { held = held }) next of_line causes.RowLong tt (Leaves-refl (λ other. Unit {0}) old.files) (λ n d e. tt)
     refl refl refl (omega arith) refl refl added is begun
-    (λ world tells state stands. inl (λ fits. unfit (subst FitsPdus (λ i. sym stands.analysis i).parts) fits), (refl, refl)))
+    (λ world tells state stands. inl ((λ fits. unfit (subst FitsPdus (λ i. (sym stands.analysis i).parts) fits)), (refl, refl)))

@@ -13,7 +13,7 @@ use Rattle.stream_lines.specs.declared.stop.Stop.TheVariants as stops
 use Rattle.stream_lines.specs.Counts.{refusals_in}
 use Rattle.aspa_top.specs.Moving.{HaveMoved}
 use Rattle.aspa_top.specs.declared.working.Working.{Working}
-use Rattle.aspa_top.specs.Tasks.{State, feeds_of, start}
+use Rattle.aspa_top.specs.Tasks.{State, start}
 use Rattle.aspa_top.specs.Evaluated.{EvaluatedIn, Poured}
 use Rattle.aspa_top.specs.Evaluation.{counted, Performs, Evaluates}
 use Rattle.aspa_top.specs.Outside.{Keeps, Outside, all_of}

@@ -1,5 +1,5 @@
 -- The refusals in a text, line by line.
-use Rattle.std.proofs.Common.{◌≡◌, ℕ, ◌+◌, Bool, true, false, cond, List, [], ◌∷◌, ◌++◌, None, Some, Ok, Err, refl, sym, ap, ◌∙◌, arith, zero-add, length, ◌||◌, is_some}
+use Rattle.std.proofs.Common.{◌≡◌, ℕ, ◌+◌, Bool, true, false, cond, List, [], ◌∷◌, ◌++◌, None, Some, Ok, Err, refl, sym, ap, ◌∙◌, arith, zero-add, length, ◌||◌, is_some, inl, inr}
 use Rattle.std.specs.declared.option.Option.{Option}
 use Rattle.std.proofs.lemmas.List.{append_assoc}
 use Rattle.path_model.specs.declared.verdict.Verdict.{Verdict}
@@ -20,7 +20,7 @@ use Rattle.feed_lines.proofs.LawLemmas.{telling_is_one_line}
 use Rattle.report_text.specs.Laws.{IsPlaceInLine, IsRefusalLine}
 use Rattle.report_text.specs.declared.cause.Cause.{Cause}
 use Rattle.report_text.specs.declared.cause.Cause.TheVariants as causes
-use Rattle.report_text.specs.Refusals.{AnyPlace, of_line, of_unit}
+use Rattle.report_text.specs.Refusals.{AnyPlace, of_line, of_unit, refusal_line}
 use Rattle.report_text.specs.Change.{change_line, change_text}
 use Rattle.report_text.proofs.AnswerLemmas.{change_is_one_line}
 use Rattle.analyser.specs.declared.event.Event.{Event}

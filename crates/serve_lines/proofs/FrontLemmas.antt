@@ -331,8 +331,7 @@ line_one world attempts told cache asking one other text more a b =
     let same = routers_one world attempts told cache asking a.outcomes b.outcomes one.reached other.reached a.serves b.serves in
     let accepted = a.reports.accepted ∙ ap length same.0 ∙ sym b.reports.accepted in
     let answers = a.reports.answers ∙ ap all_answers same.0 ∙ sym b.reports.answers in
-    let refused = a.reports.refused ∙ (λ i. all_lines (same.0 i) + reached_lines (same.1 i)) ∙ sym b.reports.refused in
-    (
+    let refused = a.reports.refused ∙ (λ i. all_lines (same.0 i) + reached_lines (same.1 i)) ∙ sym b.reports.refused in (
       (λ i. record { accepted = accepted i; answers = answers i; refused = refused i; reached = same.1 i }),
       a.reports.text_is ∙ (λ i. served_text asking.line (same.0 i) (same.1 i)) ∙ sym b.reports.text_is,
     )

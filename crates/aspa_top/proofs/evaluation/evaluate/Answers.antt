@@ -44,7 +44,7 @@ loop-line-preserved g c =
           c.perform_line.ensures.keeps did (g.met.K.Links.agrees c.perform_line.new.links));
       keeps = Keeps-trans c.loop-line.invariant.keeps (Keeps-trans c.perform_line.ensures.keeps (keeps_sink _ _ _ _ _ c.pour_before.ensures.grows c.pour_before.ensures.cause.later));
       count = omega (arith, c.loop-line.invariant.count, c.in-Some.ensures.less, did.did.lines);
-      ready = record { sound = did.did.ready.sound; feeds = did.did.ready.feeds };
+      ready = record { sound = did.did.ready.sound; caches = did.did.ready.caches; feeds = did.did.ready.feeds };
       adds = lines_poured _ _ _ _ _ c.pour_before.ensures.same (adds_more _ _ _ _ _ _ c.loop-line.invariant.adds did.did.adds);
     }
 
