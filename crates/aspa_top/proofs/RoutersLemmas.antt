@@ -19,7 +19,7 @@ use Rattle.feed_lines.proofs.NamedLemmas.{HoldsOr-spared, holds_moved}
 use Rattle.report_text.specs.declared.cause.Cause.TheVariants as causes
 use Rattle.report_text.specs.Refusals.{of_line, refusal_text}
 use Rattle.report_text.specs.Reported.{AddsLines}
-use Rattle.report_text.specs.Served.{served_line, served_text as summed}
+use Rattle.report_text.specs.Served.{served_line, served_text}
 use Rattle.report_text.proofs.AnswerLemmas.{served_is_one_line}
 use Rattle.report_text.proofs.ReportedLemmas.{adds_answer, adds_front, adds_later, adds_more}
 use Rattle.rtr_cache.specs.Cache.{Comes, FitsPdus, Versions}
@@ -127,7 +127,7 @@ module _ (working : Working) (place : List ℕ) (session count : ℕ) (cache : V
   pub serve_done : (next : Working) (served : Served) (mid held : List ℕ) (ticks : ℕ)
       → ServedAs old.links.attempts links.attempts links.wire cache working.lines place count served (all_of old) (append_known written mid)
       → served.refused ≤ 2 * count → count ≤ most → (served.reached ≡ false → Rose old.link_faults faults)
-      → held ≡ mid ++ summed served.accepted served.answers → ticks ≡ old.ticks
+      → held ≡ mid ++ served_text served.accepted served.answers → ticks ≡ old.ticks
       → ((other : ℕ) → cache_in next other ≡ cond (nat_eq session other) (Some cache) (cache_in working other))
       → next ≡ record working { caches = next.caches; refused = working.refused + served.refused }
       → Done working (Ok (Serve place session count)) old
@@ -136,7 +136,7 @@ module _ (working : Working) (place : List ℕ) (session count : ℕ) (cache : V
       let lines : next.lines ≡ working.lines = ap (λ (w : Working). w.lines) is in
       let passed : next.passed ≡ working.passed = ap (λ (w : Working). w.passed) is in
       let refused : next.refused ≡ working.refused + served.refused = ap (λ (w : Working). w.refused) is in
-      let last = summed served.accepted served.answers in
+      let last = served_text served.accepted served.answers in
       let whole : append_known written held ≡ append_known (append_known written mid) last = added_text written mid held last said in
       record {
         goes = λ world tells state stands.

@@ -3,7 +3,7 @@ use Rattle.std.proofs.Common.{◌≡◌, ℕ, ◌+◌, inl, inr, List, [], ◌�
 use Rattle.std.specs.declared.option.Option.{Option}
 use Rattle.std.specs.declared.option.Option.TheVariants.{None}
 use Rattle.attestations.specs.CurrentTable.{Parts}
-use Rattle.report_text.specs.Served.{served_text as summed}
+use Rattle.report_text.specs.Served.{served_text}
 use Rattle.rtr_cache.specs.Cache.{Versions}
 use Rattle.av_base.specs.Connections.{Attempt}
 use Rattle.serve_lines.specs.declared.outcome.Outcome.{Outcome}
@@ -39,7 +39,7 @@ module _ (world : World) (attempts : List Attempt) (told : world.ends.attempts �
   all_one one other end last a b =
       let same = line_one world.ends attempts told a.has.cache (serving_of state place count) a.served b.served a.reported b.reported a.serves (by_one b.served b.reported a.has b.has b.serves) in
       let caches = sym (cache_one state session a.has b.has) in (
-        a.text_is ∙ (λ i. same.1 i ++ summed (same.0 i).accepted (same.0 i).answers) ∙ sym b.text_is,
+        a.text_is ∙ (λ i. same.1 i ++ served_text (same.0 i).accepted (same.0 i).answers) ∙ sym b.text_is,
         a.left ∙ (λ i. record state {
           caches = with_cache session (caches i) state.caches;
           made = state.made + attempts_in (same.0 i);
@@ -64,13 +64,13 @@ module _ (world : World) (attempts : List Attempt) (told : world.ends.attempts �
       ∙ ap (λ (t : List ℕ). t ++ reached_text line b.served.reached) (outcomes-append line a.outcomes first.0)
       ∙ append_assoc (outcomes_text line a.outcomes) (outcomes_text line first.0) (reached_text line b.served.reached)
       ∙ ap (λ (t : List ℕ). t ++ rest) (sym a.part_is) in
-      let last = summed b.served.accepted b.served.answers in
+      let last = served_text b.served.accepted b.served.answers in
       (rest ++ last, b.text_is ∙ ap (λ (t : List ℕ). t ++ last) reported ∙ append_assoc part rest last)
 
   unsummed_front : (part text : List ℕ) (moved next : State) → ServesUnsummed world state place session count part moved → ServesAll world state place session count text next → (more : List ℕ) × (text ≡ part ++ more)
   unsummed_front part text moved next a b =
       let same = line_one world.ends attempts told a.has.cache (serving_of state place count) a.served b.served part b.reported a.serves (by_one b.served b.reported a.has b.has b.serves) in
-      let last = summed b.served.accepted b.served.answers in
+      let last = served_text b.served.accepted b.served.answers in
       (last, b.text_is ∙ ap (λ (t : List ℕ). t ++ last) (sym same.1))
 
   -- what a line that ended early wrote is a front of its text

@@ -36,7 +36,7 @@ use Rattle.serve_lines.specs.declared.outcome.RouterEnd.{RouterEnd}
 use Rattle.serve_lines.specs.Outcomes.{serve_name, refused_text, feed_end, end_text, one_if, outcome_text, outcomes_text, all_lines, reached_text, reached_lines}
 use Rattle.report_text.specs.declared.feed.FeedEnd.TheVariants.{Unreachable}
 use Rattle.report_text.specs.Feeds.{feed_line}
-use Rattle.report_text.specs.Served.{served_line, served_text as summed_text}
+use Rattle.report_text.specs.Served.{served_line, served_text}
 use Rattle.report_text.proofs.RefusalLemmas.{feed_end_is_one_line, refusal_is_one_line, serve-in_line}
 use Rattle.report_text.proofs.AnswerLemmas.{served_is_one_line}
 use Rattle.aspa_top.specs.Serving.{ServesTable}
@@ -195,7 +195,7 @@ ServesTable-refused world state place session count text next rest (inl refuses)
 ServesTable-refused world state place session count text next rest (inr serves) =
     let all = serves.1 in
     let outs = all.serves.outcomes in
-    let last = summed_text all.served.accepted all.served.answers in
+    let last = served_text all.served.accepted all.served.answers in
     let none : refusals_in (last ++ rest) ≡ refusals_in rest = answer_counted (served_line all.served.accepted all.served.answers) rest (served_is_one_line all.served.accepted all.served.answers) in
     let reached = reached_counted state.lines all.served.reached (last ++ rest) in
     let some = outcomes_counted state.lines outs (reached_text state.lines all.served.reached ++ (last ++ rest)) in

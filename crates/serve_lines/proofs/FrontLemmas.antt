@@ -25,7 +25,7 @@ use Rattle.serve_lines.specs.declared.outcome.Refusal.{Refusal}
 use Rattle.serve_lines.specs.declared.outcome.RouterEnd.{RouterEnd}
 use Rattle.serve_lines.specs.declared.outcome.RouterEnd.TheVariants.{Lost}
 use Rattle.serve_lines.specs.declared.routers.Served.{Served}
-use Rattle.serve_lines.specs.Outcomes.{all_answers, all_lines, reached_lines, served_text}
+use Rattle.serve_lines.specs.Outcomes.{all_answers, all_lines, reached_lines, routers_text}
 use Rattle.serve_lines.specs.Serving.{Serving, Coming, OnePdu, BadPdu, NoMore, CallFailed, IsComing, Ends, AfterReply, AnswersPdu, RefusesPdu, OnComing, ServesNext, Serves, after_reply, started}
 use Rattle.serve_lines.specs.Routers.{Asking, AreServed, Begun, NoneMore, EndsBehind, IsServed, ServesLine, ServesPart, ServesRouters}
 
@@ -333,5 +333,5 @@ line_one world attempts told cache asking one other text more a b =
     let answers = a.reports.answers ∙ ap all_answers same.0 ∙ sym b.reports.answers in
     let refused = a.reports.refused ∙ (λ i. all_lines (same.0 i) + reached_lines (same.1 i)) ∙ sym b.reports.refused in (
       (λ i. record { accepted = accepted i; answers = answers i; refused = refused i; reached = same.1 i }),
-      a.reports.text_is ∙ (λ i. served_text asking.line (same.0 i) (same.1 i)) ∙ sym b.reports.text_is,
+      a.reports.text_is ∙ (λ i. routers_text asking.line (same.0 i) (same.1 i)) ∙ sym b.reports.text_is,
     )

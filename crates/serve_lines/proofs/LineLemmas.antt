@@ -9,7 +9,7 @@ use Rattle.rtr_cache.specs.Cache.{Versions}
 use Rattle.connection_calls.specs.World.{IsAttempt, World}
 use Rattle.serve_lines.specs.declared.outcome.Outcome.{Outcome}
 use Rattle.serve_lines.specs.Laws.{ServeLinesHaveOneOutcome}
-use Rattle.serve_lines.specs.Outcomes.{all_answers, all_lines, reached_lines, served_text}
+use Rattle.serve_lines.specs.Outcomes.{all_answers, all_lines, reached_lines, routers_text}
 use Rattle.serve_lines.specs.Routers.{AreServed, Asking, EndsBehind, IsServed}
 use Rattle.serve_lines.specs.Serving.{Serves, started}
 use Rattle.serve_lines.proofs.OneLemmas.{one_outcome}
@@ -73,4 +73,4 @@ one_line world attempts told cache asking one two text other a b =
     let accepted : one.accepted ≡ two.accepted = a.reports.accepted ∙ ap length outcomes ∙ sym b.reports.accepted in
     let answers : one.answers ≡ two.answers = a.reports.answers ∙ ap all_answers outcomes ∙ sym b.reports.answers in
     let refused : one.refused ≡ two.refused = a.reports.refused ∙ (λ i. all_lines (outcomes i) + reached_lines (same.1 i)) ∙ sym b.reports.refused in
-    (λ i. record { accepted = accepted i; answers = answers i; refused = refused i; reached = same.1 i }, a.reports.text_is ∙ (λ i. served_text asking.line (outcomes i) (same.1 i)) ∙ sym b.reports.text_is)
+    (λ i. record { accepted = accepted i; answers = answers i; refused = refused i; reached = same.1 i }, a.reports.text_is ∙ (λ i. routers_text asking.line (outcomes i) (same.1 i)) ∙ sym b.reports.text_is)

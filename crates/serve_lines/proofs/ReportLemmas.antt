@@ -19,7 +19,7 @@ use Rattle.serve_lines.specs.declared.outcome.Refusal.{Refusal}
 use Rattle.serve_lines.specs.declared.outcome.RouterEnd.{RouterEnd}
 use Rattle.serve_lines.specs.declared.outcome.RouterEnd.TheVariants.{Lost, Short}
 use Rattle.serve_lines.specs.declared.outcome.Outcome.{Outcome}
-use Rattle.serve_lines.specs.Outcomes.{end_text, outcome_text, outcomes_text, reached_text, refused_text, serve_name, served_text}
+use Rattle.serve_lines.specs.Outcomes.{end_text, outcome_text, outcomes_text, reached_text, refused_text, serve_name, routers_text}
 
 name_in_line : IsInLine serve_name
 name_in_line =
@@ -62,7 +62,7 @@ reached_adds line true old new before now later rose added = adds_later old new 
 reached_adds line false old new before now later rose added = adds_end old new line serve_name Unreachable before now name_in_line later (λ e. rose refl) added
 
 -- and the attempt that failed
-pub served_adds : (line : ℕ) (outcomes : List Outcome) (reached : Bool) (old new : Option (List ℕ)) (before now : ℕ) → before ≤ now → (reached ≡ false → Rose before now) → new ≡ append_known old (served_text line outcomes reached)
+pub served_adds : (line : ℕ) (outcomes : List Outcome) (reached : Bool) (old new : Option (List ℕ)) (before now : ℕ) → before ≤ now → (reached ≡ false → Rose before now) → new ≡ append_known old (routers_text line outcomes reached)
     → AddsLines old new before now
 served_adds line outcomes reached old new before now later rose added =
     adds_more old (append_known old (outcomes_text line outcomes)) new before before now (outcomes_add line outcomes old _ refl before)

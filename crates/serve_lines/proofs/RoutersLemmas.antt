@@ -16,7 +16,7 @@ use Rattle.connection_calls.proofs.GoingLemmas.{ComesTo-earlier, Now-later, in_e
 use Rattle.connection_calls.proofs.StandingLemmas.{still_open}
 use Rattle.serve_lines.specs.declared.outcome.Outcome.{Outcome}
 use Rattle.serve_lines.specs.declared.routers.Served.{Served}
-use Rattle.serve_lines.specs.Outcomes.{all_lines, lines_in, outcomes_text, outcome_text, served_text}
+use Rattle.serve_lines.specs.Outcomes.{all_lines, lines_in, outcomes_text, outcome_text, routers_text}
 use Rattle.serve_lines.specs.Routers.{AnswersFirst, AreMade, AreServed, Halts, HaltedAs, IsServed, NoneMore, ServedAs, Unreached, Unreported}
 use Rattle.serve_lines.specs.Serving.{Serves, started}
 use Rattle.serve_lines.specs.Steps.{Halted, ServedSoFar, TurnHalted, TurnedAs}
@@ -78,7 +78,7 @@ module _ (attempts_old attempts_new : Option (List Attempt)) (wire_mid wire_new 
 
 -- of one that failed
 module _ (attempts_old attempts_new : Option (List Attempt)) (wire : Option (List Link)) (cache : Versions) (place : List ℕ) (adds : AddsAttempt attempts_old attempts_new (Unaccepted place)) where
-  pub turned_failed : (line : ℕ) (all_old all_new : Option (List ℕ)) → all_new ≡ append_known all_old (served_text line [] false) → TurnedAs attempts_old attempts_new wire cache line place None all_old all_new
+  pub turned_failed : (line : ℕ) (all_old all_new : Option (List ℕ)) → all_new ≡ append_known all_old (routers_text line [] false) → TurnedAs attempts_old attempts_new wire cache line place None all_old all_new
   turned_failed line all_old all_new added = record { added = added; made = made_one (Unaccepted place) adds; serves = is_attempt (Unaccepted place) adds }
 
   pub halted_unreached : (all_old all_new : Option (List ℕ)) → all_new ≡ all_old → TurnHalted attempts_old attempts_new wire cache place all_old all_new
@@ -141,11 +141,11 @@ module _ (attempts_old attempts_now attempts_new : Option (List Attempt)) (wire_
       → served ≡ record { accepted = done; answers = answers; refused = refused + 1; reached = false } → ServedAs attempts_old attempts_new wire_new cache line place count served all_old all_new
   served_failed count served turned few is = rw is (record {
     outcomes = so_far.outcomes;
-    text = served_text line so_far.outcomes false;
+    text = routers_text line so_far.outcomes false;
     reports = record { text_is = refl; accepted = sym so_far.size; answers = so_far.answers_are; refused = ap (λ n. n + 1) so_far.refused_are };
     added =
-        turned.added ∙ ap (λ (m : Option (List ℕ)). append_known m (served_text line [] false)) so_far.added
-        ∙ append_known-append all_old (outcomes_text line so_far.outcomes) (served_text line [] false);
+        turned.added ∙ ap (λ (m : Option (List ℕ)). append_known m (routers_text line [] false)) so_far.added
+        ∙ append_known-append all_old (outcomes_text line so_far.outcomes) (routers_text line [] false);
     made = λ before are. subst (AreMade attempts_new) (sizes before) (turned.made (before + length so_far.outcomes) (so_far.made before are));
     serves = λ before are world comes. record {
       are = still_served before are world comes;
@@ -177,7 +177,7 @@ pub served_all : (attempts_old attempts_now : Option (List Attempt)) (wire_now :
     → served ≡ record { accepted = count; answers = answers; refused = refused; reached = true } → ServedAs attempts_old attempts_now wire_now cache line place count served all_old all_now
 served_all attempts_old attempts_now wire_now cache line place done answers refused all_old all_now so_far count served all is = rw is (record {
   outcomes = so_far.outcomes;
-  text = served_text line so_far.outcomes true;
+  text = routers_text line so_far.outcomes true;
   reports = record { text_is = refl; accepted = sym (so_far.size ∙ all); answers = so_far.answers_are; refused = so_far.refused_are ∙ plus_none (all_lines so_far.outcomes) };
   added = so_far.added ∙ ap (append_known all_old) (sym (nothing_more (outcomes_text line so_far.outcomes)));
   made = λ before are. subst (AreMade attempts_now) (sizes before) (so_far.made before are);

@@ -67,12 +67,12 @@ abbrev pub reached_lines : Bool → ℕ
 reached_lines true = 0
 reached_lines false = 1
 
-abbrev pub served_text : ℕ → List Outcome → Bool → List ℕ
-served_text line outcomes reached = outcomes_text line outcomes ++ reached_text line reached
+abbrev pub routers_text : ℕ → List Outcome → Bool → List ℕ
+routers_text line outcomes reached = outcomes_text line outcomes ++ reached_text line reached
 
 -- what a line reports and counts of them
 pub record Reports (line : ℕ) (outcomes : List Outcome) (served : Served) (text : List ℕ) : Type 0 where
-  pub text_is : text ≡ served_text line outcomes served.reached
+  pub text_is : text ≡ routers_text line outcomes served.reached
   pub accepted : served.accepted ≡ length outcomes
   pub answers : served.answers ≡ all_answers outcomes
   pub refused : served.refused ≡ all_lines outcomes + reached_lines served.reached
