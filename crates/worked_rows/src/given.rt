@@ -1,4 +1,4 @@
-//! What a row gives: words, a script, files, what connections receive, and plans.
+//! What a row gives: words, a script, files, what connections and callers send, and plans.
 use crate::spelling::{number_of, parted, put_text};
 use crate::trouble::Trouble;
 use crate::vectors::{Named, Turn, Vectors};
@@ -22,6 +22,7 @@ pub struct Given {
     pub script: Vec<u8>,
     pub files: Vec<Named>,
     pub coming: Vec<Named>,
+    pub callers: Vec<Named>,
     pub plans: Plans,
 }
 
@@ -36,6 +37,7 @@ impl Given {
             script: Vec::new(alloc),
             files: Vec::new(alloc),
             coming: Vec::new(alloc),
+            callers: Vec::new(alloc),
             plans: Plans {
                 script: Vec::new(alloc),
                 shelf: Vec::new(alloc),
@@ -64,6 +66,7 @@ impl Given {
             "word" => self.words.push(String::from_str(self.alloc, rest)?)?,
             "file" => self.files.push(vectors.named(rest, turn)?)?,
             "from" => self.coming.push(vectors.named(rest, turn)?)?,
+            "caller" => self.callers.push(vectors.named(rest, turn)?)?,
             "plan" => self.plans.add(rest, turn.number)?,
             "fails" => self.plans.fail(rest, turn.number)?,
             _ => return Ok(false),

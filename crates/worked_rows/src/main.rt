@@ -1,8 +1,8 @@
 //! Runs of the whole program through its top call, of what no contract says: that a run does what it should.
 //!
 //! The rows stand in the files of `data`, read in the order of `args`; `data/README.md` says how they are written. Each gives words, a
-//! script, files, what connections receive and which calls fail, and wants a text, what is sent, and a status, worked out by hand. `rows`
-//! reads a file and performs its rows, `given` and `wanted` are what a row gives and wants, `runs` makes one run over the forms in
+//! script, files, what connections and callers send and which calls fail, and wants a text, what is sent, and a status, worked out by hand.
+//! `rows` reads a file and performs its rows, `given` and `wanted` are what a row gives and wants, `runs` makes one run over the forms in
 //! memory, `vectors` has the bytes that have names, and `spelling` reads numbers and text.
 #![tactic(auto)]
 

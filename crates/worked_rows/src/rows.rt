@@ -34,6 +34,8 @@ pub fn perform_file(
             vectors.define(definition)?;
         } else if let Some(definition) = line.strip_prefix("join ") {
             vectors.join(definition)?;
+        } else if let Some(definition) = line.strip_prefix("numbers ") {
+            vectors.number(definition)?;
         } else if let Some(place) = line.strip_prefix("load ") {
             load(rt, alloc, place, vectors)?;
         } else if !line.starts_with('#') {

@@ -22,7 +22,7 @@ pub fn outcome(alloc: Global, given: &Given) -> Result<Ended, NoMemory> {
     let plans = &given.plans;
     let mut source = MemSource::new(alloc, &given.script, Plan::new(alloc, &plans.script)?)?;
     let mut shelf = shelf_of(alloc, &given.files, &plans.shelf)?;
-    let mut links = links_of(alloc, &given.coming, &plans.links)?;
+    let mut links = links_of(alloc, given, &plans.links)?;
     let mut sink = MemSink::new(alloc, Plan::new(alloc, &plans.sink)?);
     let words = &given.words;
     let status = status_of(alloc, words, &mut source, &mut shelf, &mut links, &mut sink);
@@ -41,12 +41,21 @@ fn shelf_of(alloc: Global, files: &[Named], plan: &[PlanStep]) -> Result<MemShel
     Ok(shelf)
 }
 
-fn links_of(alloc: Global, coming: &[Named], plan: &[PlanStep]) -> Result<MemLinks, NoMemory> {
+fn links_of(alloc: Global, given: &Given, plan: &[PlanStep]) -> Result<MemLinks, NoMemory> {
     let mut links = MemLinks::new(alloc, Plan::new(alloc, plan)?);
-    for next in coming {
+    for next in given.coming.iter() {
         links.put(next.name.as_str(), &next.bytes)?;
     }
+    put_callers(&mut links, &given.callers)?;
     Ok(links)
+}
+
+// Adds what callers send, each at its place.
+fn put_callers(links: &mut MemLinks, callers: &[Named]) -> Result<(), NoMemory> {
+    for caller in callers {
+        links.put_caller(caller.name.as_str(), &caller.bytes)?;
+    }
+    Ok(())
 }
 
 // What was sent on each connection. One more of them is made, since its number tells how many there were; behind a plan's end that can't

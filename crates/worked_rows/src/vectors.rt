@@ -3,7 +3,7 @@ use crate::spelling::{number_of, parted, put_text};
 use crate::trouble::Trouble;
 use std::alloc::Global;
 
-/// A name, and bytes: of a vector, of a file, or those that a connection to a place receives.
+/// A name, and bytes: of a vector, of a file, or those that a connection to a place receives or a caller there sends.
 #[derive(Drop)]
 pub struct Named {
     pub name: String,
@@ -65,6 +65,21 @@ impl Vectors {
     pub fn join(&mut self, definition: &str) -> Result<(), Trouble> {
         let vector = self.named(definition, Turn::FIRST)?;
         self.add(vector)
+    }
+
+    /// Adds a vector: its name, and the numbers from a first one to a last one, each with a comma behind it.
+    pub fn number(&mut self, definition: &str) -> Result<(), Trouble> {
+        let (name, range) = parted(definition, ' ')?;
+        let (first, last) = parted(range, ' ')?;
+        let mut bytes = Vec::new(self.alloc);
+        for number in number_of(first)?..=number_of(last)? {
+            let text = format!(in self.alloc; "{number},")?;
+            bytes.extend_from_slice(text.as_bytes())?;
+        }
+        self.add(Named {
+            name: String::from_str(self.alloc, name)?,
+            bytes,
+        })
     }
 
     /// A name, and the pieces behind it.
