@@ -6,6 +6,7 @@
 #
 #   <!-- run: FILE -->                 it is the text of this example, which is run
 #   <!-- run -->                       it is a script, which is run
+#   <!-- text: FILE -->                it is the text of this example, which is run by a block behind it
 #   <!-- shell -->                     it is commands for the shell, which are run in a folder with the examples and ./aspaview
 #   <!-- prints -->                    it is all that the run above it has written
 #   <!-- prints some -->               it is some of these lines, in their order
@@ -14,7 +15,7 @@
 #                                      and the witness, if it has one, where a number that is 0 is left out
 #   <!-- not run: REASON -->           it is neither, or can't be run here
 #
-# Behind the first three ', status N' may stand, where the status isn't 0, or ', not shown', where the page doesn't show what is written; and
+# Behind 'run' and 'shell' ', status N' may stand, where the status isn't 0, or ', not shown', where the page doesn't show what is written; and
 # behind each ', needs PROGRAM': it is skipped where that isn't there. A block without such a comment fails. In the manual page a line that
 # begins with '$ ' is a command, and what follows is what it writes.
 set -u
@@ -40,10 +41,12 @@ cp -r examples "$work/examples"
 (cd "$work/examples" && rm -f ./*.mrt ./*.bmp neighbours.base64 && python3 make_dumps.py && python3 make_bmp.py && rm -rf __pycache__)
 check 'make_dumps.py and make_bmp.py write the data of the examples' '' "$(diff -r -x __pycache__ examples "$work/examples" 2>&1)"
 
-# ---- a cache for the feeds, at a port that is free, for as long as this script runs
+# ---- a cache for the feeds, at a port that is free, for as long as this script runs; and another port, at which routers are served
 
-port=$(python3 -c 'import socket; s = socket.socket(); s.bind(("127.0.0.1", 0)); print(s.getsockname()[1])')
+port=$(free_port)
+served=$(free_port)
 sed -i "s/8282/$port/" "$work/examples/cache.py" "$work/examples/feed.txt"
+sed -i "s/8283/$served/" "$work/examples/serve.txt" "$work/examples/router.txt" "$work/examples/openbgpd.sh"
 timeout 1800 python3 "$work/examples/cache.py" >"$work/cache" 2>&1 &
 cache=$!
 for ((i = 0; i < 100; i++)); do
@@ -141,6 +144,10 @@ block() {
         performs "$place" "$status" "$text"
         [ $hidden = yes ] || [ ! -s "$work/out" ] || unshown=$place
         ;;
+    'text: '*)
+        check "$place: the text of ${how#text: }" "$(cat "${how#text: }")" "$(cat "$text")"
+        echo 'nothing was run for the block above' >"$work/out"
+        ;;
     shell)
         obeys "$place" "$status" "$text"
         [ $hidden = yes ] || [ ! -s "$work/out" ] || unshown=$place
@@ -156,7 +163,7 @@ block() {
         ;;
     judged) judged "$place" "$text" ;;
     'not run: '?*) echo 'nothing was run for the block above' >"$work/out" ;;
-    *) check "$place: a comment above the block says what it is" 'run, shell, prints, judged or not run' "${how:-none}" ;;
+    *) check "$place: a comment above the block says what it is" 'run, text, shell, prints, judged or not run' "${how:-none}" ;;
     esac
 }
 
@@ -192,11 +199,11 @@ fi
 
 # causes: of lines 'N WORD' those that are a cause with its word
 causes() {
-    awk '($1 >= 5 && $1 <= 41 || $1 >= 45 && $1 <= 47) && $2 ~ /^[A-Z][a-z]+[A-Za-z0-9]*$/ {print $1, $2}' | sort -u
+    awk '($1 >= 5 && $1 <= 41 || $1 >= 44 && $1 <= 47) && $2 ~ /^[A-Z][a-z]+[A-Za-z0-9]*$/ {print $1, $2}' | sort -u
 }
 rows='s/^\| ([0-9]+) \| ([A-Za-z0-9]+) \|.*/\1 \2/p'
 sed -nE "$rows" docs/formats.md | causes >"$work/causes"
-check 'the causes of docs/formats.md' 40 "$(wc -l <"$work/causes")"
+check 'the causes of docs/formats.md' 41 "$(wc -l <"$work/causes")"
 check 'the causes of docs/guide.md' "$(cat "$work/causes")" "$(sed -nE "$rows" docs/guide.md | causes)"
 check "the causes of $manual" "$(cat "$work/causes")" "$(sed -n 's/^\.It //p' "$manual" | causes)"
 # shellcheck disable=SC2086
@@ -220,7 +227,7 @@ done <"$work/sentences"
 
 for file in examples/*.txt; do
     # shellcheck disable=SC2086
-    check "$file is run by a page" 0 "$(cat $pages "$work/commands" | grep -qE "^<!-- run: $file\b|^[^#]*$file"; echo $?)"
+    check "$file is run by a page" 0 "$(cat $pages "$work/commands" | grep -qE "^<!-- run: $file\b|^[^#<]*$file"; echo $?)"
 done
 for file in examples/*.py; do
     case $file in

@@ -1,6 +1,7 @@
 #!/usr/bin/env bash
 # Tests of the built program: its statuses, what it says of names that aren't there and of places that are none, that it lets go of
-# files that it is done with, and what it makes of standard streams that are closed or don't wait. The last line is 'N passed, M failed', and the status is 0 where none failed.
+# files that it is done with, what it makes of standard streams that are closed or don't wait, and that it serves routers. The last line is
+# 'N passed, M failed', and the status is 0 where none failed.
 set -u
 cd "$(dirname "$0")/.." || exit
 program=$PWD/crates/aspaview/out/aspaview
@@ -214,6 +215,81 @@ waits 'a dump of MRT' "open d $work/fifo" \
     '\0\0\0\0\0\15\0\2\0\0\0\37\0\0\0\0\30\306\63\144\0\1\0\0\0\0\0\0\0\15\100\2\12\2\2\0\0\373\365\0\0\373\364' \
     '! line 3 d unit 1 cause 29 NoPeerTable'
 waits 'a dump of BMP' "bmp d $work/fifo pre" '\3\0\0\0\7\2\0' '! line 3 d unit 1 cause 47 BmpBody'
+
+# ---- routers are served, over connections of the system's
+
+# listens PORT: whether somebody listens at it. (Who connects to see is a router.)
+listens() {
+    grep -q "^ *[0-9]*: 0100007F:$(printf %04X "$1") 00000000:0000 0A" /proc/net/tcp
+}
+# calls PORT QUERY: a router that sends these bytes, in hexadecimal, ends what it sends, and tells all that it hears
+calls() {
+    timeout 60 python3 -c '
+import socket, sys
+router = socket.create_connection(("127.0.0.1", int(sys.argv[1])), 20)
+router.sendall(bytes.fromhex(sys.argv[2]))
+router.shutdown(socket.SHUT_WR)
+heard = b""
+while piece := router.recv(4096):
+    heard += piece
+print(heard.hex())' "$1" "$2"
+}
+
+# This program's own feed is a router, twice.
+port=$(free_port)
+sed "s/8283/$port/" examples/serve.txt >"$work/serve.txt"
+sed "s/8283/$port/" examples/router.txt >"$work/router.txt"
+timeout 60 "$program" run <"$work/serve.txt" >"$work/served" &
+served=$!
+within 20 listens "$port"
+customers='summary routes 0 valid 0 unknown 0 invalid 0 customers 7 passed 0 refused 0'
+for verdict in invalid valid; do
+    timeout 60 "$program" run <"$work/router.txt" >"$work/out"
+    check "a router that gets the table: status, at $verdict" 0 $?
+    check "a router that gets the table: text, at $verdict" "$(lines "$customers" valid "$verdict")" "$(cat "$work/out")"
+done
+wait "$served"
+check 'routers are served: status' 0 $?
+check 'routers are served: text' "$(lines 'served 1 answers 2' 'served 1 answers 2')" "$(cat "$work/served")"
+
+# What is sent, byte by byte: all of the table, what changed since a serial, and the report on a PDU of another version. The text that is
+# held is written before a router is waited for.
+port=$(free_port)
+: >"$work/held"
+lines 'judge customer 64501 64501' 'assert 64496 64497' "serve 127.0.0.1:$port 7 1" 'unassert 64496' 'assert 64500 0' \
+    "serve 127.0.0.1:$port 7 2" | timeout 60 "$program" run >"$work/held" &
+served=$!
+check 'a router is waited for' 0 "$(within 20 holds valid; echo $?)"
+within 20 listens "$port"
+response=0203000700000008
+end=0207000700000018 # and the serial
+times=00000e100000025800001c20
+check 'a router gets all of the table' "${response}020b0100000000100000fbf00000fbf1${end}00000000$times" \
+    "$(calls "$port" 0202000000000008)"
+check 'a router gets what changed' "${response}020b00000000000c0000fbf0020b0100000000100000fbf400000000${end}00000001$times" \
+    "$(calls "$port" 020100070000000c00000000)"
+check 'a router of another version is told so' 020a0008000000100000000000000000 "$(calls "$port" 0102000000000008)"
+wait "$served"
+check 'a PDU is refused: status' 1 $?
+check 'a PDU is refused: text' "$(lines valid 'served 1 answers 1' '! line 6 serve unit 1 cause 15 PduVersion' 'served 2 answers 1')" \
+    "$(cat "$work/held")"
+
+# A place at which another one listens, and places that are none
+listen "$work/taken" "$work/heard" &
+within 20 test -e "$work/taken"
+for place in "127.0.0.1:$(cat "$work/taken")" 192.0.2.1:323 localhost 127.0.0.1:0 127.0.0.1:65536 '[::1%lo]:323' 127.0.0.1:0323; do
+    lines "serve $place 7 1" | runs "no router can be accepted at $place" 1 "$(lines '! line 1 serve unreachable' 'served 0 answers 0')"
+done
+calls "$(cat "$work/taken")" '' >/dev/null
+wait
+
+# Standard output is closed: no connection has its number.
+port=$(free_port)
+(lines "serve 127.0.0.1:$port 7 1" | timeout 60 "$program" run >&-; echo $? >"$work/status") &
+within 20 listens "$port"
+check 'standard output is closed, and a router is served' "$response${end}00000000$times" "$(calls "$port" 0202000000000008)"
+wait
+check 'standard output is closed, and a router is served: status' 4 "$(cat "$work/status")"
 
 echo "$(wc -l <"$work/passed") passed, $(wc -l <"$work/failed") failed"
 [ ! -s "$work/failed" ]
