@@ -1,15 +1,18 @@
 #!/usr/bin/env bash
-# Refuses the built program its memory, one growth after another, in three scripts: on a feed, on a dump, and on two files. This isn't run
-# by tests/all.sh: it needs a C compiler and a dynamically linked program. Call N of the allocator fails, or call N and all behind it, for
-# each N that a run comes to. Three outcomes are right: status 5, and what was written is a front of the whole text; the whole text, with
-# its status; or a fault of the object that was refused the growth: status 3 or 4 and a front, or the text in which a feed's connection was
-# not made or broke. It prints how many there were of each. The last line is 'N passed, M failed', and the status is 0 where none failed.
+# Refuses the built program its memory, one growth after another, in four scripts: on a feed, for a router, on a dump, and on two files.
+# This isn't run by tests/all.sh: it needs a C compiler and a dynamically linked program. Call N of the allocator fails, or call N and all
+# behind it, for each N that a run comes to. Three outcomes are right: status 5, and what was written is a front of the whole text; the
+# whole text, with its status; or a fault of the object that was refused the growth: status 3 or 4 and a front, or the text in which the
+# connection of a feed or a router was not made or broke. What the router hears is a front of its answer. It prints how many there were of
+# each. The last line is 'N passed, M failed', and the status is 0 where none failed.
 set -u
 cd "$(dirname "$0")/.." || exit
 program=$PWD/crates/aspaview/out/aspaview
 work=$(mktemp -d)
-trap 'kill "$cache" 2>/dev/null; rm -rf "$work"' EXIT
+trap 'kill "$cache" "$router" 2>/dev/null; rm -rf "$work"' EXIT
 cache=
+router=
+. tests/checks.bash
 [ -x "$program" ] || ./aspaview run </dev/null
 
 cat >"$work/refuse.c" <<'END'
@@ -89,7 +92,34 @@ END
 cache=$!
 until [ -e "$work/port" ]; do sleep 0.02; done
 
-# ---- the three scripts, with their texts
+# ---- a router that calls whenever somebody listens, asks for everything, a byte at a time, and tells if it hears anything but a front of it
+
+place=$(free_port)
+touch "$work/misheard"
+python3 - "$place" "$work/misheard" <<'END' &
+import socket, sys, time
+
+QUERY = bytes.fromhex("02020000 00000008")
+ANSWER = bytes.fromhex("02030007 00000008" "020b0100 00000010 0000fbf0 0000fbf1" "02070007 00000018 00000000 00000e10 00000258 00001c20")
+while True:
+    heard = b""
+    with socket.socket() as router:
+        try:
+            router.connect(("127.0.0.1", int(sys.argv[1])))
+            for byte in QUERY:
+                router.send(bytes([byte]))
+            router.shutdown(socket.SHUT_WR)
+            while piece := router.recv(64):
+                heard += piece
+        except OSError:
+            time.sleep(0.002)
+    if not ANSWER.startswith(heard):
+        with open(sys.argv[2], "a") as misheard:
+            print(heard.hex(), file=misheard)
+END
+router=$!
+
+# ---- the four scripts, with their texts
 
 judged=('judge customer 64497 64497 64496' 'judge customer 64498 64498 64496')
 lines "feed c 127.0.0.1:$(cat "$work/port")" 'take c 2' "${judged[0]}" 'take c 1' "${judged[@]}" >"$work/feed.script"
@@ -99,6 +129,12 @@ lines '! line 1 c unreachable' "! line 2 $gone" unknown "! line 4 $gone" unknown
 lines '! line 1 c lost' "! line 2 $gone" unknown "! line 4 $gone" unknown unknown >"$work/feed.fault2"
 lines '! line 2 c lost' unknown "! line 4 $gone" unknown unknown >"$work/feed.fault3"
 lines unknown '! line 4 c lost' unknown unknown >"$work/feed.fault4"
+
+lines 'assert 64496 64497' "serve 127.0.0.1:$place 7 1" >"$work/serve.script"
+lines 'served 1 answers 1' >"$work/serve.text"
+lines '! line 2 serve unreachable' 'served 0 answers 0' >"$work/serve.fault1"
+lines '! line 2 serve lost' 'served 1 answers 0' >"$work/serve.fault2"
+lines '! line 2 serve lost' 'served 1 answers 1' >"$work/serve.fault3"
 
 # bytes HEX.. of a record or a payload
 bytes() {
@@ -155,7 +191,7 @@ outcome() {
 
 passed=0
 failed=0
-for script in 'feed 0' 'dump 1' 'files 0'; do
+for script in 'feed 0' 'serve 0' 'dump 1' 'files 0'; do
     read -r name wanted <<<"$script"
     run "$name" 0
     if [ "$(outcome "$name" "$wanted")" != whole ]; then
@@ -182,5 +218,10 @@ for script in 'feed 0' 'dump 1' 'files 0'; do
         failed=$((failed + seen[wrong]))
     done
 done
+if [ -s "$work/misheard" ]; then
+    echo 'the router heard what is no front of its answer'
+    cat "$work/misheard"
+    failed=$((failed + 1))
+fi
 echo "$passed passed, $failed failed"
 [ "$failed" -eq 0 ]
