@@ -1,3 +1,4 @@
+pub mod ChangeLemmas
 pub mod CoverLemmas
 pub mod LawLemmas
 pub mod PayloadLemmas
