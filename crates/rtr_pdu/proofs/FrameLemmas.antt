@@ -1,5 +1,5 @@
 -- The front of a stream: its header, and a whole PDU that is refused.
-use Rattle.std.proofs.Common.{◌≡◌, ℕ, ◌+◌, ◌≤◌, inr, List, ◌++◌, length, take, drop, Ok, Err, refl, sym, ap, subst, ◌∙◌, arith, take-append-drop, length-append}
+use Rattle.std.proofs.Common.{◌≡◌, ℕ, ◌+◌, ◌≤◌, inl, inr, List, ◌++◌, length, take, drop, Ok, Err, refl, sym, ap, subst, ◌∙◌, arith, take-append-drop, length-append}
 use Rattle.std.proofs.lemmas.List.{drop-append-le, get_or_append_left, length-drop, length-take}
 use Rattle.std.specs.declared.option.Option.{Option}
 use Rattle.std.specs.declared.result.Result.{Result}
@@ -9,7 +9,7 @@ use Rattle.byteorder.specs.Numbers.{big_from-append}
 use Rattle.rtr_pdu.specs.declared.kind.Kind.{Kind}
 use Rattle.rtr_pdu.specs.declared.pdu.Pdu.{Pdu}
 use Rattle.rtr_pdu.specs.declared.pdu.PduFault.{PduFault}
-use Rattle.rtr_pdu.specs.declared.pdu.PduFault.TheVariants.{PduVersion, PduLength, PduType, NoProviders, NoMemory}
+use Rattle.rtr_pdu.specs.declared.pdu.PduFault.TheVariants.{PduVersion, PduLength, PduType, NoProviders, PrefixRecord, NoMemory}
 use Rattle.rtr_pdu.specs.Pdus.{IsHeader, u32_at}
 use Rattle.rtr_pdu.specs.Bodies.{IsBodyRefused}
 use Rattle.rtr_pdu.specs.Units.{IsRefused, HasWhole, Answers}
@@ -66,4 +66,6 @@ IsRefused-body held kind len PduVersion header whole refused = absurd refused
 IsRefused-body held kind len PduLength header whole refused = inr (whole_of held kind len header whole _ refused.0, refused.1)
 IsRefused-body held kind len PduType header whole refused = absurd refused
 IsRefused-body held kind len NoProviders header whole refused = (whole_of held kind len header whole _ refused.0, refused.1, refused.2)
+IsRefused-body held kind len PrefixRecord header whole (inl four) = inl (whole_of held kind len header whole _ four.0, four.1)
+IsRefused-body held kind len PrefixRecord header whole (inr six) = inr (whole_of held kind len header whole _ six.0, six.1)
 IsRefused-body held kind len NoMemory header whole refused = tt

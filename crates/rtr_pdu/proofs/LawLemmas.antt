@@ -2,13 +2,19 @@
 use Rattle.std.proofs.Common.{◌≡◌, ℕ, ◌≤◌, ◌⊎◌, inl, inr, true, List, ◌++◌, length, take, drop, sym, ap, subst, ◌∙◌, arith, append_assoc, length-append}
 use Rattle.std.proofs.Math.Seq.{take-append_seam, drop-append_seam}
 use Rattle.std.proofs.lemmas.List.{get_or_append_left}
+use Rattle.std.specs.Prelude.{slice_index}
+use Rattle.path_model.specs.declared.addr.Addr.{Addr}
+use Rattle.path_model.specs.declared.addr.Addr.TheVariants.{V4, V6}
+use Rattle.path_model.specs.Prefix.{Subnet}
+use Rattle.origin_model.specs.Vrp.{payload_of}
+use Rattle.origin_model.proofs.CoverLemmas.{some_is}
 use Rattle.rtr_pdu.specs.declared.kind.Kind.{Kind}
 use Rattle.rtr_pdu.specs.declared.kind.Kind.TheVariants.{SerialNotify, SerialQuery as SerialQueryKind, ResetQuery as ResetQueryKind, CacheResponse as CacheResponseKind, Ipv4Prefix, Ipv6Prefix, EndOfData as EndOfDataKind, CacheReset as CacheResetKind, RouterKey, ErrorReport as ErrorReportKind, Aspa as AspaKind}
 use Rattle.rtr_pdu.specs.declared.pdu.Pdu.{Pdu}
-use Rattle.rtr_pdu.specs.declared.pdu.Pdu.TheVariants.{Aspa}
+use Rattle.rtr_pdu.specs.declared.pdu.Pdu.TheVariants.{Prefix, Aspa}
 use Rattle.rtr_pdu.specs.declared.pdu.PduFault.{PduFault}
-use Rattle.rtr_pdu.specs.declared.pdu.PduFault.TheVariants.{PduVersion, PduLength, PduType, NoProviders, NoMemory}
-use Rattle.rtr_pdu.specs.Pdus.{IsHeader, IsFrame, Announces, Withdraws, Says, u32_at, length_in}
+use Rattle.rtr_pdu.specs.declared.pdu.PduFault.TheVariants.{PduVersion, PduLength, PduType, NoProviders, PrefixRecord, NoMemory}
+use Rattle.rtr_pdu.specs.Pdus.{IsHeader, IsFrame, IsPrefixPdu, Announces, Withdraws, Says, announces_prefix, u32_at, u128_at, length_in}
 use Rattle.rtr_pdu.specs.Units.{IsRefused, HasWhole, HasVersion}
 use Rattle.rtr_pdu.proofs.FrameLemmas.{u32_at-append}
 use Rattle.rtr_pdu.proofs.KindLemmas.{kind_at}
@@ -27,13 +33,18 @@ Aspa-unique bytes p q (inl a) (inr b) = absurd (Announces-withdraws bytes p q a 
 Aspa-unique bytes p q (inr a) (inl b) = absurd (Announces-withdraws bytes q p b a)
 Aspa-unique bytes p q (inr a) (inr b) = a.is ∙ sym b.is
 
+IsPrefixPdu-unique : (addr : Addr) (asn : ℕ) (bytes : List ℕ) (p q : Pdu) → IsPrefixPdu addr asn bytes p → IsPrefixPdu addr asn bytes q → p ≡ q
+IsPrefixPdu-unique addr asn bytes p q a b =
+    let same : a.prefix ≡ b.prefix = some_is a.prefix b.prefix (sym a.front ∙ b.front) in
+    a.is ∙ ap (λ (s : Subnet). Prefix (announces_prefix bytes) (payload_of s (slice_index bytes 10) asn)) same ∙ sym b.is
+
 Says-unique : (kind : Kind) (bytes : List ℕ) (p q : Pdu) → Says kind bytes p → Says kind bytes q → p ≡ q
 Says-unique SerialNotify bytes p q a b = a ∙ sym b
 Says-unique SerialQueryKind bytes p q a b = a ∙ sym b
 Says-unique ResetQueryKind bytes p q a b = a ∙ sym b
 Says-unique CacheResponseKind bytes p q a b = a ∙ sym b
-Says-unique Ipv4Prefix bytes p q a b = a ∙ sym b
-Says-unique Ipv6Prefix bytes p q a b = a ∙ sym b
+Says-unique Ipv4Prefix bytes p q a b = IsPrefixPdu-unique (V4 (u32_at bytes 12)) (u32_at bytes 16) bytes p q a b
+Says-unique Ipv6Prefix bytes p q a b = IsPrefixPdu-unique (V6 (u128_at bytes 12)) (u32_at bytes 28) bytes p q a b
 Says-unique EndOfDataKind bytes p q a b = a ∙ sym b
 Says-unique CacheResetKind bytes p q a b = a ∙ sym b
 Says-unique RouterKey bytes p q a b = a ∙ sym b
@@ -82,4 +93,6 @@ stays_refused held more PduLength (inl h) =
 stays_refused held more PduLength (inr h) = inr (HasWhole-more held more ErrorReportKind h.0, h.1)
 stays_refused held more PduType h = (HasVersion-more held more h.0, rw (length_same held more h.0.long) h.1, λ kind same. h.2 kind (sym (get_or_append_left held more 0 1 (omega (arith, h.0.long))) ∙ same))
 stays_refused held more NoProviders h = (HasWhole-more held more AspaKind h.0, h.1, h.2)
+stays_refused held more PrefixRecord (inl h) = inl (HasWhole-more held more Ipv4Prefix h.0, h.1)
+stays_refused held more PrefixRecord (inr h) = inr (HasWhole-more held more Ipv6Prefix h.0, h.1)
 stays_refused held more NoMemory h = tt

@@ -6,20 +6,25 @@ use Rattle.std.proofs.lemmas.List.{length-drop}
 use Rattle.std.specs.declared.option.Option.{Option}
 use Rattle.std.specs.declared.result.Result.{Result}
 use Rattle.av_base.specs.One.{HasOnePair}
+use Rattle.path_model.specs.declared.addr.Addr.{Addr}
+use Rattle.path_model.specs.declared.addr.Addr.TheVariants.{V4, V6}
+use Rattle.path_model.specs.Prefix.{Subnet, bits_of, cleared}
+use Rattle.origin_model.specs.Vrp.{payload_of}
+use Rattle.origin_model.proofs.CoverLemmas.{begun as begun_front}
 use Rattle.held_bytes.specs.Units.{BeginsWithNone}
 use Rattle.rtr_pdu.specs.declared.kind.Kind.{Kind}
 use Rattle.rtr_pdu.specs.declared.kind.Kind.TheVariants.{SerialNotify, SerialQuery as SerialQueryKind, ResetQuery as ResetQueryKind, CacheResponse as CacheResponseKind, Ipv4Prefix, Ipv6Prefix, EndOfData as EndOfDataKind, CacheReset as CacheResetKind, RouterKey, ErrorReport as ErrorReportKind, Aspa as AspaKind}
 use Rattle.rtr_pdu.specs.declared.pdu.Pdu.{Pdu}
-use Rattle.rtr_pdu.specs.declared.pdu.Pdu.TheVariants.{Notify, SerialQuery, ResetQuery, CacheResponse, Passed, EndOfData, CacheReset, ErrorReport, Aspa}
+use Rattle.rtr_pdu.specs.declared.pdu.Pdu.TheVariants.{Notify, SerialQuery, ResetQuery, CacheResponse, Prefix, Passed, EndOfData, CacheReset, ErrorReport, Aspa}
 use Rattle.rtr_pdu.specs.declared.pdu.PduFault.{PduFault}
-use Rattle.rtr_pdu.specs.declared.pdu.PduFault.TheVariants.{PduVersion, PduLength, PduType, NoProviders, NoMemory}
-use Rattle.rtr_pdu.specs.Pdus.{IsHeader, IsFrame, IsReport, IsAnnounce, IsAnyLength, Says, FitsLength, u16_at, u32_at, length_in, code_of}
+use Rattle.rtr_pdu.specs.declared.pdu.PduFault.TheVariants.{PduVersion, PduLength, PduType, NoProviders, PrefixRecord, NoMemory}
+use Rattle.rtr_pdu.specs.Pdus.{IsHeader, HasLengths, IsFrame, IsPrefixPdu, IsReport, IsAnnounce, IsAnyLength, Says, FitsLength, announces_prefix, u16_at, u32_at, u128_at, length_in, code_of}
 use Rattle.rtr_pdu.specs.Units.{Answers, AnswersKnown, HasVersion, HasWhole, IsPartial, IsRefused}
 use Rattle.rtr_pdu.proofs.FrameLemmas.{IsHeader-more, IsHeader-take, whole_of}
 use Rattle.rtr_pdu.proofs.KindLemmas.{kind_at, some_kind, fits_or_not}
 use Rattle.rtr_pdu.proofs.LawLemmas.{prefix_free, same_front}
 use Rattle.rtr_pdu.proofs.NumberLemmas.{numbers_of}
-use Rattle.rtr_pdu.proofs.RefusalLemmas.{refused_once, whole_header, not_wrong, not_typed}
+use Rattle.rtr_pdu.proofs.RefusalLemmas.{prefix_pdu, refused_once, whole_header, not_wrong, not_typed}
 
 -- ---- some answer
 
@@ -49,6 +54,47 @@ framed held kind len header whole pdu says = record {
   known = λ e. let never : ⊥ = cc in never;
   is = (take len held, sym (take-append-drop len held), record { kind = kind; header = IsHeader-take held kind len header whole; says = says });
 }
+
+lengths_or_not : (bits : ℕ) (bytes : List ℕ) → HasLengths bits bytes ⊎ (¬ HasLengths bits bytes)
+lengths_or_not bits bytes = elim (leb_tells (slice_index bytes 9) (slice_index bytes 10)) [
+  | inl reaches ↦ elim (leb_tells (slice_index bytes 10) bits) [
+    | inl within ↦ inl (record { reaches = reaches.1; within = within.1 })
+    | inr beyond ↦ inr (λ (is : HasLengths bits bytes). let never : ⊥ = omega (arith, is.within, beyond.1) in never)
+  ]
+  | inr below ↦ inr (λ (is : HasLengths bits bytes). let never : ⊥ = omega (arith, is.reaches, below.1) in never)
+]
+
+-- the prefix that a prefix PDU's address begins with
+abbrev front_in : Addr → List ℕ → Subnet
+front_in addr bytes = record { addr = cleared (slice_index bytes 9) addr; len = slice_index bytes 9 }
+
+-- the PDU that they are
+abbrev prefix_in : Addr → ℕ → List ℕ → Pdu
+prefix_in addr asn bytes = Prefix (announces_prefix bytes) (payload_of (front_in addr bytes) (slice_index bytes 10) asn)
+
+some_prefix : (addr : Addr) (asn : ℕ) (bytes : List ℕ) → HasLengths (bits_of addr) bytes → IsPrefixPdu addr asn bytes (prefix_in addr asn bytes)
+some_prefix addr asn bytes lengths = record {
+  lengths = lengths;
+  prefix = front_in addr bytes;
+  front = begun_front addr (slice_index bytes 9) (omega (arith, lengths.reaches, lengths.within));
+  is = refl;
+}
+
+next_four : (held : List ℕ) (len : ℕ) → IsHeader held Ipv4Prefix len → len ≤ length held → SomeNext held
+next_four held len header whole =
+    let bytes = take len held in
+    elim (lengths_or_not 32 bytes) [
+      | inl has ↦ framed held Ipv4Prefix len header whole (prefix_in (V4 (u32_at bytes 12)) (u32_at bytes 16) bytes) (some_prefix (V4 (u32_at bytes 12)) (u32_at bytes 16) bytes has)
+      | inr lacks ↦ refused held PrefixRecord (λ e. let never : ⊥ = cc in never) (inl (whole_of held Ipv4Prefix len header whole Ipv4Prefix refl, lacks))
+    ]
+
+next_six : (held : List ℕ) (len : ℕ) → IsHeader held Ipv6Prefix len → len ≤ length held → SomeNext held
+next_six held len header whole =
+    let bytes = take len held in
+    elim (lengths_or_not 128 bytes) [
+      | inl has ↦ framed held Ipv6Prefix len header whole (prefix_in (V6 (u128_at bytes 12)) (u32_at bytes 28) bytes) (some_prefix (V6 (u128_at bytes 12)) (u32_at bytes 28) bytes has)
+      | inr lacks ↦ refused held PrefixRecord (λ e. let never : ⊥ = cc in never) (inr (whole_of held Ipv6Prefix len header whole Ipv6Prefix refl, lacks))
+    ]
 
 report_or_not : (bytes : List ℕ) → IsReport bytes ⊎ (¬ IsReport bytes)
 report_or_not bytes = elim (leb_tells (16 + u32_at bytes 8) (length bytes)) [
@@ -91,8 +137,8 @@ next_whole SerialNotify held len header whole = framed held SerialNotify len hea
 next_whole SerialQueryKind held len header whole = framed held SerialQueryKind len header whole (SerialQuery (u16_at (take len held) 2) (u32_at (take len held) 8)) refl
 next_whole ResetQueryKind held len header whole = framed held ResetQueryKind len header whole ResetQuery refl
 next_whole CacheResponseKind held len header whole = framed held CacheResponseKind len header whole (CacheResponse (u16_at (take len held) 2)) refl
-next_whole Ipv4Prefix held len header whole = framed held Ipv4Prefix len header whole (Passed 4) refl
-next_whole Ipv6Prefix held len header whole = framed held Ipv6Prefix len header whole (Passed 6) refl
+next_whole Ipv4Prefix held len header whole = next_four held len header whole
+next_whole Ipv6Prefix held len header whole = next_six held len header whole
 next_whole EndOfDataKind held len header whole = framed held EndOfDataKind len header whole (EndOfData (u16_at (take len held) 2) (u32_at (take len held) 8)) refl
 next_whole CacheResetKind held len header whole = framed held CacheResetKind len header whole CacheReset refl
 next_whole RouterKey held len header whole = framed held RouterKey len header whole (Passed 9) refl
@@ -164,6 +210,8 @@ partial_refused held PduType known (inl short) bad = omega (arith, short, bad.0.
 partial_refused held PduType known (inr begun) bad = not_typed held begun.0 begun.1 begun.2 bad
 partial_refused held NoProviders known (inl short) bad = omega (arith, short, (whole_header held AspaKind bad.0).long)
 partial_refused held NoProviders known (inr begun) bad = begun_whole held begun.0 AspaKind begun.1 begun.2 begun.3 bad.0
+partial_refused held PrefixRecord known (inl short) bad = let it = prefix_pdu held bad in omega (arith, short, (whole_header held it.kind it.unit).long)
+partial_refused held PrefixRecord known (inr begun) bad = let it = prefix_pdu held bad in begun_whole held begun.0 it.kind begun.1 begun.2 begun.3 it.unit
 partial_refused held NoMemory known is bad = known refl
 
 -- a whole unit of a type is the frame, and says what one of its type says
@@ -186,6 +234,12 @@ framed_refused held bytes left pdu PduType known is frame bad = not_typed held f
 framed_refused held bytes left pdu NoProviders known is frame bad =
     let same = same_unit held bytes left pdu AspaKind is frame bad.0 in
     bare bytes pdu same.1 (subst (λ (l : List ℕ). IsAnnounce l) same.0 bad.1) (ap length (sym same.0) ∙ bad.2)
+framed_refused held bytes left pdu PrefixRecord known is frame (inl bad) =
+    let same = same_unit held bytes left pdu Ipv4Prefix is frame bad.0 in
+    bad.1 (subst (λ (l : List ℕ). HasLengths 32 l) (sym same.0) same.1.lengths)
+framed_refused held bytes left pdu PrefixRecord known is frame (inr bad) =
+    let same = same_unit held bytes left pdu Ipv6Prefix is frame bad.0 in
+    bad.1 (subst (λ (l : List ℕ). HasLengths 128 l) (sym same.0) same.1.lengths)
 framed_refused held bytes left pdu NoMemory known is frame bad = known refl
 
 known_fault : (fault : PduFault) → refusal fault ≢ refusal NoMemory → fault ≢ NoMemory

@@ -4,9 +4,9 @@ use Rattle.std.specs.Prelude.{slice_index, nat_eq}
 use Rattle.std.specs.declared.option.Option.TheVariants.{Some}
 use Rattle.std.specs.declared.result.Result.TheVariants.{Err}
 use Rattle.rtr_pdu.specs.declared.kind.Kind.{Kind}
-use Rattle.rtr_pdu.specs.declared.kind.Kind.TheVariants.{ErrorReport, Aspa}
+use Rattle.rtr_pdu.specs.declared.kind.Kind.TheVariants.{Ipv4Prefix, Ipv6Prefix, ErrorReport, Aspa}
 use Rattle.rtr_pdu.specs.declared.pdu.PduFault.{PduFault}
-use Rattle.rtr_pdu.specs.declared.pdu.PduFault.TheVariants.{PduVersion, PduLength, PduType, NoProviders, NoMemory}
+use Rattle.rtr_pdu.specs.declared.pdu.PduFault.TheVariants.{PduVersion, PduLength, PduType, NoProviders, PrefixRecord, NoMemory}
 use Rattle.rtr_pdu.specs.Pdus.{IsHeader, FitsLength, code_of}
 use Rattle.rtr_pdu.specs.Units.{Answers, IsRefused, IsRefusedNow, HasWhole, HasWrongLength, code_on_refusal, code_for}
 use Rattle.rtr_pdu.proofs.FrameLemmas.{IsHeader-more}
@@ -26,8 +26,37 @@ apart held one other =
     let same : code_of ErrorReport ≡ code_of Aspa = sym (whole_header held ErrorReport one).code ∙ (whole_header held Aspa other).code in
     omega (arith, same)
 
+-- a whole prefix PDU is held, of either family
+pub record HasPrefixPdu (held : List ℕ) : Type 0 where
+  pub kind : Kind
+  pub unit : HasWhole held kind
+  pub no_report : kind ≢ ErrorReport
+  pub no_aspa : kind ≢ Aspa
+
+pub prefix_pdu : (held : List ℕ) → IsRefused held PrefixRecord → HasPrefixPdu held
+prefix_pdu held (inl four) = record { kind = Ipv4Prefix; unit = four.0; no_report = λ e. let never : ⊥ = cc in never; no_aspa = λ e. let never : ⊥ = cc in never }
+prefix_pdu held (inr six) = record { kind = Ipv6Prefix; unit = six.0; no_report = λ e. let never : ⊥ = cc in never; no_aspa = λ e. let never : ⊥ = cc in never }
+
+-- two whole PDUs of one stream have one type
+same_kind : (held : List ℕ) (one other : Kind) → HasWhole held one → HasWhole held other → one ≡ other
+same_kind held one other a b = kind_at one other (sym (whole_header held one a).code ∙ (whole_header held other b).code)
+
+-- a prefix PDU that is refused isn't refused for anything else
+lengths_alone : (held : List ℕ) → IsRefused held PrefixRecord → IsRefused held PduLength → ⊥
+lengths_alone held refused (inl wrong) = let it = prefix_pdu held refused in not_wrong held it.kind _ (whole_header held it.kind it.unit) wrong
+lengths_alone held refused (inr report) = let it = prefix_pdu held refused in it.no_report (same_kind held it.kind ErrorReport it.unit report.0)
+
+versions_alone : (held : List ℕ) → IsRefused held PrefixRecord → IsRefused held PduVersion → ⊥
+versions_alone held refused bad = let it = prefix_pdu held refused in bad.1 (whole_header held it.kind it.unit).version
+
+providers_alone : (held : List ℕ) → IsRefused held PrefixRecord → IsRefused held NoProviders → ⊥
+providers_alone held refused bad = let it = prefix_pdu held refused in it.no_aspa (same_kind held it.kind Aspa it.unit bad.0)
+
 pub not_typed : (held : List ℕ) (kind : Kind) (len : ℕ) → IsHeader held kind len → IsRefused held PduType → ⊥
 not_typed held kind len header typed = typed.2 kind header.code
+
+types_alone : (held : List ℕ) → IsRefused held PrefixRecord → IsRefused held PduType → ⊥
+types_alone held refused typed = let it = prefix_pdu held refused in not_typed held it.kind _ (whole_header held it.kind it.unit) typed
 
 typed_wrong : (held : List ℕ) → IsRefused held PduType → HasWrongLength held → ⊥
 typed_wrong held typed wrong = elim wrong.1 [
@@ -55,6 +84,15 @@ refused_once held PduLength NoProviders known known' a b = elim a [ inl w ↦ ab
 refused_once held NoProviders PduLength known known' a b = elim b [ inl w ↦ absurd (not_wrong held Aspa _ (whole_header held Aspa a.0) w) | inr w ↦ absurd (apart held w.0 a.0) ]
 refused_once held PduType NoProviders known known' a b = absurd (not_typed held Aspa _ (whole_header held Aspa b.0) a)
 refused_once held NoProviders PduType known known' a b = absurd (not_typed held Aspa _ (whole_header held Aspa a.0) b)
+refused_once held PrefixRecord PrefixRecord known known' a b = refl
+refused_once held PrefixRecord PduVersion known known' a b = absurd (versions_alone held a b)
+refused_once held PrefixRecord PduLength known known' a b = absurd (lengths_alone held a b)
+refused_once held PrefixRecord PduType known known' a b = absurd (types_alone held a b)
+refused_once held PrefixRecord NoProviders known known' a b = absurd (providers_alone held a b)
+refused_once held PduVersion PrefixRecord known known' a b = absurd (versions_alone held b a)
+refused_once held PduLength PrefixRecord known known' a b = absurd (lengths_alone held b a)
+refused_once held PduType PrefixRecord known known' a b = absurd (types_alone held b a)
+refused_once held NoProviders PrefixRecord known known' a b = absurd (providers_alone held b a)
 
 -- the code of whatever refusal it is
 pub codes_same : (held : List ℕ) (one : PduFault) (byte : nat_eq (slice_index held 1) 10 ≡ false) → one ≢ NoMemory → IsRefused held one → (fault : PduFault) → fault ≢ NoMemory → IsRefused held fault → Some (code_for one) ≡ code_on_refusal held fault
@@ -67,6 +105,7 @@ codes_whole held kind len byte header PduVersion known refused = absurd (refused
 codes_whole held kind len byte header PduLength known refused = rw byte refl
 codes_whole held kind len byte header PduType known refused = absurd (not_typed held kind len header refused)
 codes_whole held kind len byte header NoProviders known refused = rw byte refl
+codes_whole held kind len byte header PrefixRecord known refused = rw byte refl
 codes_whole held kind len byte header NoMemory known refused = absurd (known refl)
 
 -- what `report` needs, behind a refusal by `next`

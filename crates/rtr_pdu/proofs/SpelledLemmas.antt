@@ -1,15 +1,21 @@
 -- What is written reads back.
-use Rattle.std.proofs.Common.{◌≡◌, ℕ, zero, suc, ◌+◌, ◌*◌, ◌^◌, ◌<◌, ◌≤◌, true, false, inl, inr, List, [], ◌∷◌, ◌++◌, length, refl, sym, ap, ◌∙◌, arith, append_assoc}
+use Rattle.std.proofs.Common.{◌≡◌, ℕ, zero, suc, ◌+◌, ◌*◌, ◌^◌, ◌%◌, ◌<◌, ◌≤◌, Bool, true, false, nat_eq, inl, inr, List, [], ◌∷◌, ◌++◌, drop, length, refl, sym, ap, ◌∙◌, arith, append_assoc, length-append}
 use Rattle.std.specs.Prelude.{slice_index}
 use Rattle.std.specs.List.{All}
 use Rattle.std.proofs.lemmas.List.{drop-drop}
+use Rattle.std.proofs.Math.Seq.{drop-append_seam}
 use Rattle.byteorder.specs.Endian.{big_bytes, big_number}
-use Rattle.byteorder.specs.Numbers.{big_number-reads_back}
-use Rattle.rtr_pdu.specs.declared.kind.Kind.TheVariants.{SerialNotify, SerialQuery as SerialQueryKind, ResetQuery as ResetQueryKind, CacheResponse as CacheResponseKind, EndOfData as EndOfDataKind, CacheReset as CacheResetKind, ErrorReport as ErrorReportKind, Aspa as AspaKind}
+use Rattle.byteorder.specs.Numbers.{big_number-reads_back, length-bytes_high_first}
+use Rattle.path_model.specs.declared.addr.Addr.{Addr}
+use Rattle.path_model.specs.declared.addr.Addr.TheVariants.{V4, V6}
+use Rattle.path_model.specs.Prefix.{Subnet, IsSubnet, prefix_of}
+use Rattle.origin_model.specs.Vrp.{IsPayload, payload_of}
+use Rattle.origin_model.proofs.CoverLemmas.{own_front}
+use Rattle.rtr_pdu.specs.declared.kind.Kind.TheVariants.{SerialNotify, SerialQuery as SerialQueryKind, ResetQuery as ResetQueryKind, CacheResponse as CacheResponseKind, Ipv4Prefix, Ipv6Prefix, EndOfData as EndOfDataKind, CacheReset as CacheResetKind, ErrorReport as ErrorReportKind, Aspa as AspaKind}
 use Rattle.rtr_pdu.specs.declared.pdu.Pdu.{Pdu}
-use Rattle.rtr_pdu.specs.declared.pdu.Pdu.TheVariants.{Notify, SerialQuery, ResetQuery, CacheResponse, Passed, EndOfData, CacheReset, ErrorReport, Aspa}
-use Rattle.rtr_pdu.specs.Pdus.{IsFrame, AreNumbers, u32_at}
-use Rattle.rtr_pdu.specs.Spelled.{timers, spelled, spelled_numbers, IsWritable, FitsFields}
+use Rattle.rtr_pdu.specs.declared.pdu.Pdu.TheVariants.{Notify, SerialQuery, ResetQuery, CacheResponse, Prefix, Passed, EndOfData, CacheReset, ErrorReport, Aspa}
+use Rattle.rtr_pdu.specs.Pdus.{IsFrame, AreNumbers, u32_at, u128_at}
+use Rattle.rtr_pdu.specs.Spelled.{announce_bit, header, sixteen_bytes, timers, spelled, spelled_numbers, IsWritable, FitsFields}
 
 pub joined : (old a b c : List ℕ) → old ++ a ++ b ++ c ≡ old ++ (a ++ b ++ c)
 joined old a b c = append_assoc (old ++ a) b c ∙ append_assoc old a (b ++ c) ∙ ap (λ (l : List ℕ). old ++ l) (sym (append_assoc a b c))
@@ -63,6 +69,90 @@ report_back code small = record {
   says = (record { within = omega arith; fills = refl }, λ i. ErrorReport (sym (big_number-reads_back 2 code (big_bytes 4 16 ++ big_bytes 4 0 ++ big_bytes 4 0) (omega arith)) i));
 }
 
+-- ---- a prefix PDU
+
+announced_back : (announce : Bool) → nat_eq (announce_bit announce % 2) 1 ≡ announce
+announced_back true = refl
+announced_back false = refl
+
+abbrev subnet : Addr → ℕ → Subnet
+subnet addr len = record { addr = addr; len = len }
+
+four_back : (announce : Bool) (n len max asn : ℕ) → IsSubnet (subnet (V4 n) len) → IsPayload (payload_of (subnet (V4 n) len) max asn)
+    → IsFrame (spelled (Prefix announce (payload_of (subnet (V4 n) len) max asn))) (Prefix announce (payload_of (subnet (V4 n) len) max asn))
+four_back announce n len max asn is payload =
+    let addr : u32_at (spelled (Prefix announce (payload_of (subnet (V4 n) len) max asn))) 12 ≡ n = big_number-reads_back 4 n (big_bytes 4 asn) is.is_addr in
+    let from : u32_at (spelled (Prefix announce (payload_of (subnet (V4 n) len) max asn))) 16 ≡ asn = big_number-reads_back 4 asn [] payload.asn in
+    record {
+      kind = Ipv4Prefix;
+      header = record {
+        long = omega arith;
+        version = refl;
+        code = refl;
+        says = big_number-reads_back 4 20 ((announce_bit announce ∷ len ∷ max ∷ 0 ∷ []) ++ big_bytes 4 n ++ big_bytes 4 asn) (omega arith);
+        any = (omega arith, omega arith);
+        fits = refl;
+      };
+      says = record {
+        lengths = record { reaches = payload.reaches; within = payload.within };
+        prefix = subnet (V4 n) len;
+        front = ap (λ (a : ℕ). prefix_of (V4 a) len) addr ∙ own_front (subnet (V4 n) len) is;
+        is = λ i. Prefix (sym (announced_back announce) i) (payload_of (subnet (V4 n) len) max (sym from i));
+      };
+    }
+
+drop_front : (front rest : List ℕ) (n : ℕ) → length front ≡ n → drop n (front ++ rest) ≡ rest
+drop_front front rest n long = ap (λ (k : ℕ). drop k (front ++ rest)) (sym long) ∙ drop-append_seam front rest
+
+-- an address of sixteen bytes: it is read back, and the AS behind it
+six_addr : (front : List ℕ) (n asn : ℕ) → length front ≡ 12 → n < 2 ^ 128 → u128_at (front ++ sixteen_bytes n ++ big_bytes 4 asn) 12 ≡ n
+unfolding sixteen_bytes u128_at
+six_addr front n asn long low =
+    ap (big_number 16) (ap (drop 12) (append_assoc front (big_bytes 16 n) (big_bytes 4 asn)) ∙ drop_front front (big_bytes 16 n ++ big_bytes 4 asn) 12 long)
+    ∙ big_number-reads_back 16 n (big_bytes 4 asn) low
+
+six_asn : (front : List ℕ) (n asn : ℕ) → length front ≡ 12 → asn < 2 ^ 32 → u32_at (front ++ sixteen_bytes n ++ big_bytes 4 asn) 28 ≡ asn
+unfolding sixteen_bytes
+six_asn front n asn long low =
+    let whole : length (front ++ big_bytes 16 n) ≡ 28 = length-append front (big_bytes 16 n) ∙ ap (λ (k : ℕ). k + length (big_bytes 16 n)) long ∙ ap (λ (k : ℕ). 12 + k) (length-bytes_high_first 16 n) in
+    ap (big_number 4) (drop_front (front ++ big_bytes 16 n) (big_bytes 4 asn) 28 whole) ∙ big_number-reads_back 4 asn [] low
+
+six_length : (front : List ℕ) (n asn : ℕ) → length front ≡ 12 → length (front ++ sixteen_bytes n ++ big_bytes 4 asn) ≡ 32
+unfolding sixteen_bytes
+six_length front n asn long =
+    length-append (front ++ big_bytes 16 n) (big_bytes 4 asn)
+    ∙ ap (λ (k : ℕ). k + 4) (length-append front (big_bytes 16 n) ∙ ap (λ (k : ℕ). k + length (big_bytes 16 n)) long ∙ ap (λ (k : ℕ). 12 + k) (length-bytes_high_first 16 n))
+
+six_back : (announce : Bool) (n len max asn : ℕ) → IsSubnet (subnet (V6 n) len) → IsPayload (payload_of (subnet (V6 n) len) max asn)
+    → IsFrame (spelled (Prefix announce (payload_of (subnet (V6 n) len) max asn))) (Prefix announce (payload_of (subnet (V6 n) len) max asn))
+six_back announce n len max asn is payload =
+    let front : List ℕ = header 6 0 32 ++ (announce_bit announce ∷ len ∷ max ∷ 0 ∷ []) in
+    let addr : u128_at (front ++ sixteen_bytes n ++ big_bytes 4 asn) 12 ≡ n = six_addr front n asn refl is.is_addr in
+    let from : u32_at (front ++ sixteen_bytes n ++ big_bytes 4 asn) 28 ≡ asn = six_asn front n asn refl payload.asn in
+    let long : length (front ++ sixteen_bytes n ++ big_bytes 4 asn) ≡ 32 = six_length front n asn refl in
+    record {
+      kind = Ipv6Prefix;
+      header = record {
+        long = omega (arith, long);
+        version = refl;
+        code = refl;
+        says = big_number-reads_back 4 32 ((announce_bit announce ∷ len ∷ max ∷ 0 ∷ []) ++ sixteen_bytes n ++ big_bytes 4 asn) (omega arith) ∙ sym long;
+        any = (omega (arith, long), omega (arith, long));
+        fits = long;
+      };
+      says = record {
+        lengths = record { reaches = payload.reaches; within = payload.within };
+        prefix = subnet (V6 n) len;
+        front = ap (λ (a : ℕ). prefix_of (V6 a) len) addr ∙ own_front (subnet (V6 n) len) is;
+        is = λ i. Prefix (sym (announced_back announce) i) (payload_of (subnet (V6 n) len) max (sym from i));
+      };
+    }
+
+prefix_back : (announce : Bool) (addr : Addr) (len max asn : ℕ) → IsSubnet (subnet addr len) → IsPayload (payload_of (subnet addr len) max asn)
+    → IsFrame (spelled (Prefix announce (payload_of (subnet addr len) max asn))) (Prefix announce (payload_of (subnet addr len) max asn))
+prefix_back announce (V4 n) len max asn is payload = four_back announce n len max asn is payload
+prefix_back announce (V6 n) len max asn is payload = six_back announce n len max asn is payload
+
 -- ---- an ASPA PDU
 
 length_spelled : (numbers : List ℕ) → length (spelled_numbers numbers) ≡ 4 * length numbers
@@ -114,6 +204,7 @@ reads_back (Notify session serial) may fits = notify_back session serial fits.0 
 reads_back (SerialQuery session serial) may fits = query_back session serial fits.0 fits.1
 reads_back ResetQuery may fits = reset_back
 reads_back (CacheResponse session) may fits = response_back session fits
+reads_back (Prefix announce vrp) may fits = prefix_back announce vrp.prefix.addr vrp.prefix.len vrp.max vrp.asn fits.0 fits.1
 reads_back (Passed kind) may fits = absurd may
 reads_back (EndOfData session serial) may fits = end_back session serial fits.0 fits.1
 reads_back CacheReset may fits = cannot_back

@@ -1,10 +1,15 @@
 -- The PDUs of the RPKI to Router protocol, version 2, as bytes (draft-ietf-sidrops-8210bis, section 5).
-use Rattle.std.specs.Prelude.{◌≡◌, ℕ, ◌+◌, ◌*◌, ◌%◌, ◌<◌, ◌≤◌, ◌⊎◌, true, false, List, [], length, drop, slice_index}
+use Rattle.std.specs.Prelude.{◌≡◌, ℕ, ◌==◌, ◌+◌, ◌*◌, ◌%◌, ◌<◌, ◌≤◌, ◌⊎◌, Bool, true, false, List, [], length, drop, slice_index}
+use Rattle.std.specs.declared.option.Option.TheVariants.{Some}
 use Rattle.byteorder.specs.Endian.{big_number}
+use Rattle.path_model.specs.declared.addr.Addr.{Addr}
+use Rattle.path_model.specs.declared.addr.Addr.TheVariants.{V4, V6}
+use Rattle.path_model.specs.Prefix.{Subnet, bits_of, prefix_of}
+use Rattle.origin_model.specs.Vrp.{payload_of}
 use Rattle.rtr_pdu.specs.declared.kind.Kind.{Kind}
 use Rattle.rtr_pdu.specs.declared.kind.Kind.TheVariants.{SerialNotify, SerialQuery as SerialQueryKind, ResetQuery as ResetQueryKind, CacheResponse as CacheResponseKind, Ipv4Prefix, Ipv6Prefix, EndOfData as EndOfDataKind, CacheReset as CacheResetKind, RouterKey, ErrorReport as ErrorReportKind, Aspa as AspaKind}
 use Rattle.rtr_pdu.specs.declared.pdu.Pdu.{Pdu}
-use Rattle.rtr_pdu.specs.declared.pdu.Pdu.TheVariants.{Notify, SerialQuery, ResetQuery, CacheResponse, Passed, EndOfData, CacheReset, ErrorReport, Aspa}
+use Rattle.rtr_pdu.specs.declared.pdu.Pdu.TheVariants.{Notify, SerialQuery, ResetQuery, CacheResponse, Prefix, Passed, EndOfData, CacheReset, ErrorReport, Aspa}
 
 -- the number of each type (draft-ietf-sidrops-8210bis, section 5)
 abbrev pub code_of : Kind → ℕ
@@ -42,6 +47,10 @@ u16_at bytes place = big_number 2 (drop place bytes)
 abbrev pub u32_at : List ℕ → ℕ → ℕ
 u32_at bytes place = big_number 4 (drop place bytes)
 
+-- the number in the sixteen bytes from a place on
+unfoldable pub u128_at : List ℕ → ℕ → ℕ
+u128_at bytes place = big_number 16 (drop place bytes)
+
 -- the length that a header says
 abbrev pub length_in : List ℕ → ℕ
 length_in bytes = u32_at bytes 4
@@ -58,6 +67,24 @@ pub record IsHeader (bytes : List ℕ) (kind : Kind) (len : ℕ) : Type 0 where
   pub says : length_in bytes ≡ len
   pub any : IsAnyLength len
   pub fits : FitsLength kind len
+
+-- The two lengths of a prefix PDU go together: the maximum isn't below the prefix's length, and not over the bits of an address of its
+-- family.
+pub record HasLengths (bits : ℕ) (bytes : List ℕ) : Type 0 where
+  pub reaches : slice_index bytes 9 ≤ slice_index bytes 10
+  pub within : slice_index bytes 10 ≤ bits
+
+-- bit 0 of the flags of a prefix PDU: it announces
+abbrev pub announces_prefix : List ℕ → Bool
+announces_prefix bytes = slice_index bytes 8 % 2 == 1
+
+-- A prefix PDU with this address and this AS: behind the header a byte of flags, the prefix's length, the maximum, a byte without meaning,
+-- the address, the AS. The prefix is what its address begins with, so bits behind its length have no meaning either.
+pub record IsPrefixPdu (addr : Addr) (asn : ℕ) (bytes : List ℕ) (pdu : Pdu) : Type 0 where
+  pub lengths : HasLengths (bits_of addr) bytes
+  pub prefix : Subnet
+  pub front : prefix_of addr (slice_index bytes 9) ≡ Some prefix
+  pub is : pdu ≡ Prefix (announces_prefix bytes) (payload_of prefix (slice_index bytes 10) asn)
 
 -- an error report: behind the header a length and so many bytes, twice
 pub record IsReport (bytes : List ℕ) : Type 0 where
@@ -92,8 +119,8 @@ Says SerialNotify bytes pdu = pdu ≡ Notify (u16_at bytes 2) (u32_at bytes 8)
 Says SerialQueryKind bytes pdu = pdu ≡ SerialQuery (u16_at bytes 2) (u32_at bytes 8)
 Says ResetQueryKind bytes pdu = pdu ≡ ResetQuery
 Says CacheResponseKind bytes pdu = pdu ≡ CacheResponse (u16_at bytes 2)
-Says Ipv4Prefix bytes pdu = pdu ≡ Passed 4
-Says Ipv6Prefix bytes pdu = pdu ≡ Passed 6
+Says Ipv4Prefix bytes pdu = IsPrefixPdu (V4 (u32_at bytes 12)) (u32_at bytes 16) bytes pdu
+Says Ipv6Prefix bytes pdu = IsPrefixPdu (V6 (u128_at bytes 12)) (u32_at bytes 28) bytes pdu
 Says EndOfDataKind bytes pdu = pdu ≡ EndOfData (u16_at bytes 2) (u32_at bytes 8)
 Says CacheResetKind bytes pdu = pdu ≡ CacheReset
 Says RouterKey bytes pdu = pdu ≡ Passed 9

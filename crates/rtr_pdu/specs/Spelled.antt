@@ -2,8 +2,12 @@
 use Rattle.std.specs.Prelude.{◌≡◌, ℕ, ◌+◌, ◌*◌, ◌<◌, ◌≤◌, ◌^◌, Bool, true, false, List, [], ◌∷◌, ◌++◌, length}
 use Rattle.std.specs.List.{All}
 use Rattle.byteorder.specs.Endian.{big_bytes}
+use Rattle.path_model.specs.declared.addr.Addr.{Addr}
+use Rattle.path_model.specs.declared.addr.Addr.TheVariants.{V4, V6}
+use Rattle.path_model.specs.Prefix.{IsSubnet}
+use Rattle.origin_model.specs.Vrp.{IsPayload}
 use Rattle.rtr_pdu.specs.declared.pdu.Pdu.{Pdu}
-use Rattle.rtr_pdu.specs.declared.pdu.Pdu.TheVariants.{Notify, SerialQuery, ResetQuery, CacheResponse, Passed, EndOfData, CacheReset, ErrorReport, Aspa}
+use Rattle.rtr_pdu.specs.declared.pdu.Pdu.TheVariants.{Notify, SerialQuery, ResetQuery, CacheResponse, Prefix, Passed, EndOfData, CacheReset, ErrorReport, Aspa}
 
 -- version 2, the type, the two bytes, the length
 abbrev pub header : ℕ → ℕ → ℕ → List ℕ
@@ -23,19 +27,39 @@ abbrev pub flags : Bool → ℕ
 flags true = 256
 flags false = 0
 
+-- the flags of a prefix PDU
+abbrev pub announce_bit : Bool → ℕ
+announce_bit true = 1
+announce_bit false = 0
+
+-- the header of a prefix PDU, by the family of its address
+abbrev pub prefix_header : Addr → List ℕ
+prefix_header (V4 n) = header 4 0 20
+prefix_header (V6 n) = header 6 0 32
+
+unfoldable pub sixteen_bytes : ℕ → List ℕ
+sixteen_bytes n = big_bytes 16 n
+
+-- an address
+abbrev pub spelled_address : Addr → List ℕ
+spelled_address (V4 n) = big_bytes 4 n
+spelled_address (V6 n) = sixteen_bytes n
+
 -- the bytes of a PDU: zero where a field has no meaning, and an error report without a copy and a text
 abbrev pub spelled : Pdu → List ℕ
 spelled (Notify session serial) = header 0 session 12 ++ big_bytes 4 serial
 spelled (SerialQuery session serial) = header 1 session 12 ++ big_bytes 4 serial
 spelled ResetQuery = header 2 0 8
 spelled (CacheResponse session) = header 3 session 8
+spelled (Prefix announce vrp) =
+    prefix_header vrp.prefix.addr ++ (announce_bit announce ∷ vrp.prefix.len ∷ vrp.max ∷ 0 ∷ []) ++ spelled_address vrp.prefix.addr ++ big_bytes 4 vrp.asn
 spelled (Passed kind) = []
 spelled (EndOfData session serial) = header 7 session 24 ++ big_bytes 4 serial ++ timers
 spelled CacheReset = header 8 0 8
 spelled (ErrorReport code) = header 10 code 16 ++ big_bytes 4 0 ++ big_bytes 4 0
 spelled (Aspa announce customer providers) = header 11 (flags announce) (12 + 4 * length providers) ++ big_bytes 4 customer ++ spelled_numbers providers
 
--- what may be written: what a Framer reads, but for the types that are passed over, and for providers over the longest PDU
+-- what may be written: what a Framer reads, but for router keys, which are passed over, and for providers over the longest PDU
 abbrev pub IsWritable : Pdu → Type 0
 IsWritable (Passed kind) = ⊥
 IsWritable (Aspa true customer providers) = (0 < length providers) × (length providers ≤ 65533)
@@ -48,6 +72,7 @@ FitsFields (Notify session serial) = (session < 2 ^ 16) × (serial < 2 ^ 32)
 FitsFields (SerialQuery session serial) = (session < 2 ^ 16) × (serial < 2 ^ 32)
 FitsFields ResetQuery = Unit {0}
 FitsFields (CacheResponse session) = session < 2 ^ 16
+FitsFields (Prefix announce vrp) = IsSubnet vrp.prefix × IsPayload vrp
 FitsFields (Passed kind) = Unit {0}
 FitsFields (EndOfData session serial) = (session < 2 ^ 16) × (serial < 2 ^ 32)
 FitsFields CacheReset = Unit {0}

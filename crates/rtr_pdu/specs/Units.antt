@@ -5,11 +5,11 @@ use Rattle.std.specs.declared.option.Option.TheVariants.{Some, None}
 use Rattle.std.specs.declared.result.Result.{Result}
 use Rattle.std.specs.declared.result.Result.TheVariants.{Ok, Err}
 use Rattle.rtr_pdu.specs.declared.kind.Kind.{Kind}
-use Rattle.rtr_pdu.specs.declared.kind.Kind.TheVariants.{ErrorReport, Aspa}
+use Rattle.rtr_pdu.specs.declared.kind.Kind.TheVariants.{Ipv4Prefix, Ipv6Prefix, ErrorReport, Aspa}
 use Rattle.rtr_pdu.specs.declared.pdu.Pdu.{Pdu}
 use Rattle.rtr_pdu.specs.declared.pdu.PduFault.{PduFault}
-use Rattle.rtr_pdu.specs.declared.pdu.PduFault.TheVariants.{PduVersion, PduLength, PduType, NoProviders, NoMemory}
-use Rattle.rtr_pdu.specs.Pdus.{IsHeader, IsReport, IsAnnounce, IsAnyLength, FitsLength, IsFrame, code_of, length_in}
+use Rattle.rtr_pdu.specs.declared.pdu.PduFault.TheVariants.{PduVersion, PduLength, PduType, NoProviders, PrefixRecord, NoMemory}
+use Rattle.rtr_pdu.specs.Pdus.{IsHeader, HasLengths, IsReport, IsAnnounce, IsAnyLength, FitsLength, IsFrame, code_of, length_in}
 
 -- no header is held yet, or it is allowed and the PDU isn't whole
 abbrev pub IsPartial : List ℕ → Type 0
@@ -31,12 +31,17 @@ pub record HasWhole (held : List ℕ) (kind : Kind) : Type 0 where
 abbrev pub HasWrongLength : List ℕ → Type 0
 HasWrongLength held = HasVersion held × ((¬ IsAnyLength (length_in held)) ⊎ ((kind : Kind) × (slice_index held 1 ≡ code_of kind) × (¬ FitsLength kind (length_in held))))
 
+-- a whole prefix PDU of this type is held, and its lengths don't go together
+abbrev pub HasWrongRecord : List ℕ → Kind → ℕ → Type 0
+HasWrongRecord held kind bits = (unit : HasWhole held kind) × (¬ HasLengths bits unit.bytes)
+
 -- where each refusal comes; at most one does, but for want of memory
 abbrev pub IsRefused : List ℕ → PduFault → Type 0
 IsRefused held PduVersion = (8 ≤ length held) × (slice_index held 0 ≢ 2)
 IsRefused held PduLength = HasWrongLength held ⊎ ((unit : HasWhole held ErrorReport) × (¬ IsReport unit.bytes))
 IsRefused held PduType = HasVersion held × IsAnyLength (length_in held) × ((kind : Kind) → slice_index held 1 ≢ code_of kind)
 IsRefused held NoProviders = (unit : HasWhole held Aspa) × IsAnnounce unit.bytes × (length unit.bytes ≡ 12)
+IsRefused held PrefixRecord = HasWrongRecord held Ipv4Prefix 32 ⊎ HasWrongRecord held Ipv6Prefix 128
 IsRefused held NoMemory = Unit {0}
 
 -- the first unit is taken off; what is partial or refused stays held
@@ -61,6 +66,7 @@ code_for PduVersion = 8
 code_for PduLength = 0
 code_for PduType = 5
 code_for NoProviders = 0
+code_for PrefixRecord = 0
 code_for NoMemory = 0
 
 -- no report is sent on an error report

@@ -85,6 +85,7 @@ impl Framer {
             Err(PduFault::PduLength) => Some(0),
             Err(PduFault::PduType) => Some(5),
             Err(PduFault::NoProviders) => Some(0),
+            Err(PduFault::PrefixRecord) => Some(0),
             Err(PduFault::NoMemory) => Some(0),
             Ok(_) => Some(0),
         }

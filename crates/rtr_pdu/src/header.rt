@@ -1,6 +1,6 @@
 //! Fields of a PDU, and its header.
 ghost use Rattle.std.specs.Prelude.{◌≡◌, ◌≢◌, ◌+◌, ◌≤◌, length, IfOk, IfErr};
-ghost use Rattle.rtr_pdu.specs.Pdus.{IsHeader, u16_at, u32_at};
+ghost use Rattle.rtr_pdu.specs.Pdus.{IsHeader, u16_at, u32_at, u128_at};
 ghost use Rattle.rtr_pdu.specs.Units.{IsRefused};
 
 use crate::kind::Kind;
@@ -29,6 +29,16 @@ pub(crate) fn u32_at(bytes: &[u8], place: usize) -> u32
 {
     let (_, field) = bytes.split_at(place);
     BigEndian::read_u32(field)
+}
+
+/// The number in the sixteen bytes from a place on.
+#[tactic(auto, unfolding(crate::specs::Pdus::u128_at))]
+pub(crate) fn u128_at(bytes: &[u8], place: usize) -> u128
+    requires { place + 16 ≤ length bytes.now }
+    ensures { result ≡ u128_at bytes.now place }
+{
+    let (_, field) = bytes.split_at(place);
+    BigEndian::read_u128(field)
 }
 
 /// Reads the header of the first PDU that is held: its type, and its length in bytes.

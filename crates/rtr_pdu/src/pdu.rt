@@ -3,6 +3,7 @@ ghost use Rattle.std.specs.Prelude.{◌≡◌};
 ghost use Rattle.rtr_pdu.specs.declared.pdu.PduFault.TheVariants.{NoMemory as OutOfMemory};
 
 use av_base::NoMemory;
+use origin_model::Vrp;
 use path_model::AsList;
 use std::error::Error;
 use std::fmt;
@@ -26,7 +27,12 @@ pub enum Pdu {
     CacheResponse {
         session: u16,
     },
-    /// Types 4, 6 and 9: an IPv4 prefix, an IPv6 prefix and a router key, of which nothing is read.
+    /// Types 4 and 6: a payload of an IPv4 or an IPv6 prefix is announced, or withdrawn. Bits behind the prefix's length are read as 0.
+    Prefix {
+        announce: bool,
+        vrp: Vrp,
+    },
+    /// Type 9: a router key, of which nothing is read.
     Passed {
         kind: u8,
     },
@@ -61,6 +67,8 @@ pub enum PduFault {
     PduType,
     /// Cause 18: an ASPA PDU announces no provider.
     NoProviders,
+    /// Cause 43: a prefix PDU's maximum length is below the prefix's length, or over 32 or 128.
+    PrefixRecord,
     /// There was no memory for the providers. Nothing was taken.
     NoMemory,
 }
@@ -80,6 +88,7 @@ impl fmt::Display for PduFault {
             PduFault::PduLength => "the length isn't one of a PDU of this type",
             PduFault::PduType => "there is no such type of PDU",
             PduFault::NoProviders => "an ASPA is announced without providers",
+            PduFault::PrefixRecord => "a prefix and a maximum length don't go together",
             PduFault::NoMemory => "there was no memory",
         })
     }

@@ -1,13 +1,15 @@
 //! Reading one whole PDU.
-ghost use Rattle.std.specs.Prelude.{◌≡◌, ℕ, ◌*◌, ◌≤◌, ◌↔◌, length, IfOk, IfErr, IsTrue};
+ghost use Rattle.std.specs.Prelude.{◌≡◌, ℕ, ◌*◌, ◌≤◌, ◌↔◌, length, IfOk, IfErr, IfSome, IfNone, IsTrue};
+ghost use Rattle.path_model.specs.Prefix.{bits_of};
 ghost use Rattle.rtr_pdu.specs.Bodies.{IsBodyRefused};
-ghost use Rattle.rtr_pdu.specs.Pdus.{AreNumbers, IsFrame, IsHeader, IsReport};
+ghost use Rattle.rtr_pdu.specs.Pdus.{AreNumbers, HasLengths, IsFrame, IsHeader, IsPrefixPdu, IsReport};
 
-use crate::header::{u16_at, u32_at};
+use crate::header::{u16_at, u32_at, u128_at};
 use crate::kind::Kind;
 use crate::pdu::{Pdu, PduFault};
 use av_base::NoMemory;
-use path_model::AsList;
+use origin_model::Vrp;
+use path_model::{Addr, AsList, Prefix};
 use std::alloc::Global;
 
 /// Reads a whole PDU of this type, whose header was read.
@@ -29,8 +31,8 @@ pub(crate) fn read_pdu(alloc: Global, kind: Kind, bytes: &[u8]) -> Result<Pdu, P
         Kind::CacheResponse => Ok(Pdu::CacheResponse {
             session: u16_at(bytes, 2),
         }),
-        Kind::Ipv4Prefix => Ok(Pdu::Passed { kind: 4 }),
-        Kind::Ipv6Prefix => Ok(Pdu::Passed { kind: 6 }),
+        Kind::Ipv4Prefix => read_four(bytes),
+        Kind::Ipv6Prefix => read_six(bytes),
         Kind::EndOfData => Ok(Pdu::EndOfData {
             session: u16_at(bytes, 2),
             serial: u32_at(bytes, 8),
@@ -40,6 +42,40 @@ pub(crate) fn read_pdu(alloc: Global, kind: Kind, bytes: &[u8]) -> Result<Pdu, P
         Kind::ErrorReport => read_report(bytes),
         Kind::Aspa => read_aspa(alloc, bytes),
     }
+}
+
+// An IPv4 prefix.
+fn read_four(bytes: &[u8]) -> Result<Pdu, PduFault>
+    requires { IsHeader bytes.now Kind.Ipv4Prefix (length bytes.now) }
+    ensures ok { IfOk result (λ pdu. IsFrame bytes.now pdu) }
+    ensures err { IfErr result (λ fault. IsBodyRefused bytes.now Kind.Ipv4Prefix fault) }
+{
+    let addr = Addr::V4(u32_at(bytes, 12));
+    let asn = u32_at(bytes, 16);
+    read_prefix(bytes, addr, asn).ok_or(PduFault::PrefixRecord)
+}
+
+// An IPv6 prefix.
+fn read_six(bytes: &[u8]) -> Result<Pdu, PduFault>
+    requires { IsHeader bytes.now Kind.Ipv6Prefix (length bytes.now) }
+    ensures ok { IfOk result (λ pdu. IsFrame bytes.now pdu) }
+    ensures err { IfErr result (λ fault. IsBodyRefused bytes.now Kind.Ipv6Prefix fault) }
+{
+    let addr = Addr::V6(u128_at(bytes, 12));
+    let asn = u32_at(bytes, 28);
+    read_prefix(bytes, addr, asn).ok_or(PduFault::PrefixRecord)
+}
+
+// A prefix PDU of either family, whose address and AS were read. The byte behind its two lengths isn't tested.
+fn read_prefix(bytes: &[u8], addr: Addr, asn: u32) -> Option<Pdu>
+    requires { 12 ≤ length bytes.now }
+    ensures some { IfSome result (λ pdu. IsPrefixPdu addr asn bytes.now pdu) }
+    ensures none { IfNone result (¬ HasLengths (bits_of addr) bytes.now) }
+{
+    let prefix = Prefix::new(addr, bytes[9])?;
+    let vrp = Vrp::new(prefix, bytes[10], asn)?;
+    let announce = bytes[8] % 2 == 1;
+    Some(Pdu::Prefix { announce, vrp })
 }
 
 // An error report.

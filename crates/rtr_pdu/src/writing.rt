@@ -1,12 +1,14 @@
 //! Writing PDUs.
 ghost use Rattle.std.specs.Prelude.{◌≡◌, ◌≤◌, length, ◌++◌, IfOk, OnOk, OnErr};
 ghost use Rattle.byteorder.specs.Endian.{big_bytes};
-ghost use Rattle.rtr_pdu.specs.declared.pdu.Pdu.TheVariants.{Aspa};
-ghost use Rattle.rtr_pdu.specs.Spelled.{flags, header, spelled, spelled_numbers, timers, IsWritable};
+ghost use Rattle.rtr_pdu.specs.declared.pdu.Pdu.TheVariants.{Aspa, Prefix};
+ghost use Rattle.rtr_pdu.specs.Spelled.{announce_bit, flags, header, prefix_header, sixteen_bytes, spelled, spelled_address, spelled_numbers, timers, IsWritable};
 
 use crate::pdu::Pdu;
 use av_base::NoMemory;
 use byteorder::{BigEndian, ByteOrder};
+use origin_model::Vrp;
+use path_model::Addr;
 use std::alloc::Global;
 
 /// Appends a PDU, in its one spelling. An error report has no copy of a PDU and no text, an end of data the timers that
@@ -46,6 +48,7 @@ fn put_pdu(pdu: &Pdu, out: &mut Vec<u8>) -> Result<(), NoMemory>
         }
         Pdu::ResetQuery => put_header(out, 2, 0, 8),
         Pdu::CacheResponse { session } => put_header(out, 3, *session, 8),
+        Pdu::Prefix { announce, vrp } => put_prefix(*announce, vrp, out),
         Pdu::Passed { .. } => unreachable!(),
         Pdu::EndOfData { session, serial } => {
             put_header(out, 7, *session, 24)?;
@@ -66,6 +69,34 @@ fn put_pdu(pdu: &Pdu, out: &mut Vec<u8>) -> Result<(), NoMemory>
     }
 }
 
+fn put_prefix(announce: bool, vrp: &Vrp, out: &mut Vec<u8>) -> Result<(), NoMemory>
+    ensures { OnOk result (out.new.items ≡ out.old.items ++ spelled (Prefix announce vrp.now)) }
+{
+    let addr = vrp.prefix().addr();
+    put_prefix_header(&addr, out)?;
+    put_bytes([bit_of(announce), vrp.prefix().len(), vrp.max(), 0], out)?;
+    put_address(&addr, out)?;
+    put_u32(out, vrp.asn())
+}
+
+fn put_prefix_header(addr: &Addr, out: &mut Vec<u8>) -> Result<(), NoMemory>
+    ensures { OnOk result (out.new.items ≡ out.old.items ++ prefix_header addr.now) }
+{
+    match addr {
+        Addr::V4(_) => put_header(out, 4, 0, 20),
+        Addr::V6(_) => put_header(out, 6, 0, 32),
+    }
+}
+
+fn put_address(addr: &Addr, out: &mut Vec<u8>) -> Result<(), NoMemory>
+    ensures { OnOk result (out.new.items ≡ out.old.items ++ spelled_address addr.now) }
+{
+    match addr {
+        Addr::V4(number) => put_u32(out, *number),
+        Addr::V6(number) => put_u128(out, *number),
+    }
+}
+
 fn put_aspa(announce: bool, customer: u32, list: &[u32], out: &mut Vec<u8>) -> Result<(), NoMemory>
     requires { length list.now ≤ 65533 }
     ensures { OnOk result (out.new.items ≡ out.old.items ++ spelled (Aspa announce customer list.now)) }
@@ -83,6 +114,12 @@ fn put_numbers(numbers: &[u32], out: &mut Vec<u8>) -> Result<(), NoMemory>
         put_u32(out, *number)?;
     }
     Ok(())
+}
+
+fn bit_of(announce: bool) -> u8
+    ensures { result ≡ announce_bit announce }
+{
+    if announce { 1 } else { 0 }
 }
 
 fn flags_of(announce: bool) -> u16
@@ -106,6 +143,23 @@ fn put_header(out: &mut Vec<u8>, code: u8, two: u16, len: u32) -> Result<(), NoM
     let mut field = [2, code, 0, 0, 0, 0, 0, 0];
     BigEndian::write_u16(&mut field[2..], two);
     BigEndian::write_u32(&mut field[4..], len);
+    out.extend_from_slice(&field)?;
+    Ok(())
+}
+
+fn put_bytes(bytes: [u8; 4], out: &mut Vec<u8>) -> Result<(), NoMemory>
+    ensures { OnOk result (out.new.items ≡ out.old.items ++ bytes) }
+{
+    out.extend_from_slice(&bytes)?;
+    Ok(())
+}
+
+#[tactic(auto, unfolding(crate::specs::Spelled::sixteen_bytes))]
+fn put_u128(out: &mut Vec<u8>, n: u128) -> Result<(), NoMemory>
+    ensures { OnOk result (out.new.items ≡ out.old.items ++ sixteen_bytes n) }
+{
+    let mut field = [0u8; 16];
+    BigEndian::write_u128(&mut field, n);
     out.extend_from_slice(&field)?;
     Ok(())
 }
