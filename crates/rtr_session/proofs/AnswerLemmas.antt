@@ -9,8 +9,9 @@ use Rattle.std.specs.Cmp.{nat_cmp_total}
 use Rattle.std.specs.FinMap as map
 use Rattle.std.proofs.lemmas.Bool.Decides.{nat_tests}
 use Rattle.path_model.specs.Rows.{RowMap, PatchMap}
+use Rattle.origin_model.specs.Vrp.{Payload}
 use Rattle.rtr_pdu.specs.declared.pdu.Pdu.{Pdu}
-use Rattle.rtr_pdu.specs.declared.pdu.Pdu.TheVariants.{Notify, SerialQuery, ResetQuery, CacheResponse, Passed, EndOfData, CacheReset, ErrorReport, Aspa}
+use Rattle.rtr_pdu.specs.declared.pdu.Pdu.TheVariants.{Notify, SerialQuery, ResetQuery, CacheResponse, Prefix, Passed, EndOfData, CacheReset, ErrorReport, Aspa}
 use Rattle.rtr_session.specs.declared.act.Act.{Act}
 use Rattle.rtr_session.specs.declared.act.Act.TheVariants.{Nothing, Apply, End}
 use Rattle.rtr_session.specs.declared.act.Delta.TheVariants.{Whole, Part}
@@ -18,10 +19,10 @@ use Rattle.rtr_session.specs.declared.act.Ending.{Ending}
 use Rattle.rtr_session.specs.declared.act.Phase.{Phase}
 use Rattle.rtr_session.specs.declared.act.Phase.TheVariants.{AskedWhole, AskedChanges, ReceivingWhole, ReceivingChanges}
 use Rattle.rtr_session.specs.State.{State}
-use Rattle.rtr_session.specs.Client.{Announces, Client, Goes, OnAnnounce, OnEnd, OnNotify, OnPassed, OnReset, OnResponse, OnWithdraw, Withdraws, named}
+use Rattle.rtr_session.specs.Client.{Announces, Client, Goes, OnAnnounce, OnEnd, OnNotify, OnPassed, OnPrefixAnnounce, OnPrefixWithdraw, OnReset, OnResponse, OnWithdraw, Withdraws, WithdrawsPrefix, named, with_payload, without_payload}
 use Rattle.rtr_session.specs.Laws.{AnswersChanges, AnswersWhole, AreNamed, GivesRow, IsPatchOf, IsWholeAnswer, Names, Receives, patched}
 
-IsReceiving : Phase → Type 0
+unfoldable pub IsReceiving : Phase → Type 0
 IsReceiving phase = (phase ≡ ReceivingWhole) ⊎ (phase ≡ ReceivingChanges)
 
 -- the rows are the kept ones with what was named
@@ -29,7 +30,7 @@ abbrev Tracks : RowMap → State → Type 0
 Tracks kept st = (q : ℕ) → map.get st.rows q ≡ patched (map.get st.changes q) (map.get kept q)
 
 -- what some PDUs of an answer do, by the customers that they name
-record Does (old new : State) (names : ℕ → Type 0) : Type 0 where
+pub record Does (old new : State) (names : ℕ → Type 0) : Type 0 where
   pub phase : new.phase ≡ old.phase
   pub named : (q : ℕ) → IsSome (map.get new.changes q) ↔ (IsSome (map.get old.changes q) ⊎ names q)
   pub rows : (q : ℕ) → IsSome (map.get new.rows q) → IsSome (map.get old.rows q) ⊎ names q
@@ -38,11 +39,21 @@ record Does (old new : State) (names : ℕ → Type 0) : Type 0 where
 
 -- ---- one PDU
 
-nothing_else : {old next to : State} {does : Act} → Goes old Nothing next does to → does ≢ Nothing → ⊥
+pub nothing_else : {old next to : State} {does : Act} → Goes old Nothing next does to → does ≢ Nothing → ⊥
 nothing_else goes other = other (sym goes.act_is)
 
 unnamed : (old next : State) → next ≡ old → Does old next (λ q. ⊥)
 unnamed old next same = subst (λ (st : State). Does old st (λ q. ⊥)) (sym same) (record {
+  phase = refl;
+  named = λ q. (λ some. inl some, λ h. elim h [ inl some ↦ some | inr never ↦ absurd never ]);
+  rows = λ q some. inl some;
+  tracks = λ kept t. t;
+  keeps = λ q none. refl;
+})
+
+-- other payloads alone name no customer
+more_payloads : (old next : State) (vs : List Payload) → next ≡ record old { payloads = vs } → Does old next (λ q. ⊥)
+more_payloads old next vs same = subst (λ (st : State). Does old st (λ q. ⊥)) (sym same) (record {
   phase = refl;
   named = λ q. (λ some. inl some, λ h. elim h [ inl some ↦ some | inr never ↦ absurd never ]);
   rows = λ q some. inl some;
@@ -111,20 +122,27 @@ withdrawn : (old next : State) (k : ℕ) → Withdraws k old Nothing next → Do
 withdrawn old next k (inl there) = to_new (named old k None) there.1.new_is (names_gone old k)
 withdrawn old next k (inr none) = absurd (nothing_else none.1 (λ e. let never : ⊥ = cc in never))
 
+prefix_withdrawn : (old next : State) (v : Payload) → WithdrawsPrefix v old Nothing next → Does old next (λ q. ⊥)
+prefix_withdrawn old next v (inl there) = more_payloads old next (without_payload old v).payloads there.1.new_is
+prefix_withdrawn old next v (inr none) = absurd (nothing_else none.1 (λ e. let never : ⊥ = cc in never))
+
 -- a relation by the phase, in either of the receiving phases
-at_phase : (rel : Phase → Type 0) (goal : Type 0) (phase : Phase) → IsReceiving phase → rel phase → (rel ReceivingWhole → goal) → (rel ReceivingChanges → goal) → goal
+pub at_phase : (rel : Phase → Type 0) (goal : Type 0) (phase : Phase) → IsReceiving phase → rel phase → (rel ReceivingWhole → goal) → (rel ReceivingChanges → goal) → goal
 unfolding IsReceiving
 at_phase rel goal phase (inl whole) h one other = one (subst (λ (p : Phase). rel p) whole h)
 at_phase rel goal phase (inr changes) h one other = other (subst (λ (p : Phase). rel p) changes h)
 
-not_nothing : {old next to : State} {goal : Type 0} (ending : Ending) → Goes old Nothing next (End ending) to → goal
+pub not_nothing : {old next to : State} {goal : Type 0} (ending : Ending) → Goes old Nothing next (End ending) to → goal
 not_nothing ending goes = absurd (nothing_else goes (λ e. let never : ⊥ = cc in never))
 
-step : (old next : State) (pdu : Pdu) → IsReceiving old.phase → Client old pdu Nothing next → Does old next (λ q. Names pdu q)
+pub step : (old next : State) (pdu : Pdu) → IsReceiving old.phase → Client old pdu Nothing next → Does old next (λ q. Names pdu q)
 step old next (Notify session serial) at h = at_phase (λ p. OnNotify p session old Nothing next) (Does old next (λ q. ⊥)) old.phase at h (λ g. unnamed old next g.new_is) (λ g. unnamed old next g.new_is)
 step old next (SerialQuery session serial) at h = not_nothing _ h
 step old next ResetQuery at h = not_nothing _ h
 step old next (CacheResponse session) at h = at_phase (λ p. OnResponse p session old Nothing next) (Does old next (λ q. ⊥)) old.phase at h (λ g. not_nothing _ g) (λ g. not_nothing _ g)
+step old next (Prefix true v) at h = at_phase (λ p. OnPrefixAnnounce p v old Nothing next) (Does old next (λ q. ⊥)) old.phase at h
+    (λ g. more_payloads old next (with_payload old v).payloads g.new_is) (λ g. more_payloads old next (with_payload old v).payloads g.new_is)
+step old next (Prefix false v) at h = at_phase (λ p. OnPrefixWithdraw p v old Nothing next) (Does old next (λ q. ⊥)) old.phase at h (prefix_withdrawn old next v) (prefix_withdrawn old next v)
 step old next (Passed kind) at h = at_phase (λ p. OnPassed p old Nothing next) (Does old next (λ q. ⊥)) old.phase at h (λ g. unnamed old next g.new_is) (λ g. unnamed old next g.new_is)
 step old next (EndOfData session serial) at h = at_phase (λ p. OnEnd p session serial old Nothing next) (Does old next (λ q. ⊥)) old.phase at h
     (λ g. elim g [ inl is ↦ absurd (nothing_else is.1 (λ e. let never : ⊥ = cc in never)) | inr not ↦ not_nothing _ not.1 ])
@@ -148,10 +166,10 @@ both old mid new first more a b = record {
   keeps = λ q none. b.keeps q (λ is. none (inr is)) ∙ a.keeps q (λ is. none (inl is));
 }
 
-still : (old next : State) → next.phase ≡ old.phase → IsReceiving old.phase → IsReceiving next.phase
+pub still : (old next : State) → next.phase ≡ old.phase → IsReceiving old.phase → IsReceiving next.phase
 still old next same at = subst (λ (p : Phase). IsReceiving p) (sym same) at
 
-received : (pdus : List Pdu) (old new : State) → IsReceiving old.phase → Receives old pdus new → Does old new (λ q. AreNamed pdus q)
+pub received : (pdus : List Pdu) (old new : State) → IsReceiving old.phase → Receives old pdus new → Does old new (λ q. AreNamed pdus q)
 received [] old new at h = unnamed old new h
 received (pdu ∷ more) old new at h =
     let first = step old h.0 pdu at h.1 in
@@ -176,6 +194,7 @@ gives old next (Notify session serial) q at h names = absurd names
 gives old next (SerialQuery session serial) q at h names = absurd names
 gives old next ResetQuery q at h names = absurd names
 gives old next (CacheResponse session) q at h names = absurd names
+gives old next (Prefix announce v) q at h names = absurd names
 gives old next (Passed kind) q at h names = absurd names
 gives old next (EndOfData session serial) q at h names = absurd names
 gives old next CacheReset q at h names = absurd names
@@ -196,22 +215,41 @@ pub record Begun (asked begun : State) : Type 0 where
   pub phase : begun.phase ≡ ReceivingChanges
   pub rows : begun.rows ≡ asked.rows
   pub changes : begun.changes ≡ map.empty
+  pub payloads : begun.payloads ≡ asked.payloads
 
-begun_changes : (asked begun : State) (session : ℕ) → asked.phase ≡ AskedChanges → Client asked (CacheResponse session) Nothing begun → Begun asked begun
+pub begun_changes : (asked begun : State) (session : ℕ) → asked.phase ≡ AskedChanges → Client asked (CacheResponse session) Nothing begun → Begun asked begun
 begun_changes asked begun session phase h = elim (subst (λ (p : Phase). OnResponse p session asked Nothing begun) phase h) [
-  | inl is ↦ record { phase = ap (λ (s : State). s.phase) is.1.new_is; rows = ap (λ (s : State). s.rows) is.1.new_is; changes = ap (λ (s : State). s.changes) is.1.new_is }
+  | inl is ↦ record { phase = ap (λ (s : State). s.phase) is.1.new_is; rows = ap (λ (s : State). s.rows) is.1.new_is; changes = ap (λ (s : State). s.changes) is.1.new_is; payloads = ap (λ (s : State). s.payloads) is.1.new_is }
   | inr not ↦ not_nothing _ not.1
 ]
 
-part_same : {one other : PatchMap} → Apply (Part one) ≡ Apply (Part other) → one ≡ other
-part_same e = cc
+-- what is handed out is what the act has
+record AreSame {A : Type 0} (one other : A) (vs ws : List Payload) : Type 0 where
+  pub first : one ≡ other
+  pub payloads : vs ≡ ws
 
-whole_same : {one other : RowMap} → Apply (Whole one) ≡ Apply (Whole other) → one ≡ other
-whole_same e = cc
+part_same : {one other : PatchMap} {vs ws : List Payload} → Apply (Part one vs) ≡ Apply (Part other ws) → AreSame one other vs ws
+part_same e = record { first = cc; payloads = cc }
 
-ended_changes : (whole done : State) (session serial : ℕ) (patch : PatchMap) → whole.phase ≡ ReceivingChanges → Client whole (EndOfData session serial) (Apply (Part patch)) done → (patch ≡ whole.changes) × (done.rows ≡ whole.rows)
-ended_changes whole done session serial patch phase h = elim (subst (λ (p : Phase). OnEnd p session serial whole (Apply (Part patch)) done) phase h) [
-  | inl is ↦ (part_same is.1.act_is, ap (λ (s : State). s.rows) is.1.new_is)
+whole_same : {one other : RowMap} {vs ws : List Payload} → Apply (Whole one vs) ≡ Apply (Whole other ws) → AreSame one other vs ws
+whole_same e = record { first = cc; payloads = cc }
+
+-- what an End of Data hands out, and what is kept then
+pub record Ended {A : Type 0} (given held : A) (given_payloads : List Payload) (whole done : State) : Type 0 where
+  pub handed : given ≡ held
+  pub payloads : given_payloads ≡ whole.payloads
+  pub kept_rows : done.rows ≡ whole.rows
+  pub kept_payloads : done.payloads ≡ whole.payloads
+
+pub ended_changes : (whole done : State) (session serial : ℕ) (patch : PatchMap) (payloads : List Payload) → whole.phase ≡ ReceivingChanges → Client whole (EndOfData session serial) (Apply (Part patch payloads)) done
+    → Ended patch whole.changes payloads whole done
+ended_changes whole done session serial patch payloads phase h = elim (subst (λ (p : Phase). OnEnd p session serial whole (Apply (Part patch payloads)) done) phase h) [
+  | inl is ↦ let same = part_same is.1.act_is in record {
+    handed = same.first;
+    payloads = same.payloads;
+    kept_rows = ap (λ (s : State). s.rows) is.1.new_is;
+    kept_payloads = ap (λ (s : State). s.payloads) is.1.new_is;
+  }
   | inr not ↦ let never : ⊥ = (let e = not.1.act_is in cc) in absurd never
 ]
 
@@ -222,17 +260,17 @@ none_some : {X : Type 0} (o : Option X) → o ≡ None → IsSome o → ⊥
 none_some None e some = let never : ⊥ = cc in never
 none_some (Some x) e some = let never : ⊥ = cc in never
 
-pub patch_named : (asked done : State) (pdus : List Pdu) (patch : PatchMap) → AnswersChanges asked pdus patch done → IsPatchOf asked.rows pdus patch done.rows
+pub patch_named : (asked done : State) (pdus : List Pdu) (patch : PatchMap) (payloads : List Payload) → AnswersChanges asked pdus patch payloads done → IsPatchOf asked.rows pdus patch done.rows
 unfolding IsReceiving
-patch_named asked done pdus patch a =
+patch_named asked done pdus patch payloads a =
     let begun = begun_changes asked a.begun a.session a.phase a.begins in
     let does = received pdus a.begun a.whole (inr begun.phase) a.comes in
-    let ended = ended_changes a.whole done a.last_session a.serial patch (does.phase ∙ begun.phase) a.ends in
+    let ended = ended_changes a.whole done a.last_session a.serial patch payloads (does.phase ∙ begun.phase) a.ends in
     let start : Tracks asked.rows a.begun = (λ q. ap (λ (m : RowMap). map.get m q) begun.rows ∙ ap (λ (o : Option (Option (List ℕ))). patched o (map.get asked.rows q)) (sym (no_change a.begun q begun.changes))) in
     let now : (q : ℕ) → map.get done.rows q ≡ patched (map.get patch q) (map.get asked.rows q) = (λ q.
-    ap (λ (m : RowMap). map.get m q) ended.1 ∙ does.tracks asked.rows start q ∙ ap (λ (m : PatchMap). patched (map.get m q) (map.get asked.rows q)) (sym ended.0)) in
+    ap (λ (m : RowMap). map.get m q) ended.kept_rows ∙ does.tracks asked.rows start q ∙ ap (λ (m : PatchMap). patched (map.get m q) (map.get asked.rows q)) (sym ended.handed)) in
     record {
-      customers = λ q. subst (λ (m : PatchMap). IsSome (map.get m q) ↔ AreNamed pdus q) (sym ended.0) (
+      customers = λ q. subst (λ (m : PatchMap). IsSome (map.get m q) ↔ AreNamed pdus q) (sym ended.handed) (
         λ some. elim ((does.named q).0 some) [ inl was ↦ absurd (none_some (map.get a.begun.changes q) (no_change a.begun q begun.changes) was) | inr is ↦ is ],
         λ is. (does.named q).1 (inr is),
       );
@@ -240,30 +278,41 @@ patch_named asked done pdus patch a =
       patched = now;
     }
 
-begun_whole : (asked begun : State) (session : ℕ) → asked.phase ≡ AskedWhole → Client asked (CacheResponse session) Nothing begun → (begun.phase ≡ ReceivingWhole) × (begun.rows ≡ map.empty)
+pub record BegunWhole (begun : State) : Type 0 where
+  pub phase : begun.phase ≡ ReceivingWhole
+  pub rows : begun.rows ≡ map.empty
+  pub payloads : begun.payloads ≡ []
+
+pub begun_whole : (asked begun : State) (session : ℕ) → asked.phase ≡ AskedWhole → Client asked (CacheResponse session) Nothing begun → BegunWhole begun
 begun_whole asked begun session phase h =
     let goes = subst (λ (p : Phase). OnResponse p session asked Nothing begun) phase h in
-    (ap (λ (s : State). s.phase) goes.new_is, ap (λ (s : State). s.rows) goes.new_is)
+    record { phase = ap (λ (s : State). s.phase) goes.new_is; rows = ap (λ (s : State). s.rows) goes.new_is; payloads = ap (λ (s : State). s.payloads) goes.new_is }
 
-ended_whole : (whole done : State) (session serial : ℕ) (rows : RowMap) → whole.phase ≡ ReceivingWhole → Client whole (EndOfData session serial) (Apply (Whole rows)) done → (rows ≡ whole.rows) × (done.rows ≡ whole.rows)
-ended_whole whole done session serial rows phase h = elim (subst (λ (p : Phase). OnEnd p session serial whole (Apply (Whole rows)) done) phase h) [
-  | inl is ↦ (whole_same is.1.act_is, ap (λ (s : State). s.rows) is.1.new_is)
+pub ended_whole : (whole done : State) (session serial : ℕ) (rows : RowMap) (payloads : List Payload) → whole.phase ≡ ReceivingWhole → Client whole (EndOfData session serial) (Apply (Whole rows payloads)) done
+    → Ended rows whole.rows payloads whole done
+ended_whole whole done session serial rows payloads phase h = elim (subst (λ (p : Phase). OnEnd p session serial whole (Apply (Whole rows payloads)) done) phase h) [
+  | inl is ↦ let same = whole_same is.1.act_is in record {
+    handed = same.first;
+    payloads = same.payloads;
+    kept_rows = ap (λ (s : State). s.rows) is.1.new_is;
+    kept_payloads = ap (λ (s : State). s.payloads) is.1.new_is;
+  }
   | inr not ↦ let never : ⊥ = (let e = not.1.act_is in cc) in absurd never
 ]
 
-pub whole_announced : (asked done : State) (pdus : List Pdu) (rows : RowMap) → AnswersWhole asked pdus rows done → IsWholeAnswer pdus rows done.rows
+pub whole_announced : (asked done : State) (pdus : List Pdu) (rows : RowMap) (payloads : List Payload) → AnswersWhole asked pdus rows payloads done → IsWholeAnswer pdus rows done.rows
 unfolding IsReceiving
-whole_announced asked done pdus rows a =
+whole_announced asked done pdus rows payloads a =
     let begun = begun_whole asked a.begun a.session a.phase a.begins in
-    let at : IsReceiving a.begun.phase = inl begun.0 in
+    let at : IsReceiving a.begun.phase = inl begun.phase in
     let does = received pdus a.begun a.whole at a.comes in
-    let ended = ended_whole a.whole done a.last_session a.serial rows (does.phase ∙ begun.0) a.ends in
+    let ended = ended_whole a.whole done a.last_session a.serial rows payloads (does.phase ∙ begun.phase) a.ends in
     record {
-      kept_is = ended.1 ∙ sym ended.0;
-      each = λ q last is. subst (λ (m : RowMap). GivesRow last (map.get m q)) (sym ended.0)
+      kept_is = ended.kept_rows ∙ sym ended.handed;
+      each = λ q last is. subst (λ (m : RowMap). GivesRow last (map.get m q)) (sym ended.handed)
           (last_gives is.front is.behind last a.begun a.whole q at (subst (λ (l : List Pdu). Receives a.begun l a.whole) is.whole a.comes) is.names is.no_more);
-      only = λ q some. elim (does.rows q (subst (λ (m : RowMap). IsSome (map.get m q)) ended.0 some)) [
-        | inl was ↦ absurd (none_some (map.get a.begun.rows q) (ap (λ (m : RowMap). map.get m q) begun.1 ∙ map.get-empty nat_cmp q) was)
+      only = λ q some. elim (does.rows q (subst (λ (m : RowMap). IsSome (map.get m q)) ended.handed some)) [
+        | inl was ↦ absurd (none_some (map.get a.begun.rows q) (ap (λ (m : RowMap). map.get m q) begun.rows ∙ map.get-empty nat_cmp q) was)
         | inr is ↦ is
       ];
     }

@@ -1,5 +1,5 @@
 -- Every PDU has exactly one case in every state.
-use Rattle.std.proofs.Common.{◌≡◌, ℕ, inl, inr, true, false, List, refl, ap, ◌∙◌}
+use Rattle.std.proofs.Common.{◌≡◌, ℕ, inl, inr, Bool, true, false, true≢false, List, [], refl, sym, ap, ◌∙◌}
 use Rattle.std.specs.Prelude.{IsSome}
 use Rattle.std.specs.declared.option.Option.{Option}
 use Rattle.std.specs.declared.option.Option.TheVariants.{Some, None}
@@ -7,8 +7,10 @@ use Rattle.std.specs.FinMap as map
 use Rattle.std.proofs.lemmas.Bool.Decides.{eqb_tells}
 use Rattle.av_base.specs.One.{HasOnePair}
 use Rattle.path_model.specs.Ascending.{ascending_of}
+use Rattle.origin_model.specs.Vrp.{Payload}
+use Rattle.origin_model.specs.VrpSet.{has}
 use Rattle.rtr_pdu.specs.declared.pdu.Pdu.{Pdu}
-use Rattle.rtr_pdu.specs.declared.pdu.Pdu.TheVariants.{Notify, SerialQuery, ResetQuery, CacheResponse, Passed, EndOfData, CacheReset, ErrorReport, Aspa}
+use Rattle.rtr_pdu.specs.declared.pdu.Pdu.TheVariants.{Notify, SerialQuery, ResetQuery, CacheResponse, Prefix, Passed, EndOfData, CacheReset, ErrorReport, Aspa}
 use Rattle.rtr_session.specs.declared.act.Act.{Act}
 use Rattle.rtr_session.specs.declared.act.Act.TheVariants.{Nothing, Send, Apply, End}
 use Rattle.rtr_session.specs.declared.act.Delta.TheVariants.{Whole, Part}
@@ -18,7 +20,7 @@ use Rattle.rtr_session.specs.declared.act.Phase.TheVariants.{Fresh, AskedWhole, 
 use Rattle.rtr_session.specs.declared.act.Query.{Query}
 use Rattle.rtr_session.specs.declared.act.Query.TheVariants.{Reset, Serial}
 use Rattle.rtr_session.specs.State.{State}
-use Rattle.rtr_session.specs.Client.{Announces, Asks, BySession, Client, Goes, OnAnnounce, OnEnd, OnNotify, OnPassed, OnReset, OnResponse, OnWithdraw, Withdraws, named, without_zero}
+use Rattle.rtr_session.specs.Client.{Announces, Asks, BySession, Client, Goes, OnAnnounce, OnEnd, OnNotify, OnPassed, OnPrefixAnnounce, OnPrefixWithdraw, OnReset, OnResponse, OnWithdraw, Withdraws, WithdrawsPrefix, named, with_payload, without_payload, without_zero}
 use Rattle.rtr_session.proofs.SetLemmas.{IsSetOf-unique, some_set}
 
 goes : (old : State) (does : Act) (to : State) → HasOnePair (λ act new. Goes old act new does to)
@@ -78,6 +80,23 @@ withdraws_at customer old None is = record {
 withdraws : (customer : ℕ) (old : State) → HasOnePair (λ act new. Withdraws customer old act new)
 withdraws customer old = withdraws_at customer old (map.get old.rows customer) refl
 
+withdraws_prefix_at : (v : Payload) (old : State) (had : Bool) → has old.payloads v ≡ had → HasOnePair (λ act new. WithdrawsPrefix v old act new)
+withdraws_prefix_at v old true is = record {
+  one = Nothing;
+  its = without_payload old v;
+  is = inl (is, record { act_is = refl; new_is = refl });
+  only = λ act new h. elim h [ inl there ↦ (there.1.act_is, there.1.new_is) | inr gone ↦ absurd (true≢false (sym is ∙ gone.0)) ];
+}
+withdraws_prefix_at v old false is = record {
+  one = End UnknownWithdrawal;
+  its = record old { phase = Over };
+  is = inr (is, record { act_is = refl; new_is = refl });
+  only = λ act new h. elim h [ inl there ↦ absurd (true≢false (sym there.0 ∙ is)) | inr gone ↦ (gone.1.act_is, gone.1.new_is) ];
+}
+
+withdraws_prefix : (v : Payload) (old : State) → HasOnePair (λ act new. WithdrawsPrefix v old act new)
+withdraws_prefix v old = withdraws_prefix_at v old (has old.payloads v) refl
+
 -- ---- one for each PDU
 
 on_notify : (phase : Phase) (session : ℕ) (old : State) → HasOnePair (λ act new. OnNotify phase session old act new)
@@ -91,7 +110,7 @@ on_notify Over session old = stays old
 
 on_response : (phase : Phase) (session : ℕ) (old : State) → HasOnePair (λ act new. OnResponse phase session old act new)
 on_response Fresh session old = unexpected old
-on_response AskedWhole session old = goes old Nothing (record old { phase = ReceivingWhole; session = session; rows = map.empty; changes = map.empty })
+on_response AskedWhole session old = goes old Nothing (record old { phase = ReceivingWhole; session = session; rows = map.empty; changes = map.empty; payloads = [] })
 on_response AskedChanges session old = by_session session old Nothing (record old { phase = ReceivingChanges; changes = map.empty })
 on_response ReceivingWhole session old = unexpected old
 on_response ReceivingChanges session old = unexpected old
@@ -116,6 +135,24 @@ on_withdraw ReceivingChanges customer old = withdraws customer old
 on_withdraw Ready customer old = unexpected old
 on_withdraw Over customer old = unexpected old
 
+on_prefix_announce : (phase : Phase) (v : Payload) (old : State) → HasOnePair (λ act new. OnPrefixAnnounce phase v old act new)
+on_prefix_announce Fresh v old = unexpected old
+on_prefix_announce AskedWhole v old = unexpected old
+on_prefix_announce AskedChanges v old = unexpected old
+on_prefix_announce ReceivingWhole v old = goes old Nothing (with_payload old v)
+on_prefix_announce ReceivingChanges v old = goes old Nothing (with_payload old v)
+on_prefix_announce Ready v old = unexpected old
+on_prefix_announce Over v old = unexpected old
+
+on_prefix_withdraw : (phase : Phase) (v : Payload) (old : State) → HasOnePair (λ act new. OnPrefixWithdraw phase v old act new)
+on_prefix_withdraw Fresh v old = unexpected old
+on_prefix_withdraw AskedWhole v old = unexpected old
+on_prefix_withdraw AskedChanges v old = unexpected old
+on_prefix_withdraw ReceivingWhole v old = withdraws_prefix v old
+on_prefix_withdraw ReceivingChanges v old = withdraws_prefix v old
+on_prefix_withdraw Ready v old = unexpected old
+on_prefix_withdraw Over v old = unexpected old
+
 on_passed : (phase : Phase) (old : State) → HasOnePair (λ act new. OnPassed phase old act new)
 on_passed Fresh old = unexpected old
 on_passed AskedWhole old = unexpected old
@@ -129,8 +166,8 @@ on_end : (phase : Phase) (session : ℕ) (serial : ℕ) (old : State) → HasOne
 on_end Fresh session serial old = unexpected old
 on_end AskedWhole session serial old = unexpected old
 on_end AskedChanges session serial old = unexpected old
-on_end ReceivingWhole session serial old = by_session session old (Apply (Whole old.rows)) (record old { phase = Ready; serial = serial; changes = map.empty })
-on_end ReceivingChanges session serial old = by_session session old (Apply (Part old.changes)) (record old { phase = Ready; serial = serial; changes = map.empty })
+on_end ReceivingWhole session serial old = by_session session old (Apply (Whole old.rows old.payloads)) (record old { phase = Ready; serial = serial; changes = map.empty })
+on_end ReceivingChanges session serial old = by_session session old (Apply (Part old.changes old.payloads)) (record old { phase = Ready; serial = serial; changes = map.empty })
 on_end Ready session serial old = unexpected old
 on_end Over session serial old = unexpected old
 
@@ -148,6 +185,8 @@ some_case old (Notify session serial) = on_notify old.phase session old
 some_case old (SerialQuery session serial) = unexpected old
 some_case old ResetQuery = unexpected old
 some_case old (CacheResponse session) = on_response old.phase session old
+some_case old (Prefix true v) = on_prefix_announce old.phase v old
+some_case old (Prefix false v) = on_prefix_withdraw old.phase v old
 some_case old (Passed kind) = on_passed old.phase old
 some_case old (EndOfData session serial) = on_end old.phase session serial old
 some_case old CacheReset = on_reset old.phase old

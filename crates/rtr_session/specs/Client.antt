@@ -1,11 +1,16 @@
 -- The table of the router's client, one row for each PDU and phase (draft-ietf-sidrops-8210bis, section 8).
-use Rattle.std.specs.Prelude.{◌≡◌, ◌≢◌, ℕ, ◌==◌, ◌⊎◌, Bool, true, false, not, filter, List, IsSome}
+use Rattle.std.specs.Prelude.{◌≡◌, ◌≢◌, ℕ, ◌==◌, ◌⊎◌, Bool, true, false, not, filter, List, [], IsSome}
 use Rattle.std.specs.declared.option.Option.{Option}
 use Rattle.std.specs.declared.option.Option.TheVariants.{Some, None}
 use Rattle.std.specs.FinMap as map
+use Rattle.std.specs.BTreeMap.{is_at}
+use Rattle.std.specs.BTreeSet.{insert_key}
+use Rattle.std.specs.Set.{remove_key}
 use Rattle.path_model.specs.Sets.{IsSetOf}
+use Rattle.origin_model.specs.Vrp.{Payload, payload_cmp}
+use Rattle.origin_model.specs.VrpSet.{has}
 use Rattle.rtr_pdu.specs.declared.pdu.Pdu.{Pdu}
-use Rattle.rtr_pdu.specs.declared.pdu.Pdu.TheVariants.{Notify, SerialQuery, ResetQuery, CacheResponse, Passed, EndOfData, CacheReset, ErrorReport, Aspa}
+use Rattle.rtr_pdu.specs.declared.pdu.Pdu.TheVariants.{Notify, SerialQuery, ResetQuery, CacheResponse, Prefix, Passed, EndOfData, CacheReset, ErrorReport, Aspa}
 use Rattle.rtr_session.specs.declared.act.Phase.{Phase}
 use Rattle.rtr_session.specs.declared.act.Phase.TheVariants.{Fresh, AskedWhole, AskedChanges, ReceivingWhole, ReceivingChanges, Ready, Over}
 use Rattle.rtr_session.specs.declared.act.Query.{Query}
@@ -50,6 +55,13 @@ abbrev pub named : State → ℕ → Option (List ℕ) → State
 named old customer (Some row) = record old { rows = map.insert old.rows customer row; changes = map.insert old.changes customer (Some row) }
 named old customer None = record old { rows = map.remove old.rows customer; changes = map.insert old.changes customer None }
 
+-- the payload is among the pending ones, or it isn't
+abbrev pub with_payload : State → Payload → State
+with_payload old v = record old { payloads = insert_key payload_cmp old.payloads v }
+
+abbrev pub without_payload : State → Payload → State
+without_payload old v = record old { payloads = remove_key (is_at (payload_cmp v)) old.payloads }
+
 -- ---- one for each PDU
 
 -- a Serial Notify: only where the session is ready its session is tested
@@ -57,9 +69,9 @@ abbrev pub OnNotify : Phase → ℕ → State → Act → State → Type 0
 OnNotify Ready session old act new = BySession session old.session (Stays old act new) (Ends SessionChanged old act new)
 OnNotify phase session old act new = Stays old act new
 
--- a Cache Response: pending rows start empty for everything, and as the kept rows for changes; no customer is named yet
+-- a Cache Response: pending rows and payloads start empty for everything, and as the kept ones for changes; no customer is named yet
 abbrev pub OnResponse : Phase → ℕ → State → Act → State → Type 0
-OnResponse AskedWhole session old act new = Goes old act new Nothing (record old { phase = ReceivingWhole; session = session; rows = map.empty; changes = map.empty })
+OnResponse AskedWhole session old act new = Goes old act new Nothing (record old { phase = ReceivingWhole; session = session; rows = map.empty; changes = map.empty; payloads = [] })
 OnResponse AskedChanges session old act new =
     BySession session old.session (Goes old act new Nothing (record old { phase = ReceivingChanges; changes = map.empty })) (Ends SessionChanged old act new)
 OnResponse phase session old act new = Ends Unexpected old act new
@@ -90,18 +102,39 @@ abbrev pub OnAspa : Phase → Bool → ℕ → List ℕ → State → Act → St
 OnAspa phase true customer providers old act new = OnAnnounce phase customer providers old act new
 OnAspa phase false customer providers old act new = OnWithdraw phase customer old act new
 
+-- a prefix is announced in an answer: its payload is pending, whether or not it was before
+abbrev pub OnPrefixAnnounce : Phase → Payload → State → Act → State → Type 0
+OnPrefixAnnounce ReceivingWhole v old act new = Goes old act new Nothing (with_payload old v)
+OnPrefixAnnounce ReceivingChanges v old act new = Goes old act new Nothing (with_payload old v)
+OnPrefixAnnounce phase v old act new = Ends Unexpected old act new
+
+-- it is withdrawn: its payload is pending no more, and it must have been
+abbrev pub WithdrawsPrefix : Payload → State → Act → State → Type 0
+WithdrawsPrefix v old act new =
+    ((has old.payloads v ≡ true) × Goes old act new Nothing (without_payload old v))
+    ⊎ ((has old.payloads v ≡ false) × Ends UnknownWithdrawal old act new)
+
+abbrev pub OnPrefixWithdraw : Phase → Payload → State → Act → State → Type 0
+OnPrefixWithdraw ReceivingWhole v old act new = WithdrawsPrefix v old act new
+OnPrefixWithdraw ReceivingChanges v old act new = WithdrawsPrefix v old act new
+OnPrefixWithdraw phase v old act new = Ends Unexpected old act new
+
+abbrev pub OnPrefix : Phase → Bool → Payload → State → Act → State → Type 0
+OnPrefix phase true v old act new = OnPrefixAnnounce phase v old act new
+OnPrefix phase false v old act new = OnPrefixWithdraw phase v old act new
+
 -- a PDU that is passed over
 abbrev pub OnPassed : Phase → State → Act → State → Type 0
 OnPassed ReceivingWhole old act new = Stays old act new
 OnPassed ReceivingChanges old act new = Stays old act new
 OnPassed phase old act new = Ends Unexpected old act new
 
--- an End of Data: the pending rows are kept, with the serial; all of them are handed out, or what was named
+-- an End of Data: the pending rows and payloads are kept, with the serial; all rows are handed out, or what was named, and all payloads
 abbrev pub OnEnd : Phase → ℕ → ℕ → State → Act → State → Type 0
 OnEnd ReceivingWhole session serial old act new =
-    BySession session old.session (Goes old act new (Apply (Whole old.rows)) (record old { phase = Ready; serial = serial; changes = map.empty })) (Ends SessionChanged old act new)
+    BySession session old.session (Goes old act new (Apply (Whole old.rows old.payloads)) (record old { phase = Ready; serial = serial; changes = map.empty })) (Ends SessionChanged old act new)
 OnEnd ReceivingChanges session serial old act new =
-    BySession session old.session (Goes old act new (Apply (Part old.changes)) (record old { phase = Ready; serial = serial; changes = map.empty })) (Ends SessionChanged old act new)
+    BySession session old.session (Goes old act new (Apply (Part old.changes old.payloads)) (record old { phase = Ready; serial = serial; changes = map.empty })) (Ends SessionChanged old act new)
 OnEnd phase session serial old act new = Ends Unexpected old act new
 
 -- a Cache Reset: everything is asked for
@@ -115,6 +148,7 @@ Client old (Notify session serial) act new = OnNotify old.phase session old act 
 Client old (SerialQuery session serial) act new = Ends Unexpected old act new
 Client old ResetQuery act new = Ends Unexpected old act new
 Client old (CacheResponse session) act new = OnResponse old.phase session old act new
+Client old (Prefix announce v) act new = OnPrefix old.phase announce v old act new
 Client old (Passed kind) act new = OnPassed old.phase old act new
 Client old (EndOfData session serial) act new = OnEnd old.phase session serial old act new
 Client old CacheReset act new = OnReset old.phase old act new

@@ -1,13 +1,16 @@
 -- Laws of the client.
-use Rattle.std.specs.Prelude.{◌≡◌, ℕ, ◌↔◌, ◌⊎◌, true, false, List, [], ◌∷◌, ◌++◌, IsSome}
+use Rattle.std.specs.Prelude.{◌≡◌, ℕ, ◌↔◌, ◌⊎◌, Bool, true, false, List, [], ◌∷◌, ◌++◌, IsSome}
 use Rattle.std.specs.declared.option.Option.{Option}
 use Rattle.std.specs.declared.option.Option.TheVariants.{Some, None}
 use Rattle.std.specs.FinMap as map
+use Rattle.std.specs.List.Sorted.{IsStrictlySortedBy}
 use Rattle.av_base.specs.One.{HasOnePair}
 use Rattle.path_model.specs.Rows.{RowMap, PatchMap}
 use Rattle.path_model.specs.Sets.{IsSetOf}
+use Rattle.origin_model.specs.Vrp.{Payload, payload_cmp}
+use Rattle.origin_model.specs.VrpSet.{has}
 use Rattle.rtr_pdu.specs.declared.pdu.Pdu.{Pdu}
-use Rattle.rtr_pdu.specs.declared.pdu.Pdu.TheVariants.{CacheResponse, EndOfData, Aspa}
+use Rattle.rtr_pdu.specs.declared.pdu.Pdu.TheVariants.{CacheResponse, Prefix, EndOfData, Aspa}
 use Rattle.rtr_session.specs.declared.act.Act.TheVariants.{Nothing, Apply}
 use Rattle.rtr_session.specs.declared.act.Delta.TheVariants.{Whole, Part}
 use Rattle.rtr_session.specs.declared.act.Phase.TheVariants.{AskedWhole, AskedChanges}
@@ -52,7 +55,7 @@ pub record IsPatchOf (kept : RowMap) (pdus : List Pdu) (patch : PatchMap) (rows 
   pub patched : (q : ℕ) → map.get rows q ≡ patched (map.get patch q) (map.get kept q)
 
 -- an answer with changes: it begins, these PDUs come, and it ends
-pub record AnswersChanges (asked : State) (pdus : List Pdu) (patch : PatchMap) (done : State) : Type 0 where
+pub record AnswersChanges (asked : State) (pdus : List Pdu) (patch : PatchMap) (payloads : List Payload) (done : State) : Type 0 where
   pub phase : asked.phase ≡ AskedChanges
   pub session : ℕ
   pub begun : State
@@ -61,13 +64,14 @@ pub record AnswersChanges (asked : State) (pdus : List Pdu) (patch : PatchMap) (
   pub comes : Receives begun pdus whole
   pub last_session : ℕ
   pub serial : ℕ
-  pub ends : Client whole (EndOfData last_session serial) (Apply (Part patch)) done
+  pub ends : Client whole (EndOfData last_session serial) (Apply (Part patch payloads)) done
 
 abbrev pub PatchIsWhatWasNamed : Type 0
-PatchIsWhatWasNamed = (asked done : State) (pdus : List Pdu) (patch : PatchMap) → AnswersChanges asked pdus patch done → IsPatchOf asked.rows pdus patch done.rows
+PatchIsWhatWasNamed = (asked done : State) (pdus : List Pdu) (patch : PatchMap) (payloads : List Payload) → AnswersChanges asked pdus patch payloads done
+    → IsPatchOf asked.rows pdus patch done.rows
 
 -- an answer with everything
-pub record AnswersWhole (asked : State) (pdus : List Pdu) (rows : RowMap) (done : State) : Type 0 where
+pub record AnswersWhole (asked : State) (pdus : List Pdu) (rows : RowMap) (payloads : List Payload) (done : State) : Type 0 where
   pub phase : asked.phase ≡ AskedWhole
   pub session : ℕ
   pub begun : State
@@ -76,7 +80,7 @@ pub record AnswersWhole (asked : State) (pdus : List Pdu) (rows : RowMap) (done 
   pub comes : Receives begun pdus whole
   pub last_session : ℕ
   pub serial : ℕ
-  pub ends : Client whole (EndOfData last_session serial) (Apply (Whole rows)) done
+  pub ends : Client whole (EndOfData last_session serial) (Apply (Whole rows payloads)) done
 
 -- the last of these PDUs that names the customer
 pub record IsLast (pdus : List Pdu) (customer : ℕ) (last : Pdu) : Type 0 where
@@ -100,4 +104,41 @@ pub record IsWholeAnswer (pdus : List Pdu) (rows kept : RowMap) : Type 0 where
   pub only : (q : ℕ) → IsSome (map.get rows q) → AreNamed pdus q
 
 abbrev pub WholeAnswerIsWhatWasAnnounced : Type 0
-WholeAnswerIsWhatWasAnnounced = (asked done : State) (pdus : List Pdu) (rows : RowMap) → AnswersWhole asked pdus rows done → IsWholeAnswer pdus rows done.rows
+WholeAnswerIsWhatWasAnnounced = (asked done : State) (pdus : List Pdu) (rows : RowMap) (payloads : List Payload) → AnswersWhole asked pdus rows payloads done
+    → IsWholeAnswer pdus rows done.rows
+
+-- ---- payloads
+
+-- the PDU announces or withdraws the payload
+abbrev pub NamesPayload : Pdu → Payload → Type 0
+NamesPayload (Prefix announce named) v = named ≡ v
+NamesPayload pdu v = ⊥
+
+abbrev pub IsPayloadNamed : List Pdu → Payload → Type 0
+IsPayloadNamed [] v = ⊥
+IsPayloadNamed (pdu ∷ more) v = NamesPayload pdu v ⊎ IsPayloadNamed more v
+
+-- the last of these PDUs that names the payload announces it, or withdraws it
+pub record IsLastPrefix (pdus : List Pdu) (v : Payload) (announce : Bool) : Type 0 where
+  pub front : List Pdu
+  pub behind : List Pdu
+  pub whole : pdus ≡ front ++ Prefix announce v ∷ behind
+  pub no_more : IsPayloadNamed behind v → ⊥
+
+-- The payloads handed out are those kept then. One that is named is there exactly where the last PDU that names it announces it, and each
+-- other one exactly where it was before.
+pub record ArePayloadsOf (before : List Payload) (pdus : List Pdu) (payloads kept : List Payload) : Type 0 where
+  pub kept_is : kept ≡ payloads
+  pub named : (v : Payload) (announce : Bool) → IsLastPrefix pdus v announce → has payloads v ≡ announce
+  pub others : (v : Payload) → (IsPayloadNamed pdus v → ⊥) → has payloads v ≡ has before v
+
+-- in their order, each once, as those of every session are
+abbrev pub AreInOrder : List Payload → Type 0
+AreInOrder payloads = IsStrictlySortedBy payload_cmp payloads
+
+-- an answer with everything begins with none, whatever was kept, and an answer with changes with those kept
+pub record PayloadsAreWhatWasAnnounced : Type 0 where
+  pub everything : (asked done : State) (pdus : List Pdu) (rows : RowMap) (payloads : List Payload) → AnswersWhole asked pdus rows payloads done
+      → ArePayloadsOf [] pdus payloads done.payloads
+  pub changes : (asked done : State) (pdus : List Pdu) (patch : PatchMap) (payloads : List Payload) → AreInOrder asked.payloads
+      → AnswersChanges asked pdus patch payloads done → ArePayloadsOf asked.payloads pdus payloads done.payloads

@@ -1,24 +1,29 @@
 -- What a client's session keeps.
-use Rattle.std.specs.Prelude.{◌≡◌, ℕ, nat_eq, cond, refl}
+use Rattle.std.specs.Prelude.{◌≡◌, ℕ, nat_eq, cond, List, [], refl}
 use Rattle.std.specs.FinMap as map
 use Rattle.std.specs.Coded.{Coded, code_by, coded×, coded_ℕ, coded_list, coded_option}
+use Rattle.path_model.specs.Codes.{coded_subnet}
+use Rattle.path_model.specs.Prefix.{Subnet}
 use Rattle.path_model.specs.Rows.{RowMap, PatchMap}
+use Rattle.origin_model.specs.Vrp.{Payload}
 use Rattle.rtr_session.specs.declared.act.Phase.{Phase}
 use Rattle.rtr_session.specs.declared.act.Phase.TheVariants.{Fresh, AskedWhole, AskedChanges, ReceivingWhole, ReceivingChanges, Ready, Over}
 
 -- The phase; the session and the serial of the last End of Data, and while an answer is received its session; the rows of the
--- last End of Data, and while an answer is received the pending rows; and for each customer that the answer named so far its pending
--- row, or none. The rows kept before an answer need no place beside the pending ones: an answer that isn't ended leaves the session over.
+-- last End of Data, and while an answer is received the pending rows; for each customer that the answer named so far its pending
+-- row, or none; and the payloads of the last End of Data, and while an answer is received the pending ones, in their order. What was kept
+-- before an answer needs no place beside what is pending: an answer that isn't ended leaves the session over.
 pub record State : Type 0 where
   pub phase : Phase
   pub session : ℕ
   pub serial : ℕ
   pub rows : RowMap
   pub changes : PatchMap
+  pub payloads : List Payload
 
 -- before anything was asked
 abbrev pub fresh : State
-fresh = record { phase = Fresh; session = 0; serial = 0; rows = map.empty; changes = map.empty }
+fresh = record { phase = Fresh; session = 0; serial = 0; rows = map.empty; changes = map.empty; payloads = [] }
 
 -- ---- codes, which a Model with finite maps needs
 
@@ -53,7 +58,12 @@ coded_rows = map.code coded_ℕ (coded_list coded_ℕ)
 abbrev pub coded_patch : Coded PatchMap
 coded_patch = map.code coded_ℕ (coded_option (coded_list coded_ℕ))
 
+abbrev pub coded_payload : Coded Payload
+coded_payload = code_by (Subnet × (ℕ × ℕ)) (coded× coded_subnet (coded× coded_ℕ coded_ℕ)) (λ v. (v.prefix, (v.max, v.asn))) (λ p. record { prefix = p.0; max = p.1.0; asn = p.1.1 }) (λ _. refl)
+
 abbrev pub coded_state : Coded State
 coded_state =
-    code_by (Phase × (ℕ × (ℕ × (RowMap × PatchMap)))) (coded× coded_phase (coded× coded_ℕ (coded× coded_ℕ (coded× coded_rows coded_patch))))
-    (λ s. (s.phase, (s.session, (s.serial, (s.rows, s.changes))))) (λ p. record { phase = p.0; session = p.1.0; serial = p.1.1.0; rows = p.1.1.1.0; changes = p.1.1.1.1 }) (λ _. refl)
+    code_by (Phase × (ℕ × (ℕ × (RowMap × (PatchMap × List Payload)))))
+    (coded× coded_phase (coded× coded_ℕ (coded× coded_ℕ (coded× coded_rows (coded× coded_patch (coded_list coded_payload))))))
+    (λ s. (s.phase, (s.session, (s.serial, (s.rows, (s.changes, s.payloads))))))
+    (λ p. record { phase = p.0; session = p.1.0; serial = p.1.1.0; rows = p.1.1.1.0; changes = p.1.1.1.1.0; payloads = p.1.1.1.1.1 }) (λ _. refl)

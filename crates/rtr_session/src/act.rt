@@ -2,6 +2,7 @@
 ghost use Rattle.std.specs.Prelude.{◌≡◌};
 ghost use Rattle.rtr_session.specs.Client.{code_on_end};
 
+use origin_model::VrpSet;
 use path_model::{Patch, Rows};
 use std::error::Error;
 use std::fmt;
@@ -34,13 +35,14 @@ pub enum Query {
     Serial { session: u16, serial: u32 },
 }
 
-/// What an End of Data makes of the rows that the session stood for.
+/// What an End of Data makes of the rows and the payloads that the session stood for. The payloads are all that there are then, in either
+/// case.
 #[derive(Debug, Drop)]
 pub enum Delta {
     /// All rows anew.
-    Whole(Rows),
+    Whole(Rows, VrpSet),
     /// The rows of the customers named, in place of those that they had.
-    Part(Patch),
+    Part(Patch, VrpSet),
 }
 
 /// Why a session ended.
@@ -48,7 +50,7 @@ pub enum Delta {
 pub enum Ending {
     /// Cause 19: the PDU has no place in this phase.
     Unexpected,
-    /// Cause 20: an attestation is withdrawn that isn't there.
+    /// Cause 20: an attestation or a payload is withdrawn that isn't there.
     UnknownWithdrawal,
     /// Cause 21: the cache is in another session than it was. What came of it is no longer current.
     SessionChanged,
@@ -84,7 +86,7 @@ impl fmt::Display for Ending {
     fn fmt<W: fmt::Write>(&self, f: &mut fmt::Formatter<W>) -> fmt::Result {
         f.write_str(match self {
             Ending::Unexpected => "the PDU has no place here",
-            Ending::UnknownWithdrawal => "an unknown attestation is withdrawn",
+            Ending::UnknownWithdrawal => "what isn't there is withdrawn",
             Ending::SessionChanged => "the cache's session changed",
             Ending::PeerReported => "the cache reported an error",
         })

@@ -1,5 +1,5 @@
 //! Laws of the client: the contract of each function is the law, and its body does nothing.
-ghost use Rattle.rtr_session.specs.Laws.{EachPduHasOneCase, EachStateHasOneQuery, PatchIsWhatWasNamed, WholeAnswerIsWhatWasAnnounced};
+ghost use Rattle.rtr_session.specs.Laws.{EachPduHasOneCase, EachStateHasOneQuery, PatchIsWhatWasNamed, PayloadsAreWhatWasAnnounced, WholeAnswerIsWhatWasAnnounced};
 
 /// Every PDU has exactly one case in every state: one act, and one state behind it.
 pub fn each_pdu_has_one_case()
@@ -20,4 +20,10 @@ pub fn patch_is_what_was_named()
 /// whatever was kept before.
 pub fn whole_answer_is_what_was_announced()
     ensures { WholeAnswerIsWhatWasAnnounced }
+{}
+
+/// Behind an answer with everything there are the payloads whose last PDU announces them. Behind one with changes so it is with each that it
+/// named, and each other one is there exactly where it was kept.
+pub fn payloads_are_what_was_announced()
+    ensures { PayloadsAreWhatWasAnnounced }
 {}

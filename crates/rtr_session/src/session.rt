@@ -2,18 +2,21 @@
 ghost use Rattle.std.specs.Prelude.{◌≡◌, ◌≢◌, ◌↔◌, IfOk, IsSome, IsTrue};
 ghost use Rattle.std.specs.FinMap as map;
 ghost use Rattle.rtr_session.specs.State.{fresh};
-ghost use Rattle.rtr_session.specs.Client.{Announces, Asks, Client, Ends, OnAnnounce, OnEnd, OnNotify, OnPassed, OnReset, OnResponse, OnWithdraw, Withdraws};
+ghost use Rattle.rtr_session.specs.Laws.{AreInOrder};
+ghost use Rattle.rtr_session.specs.Client.{Announces, Asks, Client, Ends, Goes, OnAnnounce, OnEnd, OnNotify, OnPassed, OnPrefixAnnounce, OnPrefixWithdraw, OnReset, OnResponse, OnWithdraw, Withdraws, WithdrawsPrefix, with_payload};
 
 use crate::act::{Act, Delta, Ending, Phase, Query};
 use crate::providers::without_zero;
 use av_base::NoMemory;
+use origin_model::{Vrp, VrpSet};
 use path_model::{AsList, Patch, Rows};
 use rtr_pdu::Pdu;
 use std::alloc::Global;
 use std::marker::Model;
 use std::mem;
 
-/// A client's session with a cache. A PDU costs what its own bytes cost; only an End of Data of a whole answer copies all rows, once.
+/// A client's session with a cache. A PDU costs what its own bytes cost; only an End of Data copies all payloads, and that of a whole answer
+/// all rows, once.
 #[derive(Debug, Drop)]
 pub struct Session {
     alloc: Global,
@@ -21,6 +24,8 @@ pub struct Session {
     rows: Rows,
     // what the answer named so far
     changes: Patch,
+    // the payloads of the last End of Data, or those that are pending while an answer is received
+    payloads: VrpSet,
     serial: u32,
     session: u16,
     phase: Phase,
@@ -33,11 +38,11 @@ impl Model for Session {
 
     ghost coded = { coded_state };
 
-    ghost view = { λ s. record { phase = s.phase; session = s.session; serial = s.serial; rows = s.rows; changes = s.changes } };
+    ghost view = { λ s. record { phase = s.phase; session = s.session; serial = s.serial; rows = s.rows; changes = s.changes; payloads = s.payloads } };
 }
 
 impl Session {
-    /// A session that asked nothing yet and has no rows. It takes no memory.
+    /// A session that asked nothing yet and has no rows and no payloads. It takes no memory.
     pub fn new(alloc: Global) -> Session
         ensures { result ≡ fresh }
     {
@@ -45,6 +50,7 @@ impl Session {
             alloc,
             rows: Rows::new(alloc),
             changes: Patch::new(alloc),
+            payloads: VrpSet::new(alloc),
             serial: 0,
             session: 0,
             phase: Phase::Fresh,
@@ -53,8 +59,11 @@ impl Session {
 
     /// Where the session stands.
     pub fn phase(&self) -> Phase
-        ensures { result ≡ self.now.phase }
+        ensures phase { result ≡ self.now.phase }
+        ensures in_order { AreInOrder self.now.payloads }
     {
+        // it comes with their order
+        let _payloads = self.payloads.entries();
         self.phase
     }
 
@@ -90,6 +99,13 @@ impl Session {
             Pdu::SerialQuery { .. } => Ok(self.end(Ending::Unexpected)),
             Pdu::ResetQuery => Ok(self.end(Ending::Unexpected)),
             Pdu::CacheResponse { session } => Ok(self.on_response(session)),
+            Pdu::Prefix { announce, vrp } => {
+                if announce {
+                    self.on_prefix_announce(vrp)
+                } else {
+                    Ok(self.on_prefix_withdraw(&vrp))
+                }
+            }
             Pdu::Passed { .. } => Ok(self.on_passed()),
             Pdu::EndOfData { session, serial } => self.on_end(session, serial),
             Pdu::CacheReset => Ok(self.on_reset()),
@@ -139,6 +155,7 @@ impl Session {
                 self.session = session;
                 self.rows = Rows::new(self.alloc);
                 self.changes = Patch::new(self.alloc);
+                self.payloads = VrpSet::new(self.alloc);
                 (self, Act::Nothing)
             }
             Phase::AskedChanges => {
@@ -201,6 +218,44 @@ impl Session {
         self.rows.row(customer).is_some()
     }
 
+    fn on_prefix_announce(self, vrp: Vrp) -> Result<(Session, Act), NoMemory>
+        ensures { IfOk result (λ r. OnPrefixAnnounce self.phase vrp self r.1 r.0) }
+    {
+        match self.phase {
+            Phase::ReceivingWhole => self.announce_prefix(vrp),
+            Phase::ReceivingChanges => self.announce_prefix(vrp),
+            _ => Ok(self.end(Ending::Unexpected)),
+        }
+    }
+
+    fn announce_prefix(mut self, vrp: Vrp) -> Result<(Session, Act), NoMemory>
+        ensures { IfOk result (λ r. Goes self r.1 r.0 Act.Nothing (with_payload self vrp)) }
+    {
+        self.payloads.add(vrp)?;
+        Ok((self, Act::Nothing))
+    }
+
+    fn on_prefix_withdraw(self, vrp: &Vrp) -> (Session, Act)
+        ensures { OnPrefixWithdraw self.phase vrp.now self result.1 result.0 }
+    {
+        match self.phase {
+            Phase::ReceivingWhole => self.withdraw_prefix(vrp),
+            Phase::ReceivingChanges => self.withdraw_prefix(vrp),
+            _ => self.end(Ending::Unexpected),
+        }
+    }
+
+    fn withdraw_prefix(mut self, vrp: &Vrp) -> (Session, Act)
+        ensures { WithdrawsPrefix vrp.now self result.1 result.0 }
+    {
+        if self.payloads.contains(vrp) {
+            self.payloads.drop_one(vrp);
+            (self, Act::Nothing)
+        } else {
+            self.end(Ending::UnknownWithdrawal)
+        }
+    }
+
     fn on_passed(self) -> (Session, Act)
         ensures { OnPassed self.phase self result.1 result.0 }
     {
@@ -219,19 +274,21 @@ impl Session {
                 if session == self.session {
                     self.changes = Patch::new(self.alloc);
                     let rows = self.rows.copy()?;
+                    let payloads = self.payloads.copy()?;
                     self.phase = Phase::Ready;
                     self.serial = serial;
-                    Ok((self, Act::Apply(Delta::Whole(rows))))
+                    Ok((self, Act::Apply(Delta::Whole(rows, payloads))))
                 } else {
                     Ok(self.end(Ending::SessionChanged))
                 }
             }
             Phase::ReceivingChanges => {
                 if session == self.session {
+                    let payloads = self.payloads.copy()?;
                     let changes = mem::replace(&mut self.changes, Patch::new(self.alloc));
                     self.phase = Phase::Ready;
                     self.serial = serial;
-                    Ok((self, Act::Apply(Delta::Part(changes))))
+                    Ok((self, Act::Apply(Delta::Part(changes, payloads))))
                 } else {
                     Ok(self.end(Ending::SessionChanged))
                 }
