@@ -17,6 +17,7 @@ use Rattle.rtr_session.specs.State.{State}
 use Rattle.rtr_session.specs.Client.{Announces, Client, without_zero}
 use Rattle.rtr_session.proofs.SetLemmas.{some_set}
 use Rattle.rtr_cache.specs.Served.{providers_told, told, told_of}
+use Rattle.origin_model.specs.Vrp.{Payload}
 use Rattle.rtr_cache.specs.Kept.{with_row}
 use Rattle.rtr_cache.specs.Laws.{Takes}
 use Rattle.rtr_cache.proofs.RowLemmas.{apart, get_with, own_set}
@@ -35,8 +36,8 @@ receiving true = ReceivingWhole
 receiving false = ReceivingChanges
 
 -- a router that receives everything, or changes
-abbrev pub at : Bool → ℕ → ℕ → RowMap → PatchMap → State
-at whole session serial rows changes = record { phase = receiving whole; session = session; serial = serial; rows = rows; changes = changes }
+abbrev pub at : Bool → ℕ → ℕ → RowMap → PatchMap → List Payload → State
+at whole session serial rows changes payloads = record { phase = receiving whole; session = session; serial = serial; rows = rows; changes = changes; payloads = payloads }
 
 -- ---- an announcement
 
@@ -60,16 +61,16 @@ announced old x row is = record { row = row; is_set = told_set row is; goes = re
 
 -- ---- one customer
 
-pub takes_one : (whole : Bool) (session serial : ℕ) (rows : RowMap) (changes : PatchMap) (x : ℕ) (row : Option (List ℕ)) → ((list : List ℕ) → row ≡ Some list → IsRow list) → map.get rows x ≢ row
-    → Client (at whole session serial rows changes) (told x row) Nothing (at whole session serial (with_row rows x row) (map.insert changes x row))
-takes_one true session serial rows changes x (Some row) good differs = announced (at true session serial rows changes) x row (good row refl)
-takes_one false session serial rows changes x (Some row) good differs = announced (at false session serial rows changes) x row (good row refl)
-takes_one true session serial rows changes x None good differs = inl (some_other (map.get rows x) differs, record { act_is = refl; new_is = refl })
+pub takes_one : (whole : Bool) (session serial : ℕ) (rows : RowMap) (changes : PatchMap) (vs : List Payload) (x : ℕ) (row : Option (List ℕ)) → ((list : List ℕ) → row ≡ Some list → IsRow list) → map.get rows x ≢ row
+    → Client (at whole session serial rows changes vs) (told x row) Nothing (at whole session serial (with_row rows x row) (map.insert changes x row) vs)
+takes_one true session serial rows changes vs x (Some row) good differs = announced (at true session serial rows changes vs) x row (good row refl)
+takes_one false session serial rows changes vs x (Some row) good differs = announced (at false session serial rows changes vs) x row (good row refl)
+takes_one true session serial rows changes vs x None good differs = inl (some_other (map.get rows x) differs, record { act_is = refl; new_is = refl })
   where
     some_other : (o : Option (List ℕ)) → o ≢ None → IsSome o
     some_other None differ = absurd (differ refl)
     some_other (Some row) differ = refl
-takes_one false session serial rows changes x None good differs = inl (some_other (map.get rows x) differs, record { act_is = refl; new_is = refl })
+takes_one false session serial rows changes vs x None good differs = inl (some_other (map.get rows x) differs, record { act_is = refl; new_is = refl })
   where
     some_other : (o : Option (List ℕ)) → o ≢ None → IsSome o
     some_other None differ = absurd (differ refl)
@@ -78,10 +79,10 @@ takes_one false session serial rows changes x None good differs = inl (some_othe
 -- ---- all of them
 
 -- what a router has of rows once these customers were told
-pub record Took (whole : Bool) (session serial : ℕ) (from : RowMap) (changes : PatchMap) (to : RowMap) (customers : List ℕ) : Type 0 where
+pub record Took (whole : Bool) (session serial : ℕ) (from : RowMap) (changes : PatchMap) (vs : List Payload) (to : RowMap) (customers : List ℕ) : Type 0 where
   pub rows : RowMap
   pub named : PatchMap
-  pub takes : Takes (at whole session serial from changes) (told_of to customers) (nothings customers) (at whole session serial rows named)
+  pub takes : Takes (at whole session serial from changes vs) (told_of to customers) (nothings customers) (at whole session serial rows named vs)
   pub gets : (q : ℕ) → map.get rows q ≡ cond (has customers q) (map.get to q) (map.get from q)
 
 over : (c d : Bool) (one mid from : Option (List ℕ)) → (c ≡ true → d ≡ false) → mid ≡ cond c one from → (c ≡ true → one ≡ one) → cond d one mid ≡ cond (c || d) one from
@@ -96,16 +97,16 @@ joined x q customers to rows from new e = elim (eqb_tells x q) [
   | inr other ↦ rw other.0 (ap (λ (o : Option (List ℕ)). cond (has customers q) (map.get to q) o) (e ∙ rw other.0 refl))
 ]
 
-pub takes_told : (whole : Bool) (session serial : ℕ) (to : RowMap) (customers : List ℕ) (from : RowMap) (changes : PatchMap) → AreGood to → IsStrictlySortedBy nat_cmp customers
-    → ((x : ℕ) → has customers x ≡ true → map.get from x ≢ map.get to x) → Took whole session serial from changes to customers
+pub takes_told : (whole : Bool) (session serial : ℕ) (to : RowMap) (customers : List ℕ) (from : RowMap) (changes : PatchMap) (vs : List Payload) → AreGood to → IsStrictlySortedBy nat_cmp customers
+    → ((x : ℕ) → has customers x ≡ true → map.get from x ≢ map.get to x) → Took whole session serial from changes vs to customers
 unfolding IsStrictlySortedBy
-takes_told whole session serial to [] from changes good rising differ = record { rows = from; named = changes; takes = (refl, refl); gets = λ q. refl }
-takes_told whole session serial to (x ∷ more) from changes good rising differ =
+takes_told whole session serial to [] from changes vs good rising differ = record { rows = from; named = changes; takes = (refl, refl); gets = λ q. refl }
+takes_told whole session serial to (x ∷ more) from changes vs good rising differ =
     let new : has more x ≡ false = apart x more rising.0 in
     let next : RowMap = with_row from x (map.get to x) in
-    let one = takes_one whole session serial from changes x (map.get to x) (good x) (differ x (grind (arith, nat_tests))) in
+    let one = takes_one whole session serial from changes vs x (map.get to x) (good x) (differ x (grind (arith, nat_tests))) in
     let got : (q : ℕ) → map.get next q ≡ cond (nat_eq x q) (map.get to x) (map.get from q) = get_with from x (map.get to x) in
-    let rest = takes_told whole session serial to more next (map.insert changes x (map.get to x)) good rising.1
+    let rest = takes_told whole session serial to more next (map.insert changes x (map.get to x)) vs good rising.1
     (λ q among. λ same. elim (eqb_tells x q) [
       | inl is ↦ (let never : ⊥ = (let out : has more q ≡ false = subst (λ (z : ℕ). has more z ≡ false) is.1 new in cc) in absurd never)
       | inr not ↦ differ q (rw not.0 among) (sym (got q ∙ rw not.0 refl) ∙ same)
@@ -113,6 +114,6 @@ takes_told whole session serial to (x ∷ more) from changes good rising differ 
     record {
       rows = rest.rows;
       named = rest.named;
-      takes = (Nothing, at whole session serial next (map.insert changes x (map.get to x)), nothings more, one, rest.takes, refl);
+      takes = (Nothing, at whole session serial next (map.insert changes x (map.get to x)) vs, nothings more, one, rest.takes, refl);
       gets = λ q. rest.gets q ∙ joined x q more to (map.get next q) (map.get from q) new (got q);
     }

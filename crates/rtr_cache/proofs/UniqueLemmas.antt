@@ -17,7 +17,7 @@ use Rattle.path_model.specs.Rows.{RowMap}
 use Rattle.path_model.proofs.AscendingLemmas.{ascending_sorted, has_ascending, same_members}
 use Rattle.path_model.proofs.MemberLemmas.{has-append}
 use Rattle.rtr_pdu.specs.declared.pdu.Pdu.{Pdu}
-use Rattle.rtr_pdu.specs.declared.pdu.Pdu.TheVariants.{Notify, SerialQuery, ResetQuery, CacheResponse, Passed, EndOfData, CacheReset, ErrorReport, Aspa}
+use Rattle.rtr_pdu.specs.declared.pdu.Pdu.TheVariants.{Notify, SerialQuery, ResetQuery, CacheResponse, Prefix, Passed, EndOfData, CacheReset, ErrorReport, Aspa}
 use Rattle.rtr_pdu.proofs.UnitLemmas.{its_units}
 use Rattle.rtr_session.specs.declared.act.Act.{Act}
 use Rattle.rtr_session.specs.declared.act.Query.{Query}
@@ -69,6 +69,7 @@ reply_unique cache (SerialQuery session serial) one other turn next (inr a) (inr
 reply_unique cache (ErrorReport code) one other turn next a b = (b.0 ∙ sym a.0, b.1 ∙ sym a.1)
 reply_unique cache (Notify session serial) one other turn next a b = (b.0 ∙ sym a.0, b.1 ∙ sym a.1)
 reply_unique cache (CacheResponse session) one other turn next a b = (b.0 ∙ sym a.0, b.1 ∙ sym a.1)
+reply_unique cache (Prefix announce v) one other turn next a b = (b.0 ∙ sym a.0, b.1 ∙ sym a.1)
 reply_unique cache (Passed kind) one other turn next a b = (b.0 ∙ sym a.0, b.1 ∙ sym a.1)
 reply_unique cache (EndOfData session serial) one other turn next a b = (b.0 ∙ sym a.0, b.1 ∙ sym a.1)
 reply_unique cache CacheReset one other turn next a b = (b.0 ∙ sym a.0, b.1 ∙ sym a.1)
@@ -184,6 +185,7 @@ some_reply cache (SerialQuery session serial) = elim (eqb_tells session cache.se
 some_reply cache (ErrorReport code) = record { pdus = []; turn = Close; are = (refl, refl) }
 some_reply cache (Notify session serial) = refused 3
 some_reply cache (CacheResponse session) = refused 3
+some_reply cache (Prefix announce v) = refused 3
 some_reply cache (Passed kind) = refused 3
 some_reply cache (EndOfData session serial) = refused 3
 some_reply cache CacheReset = refused 3

@@ -44,6 +44,7 @@ pub(crate) fn reply(
         Pdu::ErrorReport { .. } => Ok(Turn::Close),
         Pdu::Notify { .. }
         | Pdu::CacheResponse { .. }
+        | Pdu::Prefix { .. }
         | Pdu::Passed { .. }
         | Pdu::EndOfData { .. }
         | Pdu::CacheReset
