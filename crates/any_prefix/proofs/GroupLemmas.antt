@@ -39,7 +39,7 @@ pub group_lacks : (code : ℕ) → IsNoDigit code → (text : List ℕ) (n : ℕ
 group_lacks code none text n g = digits_lack code none 0 text n g.digits
 
 -- one text is one group
-hex_same : (b d e : ℕ) → IsHexDigit b d → IsHexDigit b e → d ≡ e
+pub hex_same : (b d e : ℕ) → IsHexDigit b d → IsHexDigit b e → d ≡ e
 hex_same b d e (inl h) (inl k) = omega (arith, h.1, k.1)
 hex_same b d e (inl h) (inr (inl k)) = omega (arith, h.0, h.1, k.0, k.1, k.2)
 hex_same b d e (inl h) (inr (inr k)) = omega (arith, h.0, h.1, k.0, k.1, k.2)

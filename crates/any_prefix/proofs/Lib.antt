@@ -1,3 +1,4 @@
+pub mod DecideLemmas
 pub mod DoubleLemmas
 pub mod GroupLemmas
 pub mod RunLemmas
