@@ -1,23 +1,16 @@
--- Any tree has a form, or none; and any form comes to something, or to nothing.
-use Rattle.std.proofs.Common.{◌≡◌, ℕ, ◌^◌, ◌⊎◌, inl, inr, Bool, true, false, eqb, ltb, List, [], ◌∷◌, Option, Some, None, codes, refl, ap, ◌∙◌, subst}
-use Rattle.std.proofs.lemmas.Bool.{ltb-true, ltb-false, eqb-true, eqb-false}
-use Rattle.std.proofs.Common.{arith}
+-- Any tree has a form, or none.
+use Rattle.std.proofs.Common.{◌≡◌, ℕ, ◌⊎◌, inl, inr, Bool, true, false, ◌||◌, eqb, List, [], ◌∷◌, Option, Some, None, is_some, codes, refl, ap, ◌∙◌, subst}
+use Rattle.std.proofs.lemmas.Bool.{eqb-true, eqb-false}
 use Rattle.serde_json.specs.Data.{Num, unsigned, negative, float, Data}
 use Rattle.serde_json.specs.Find.{get, as_number}
-use Rattle.path_model.specs.Ascending.{ascending_of}
-use Rattle.path_model.proofs.UnionLawLemmas.{some_set, some_union}
+use Rattle.any_prefix.proofs.DecideLemmas.{SomeOrNone}
 use Rattle.slurm_rules.specs.Each.{Each}
-use Rattle.slurm_rules.specs.Object.{number_at, array_at, may_have_text, has_only, are_arrays}
-use Rattle.slurm_rules.specs.Form.{Assertion, Form, IsNumber, IsFilter, IsAssertion, HasArrays, ArrayIs, IsFilterPart, IsAssertionPart, MemberIs, IsFile}
-use Rattle.slurm_rules.specs.Numbers.{IsAsn, Attests, IsContent}
+use Rattle.slurm_rules.specs.Object.{number_at, number_if_there, text_if_there, array_at, may_have_text, has_only, are_arrays}
+use Rattle.slurm_rules.specs.Form.{IsNumber, IsFilter, IsAssertion, IsPrefixAssertion, IsPrefixFilter, HasArrays, ArrayIs, IsFilterPart, IsAssertionPart, MemberIs, IsFile}
 use Rattle.slurm_rules.specs.Reading.{HasVersion}
 use Rattle.slurm_rules.specs.declared.draft.Version.{Version}
 use Rattle.slurm_rules.specs.declared.draft.Version.TheVariants.{One, Two}
 use Rattle.slurm_rules.proofs.OneLemmas.{same_some, unsigned_injective}
-
--- something stands in this relation, or nothing does
-abbrev pub SomeOrNone : {A : Type 0} → (A → Type 0) → Type 0
-SomeOrNone {A} P = ((a : A) × P a) ⊎ ((a : A) → P a → ⊥)
 
 pub none_found : {A : Type 0} (o : Option A) (a : A) → o ≡ None → o ≡ Some a → ⊥
 none_found o a e f = cc
@@ -41,7 +34,7 @@ each_cons R d ds (inl h) (inl more) = inl (h.0 ∷ more.0, (h.1, more.1))
 each_cons R d ds (inl h) (inr none) = inr (λ xs e. each_tail R d ds xs none e)
 each_cons R d ds (inr none) more = inr (λ xs e. each_head R d ds xs none e)
 
-each_or_none : {D A : Type 0} (R : D → A → Type 0) → ((d : D) → SomeOrNone (R d)) → (ds : List D) → SomeOrNone (Each R ds)
+pub each_or_none : {D A : Type 0} (R : D → A → Type 0) → ((d : D) → SomeOrNone (R d)) → (ds : List D) → SomeOrNone (Each R ds)
 each_or_none R dec [] = inl ([], tt)
 each_or_none R dec (d ∷ ds) = each_cons R d ds (dec d) (each_or_none R dec ds)
 
@@ -95,6 +88,53 @@ assertion_or_none d =
     assertion_by d (has_only (codes "comment" ∷ codes "customerAsn" ∷ codes "providerAsns" ∷ []) d) (may_have_text (codes "comment") d) refl refl
     (found_or_none (number_at (codes "customerAsn") d)) (array_or_none IsNumber number_or_none (codes "providerAsns") d)
 
+-- ---- elements with prefixes
+
+prefix_filter_with : (d : Data) (prefix : Option (List ℕ)) (asn : Option Num) (p : Bool) → (is_some prefix || is_some asn) ≡ p → has_only (codes "asn" ∷ codes "comment" ∷ codes "prefix" ∷ []) d ≡ true
+    → may_have_text (codes "comment") d ≡ true → text_if_there (codes "prefix") d ≡ Some prefix → number_if_there (codes "asn") d ≡ Some asn → SomeOrNone (IsPrefixFilter d)
+prefix_filter_with d prefix asn true some e f g h = inl (record { prefix = prefix; asn = asn }, record { only = e; prefix = g; asn = h; some = some; comment = f })
+prefix_filter_with d prefix asn false some e f g h = inr (λ a is.
+    let prefixes : a.prefix ≡ prefix = same_some _ a.prefix prefix is.prefix g in
+    let asns : a.asn ≡ asn = same_some _ a.asn asn is.asn h in
+    clash (is_some a.prefix || is_some a.asn) is.some ((λ i. (is_some (prefixes i) || is_some (asns i))) ∙ some))
+
+prefix_filter_by : (d : Data) (p q : Bool) → has_only (codes "asn" ∷ codes "comment" ∷ codes "prefix" ∷ []) d ≡ p → may_have_text (codes "comment") d ≡ q
+    → SomeOrNone (λ x. text_if_there (codes "prefix") d ≡ Some x) → SomeOrNone (λ x. number_if_there (codes "asn") d ≡ Some x) → SomeOrNone (IsPrefixFilter d)
+prefix_filter_by d false q e f g h = inr (λ a is. clash _ is.only e)
+prefix_filter_by d true false e f g h = inr (λ a is. clash _ is.comment f)
+prefix_filter_by d true true e f (inr none) h = inr (λ a is. none a.prefix is.prefix)
+prefix_filter_by d true true e f (inl g) (inr none) = inr (λ a is. none a.asn is.asn)
+prefix_filter_by d true true e f (inl g) (inl h) = prefix_filter_with d g.0 h.0 (is_some g.0 || is_some h.0) refl e f g.1 h.1
+
+prefix_filter_or_none : (d : Data) → SomeOrNone (IsPrefixFilter d)
+prefix_filter_or_none d = prefix_filter_by d (has_only (codes "asn" ∷ codes "comment" ∷ codes "prefix" ∷ []) d) (may_have_text (codes "comment") d) refl refl
+    (found_or_none (text_if_there (codes "prefix") d)) (found_or_none (number_if_there (codes "asn") d))
+
+none_within : {A : Type 0} (o : Option (Option A)) (a : A) → o ≡ Some None → o ≡ Some (Some a) → ⊥
+none_within o a e f = cc
+
+-- the member is there and of its kind
+there_or_none : {A : Type 0} (o : Option (Option A)) → SomeOrNone (λ x. o ≡ Some (Some x))
+there_or_none None = inr (λ x e. none_found None (Some x) refl e)
+there_or_none (Some None) = inr (λ x e. none_within (Some None) x refl e)
+there_or_none (Some (Some x)) = inl (x, refl)
+
+prefix_assertion_by : (d : Data) (p q : Bool) → has_only (codes "asn" ∷ codes "comment" ∷ codes "maxPrefixLength" ∷ codes "prefix" ∷ []) d ≡ p → may_have_text (codes "comment") d ≡ q
+    → SomeOrNone (λ x. text_if_there (codes "prefix") d ≡ Some (Some x)) → SomeOrNone (λ x. number_if_there (codes "asn") d ≡ Some (Some x))
+    → SomeOrNone (λ x. number_if_there (codes "maxPrefixLength") d ≡ Some x) → SomeOrNone (IsPrefixAssertion d)
+prefix_assertion_by d false q e f g h m = inr (λ a is. clash _ is.only e)
+prefix_assertion_by d true false e f g h m = inr (λ a is. clash _ is.comment f)
+prefix_assertion_by d true true e f (inr none) h m = inr (λ a is. none a.prefix is.prefix)
+prefix_assertion_by d true true e f (inl g) (inr none) m = inr (λ a is. none a.asn is.asn)
+prefix_assertion_by d true true e f (inl g) (inl h) (inr none) = inr (λ a is. none a.max is.max)
+prefix_assertion_by d true true e f (inl g) (inl h) (inl m) =
+    inl (record { prefix = g.0; asn = h.0; max = m.0 }, record { only = e; prefix = g.1; asn = h.1; max = m.1; comment = f })
+
+prefix_assertion_or_none : (d : Data) → SomeOrNone (IsPrefixAssertion d)
+prefix_assertion_or_none d =
+    prefix_assertion_by d (has_only (codes "asn" ∷ codes "comment" ∷ codes "maxPrefixLength" ∷ codes "prefix" ∷ []) d) (may_have_text (codes "comment") d) refl refl
+    (there_or_none (text_if_there (codes "prefix") d)) (there_or_none (number_if_there (codes "asn") d)) (found_or_none (number_if_there (codes "maxPrefixLength") d))
+
 arrays_by : (names : List (List ℕ)) (d : Data) (p q : Bool) → has_only names d ≡ p → are_arrays names d ≡ q
     → HasArrays names d ⊎ (HasArrays names d → ⊥)
 arrays_by names d false q e f = inr (λ h. clash _ h.only e)
@@ -104,27 +144,39 @@ arrays_by names d true true e f = inl (record { only = e; arrays = f })
 arrays_or_not : (names : List (List ℕ)) (d : Data) → HasArrays names d ⊎ (HasArrays names d → ⊥)
 arrays_or_not names d = arrays_by names d (has_only names d) (are_arrays names d) refl refl
 
-empty_part : {A : Type 0} (P : Type 0) → P ⊎ (P → ⊥) → SomeOrNone (λ (list : List A). P × (list ≡ []))
-empty_part P (inl h) = inl ([], (h, refl))
-empty_part P (inr none) = inr (λ list h. none h.0)
+-- both parts of a list and its prefixes, behind what the object is
+both_parts : {A B C : Type 0} (P : Type 0) (Q : A → Type 0) (R : B → Type 0) (make : A → B → C) (T : C → Type 0)
+    → ((a : A) (b : B) → P → Q a → R b → T (make a b)) → ((c : C) → T c → P) → ((c : C) → T c → (a : A) × Q a) → ((c : C) → T c → (b : B) × R b)
+    → P ⊎ (P → ⊥) → SomeOrNone Q → SomeOrNone R → SomeOrNone T
+both_parts P Q R make T build to_p to_q to_r (inr none) q r = inr (λ c t. none (to_p c t))
+both_parts P Q R make T build to_p to_q to_r (inl p) (inr none) r = inr (λ c t. let it = to_q c t in none it.0 it.1)
+both_parts P Q R make T build to_p to_q to_r (inl p) (inl q) (inr none) = inr (λ c t. let it = to_r c t in none it.0 it.1)
+both_parts P Q R make T build to_p to_q to_r (inl p) (inl q) (inl r) = inl (make q.0 r.0, build q.0 r.0 p q.1 r.1)
 
-full_part : {A : Type 0} (P : Type 0) (Q : List A → Type 0) → P ⊎ (P → ⊥) → SomeOrNone Q
-    → SomeOrNone (λ (list : List A). P × Q list)
-full_part P Q (inl h) (inl list) = inl (list.0, (h, list.1))
-full_part P Q (inl h) (inr none) = inr (λ list k. none list k.1)
-full_part P Q (inr none) list = inr (λ xs h. none h.0)
+empty_or_none : {A : Type 0} → SomeOrNone (λ (list : List A). list ≡ [])
+empty_or_none = inl ([], refl)
 
 filters_or_none : (version : Version) (d : Data) → SomeOrNone (IsFilterPart version d)
-filters_or_none One d = empty_part (HasArrays (codes "bgpsecFilters" ∷ codes "prefixFilters" ∷ []) d) (arrays_or_not _ d)
-filters_or_none Two d =
-    full_part (HasArrays (codes "aspaFilters" ∷ codes "bgpsecFilters" ∷ codes "prefixFilters" ∷ []) d) (ArrayIs IsFilter (codes "aspaFilters") d)
-    (arrays_or_not _ d) (array_or_none IsFilter filter_or_none (codes "aspaFilters") d)
+filters_or_none One d = both_parts (HasArrays (codes "bgpsecFilters" ∷ codes "prefixFilters" ∷ []) d) (λ list. list ≡ []) (ArrayIs IsPrefixFilter (codes "prefixFilters") d)
+    (λ customers prefixes. record { customers = customers; prefixes = prefixes }) (IsFilterPart One d)
+    (λ a b p q r. (p, q, r)) (λ c t. t.0) (λ c t. (c.customers, t.1)) (λ c t. (c.prefixes, t.2))
+    (arrays_or_not _ d) empty_or_none (array_or_none IsPrefixFilter prefix_filter_or_none (codes "prefixFilters") d)
+filters_or_none Two d = both_parts (HasArrays (codes "aspaFilters" ∷ codes "bgpsecFilters" ∷ codes "prefixFilters" ∷ []) d) (ArrayIs IsFilter (codes "aspaFilters") d)
+    (ArrayIs IsPrefixFilter (codes "prefixFilters") d)
+    (λ customers prefixes. record { customers = customers; prefixes = prefixes }) (IsFilterPart Two d)
+    (λ a b p q r. (p, q, r)) (λ c t. t.0) (λ c t. (c.customers, t.1)) (λ c t. (c.prefixes, t.2))
+    (arrays_or_not _ d) (array_or_none IsFilter filter_or_none (codes "aspaFilters") d) (array_or_none IsPrefixFilter prefix_filter_or_none (codes "prefixFilters") d)
 
 assertions_or_none : (version : Version) (d : Data) → SomeOrNone (IsAssertionPart version d)
-assertions_or_none One d = empty_part (HasArrays (codes "bgpsecAssertions" ∷ codes "prefixAssertions" ∷ []) d) (arrays_or_not _ d)
-assertions_or_none Two d =
-    full_part (HasArrays (codes "aspaAssertions" ∷ codes "bgpsecAssertions" ∷ codes "prefixAssertions" ∷ []) d) (ArrayIs IsAssertion (codes "aspaAssertions") d)
-    (arrays_or_not _ d) (array_or_none IsAssertion assertion_or_none (codes "aspaAssertions") d)
+assertions_or_none One d = both_parts (HasArrays (codes "bgpsecAssertions" ∷ codes "prefixAssertions" ∷ []) d) (λ list. list ≡ []) (ArrayIs IsPrefixAssertion (codes "prefixAssertions") d)
+    (λ attestations prefixes. record { attestations = attestations; prefixes = prefixes }) (IsAssertionPart One d)
+    (λ a b p q r. (p, q, r)) (λ c t. t.0) (λ c t. (c.attestations, t.1)) (λ c t. (c.prefixes, t.2))
+    (arrays_or_not _ d) empty_or_none (array_or_none IsPrefixAssertion prefix_assertion_or_none (codes "prefixAssertions") d)
+assertions_or_none Two d = both_parts (HasArrays (codes "aspaAssertions" ∷ codes "bgpsecAssertions" ∷ codes "prefixAssertions" ∷ []) d) (ArrayIs IsAssertion (codes "aspaAssertions") d)
+    (ArrayIs IsPrefixAssertion (codes "prefixAssertions") d)
+    (λ attestations prefixes. record { attestations = attestations; prefixes = prefixes }) (IsAssertionPart Two d)
+    (λ a b p q r. (p, q, r)) (λ c t. t.0) (λ c t. (c.attestations, t.1)) (λ c t. (c.prefixes, t.2))
+    (arrays_or_not _ d) (array_or_none IsAssertion assertion_or_none (codes "aspaAssertions") d) (array_or_none IsPrefixAssertion prefix_assertion_or_none (codes "prefixAssertions") d)
 
 member_by : {A : Type 0} (R : Data → A → Type 0) → ((d : Data) → SomeOrNone (R d)) → (name : List ℕ) (d : Data)
     → SomeOrNone (λ m. get name d ≡ Some m) → SomeOrNone (MemberIs R name d)
@@ -170,10 +222,10 @@ version_one : (tree : Data) (k : ℕ) (p : Bool) → number_at (codes "slurmVers
 version_one tree k true e f = inl (One, e ∙ ap (λ (n : ℕ). Some (unsigned n)) (eqb-true k 1 f))
 version_one tree k false e f = version_two tree k (eqb k 2) e (eqb-false k 1 f) refl
 
-not_negative : (z : _) (k : ℕ) → negative z ≡ unsigned k → ⊥
+pub not_negative : (z : _) (k : ℕ) → negative z ≡ unsigned k → ⊥
 not_negative z k e = cc
 
-not_float : (x : _) (k : ℕ) → float x ≡ unsigned k → ⊥
+pub not_float : (x : _) (k : ℕ) → float x ≡ unsigned k → ⊥
 not_float x k e = cc
 
 version_by : (tree : Data) → SomeOrNone (λ n. number_at (codes "slurmVersion") tree ≡ Some n)
@@ -185,39 +237,3 @@ version_by tree (inl (float x, e)) = inr (λ v h. not_float x _ (same_some _ (fl
 
 pub version_or_none : (tree : Data) → SomeOrNone (λ v. HasVersion v tree)
 version_or_none tree = version_by tree (found_or_none (number_at (codes "slurmVersion") tree))
-
--- ---- the numbers
-
-asn_by : (k : ℕ) (p : Bool) → ltb k (2 ^ 32) ≡ p → SomeOrNone (IsAsn (unsigned k))
-asn_by k true e = inl (k, (refl, ltb-true _ _ e))
-asn_by k false e = inr (λ x h. let same = unsigned_injective k x h.0 in let small = h.1 in let big = ltb-false _ _ e in absurd (omega arith))
-
-asn_or_none : (n : Num) → SomeOrNone (IsAsn n)
-asn_or_none (unsigned k) = asn_by k (ltb k (2 ^ 32)) refl
-asn_or_none (negative z) = inr (λ x h. not_negative z x h.0)
-asn_or_none (float y) = inr (λ x h. not_float y x h.0)
-
-attests_by : (a : Assertion) → SomeOrNone (IsAsn a.customer) → SomeOrNone (Each IsAsn a.providers) → SomeOrNone (Attests a)
-attests_by a (inr none) ns = inr (λ x h. none x.customer h.customer)
-attests_by a (inl n) (inr none) = inr (λ x h. none x.providers h.providers)
-attests_by a (inl n) (inl ns) = inl (record { customer = n.0; providers = ns.0 }, record { customer = n.1; providers = ns.1 })
-
-attests_or_none : (a : Assertion) → SomeOrNone (Attests a)
-attests_or_none a = attests_by a (asn_or_none a.customer) (each_or_none IsAsn asn_or_none a.providers)
-
-content_by : (form : Form) → SomeOrNone (Each IsAsn form.filters) → SomeOrNone (Each Attests form.assertions)
-    → SomeOrNone (IsContent form)
-content_by form (inr none) xs = inr (λ slurm h. none h.filters.asns h.filters.each)
-content_by form (inl ns) (inr none) = inr (λ slurm h. none h.assertions.attestations h.assertions.each)
-content_by form (inl ns) (inl xs) =
-    let u = some_union xs.0 in
-    inl (
-      record { filters = ascending_of ns.0; assertions = u.0 },
-      record {
-        filters = record { asns = ns.0; each = ns.1; is_set = some_set ns.0 };
-        assertions = record { attestations = xs.0; each = xs.1; united = u.1 };
-      },
-    )
-
-pub content_or_none : (form : Form) → SomeOrNone (IsContent form)
-content_or_none form = content_by form (each_or_none IsAsn asn_or_none form.filters) (each_or_none Attests attests_or_none form.assertions)

@@ -1,9 +1,10 @@
 -- Lists whose items each stand for something.
-use Rattle.std.proofs.Common.{◌≡◌, ℕ, zero, suc, ◌+◌, ◌<◌, List, [], ◌∷◌, ◌++◌, length, get_or, take, map, sym, arith, add-one, subst}
+use Rattle.std.proofs.Common.{◌≡◌, ℕ, zero, suc, ◌+◌, ◌<◌, ◌≤◌, List, [], ◌∷◌, ◌++◌, length, get_or, take, map, sym, arith, add-one, subst}
+use Rattle.std.proofs.lemmas.List.{take_all}
 use Rattle.slurm_rules.specs.Each.{Each}
 use Rattle.slurm_rules.specs.Answers.{Misses}
 use Rattle.slurm_rules.specs.declared.fault.SlurmFault.{SlurmFault}
-use Rattle.slurm_rules.specs.declared.fault.SlurmFault.TheVariants.{Json, Version, Member, Number, NoMemory}
+use Rattle.slurm_rules.specs.declared.fault.SlurmFault.TheVariants.{Json, Version, Member, Number, PrefixText, NoMemory}
 
 pub each_next : {D A V : Type 0} (R : D → A → Type 0) (look : V → D) (vs : List V) (i : ℕ) (v : V) (list : List A) (a : A)
     → i < length vs → Each R (map look (take i vs)) list → R (look (get_or vs i v)) a
@@ -36,6 +37,7 @@ misses_by cause P Q Member f h = (h.0, f h.1)
 misses_by cause P Q Json f h = (h.0, f h.1)
 misses_by cause P Q Version f h = (h.0, f h.1)
 misses_by cause P Q Number f h = (h.0, f h.1)
+misses_by cause P Q PrefixText f h = (h.0, f h.1)
 
 -- the step of a loop that reads each item and pushes what it stands for
 pub each_grown : {D A V : Type 0} (R : D → A → Type 0) (look : V → D) (vs : List V) (i : ℕ) (v : V) (old new : List A) (x : A)
@@ -43,3 +45,7 @@ pub each_grown : {D A V : Type 0} (R : D → A → Type 0) (look : V → D) (vs 
     → R (look v) x → new ≡ old ++ x ∷ [] → Each R (map look (take (i + 1) vs)) new
 each_grown {V = V} R look vs i v old new x h at each holds is =
     rw (is, add-one) (each_next R look vs i v old x h each (subst (λ (v : V). R (look v) x) at holds))
+
+-- the loop's end
+pub each_whole : {D A V : Type 0} (R : D → A → Type 0) (look : V → D) (vs : List V) (i : ℕ) (list : List A) → length vs ≤ i → Each R (map look (take i vs)) list → Each R (map look vs) list
+each_whole {V = V} R look vs i list all each = subst (λ (us : List V). Each R (map look us) list) (take_all i vs all) each

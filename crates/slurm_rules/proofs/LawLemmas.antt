@@ -1,5 +1,5 @@
 -- Each file has one reading.
-use Rattle.std.proofs.Common.{◌≡◌, ℕ, inl, inr, Bool, true, false, List, Option, Some, None, refl, sym, ap, subst}
+use Rattle.std.proofs.Common.{◌≡◌, ℕ, ◌⊎◌, inl, inr, Bool, true, false, List, Option, Some, None, refl, sym, ap, subst}
 use Rattle.std.proofs.Common.{arith}
 use Rattle.std.specs.Str.{is_utf8}
 use Rattle.std.proofs.lemmas.Str.{IsUtf8-from_is_utf8, is_utf8-from_IsUtf8}
@@ -9,16 +9,18 @@ use Rattle.serde_json.specs.Data.{Data, unsigned}
 use Rattle.serde_json.specs.Read.{read}
 use Rattle.av_base.specs.One.{HasOne}
 use Rattle.slurm_rules.specs.Form.{Form, IsFile}
-use Rattle.slurm_rules.specs.Numbers.{IsContent}
+use Rattle.slurm_rules.specs.Numbers.{HasAsns, IsContent}
 use Rattle.slurm_rules.specs.Reading.{IsTree, HasVersion, IsVersioned, IsFormed, IsReading}
 use Rattle.slurm_rules.specs.Laws.{EachFileHasOneReading}
 use Rattle.slurm_rules.specs.declared.slurm.Slurm.{Slurm}
 use Rattle.slurm_rules.specs.declared.draft.Version.{Version as SlurmVersion}
 use Rattle.slurm_rules.specs.declared.draft.Version.TheVariants.{One, Two}
 use Rattle.slurm_rules.specs.declared.fault.SlurmFault.{SlurmFault}
-use Rattle.slurm_rules.specs.declared.fault.SlurmFault.TheVariants.{Json, Version, Member, Number, NoMemory}
+use Rattle.slurm_rules.specs.declared.fault.SlurmFault.TheVariants.{Json, Version, Member, Number, PrefixText, NoMemory}
 use Rattle.slurm_rules.proofs.OneLemmas.{same_some, unsigned_injective, one_form, one_content}
-use Rattle.slurm_rules.proofs.DecideLemmas.{SomeOrNone, clash, none_found, version_or_none, file_or_none, content_or_none}
+use Rattle.any_prefix.proofs.DecideLemmas.{SomeOrNone}
+use Rattle.slurm_rules.proofs.ContentLemmas.{asns_or_not, content_asns, content_or_none}
+use Rattle.slurm_rules.proofs.DecideLemmas.{clash, none_found, version_or_none, file_or_none}
 
 -- ---- each step is determined
 
@@ -51,6 +53,7 @@ only_json bytes none (Err Json) h = refl
 only_json bytes none (Err Version) h = absurd (none h.0 h.1)
 only_json bytes none (Err Member) h = absurd (none h.1.0 h.1.1.parsed)
 only_json bytes none (Err Number) h = absurd (none h.1.tree h.1.versioned.parsed)
+only_json bytes none (Err PrefixText) h = absurd (none h.1.tree h.1.versioned.parsed)
 only_json bytes none (Err NoMemory) h = absurd h
 
 module _ (bytes : List ℕ) (t : Data) (tree : IsTree bytes t) where
@@ -64,6 +67,7 @@ module _ (bytes : List ℕ) (t : Data) (tree : IsTree bytes t) where
   only_version none (Err Version) h = refl
   only_version none (Err Member) h = absurd (no_version none h.0 h.1.0 h.1.1)
   only_version none (Err Number) h = absurd (no_version none h.1.version h.1.tree h.1.versioned)
+  only_version none (Err PrefixText) h = absurd (no_version none h.1.version h.1.tree h.1.versioned)
   only_version none (Err NoMemory) h = absurd h
 
   module _ (v : SlurmVersion) (version : HasVersion v t) where
@@ -82,6 +86,7 @@ module _ (bytes : List ℕ) (t : Data) (tree : IsTree bytes t) where
     only_member none (Err Version) h = absurd (has_version h.0 h.1 h.2)
     only_member none (Err Member) h = refl
     only_member none (Err Number) h = absurd (no_form none h.0 h.1)
+    only_member none (Err PrefixText) h = absurd (no_form none h.0 h.1)
     only_member none (Err NoMemory) h = absurd h
 
     module _ (f : Form) (file : IsFile v t f) where
@@ -94,28 +99,49 @@ module _ (bytes : List ℕ) (t : Data) (tree : IsTree bytes t) where
       same_form : (g : Form) → IsFormed bytes g → g ≡ f
       same_form g other = one_formed bytes g f other formed
 
-      only_number : ((s : Slurm) → IsContent f s → ⊥) → (r : Result Slurm SlurmFault) → IsReading bytes r → r ≡ Err Number
-      only_number none (Ok slurm) h = absurd (none slurm (subst (λ (g : Form). IsContent g slurm) (same_form h.form h.formed) h.content))
+      their_asns : (g : Form) → IsFormed bytes g → HasAsns g → HasAsns f
+      their_asns g other has = subst HasAsns (same_form g other) has
+
+      own_asns : (g : Form) → IsFormed bytes g → HasAsns f → HasAsns g
+      own_asns g other has = subst HasAsns (sym (same_form g other)) has
+
+      only_number : (HasAsns f → ⊥) → (r : Result Slurm SlurmFault) → IsReading bytes r → r ≡ Err Number
+      only_number none (Ok slurm) h = absurd (none (content_asns f slurm (subst (λ (g : Form). IsContent g slurm) (same_form h.form h.formed) h.content)))
       only_number none (Err Json) h = absurd (h t tree)
       only_number none (Err Version) h = absurd (has_version h.0 h.1 h.2)
       only_number none (Err Member) h = absurd (has_form h.0 h.1.0 h.1.1 h.1.2)
       only_number none (Err Number) h = refl
+      only_number none (Err PrefixText) h = absurd (none (their_asns h.0 h.1 h.2))
       only_number none (Err NoMemory) h = absurd h
+
+      only_prefix : HasAsns f → ((s : Slurm) → IsContent f s → ⊥) → (r : Result Slurm SlurmFault) → IsReading bytes r → r ≡ Err PrefixText
+      only_prefix has none (Ok slurm) h = absurd (none slurm (subst (λ (g : Form). IsContent g slurm) (same_form h.form h.formed) h.content))
+      only_prefix has none (Err Json) h = absurd (h t tree)
+      only_prefix has none (Err Version) h = absurd (has_version h.0 h.1 h.2)
+      only_prefix has none (Err Member) h = absurd (has_form h.0 h.1.0 h.1.1 h.1.2)
+      only_prefix has none (Err Number) h = absurd (h.2 (own_asns h.0 h.1 has))
+      only_prefix has none (Err PrefixText) h = refl
+      only_prefix has none (Err NoMemory) h = absurd h
 
       only_this : (s : Slurm) → IsContent f s → (r : Result Slurm SlurmFault) → IsReading bytes r → r ≡ Ok s
       only_this s is (Ok slurm) h = ap Ok (one_content f slurm s (subst (λ (g : Form). IsContent g slurm) (same_form h.form h.formed) h.content) is)
       only_this s is (Err Json) h = absurd (h t tree)
       only_this s is (Err Version) h = absurd (has_version h.0 h.1 h.2)
       only_this s is (Err Member) h = absurd (has_form h.0 h.1.0 h.1.1 h.1.2)
-      only_this s is (Err Number) h = absurd (h.2 s (subst (λ (g : Form). IsContent g s) (sym (same_form h.0 h.1)) is))
+      only_this s is (Err Number) h = absurd (h.2 (own_asns h.0 h.1 (content_asns f s is)))
+      only_this s is (Err PrefixText) h = absurd (h.3 s (subst (λ (g : Form). IsContent g s) (sym (same_form h.0 h.1)) is))
       only_this s is (Err NoMemory) h = absurd h
 
-      by_content : SomeOrNone (IsContent f) → HasOne (IsReading bytes)
-      by_content (inl s) = record { one = Ok s.0; is = record { form = f; formed = formed; content = s.1 }; only = only_this s.0 s.1 }
-      by_content (inr none) = record { one = Err Number; is = (f, formed, none); only = only_number none }
+      by_content : HasAsns f → SomeOrNone (IsContent f) → HasOne (IsReading bytes)
+      by_content has (inl s) = record { one = Ok s.0; is = record { form = f; formed = formed; content = s.1 }; only = only_this s.0 s.1 }
+      by_content has (inr none) = record { one = Err PrefixText; is = (f, formed, has, none); only = only_prefix has none }
+
+      by_asns : HasAsns f ⊎ (HasAsns f → ⊥) → HasOne (IsReading bytes)
+      by_asns (inl has) = by_content has (content_or_none f has)
+      by_asns (inr none) = record { one = Err Number; is = (f, formed, none); only = only_number none }
 
     by_file : SomeOrNone (IsFile v t) → HasOne (IsReading bytes)
-    by_file (inl f) = by_content f.0 f.1 (content_or_none f.0)
+    by_file (inl f) = by_asns f.0 f.1 (asns_or_not f.0)
     by_file (inr none) = record { one = Err Member; is = (v, (t, versioned, none)); only = only_member none }
 
   by_version : SomeOrNone (λ v. HasVersion v t) → HasOne (IsReading bytes)

@@ -1,3 +1,4 @@
+mod ContentLemmas
 mod DecideLemmas
 mod EachLemmas
 pub mod LawLemmas
@@ -7,5 +8,6 @@ mod ListsLemmas
 mod NumbersLemmas
 mod ObjectLemmas
 mod OneLemmas
+mod PrefixesLemmas
 mod TokensLemmas
 mod TurnsLemmas

@@ -9,7 +9,7 @@ use Rattle.std.specs.Ordering.{match_ordering}
 use Rattle.serde_json.specs.Data.{Data, null, boolean, number, string, array, object, Members, no_members, member, put}
 use Rattle.serde_json.specs.Find.{get, get_member, as_number, as_str, as_array, as_object}
 use Rattle.serde_json.proofs.Views.{get_member-put, get_member-put_other}
-use Rattle.slurm_rules.specs.Object.{number_at, array_at, may_have_text, is_text_if_there, is_among, names_of, has_only, list_of}
+use Rattle.slurm_rules.specs.Object.{if_there, number_at, array_at, may_have_text, is_text_if_there, is_among, names_of, has_only, list_of}
 
 pub list_any-map : {A B : Type 0} (p : B → Bool) (f : A → B) (xs : List A)
     → list_any (λ x. p (f x)) xs ≡ list_any p (map f xs)
@@ -58,6 +58,12 @@ text_same q k d ms e = sym (ap is_text_if_there (get_same q k d ms e))
 
 pub array_same : (q k : List ℕ) (d : Data) (ms : Members) → bytes_eq k q ≡ true → option_map list_of (as_array d) ≡ array_at q (object (put k d ms))
 array_same q k d ms e = sym (ap (λ g. option_map list_of (option_and_then as_array g)) (get_same q k d ms e))
+
+pub if_there_same : {A : Type 0} (of_kind : Data → Option A) (q k : List ℕ) (d : Data) (ms : Members) → bytes_eq k q ≡ true → option_map Some (of_kind d) ≡ if_there of_kind (get q (object (put k d ms)))
+if_there_same of_kind q k d ms e = sym (ap (if_there of_kind) (get_same q k d ms e))
+
+pub if_there_other : {A : Type 0} (of_kind : Data → Option A) (q k : List ℕ) (d : Data) (ms : Members) → bytes_eq k q ≡ false → if_there of_kind (get q (object ms)) ≡ if_there of_kind (get q (object (put k d ms)))
+if_there_other of_kind q k d ms e = sym (ap (if_there of_kind) (get_other q k d ms e))
 
 pub some_list : {A B : Type 0} (f : A → B) (o : Option A) → is_some o ≡ is_some (option_map f o)
 some_list f None = refl

@@ -1,17 +1,22 @@
 -- The form of a file: what its tree says, with numbers as the tree holds them. It is that of RFC 8416 (section 3), and in version 2 it has
 -- members for attestations, which are this project's profile.
-use Rattle.std.specs.Prelude.{◌≡◌, ℕ, List, [], ◌∷◌, true, codes, map, Vec}
+use Rattle.std.specs.Prelude.{◌≡◌, ℕ, List, [], ◌∷◌, true, ◌||◌, codes, is_some, map, option_map, Vec}
 use Rattle.std.specs.declared.alloc.Global.{Global}
+use Rattle.std.specs.declared.option.Option.{Option}
 use Rattle.std.specs.declared.option.Option.TheVariants.{Some}
 use Rattle.serde_json.specs.Data.{Num, Data}
 use Rattle.serde_json.specs.Find.{get, as_number}
 use Rattle.serde_json.specs.View.{number_view}
 use Rattle.serde_json.specs.declared.number.Number.{Number}
 use Rattle.slurm_rules.specs.Each.{Each}
-use Rattle.slurm_rules.specs.Object.{number_at, array_at, may_have_text, has_only, are_arrays}
+use Rattle.slurm_rules.specs.Object.{number_at, number_if_there, text_if_there, array_at, may_have_text, has_only, are_arrays}
 use Rattle.slurm_rules.specs.declared.draft.Version.{Version}
 use Rattle.slurm_rules.specs.declared.draft.Version.TheVariants.{One, Two}
 use Rattle.slurm_rules.specs.declared.draft.DraftAssertion.{DraftAssertion}
+use Rattle.slurm_rules.specs.declared.draft.DraftPrefixFilter.{DraftPrefixFilter}
+use Rattle.slurm_rules.specs.declared.draft.DraftPrefixAssertion.{DraftPrefixAssertion}
+use Rattle.slurm_rules.specs.declared.draft.DraftFilters.{DraftFilters}
+use Rattle.slurm_rules.specs.declared.draft.DraftAssertions.{DraftAssertions}
 use Rattle.slurm_rules.specs.declared.draft.Draft.{Draft}
 
 -- a customer and its providers, as numbers of the tree
@@ -19,10 +24,30 @@ pub record Assertion : Type 0 where
   pub customer : Num
   pub providers : List Num
 
--- the customers that are filtered out, and the assertions, each in the order of the file
+-- the text of a prefix and an AS, of which one may be absent
+pub record PrefixFilterText : Type 0 where
+  pub prefix : Option (List ℕ)
+  pub asn : Option Num
+
+-- the text of a prefix, an AS, and a maximum length, which may be absent
+pub record PrefixAssertionText : Type 0 where
+  pub prefix : List ℕ
+  pub asn : Num
+  pub max : Option Num
+
+-- the customers and the prefixes that are filtered out, each in the order of the file
+pub record Filters : Type 0 where
+  pub customers : List Num
+  pub prefixes : List PrefixFilterText
+
+-- the attestations and the prefixes that are asserted, likewise
+pub record Assertions : Type 0 where
+  pub attestations : List Assertion
+  pub prefixes : List PrefixAssertionText
+
 pub record Form : Type 0 where
-  pub filters : List Num
-  pub assertions : List Assertion
+  pub filters : Filters
+  pub assertions : Assertions
 
 abbrev pub IsNumber : Data → Num → Type 0
 IsNumber d n = as_number d ≡ Some n
@@ -42,6 +67,22 @@ pub record IsAssertion (d : Data) (assertion : Assertion) : Type 0 where
   pub numbers : Each IsNumber providers assertion.providers
   pub comment : may_have_text (codes "comment") d ≡ true
 
+-- an element of `prefixFilters`
+pub record IsPrefixFilter (d : Data) (filter : PrefixFilterText) : Type 0 where
+  pub only : has_only (codes "asn" ∷ codes "comment" ∷ codes "prefix" ∷ []) d ≡ true
+  pub prefix : text_if_there (codes "prefix") d ≡ Some filter.prefix
+  pub asn : number_if_there (codes "asn") d ≡ Some filter.asn
+  pub some : (is_some filter.prefix || is_some filter.asn) ≡ true
+  pub comment : may_have_text (codes "comment") d ≡ true
+
+-- an element of `prefixAssertions`
+pub record IsPrefixAssertion (d : Data) (assertion : PrefixAssertionText) : Type 0 where
+  pub only : has_only (codes "asn" ∷ codes "comment" ∷ codes "maxPrefixLength" ∷ codes "prefix" ∷ []) d ≡ true
+  pub prefix : text_if_there (codes "prefix") d ≡ Some (Some assertion.prefix)
+  pub asn : number_if_there (codes "asn") d ≡ Some (Some assertion.asn)
+  pub max : number_if_there (codes "maxPrefixLength") d ≡ Some assertion.max
+  pub comment : may_have_text (codes "comment") d ≡ true
+
 -- an object whose members are arrays, one of each of these names and no other
 pub record HasArrays (names : List (List ℕ)) (d : Data) : Type 0 where
   pub only : has_only names d ≡ true
@@ -53,17 +94,20 @@ pub record ArrayIs {A : Type 0} (R : Data → A → Type 0) (name : List ℕ) (d
   pub is : array_at name d ≡ Some items
   pub each : Each R items list
 
--- `validationOutputFilters`. The elements of `prefixFilters` and `bgpsecFilters` are passed over unread.
-abbrev pub IsFilterPart : Version → Data → List Num → Type 0
-IsFilterPart One d filters = HasArrays (codes "bgpsecFilters" ∷ codes "prefixFilters" ∷ []) d × (filters ≡ [])
+-- `validationOutputFilters`. The elements of `bgpsecFilters` are passed over unread.
+abbrev pub IsFilterPart : Version → Data → Filters → Type 0
+IsFilterPart One d filters = HasArrays (codes "bgpsecFilters" ∷ codes "prefixFilters" ∷ []) d × (filters.customers ≡ [])
+    × ArrayIs IsPrefixFilter (codes "prefixFilters") d filters.prefixes
 IsFilterPart Two d filters = HasArrays (codes "aspaFilters" ∷ codes "bgpsecFilters" ∷ codes "prefixFilters" ∷ []) d
-    × ArrayIs IsFilter (codes "aspaFilters") d filters
+    × ArrayIs IsFilter (codes "aspaFilters") d filters.customers × ArrayIs IsPrefixFilter (codes "prefixFilters") d filters.prefixes
 
 -- `locallyAddedAssertions`, likewise
-abbrev pub IsAssertionPart : Version → Data → List Assertion → Type 0
-IsAssertionPart One d assertions = HasArrays (codes "bgpsecAssertions" ∷ codes "prefixAssertions" ∷ []) d × (assertions ≡ [])
+abbrev pub IsAssertionPart : Version → Data → Assertions → Type 0
+IsAssertionPart One d assertions = HasArrays (codes "bgpsecAssertions" ∷ codes "prefixAssertions" ∷ []) d × (assertions.attestations ≡ [])
+    × ArrayIs IsPrefixAssertion (codes "prefixAssertions") d assertions.prefixes
 IsAssertionPart Two d assertions = HasArrays (codes "aspaAssertions" ∷ codes "bgpsecAssertions" ∷ codes "prefixAssertions" ∷ []) d
-    × ArrayIs IsAssertion (codes "aspaAssertions") d assertions
+    × ArrayIs IsAssertion (codes "aspaAssertions") d assertions.attestations
+    × ArrayIs IsPrefixAssertion (codes "prefixAssertions") d assertions.prefixes
 
 -- the member of this name is of that kind
 pub record MemberIs {A : Type 0} (R : Data → A → Type 0) (name : List ℕ) (d : Data) (value : A) : Type 0 where
@@ -87,5 +131,32 @@ numbers_view v = map number_view v.items
 abbrev pub drafts_view : Vec DraftAssertion Global → List Assertion
 drafts_view v = map assertion_view v.items
 
+abbrev pub numbers_kept : Option (Option Number) → Option (Option Num)
+numbers_kept kept = option_map (option_map number_view) kept
+
+abbrev pub text_view : Option (Vec ℕ Global) → Option (List ℕ)
+text_view text = option_map (λ v. v.items) text
+
+abbrev pub texts_kept : Option (Option (Vec ℕ Global)) → Option (Option (List ℕ))
+texts_kept kept = option_map text_view kept
+
+abbrev pub prefix_filter_view : DraftPrefixFilter → PrefixFilterText
+prefix_filter_view f = record { prefix = text_view f.prefix; asn = option_map number_view f.asn }
+
+abbrev pub prefix_filters_view : Vec DraftPrefixFilter Global → List PrefixFilterText
+prefix_filters_view v = map prefix_filter_view v.items
+
+abbrev pub prefix_assertion_view : DraftPrefixAssertion → PrefixAssertionText
+prefix_assertion_view a = record { prefix = a.prefix.items; asn = number_view a.asn; max = option_map number_view a.max }
+
+abbrev pub prefix_assertions_view : Vec DraftPrefixAssertion Global → List PrefixAssertionText
+prefix_assertions_view v = map prefix_assertion_view v.items
+
+abbrev pub filters_view : DraftFilters → Filters
+filters_view f = record { customers = map number_view f.customers.items; prefixes = map prefix_filter_view f.prefixes.items }
+
+abbrev pub added_view : DraftAssertions → Assertions
+added_view a = record { attestations = map assertion_view a.attestations.items; prefixes = map prefix_assertion_view a.prefixes.items }
+
 abbrev pub draft_view : Draft → Form
-draft_view d = record { filters = map number_view d.filters.items; assertions = map assertion_view d.assertions.items }
+draft_view d = record { filters = filters_view d.filters; assertions = added_view d.assertions }

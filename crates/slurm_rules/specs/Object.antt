@@ -23,6 +23,17 @@ items_at name d = option_and_then as_array (get name d)
 abbrev pub array_at : List ℕ → Data → Option (List Data)
 array_at name d = option_map list_of (items_at name d)
 
+-- What the member of this name is, of one kind: none where it is of another kind, and none of it where there is no member.
+abbrev pub if_there : {A : Type 0} → (Data → Option A) → Option Data → Option (Option A)
+if_there of_kind None = Some None
+if_there of_kind (Some d) = option_map Some (of_kind d)
+
+abbrev pub number_if_there : List ℕ → Data → Option (Option Num)
+number_if_there name d = if_there as_number (get name d)
+
+abbrev pub text_if_there : List ℕ → Data → Option (Option (List ℕ))
+text_if_there name d = if_there as_str (get name d)
+
 -- no member, or a text
 abbrev pub is_text_if_there : Option Data → Bool
 is_text_if_there None = true

@@ -7,12 +7,12 @@ use Rattle.serde_json.specs.Data.{Data, unsigned}
 use Rattle.serde_json.specs.Read.{read}
 use Rattle.slurm_rules.specs.Object.{number_at}
 use Rattle.slurm_rules.specs.Form.{Form, IsFile}
-use Rattle.slurm_rules.specs.Numbers.{IsContent}
+use Rattle.slurm_rules.specs.Numbers.{HasAsns, IsContent}
 use Rattle.slurm_rules.specs.declared.slurm.Slurm.{Slurm}
 use Rattle.slurm_rules.specs.declared.draft.Version.{Version}
 use Rattle.slurm_rules.specs.declared.draft.Version.TheVariants.{One, Two}
 use Rattle.slurm_rules.specs.declared.fault.SlurmFault.{SlurmFault}
-use Rattle.slurm_rules.specs.declared.fault.SlurmFault.TheVariants.{Json, Version as WrongVersion, Member, Number, NoMemory}
+use Rattle.slurm_rules.specs.declared.fault.SlurmFault.TheVariants.{Json, Version as WrongVersion, Member, Number, PrefixText, NoMemory}
 
 -- the tree that the bytes are, as JSON (RFC 8259)
 abbrev pub IsTree : List ℕ → Data → Type 0
@@ -44,7 +44,8 @@ IsRefused bytes Json = (tree : Data) → IsTree bytes tree → ⊥
 IsRefused bytes WrongVersion = (tree : Data) × IsTree bytes tree × ((version : Version) → HasVersion version tree → ⊥)
 IsRefused bytes Member =
     (version : Version) × ((tree : Data) × IsVersioned bytes version tree × ((form : Form) → IsFile version tree form → ⊥))
-IsRefused bytes Number = (form : Form) × IsFormed bytes form × ((slurm : Slurm) → IsContent form slurm → ⊥)
+IsRefused bytes Number = (form : Form) × IsFormed bytes form × (HasAsns form → ⊥)
+IsRefused bytes PrefixText = (form : Form) × IsFormed bytes form × HasAsns form × ((slurm : Slurm) → IsContent form slurm → ⊥)
 IsRefused bytes NoMemory = ⊥
 
 -- the file says this

@@ -60,42 +60,42 @@ IsOfText R text (Err fault) = MemoryOr fault ((fault ≡ Json) × (read text ≡
 
 abbrev pub kind_number : Kind → Option Num
 kind_number (Number n) = Some (number_view n)
-kind_number Text = None
+kind_number (Text text) = None
 kind_number Array = None
 kind_number Object = None
 kind_number Other = None
 
-abbrev pub is_text : Kind → Bool
-is_text (Number n) = false
-is_text Text = true
-is_text Array = false
-is_text Object = false
-is_text Other = false
+abbrev pub kind_text : Kind → Option (List ℕ)
+kind_text (Number n) = None
+kind_text (Text text) = Some text.now
+kind_text Array = None
+kind_text Object = None
+kind_text Other = None
 
 abbrev pub is_array : Kind → Bool
 is_array (Number n) = false
-is_array Text = false
+is_array (Text text) = false
 is_array Array = true
 is_array Object = false
 is_array Other = false
 
 abbrev pub is_object : Kind → Bool
 is_object (Number n) = false
-is_object Text = false
+is_object (Text text) = false
 is_object Array = false
 is_object Object = true
 is_object Other = false
 
 pub record KindIs (kind : Kind) (d : Data) : Type 0 where
   pub number : kind_number kind ≡ as_number d
-  pub text : is_text kind ≡ is_some (as_str d)
+  pub text : kind_text kind ≡ as_str d
   pub array : is_array kind ≡ is_some (as_array d)
   pub object : is_object kind ≡ is_some (as_object d)
 
 -- an opening bracket was taken, or a value
 abbrev pub OpensAs : Kind → ℕ → List Token → List Token → Type 0
 OpensAs (Number n) depth old new = (d : Data) × (value_in depth old ≡ Some (d, new)) × KindIs (Number n) d
-OpensAs Text depth old new = (d : Data) × (value_in depth old ≡ Some (d, new)) × KindIs Text d
+OpensAs (Text text) depth old new = (d : Data) × (value_in depth old ≡ Some (d, new)) × KindIs (Text text) d
 OpensAs Array depth old new = (old ≡ begin_array ∷ new) × (0 < depth)
 OpensAs Object depth old new = (old ≡ begin_object ∷ new) × (0 < depth)
 OpensAs Other depth old new = (d : Data) × (value_in depth old ≡ Some (d, new)) × KindIs Other d

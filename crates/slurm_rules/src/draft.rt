@@ -1,4 +1,4 @@
-//! The form of a file, with numbers as the tree holds them.
+//! The form of a file, with numbers as the tree holds them, and prefixes as they are written.
 use serde_json::Number;
 
 // The version of a file.
@@ -8,16 +8,45 @@ pub(crate) enum Version {
     Two,
 }
 
-// What a file says, with its numbers as the tree holds them.
+// What a file says.
 #[derive(Drop)]
 pub(crate) struct Draft {
-    pub(crate) filters: Vec<Number>,
-    pub(crate) assertions: Vec<DraftAssertion>,
+    pub(crate) filters: DraftFilters,
+    pub(crate) assertions: DraftAssertions,
 }
 
-// One assertion, likewise.
+// What is filtered out.
+#[derive(Drop)]
+pub(crate) struct DraftFilters {
+    pub(crate) customers: Vec<Number>,
+    pub(crate) prefixes: Vec<DraftPrefixFilter>,
+}
+
+// What is asserted.
+#[derive(Drop)]
+pub(crate) struct DraftAssertions {
+    pub(crate) attestations: Vec<DraftAssertion>,
+    pub(crate) prefixes: Vec<DraftPrefixAssertion>,
+}
+
+// One customer with its providers.
 #[derive(Drop)]
 pub(crate) struct DraftAssertion {
     pub(crate) customer: Number,
     pub(crate) providers: Vec<Number>,
+}
+
+// One prefix filter: the text of a prefix, an AS, or both.
+#[derive(Drop)]
+pub(crate) struct DraftPrefixFilter {
+    pub(crate) prefix: Option<Vec<u8>>,
+    pub(crate) asn: Option<Number>,
+}
+
+// One prefix assertion: the text of a prefix, an AS, and a maximum length, which may be absent.
+#[derive(Drop)]
+pub(crate) struct DraftPrefixAssertion {
+    pub(crate) prefix: Vec<u8>,
+    pub(crate) asn: Number,
+    pub(crate) max: Option<Number>,
 }

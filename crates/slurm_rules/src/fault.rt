@@ -21,6 +21,9 @@ pub enum SlurmFault {
     /// An AS number isn't a whole number from 0 to 4,294,967,295.
     #[error("no AS number")]
     Number,
+    /// Cause 42: a prefix is no text of a prefix, or a maximum length isn't a whole number from the prefix's length to 32 or 128.
+    #[error("no prefix")]
+    PrefixText,
     /// There was no memory.
     #[error("no memory")]
     NoMemory,

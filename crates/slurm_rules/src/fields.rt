@@ -1,10 +1,11 @@
 //! What is kept of an object: its members are read in order, and of those of one name the last counts.
-ghost use Rattle.std.specs.Prelude.{◌≡◌, None, is_some, map, option_map};
+ghost use Rattle.std.specs.Prelude.{◌≡◌, None, Some, IfOk, IfErr, is_some, map, option_map};
 ghost use Rattle.serde_json.specs.Data.{Data, Members, object, no_members, put};
 ghost use Rattle.serde_json.specs.Find.{as_object};
 ghost use Rattle.serde_json.specs.View.{number_view};
-ghost use Rattle.slurm_rules.specs.Object.{number_at, array_at, has_only, may_have_text};
-ghost use Rattle.slurm_rules.specs.Tokens.{KindIs, Takes, TakesObject};
+ghost use Rattle.slurm_rules.specs.Object.{number_at, number_if_there, text_if_there, array_at, has_only, may_have_text};
+ghost use Rattle.slurm_rules.specs.Form.{numbers_kept, texts_kept};
+ghost use Rattle.slurm_rules.specs.Tokens.{KindIs, Takes, TakesObject, kind_text};
 
 use crate::fault::SlurmFault;
 use crate::kind::Kind;
@@ -84,9 +85,9 @@ pub(crate) fn number_after(
     before: Option<Number>,
     wanted: &str,
     name: &str,
-    kind: Kind,
+    kind: Kind<'_>,
 ) -> Option<Number>
-    ensures { (d : Data) (ms : Members) → KindIs kind d
+    ensures { (d : Data) (ms : Members) → KindIs kind.entry d
         → option_map number_view before ≡ number_at wanted.now (object ms)
         → option_map number_view result ≡ number_at wanted.now (object (put name.now d ms)) }
 {
@@ -98,21 +99,76 @@ pub(crate) fn number_after(
 }
 
 // Whether the member of the wanted name is a text, if there is one, after one more member.
-pub(crate) fn text_after(before: bool, wanted: &str, name: &str, kind: Kind) -> bool
-    ensures { (d : Data) (ms : Members) → KindIs kind d
+pub(crate) fn text_after(before: bool, wanted: &str, name: &str, kind: Kind<'_>) -> bool
+    ensures { (d : Data) (ms : Members) → KindIs kind.entry d
         → before ≡ may_have_text wanted.now (object ms)
         → result ≡ may_have_text wanted.now (object (put name.now d ms)) }
 {
     if name == wanted {
-        kind.is_text()
+        kind.text().is_some()
     } else {
         before
     }
 }
 
+// The number that the member of the wanted name is, if it is there, after one more member: none where it is no number.
+pub(crate) fn number_if_there_after(
+    before: Option<Option<Number>>,
+    wanted: &str,
+    name: &str,
+    kind: Kind<'_>,
+) -> Option<Option<Number>>
+    ensures { (d : Data) (ms : Members) → KindIs kind.entry d
+        → numbers_kept before ≡ number_if_there wanted.now (object ms)
+        → numbers_kept result ≡ number_if_there wanted.now (object (put name.now d ms)) }
+{
+    if name == wanted {
+        match kind.number() {
+            Some(number) => Some(Some(number)),
+            None => None,
+        }
+    } else {
+        before
+    }
+}
+
+// The text that the member of the wanted name is, likewise.
+pub(crate) fn text_if_there_after(
+    alloc: Global,
+    before: Option<Option<Vec<u8>>>,
+    wanted: &str,
+    name: &str,
+    kind: Kind<'_>,
+) -> Result<Option<Option<Vec<u8>>>, SlurmFault>
+    ensures ok { IfOk result (λ r. (d : Data) (ms : Members) → KindIs kind.entry d
+        → texts_kept before ≡ text_if_there wanted.now (object ms)
+        → texts_kept r ≡ text_if_there wanted.now (object (put name.now d ms))) }
+    ensures err { IfErr result (λ e. e ≡ SlurmFault.NoMemory) }
+{
+    if name == wanted {
+        let text = kept_text(alloc, kind)?;
+        Ok(text)
+    } else {
+        Ok(before)
+    }
+}
+
+// A copy of a text's bytes, and none of another value.
+fn kept_text(alloc: Global, kind: Kind<'_>) -> Result<Option<Option<Vec<u8>>>, SlurmFault>
+    ensures ok { IfOk result (λ r. texts_kept r ≡ option_map Some (kind_text kind.entry)) }
+    ensures err { IfErr result (λ e. e ≡ SlurmFault.NoMemory) }
+{
+    let Some(text) = kind.text() else {
+        return Ok(None);
+    };
+    let mut bytes = Vec::new(alloc);
+    bytes.extend_from_slice(text.as_bytes())?;
+    Ok(Some(Some(bytes)))
+}
+
 // Whether the member of the wanted name is an array, after one more member.
-pub(crate) fn array_after(before: bool, wanted: &str, name: &str, kind: Kind) -> bool
-    ensures { (d : Data) (ms : Members) → KindIs kind d
+pub(crate) fn array_after(before: bool, wanted: &str, name: &str, kind: Kind<'_>) -> bool
+    ensures { (d : Data) (ms : Members) → KindIs kind.entry d
         → before ≡ is_some (array_at wanted.now (object ms))
         → result ≡ is_some (array_at wanted.now (object (put name.now d ms))) }
 {

@@ -1,23 +1,23 @@
 //! What a value is, for who passes it over.
 ghost use Rattle.std.specs.Prelude.{◌≡◌, option_map};
 ghost use Rattle.serde_json.specs.View.{number_view};
-ghost use Rattle.slurm_rules.specs.Tokens.{kind_number, is_text, is_array};
+ghost use Rattle.slurm_rules.specs.Tokens.{kind_number, kind_text, is_array};
 
 use serde_json::Number;
 
-// What a value is. Only of a number is kept what it holds.
+// What a value is. Only of a number and a text is kept what it holds.
 #[derive(Clone, Copy)]
-pub(crate) enum Kind {
+pub(crate) enum Kind<'a> {
     Number(Number),
-    Text,
+    Text(&'a str),
     Array,
     Object,
     Other,
 }
 
-impl Kind {
+impl<'a> Kind<'a> {
     pub(crate) fn number(self) -> Option<Number>
-        ensures { option_map number_view result ≡ kind_number self }
+        ensures { option_map number_view result ≡ kind_number self.entry }
     {
         match self {
             Kind::Number(number) => Some(number),
@@ -25,14 +25,17 @@ impl Kind {
         }
     }
 
-    pub(crate) fn is_text(self) -> bool
-        ensures { result ≡ is_text self }
+    pub(crate) fn text(self) -> Option<&'a str>
+        ensures { option_map (λ text. text.now) result ≡ kind_text self.entry }
     {
-        matches!(self, Kind::Text)
+        match self {
+            Kind::Text(text) => Some(text),
+            _ => None,
+        }
     }
 
     pub(crate) fn is_array(self) -> bool
-        ensures { result ≡ is_array self }
+        ensures { result ≡ is_array self.entry }
     {
         matches!(self, Kind::Array)
     }

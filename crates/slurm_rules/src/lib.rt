@@ -1,10 +1,10 @@
-//! SLURM files: an operator's filters and assertions over attestations, in the manner of RFC 8416.
+//! SLURM files: an operator's filters and assertions over attestations and ROA payloads, in the manner of RFC 8416.
 //!
 //! The layer above uses one contract: **[`read`] answers the reading of the file**, which is the filters and the assertions of a good
 //! one, or the first cause for which it is refused. Each file has exactly one reading (`laws`). The definitions speak of the tree that
 //! `serde_json` gives. No tree is built: the file is read from its tokens, what is passed over is dropped at once, and of the rest is
-//! kept what decides (`element`, `part`, `file`). First comes the form of the whole file and then its numbers, so that a wrong member
-//! anywhere comes before a wrong number anywhere.
+//! kept what decides (`element`, `prefix_element`, `part`, `file`). First comes the form of the whole file, then its numbers, and then its
+//! prefixes, so that a wrong member anywhere comes before a wrong number anywhere, and that before a wrong prefix.
 //!
 //! Begin with `specs/Reading.antt`, and then `specs/Form.antt` and `specs/Numbers.antt`; how tokens are taken is in `specs/Tokens.antt`.
 #![tactic(auto)]
@@ -22,6 +22,9 @@ mod numbers;
 mod numeral;
 mod part;
 mod passing;
+mod prefix_element;
+mod prefix_lists;
+mod prefixes;
 mod reading;
 mod slurm;
 

@@ -111,7 +111,10 @@ fn assertion_items(
 }
 
 // The list with one more item, where there are both.
-fn with<T: Drop>(list: Option<Vec<T>>, item: Option<T>) -> Result<Option<Vec<T>>, SlurmFault>
+pub(crate) fn with<T: Drop>(
+    list: Option<Vec<T>>,
+    item: Option<T>,
+) -> Result<Option<Vec<T>>, SlurmFault>
     ensures ok { IfOk result
         (λ r. option_map (λ v. v.items) r ≡ joined (option_map (λ v. v.items) list) item) }
     ensures err { IfErr result (λ e. e ≡ OutOfMemory) }

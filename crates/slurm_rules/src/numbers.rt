@@ -1,13 +1,14 @@
-//! The numbers of a form, and what they come to.
-ghost use Rattle.std.specs.Prelude.{◌≡◌, map, Some, None, IfSome, IfNone};
+//! The numbers of a form, and what the form comes to.
+ghost use Rattle.std.specs.Prelude.{◌≡◌, map, option_map, Some, None, IfSome, IfNone};
 ghost use Rattle.serde_json.specs.View.{number_view};
 ghost use Rattle.slurm_rules.specs.Each.{Each};
 ghost use Rattle.slurm_rules.specs.Answers.{Finds, Reads};
-ghost use Rattle.slurm_rules.specs.Form.{assertion_view, draft_view};
-ghost use Rattle.slurm_rules.specs.Numbers.{IsAsn, Attests, AreAssertions, IsContent, attested_view};
+ghost use Rattle.slurm_rules.specs.Form.{assertion_view, draft_view, prefix_assertion_view, prefix_filter_view};
+ghost use Rattle.slurm_rules.specs.Numbers.{AreAssertions, Attests, ContentIs, HasAssertedAsn, HasFilteredAsn, IsAsn, IsAsnIfThere, IsOfAny, attested_view};
 
-use crate::draft::{Draft, DraftAssertion};
+use crate::draft::{Draft, DraftAssertion, DraftPrefixAssertion, DraftPrefixFilter};
 use crate::fault::SlurmFault;
+use crate::prefixes::{read_prefix_assertions, read_prefix_filters};
 use crate::slurm::Slurm;
 use path_model::{AsList, Gathered, Rows};
 use serde_json::Number;
@@ -20,16 +21,62 @@ pub(crate) struct Attested {
     pub(crate) providers: AsList,
 }
 
-// Reads all numbers of a form.
+// Reads all numbers of a form, and then its prefixes.
 pub(crate) fn read_content(alloc: Global, draft: &Draft) -> Result<Slurm, SlurmFault>
-    ensures { Finds SlurmFault.Number result (IsContent (draft_view draft.now)) }
+    ensures { ContentIs (draft_view draft.now) result }
 {
-    let filters = read_asns(alloc, &draft.filters)?;
-    let assertions = read_assertions(alloc, &draft.assertions)?;
+    let filters = read_asns(alloc, &draft.filters.customers)?;
+    let assertions = read_assertions(alloc, &draft.assertions.attestations)?;
+    if !are_filtered_asns(&draft.filters.prefixes) {
+        return Err(SlurmFault::Number);
+    }
+    if !are_asserted_asns(&draft.assertions.prefixes) {
+        return Err(SlurmFault::Number);
+    }
+    let prefix_filters = read_prefix_filters(alloc, &draft.filters.prefixes)?;
+    let prefix_assertions = read_prefix_assertions(alloc, &draft.assertions.prefixes)?;
     Ok(Slurm {
         filters: filters.into_set(),
         assertions,
+        prefix_filters,
+        prefix_assertions,
     })
+}
+
+// Whether the ASes of prefix filters are AS numbers, where they are there.
+fn are_filtered_asns(filters: &[DraftPrefixFilter]) -> bool
+    ensures { IsOfAny result (Each HasFilteredAsn (map prefix_filter_view filters.now)) }
+{
+    for filter in filters {
+        let Some(_asn) = read_asn_if_there(filter.asn) else {
+            return false;
+        };
+    }
+    true
+}
+
+// Whether the ASes of prefix assertions are AS numbers.
+fn are_asserted_asns(assertions: &[DraftPrefixAssertion]) -> bool
+    ensures { IsOfAny result (Each HasAssertedAsn (map prefix_assertion_view assertions.now)) }
+{
+    for assertion in assertions {
+        let Some(_asn) = read_asn(&assertion.asn) else {
+            return false;
+        };
+    }
+    true
+}
+
+// An AS number, if one is there.
+pub(crate) fn read_asn_if_there(number: Option<Number>) -> Option<Option<u32>>
+    ensures some { IfSome result (IsAsnIfThere (option_map number_view number)) }
+    ensures none { IfNone result ((x : _) → IsAsnIfThere (option_map number_view number) x → ⊥) }
+{
+    let Some(number) = number else {
+        return Some(None);
+    };
+    let asn = read_asn(&number)?;
+    Some(Some(asn))
 }
 
 // What the assertions attest, united per customer.
@@ -71,7 +118,7 @@ fn read_asns(alloc: Global, numbers: &[Number]) -> Result<AsList, SlurmFault>
 }
 
 // An AS number.
-fn read_asn(number: &Number) -> Option<u32>
+pub(crate) fn read_asn(number: &Number) -> Option<u32>
     ensures some { IfSome result (IsAsn (number_view number.now)) }
     ensures none { IfNone result ((x : _) → IsAsn (number_view number.now) x → ⊥) }
 {

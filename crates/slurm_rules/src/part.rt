@@ -2,15 +2,18 @@
 ghost use Rattle.std.specs.Prelude.{◌≡◌, ℕ, List, None};
 ghost use Rattle.serde_json.specs.Data.{Data};
 ghost use Rattle.serde_json.specs.Find.{as_object, get};
-ghost use Rattle.slurm_rules.specs.Form.{IsFilterPart, IsAssertionPart, MemberIs, drafts_view, numbers_view};
+ghost use Rattle.slurm_rules.specs.Form.{IsFilterPart, IsAssertionPart, MemberIs, added_view, filters_view};
 ghost use Rattle.slurm_rules.specs.Kept.{AssertionPartAt, AssertionPartIs, FilterPartAt, FilterPartIs};
 ghost use Rattle.slurm_rules.specs.Tokens.{Holds};
 
-use crate::draft::{DraftAssertion, Version};
+use crate::draft::{
+    DraftAssertion, DraftAssertions, DraftFilters, DraftPrefixAssertion, DraftPrefixFilter, Version,
+};
 use crate::fault::SlurmFault;
 use crate::fields::{Fields, array_after, only_after};
 use crate::lists::{read_assertions, read_filters};
 use crate::passing::pass;
+use crate::prefix_lists::{read_prefix_assertions, read_prefix_filters};
 use json::Reader;
 use serde_json::Number;
 use std::alloc::Global;
@@ -23,8 +26,8 @@ pub(crate) struct FilterPart {
     // those that version 2 lists
     two: bool,
     bgpsec: bool,
-    prefix: bool,
-    filters: Option<Vec<Number>>,
+    prefixes: Option<Vec<DraftPrefixFilter>>,
+    customers: Option<Vec<Number>>,
 }
 
 impl Fields for FilterPart {
@@ -35,8 +38,8 @@ impl Fields for FilterPart {
             one: true,
             two: true,
             bgpsec: false,
-            prefix: false,
-            filters: None,
+            prefixes: None,
+            customers: None,
         }
     }
 
@@ -58,24 +61,33 @@ impl Fields for FilterPart {
             name,
         );
         if name == "aspaFilters" {
-            let filters = read_filters(alloc, reader, depth)?;
+            let customers = read_filters(alloc, reader, depth)?;
             return Ok(FilterPart {
                 one,
                 two,
                 bgpsec: self.bgpsec,
-                prefix: self.prefix,
-                filters,
+                prefixes: self.prefixes,
+                customers,
+            });
+        }
+        if name == "prefixFilters" {
+            let prefixes = read_prefix_filters(alloc, reader, depth)?;
+            return Ok(FilterPart {
+                one,
+                two,
+                bgpsec: self.bgpsec,
+                prefixes,
+                customers: self.customers,
             });
         }
         let kind = pass(reader, depth)?;
         let bgpsec = array_after(self.bgpsec, "bgpsecFilters", name, kind);
-        let prefix = array_after(self.prefix, "prefixFilters", name, kind);
         Ok(FilterPart {
             one,
             two,
             bgpsec,
-            prefix,
-            filters: self.filters,
+            prefixes: self.prefixes,
+            customers: self.customers,
         })
     }
 }
@@ -90,26 +102,68 @@ impl FilterPart {
             one: false,
             two: false,
             bgpsec: false,
-            prefix: false,
-            filters: None,
+            prefixes: None,
+            customers: None,
         }
     }
 
     // The filters, where this is a part of this version.
-    pub(crate) fn into_filters(self, alloc: Global, version: Version) -> Option<Vec<Number>>
+    pub(crate) fn into_filters(self, alloc: Global, version: Version) -> Option<DraftFilters>
         ensures { (name : List ℕ) (d : Data) → FilterPartAt self (get name d)
-            → Holds numbers_view result (MemberIs (IsFilterPart version) name d) }
+            → Holds filters_view result (MemberIs (IsFilterPart version) name d) }
     {
         match version {
-            Version::One => {
-                let good = self.one && self.bgpsec && self.prefix;
-                if good { Some(Vec::new(alloc)) } else { None }
-            }
-            Version::Two => {
-                let good = self.two && self.bgpsec && self.prefix;
-                if good { self.filters } else { None }
-            }
+            Version::One => self.of_one(alloc),
+            Version::Two => self.of_two(),
         }
+    }
+
+    fn of_one(self, alloc: Global) -> Option<DraftFilters>
+        ensures { (name : List ℕ) (d : Data) → FilterPartAt self (get name d)
+            → Holds filters_view result (MemberIs (IsFilterPart Version.One) name d) }
+    {
+        let FilterPart {
+            one,
+            bgpsec,
+            prefixes,
+            ..
+        } = self;
+        if !one || !bgpsec {
+            return None;
+        }
+        let Some(prefixes) = prefixes else {
+            return None;
+        };
+        Some(DraftFilters {
+            customers: Vec::new(alloc),
+            prefixes,
+        })
+    }
+
+    fn of_two(self) -> Option<DraftFilters>
+        ensures { (name : List ℕ) (d : Data) → FilterPartAt self (get name d)
+            → Holds filters_view result (MemberIs (IsFilterPart Version.Two) name d) }
+    {
+        let FilterPart {
+            two,
+            bgpsec,
+            prefixes,
+            customers,
+            ..
+        } = self;
+        if !two || !bgpsec {
+            return None;
+        }
+        let Some(prefixes) = prefixes else {
+            return None;
+        };
+        let Some(customers) = customers else {
+            return None;
+        };
+        Some(DraftFilters {
+            customers,
+            prefixes,
+        })
     }
 }
 
@@ -121,8 +175,8 @@ pub(crate) struct AssertionPart {
     // those that version 2 lists
     two: bool,
     bgpsec: bool,
-    prefix: bool,
-    assertions: Option<Vec<DraftAssertion>>,
+    prefixes: Option<Vec<DraftPrefixAssertion>>,
+    attestations: Option<Vec<DraftAssertion>>,
 }
 
 impl Fields for AssertionPart {
@@ -133,8 +187,8 @@ impl Fields for AssertionPart {
             one: true,
             two: true,
             bgpsec: false,
-            prefix: false,
-            assertions: None,
+            prefixes: None,
+            attestations: None,
         }
     }
 
@@ -156,24 +210,33 @@ impl Fields for AssertionPart {
             name,
         );
         if name == "aspaAssertions" {
-            let assertions = read_assertions(alloc, reader, depth)?;
+            let attestations = read_assertions(alloc, reader, depth)?;
             return Ok(AssertionPart {
                 one,
                 two,
                 bgpsec: self.bgpsec,
-                prefix: self.prefix,
-                assertions,
+                prefixes: self.prefixes,
+                attestations,
+            });
+        }
+        if name == "prefixAssertions" {
+            let prefixes = read_prefix_assertions(alloc, reader, depth)?;
+            return Ok(AssertionPart {
+                one,
+                two,
+                bgpsec: self.bgpsec,
+                prefixes,
+                attestations: self.attestations,
             });
         }
         let kind = pass(reader, depth)?;
         let bgpsec = array_after(self.bgpsec, "bgpsecAssertions", name, kind);
-        let prefix = array_after(self.prefix, "prefixAssertions", name, kind);
         Ok(AssertionPart {
             one,
             two,
             bgpsec,
-            prefix,
-            assertions: self.assertions,
+            prefixes: self.prefixes,
+            attestations: self.attestations,
         })
     }
 }
@@ -188,29 +251,67 @@ impl AssertionPart {
             one: false,
             two: false,
             bgpsec: false,
-            prefix: false,
-            assertions: None,
+            prefixes: None,
+            attestations: None,
         }
     }
 
     // The assertions, where this is a part of this version.
-    pub(crate) fn into_assertions(
-        self,
-        alloc: Global,
-        version: Version,
-    ) -> Option<Vec<DraftAssertion>>
+    pub(crate) fn into_assertions(self, alloc: Global, version: Version) -> Option<DraftAssertions>
         ensures { (name : List ℕ) (d : Data) → AssertionPartAt self (get name d)
-            → Holds drafts_view result (MemberIs (IsAssertionPart version) name d) }
+            → Holds added_view result (MemberIs (IsAssertionPart version) name d) }
     {
         match version {
-            Version::One => {
-                let good = self.one && self.bgpsec && self.prefix;
-                if good { Some(Vec::new(alloc)) } else { None }
-            }
-            Version::Two => {
-                let good = self.two && self.bgpsec && self.prefix;
-                if good { self.assertions } else { None }
-            }
+            Version::One => self.of_one(alloc),
+            Version::Two => self.of_two(),
         }
+    }
+
+    fn of_one(self, alloc: Global) -> Option<DraftAssertions>
+        ensures { (name : List ℕ) (d : Data) → AssertionPartAt self (get name d)
+            → Holds added_view result (MemberIs (IsAssertionPart Version.One) name d) }
+    {
+        let AssertionPart {
+            one,
+            bgpsec,
+            prefixes,
+            ..
+        } = self;
+        if !one || !bgpsec {
+            return None;
+        }
+        let Some(prefixes) = prefixes else {
+            return None;
+        };
+        Some(DraftAssertions {
+            attestations: Vec::new(alloc),
+            prefixes,
+        })
+    }
+
+    fn of_two(self) -> Option<DraftAssertions>
+        ensures { (name : List ℕ) (d : Data) → AssertionPartAt self (get name d)
+            → Holds added_view result (MemberIs (IsAssertionPart Version.Two) name d) }
+    {
+        let AssertionPart {
+            two,
+            bgpsec,
+            prefixes,
+            attestations,
+            ..
+        } = self;
+        if !two || !bgpsec {
+            return None;
+        }
+        let Some(prefixes) = prefixes else {
+            return None;
+        };
+        let Some(attestations) = attestations else {
+            return None;
+        };
+        Some(DraftAssertions {
+            attestations,
+            prefixes,
+        })
     }
 }

@@ -8,12 +8,12 @@ use crate::numeral::read_number;
 use json::{Reader, Token};
 
 // What the next value is. Of an array and an object the opening bracket alone is taken.
-pub(crate) fn open(reader: &mut Reader<'_>, depth: usize) -> Result<Kind, SlurmFault>
+pub(crate) fn open<'a>(reader: &mut Reader<'a>, depth: usize) -> Result<Kind<'a>, SlurmFault>
     ensures { Opens depth reader.old reader.new result }
 {
     let token = reader.next().ok_or(SlurmFault::Json)?;
     match token {
-        Token::String(_) => Ok(Kind::Text),
+        Token::String(text) => Ok(Kind::Text(text)),
         Token::Number(text) => match read_number(text) {
             Some(number) => Ok(Kind::Number(number)),
             None => Err(SlurmFault::Json),
@@ -36,7 +36,7 @@ pub(crate) fn open(reader: &mut Reader<'_>, depth: usize) -> Result<Kind, SlurmF
 
 // Passes a value over, and tells what it was.
 #[cycle(pass)]
-pub(crate) fn pass(reader: &mut Reader<'_>, depth: usize) -> Result<Kind, SlurmFault>
+pub(crate) fn pass<'a>(reader: &mut Reader<'a>, depth: usize) -> Result<Kind<'a>, SlurmFault>
     ensures { Takes KindIs depth reader.old reader.new result }
 {
     let kind = open(reader, depth)?;

@@ -22,7 +22,7 @@ pub returns-in-String : goal.returns-in-String
 returns-in-String c =
     let first : c.args.reader.now ≡ token_of c.in_ok-token.token ∷ c.next.new.self = grind arith in
     let is = first ∙ ap (λ k. token_of k ∷ c.next.new.self) c.in-String.is in
-    (string c.in-String.field-0.now, text_first c.args.depth c.args.reader.now c.next.new.self c.in-String.field-0.now is, record { number = refl; text = refl; array = refl; object = refl })
+    (string c.in-String.text.now, text_first c.args.depth c.args.reader.now c.next.new.self c.in-String.text.now is, record { number = refl; text = refl; array = refl; object = refl })
 
 pub returns-in-Some : goal.returns-in-Some
 returns-in-Some c =
