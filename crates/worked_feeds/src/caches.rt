@@ -32,7 +32,7 @@ fn pdu(alloc: Global, sent: Sent) -> Pdu {
             serial: 1,
         },
         Sent::Response => Pdu::CacheResponse { session: 7 },
-        Sent::Passed => Pdu::Passed { kind: 4 },
+        Sent::Passed => Pdu::Passed { kind: 9 },
         Sent::End => Pdu::EndOfData {
             session: 7,
             serial: 1,

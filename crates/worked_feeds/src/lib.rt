@@ -1,12 +1,16 @@
 //! Tests of router feeds: the PDUs of an RPKI cache, the router's side of a session, and the cache's.
 //!
-//! Each table has its expected values worked out by hand. `pdus` reads and writes PDUs, `sessions` plays an RPKI cache, and
-//! `caches` plays routers.
+//! Each table has its expected values worked out by hand. `pdus` and `prefix_pdus` read and write PDUs, `sessions` and `answers` play an
+//! RPKI cache, and `caches` plays routers.
 #![tactic(auto)]
 
+#[cfg(test)]
+mod answers;
 #[cfg(test)]
 mod caches;
 #[cfg(test)]
 mod pdus;
+#[cfg(test)]
+mod prefix_pdus;
 #[cfg(test)]
 mod sessions;

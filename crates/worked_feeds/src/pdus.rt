@@ -2,7 +2,7 @@
 ghost use Rattle.std.specs.Prelude.{◌<◌, ◌≤◌, length};
 
 use av_base::NoMemory;
-use path_model::AsList;
+use path_model::{Addr, AsList};
 use rtr_pdu::{Framer, Pdu, PduFault, write};
 use std::alloc::Global;
 use std::test::Fail;
@@ -15,11 +15,14 @@ pub const STREAM: [u8; 48] = [
 
 // What a PDU says; of an announcement how many providers it has, and their sum.
 #[derive(Clone, Copy, Debug, PartialEq, Eq)]
-enum Said {
+pub(crate) enum Said {
     Notify(u16, u32),
     SerialQuery(u16, u32),
     ResetQuery,
     CacheResponse(u16),
+    // whether it announces, the address, the prefix's length, the maximum, the AS
+    Four(bool, u32, u8, u8, u32),
+    Six(bool, u128, u8, u8, u32),
     Passed(u8),
     EndOfData(u16, u32),
     CacheReset,
@@ -30,7 +33,7 @@ enum Said {
 
 // What a framer answers, and the report on a refusal.
 #[derive(Clone, Copy, Debug, PartialEq, Eq)]
-enum Answer {
+pub(crate) enum Answer {
     Nothing,
     Unit(Said),
     Refused(PduFault, Option<u16>),
@@ -51,6 +54,13 @@ fn said_by(pdu: &Pdu) -> Said {
         Pdu::SerialQuery { session, serial } => Said::SerialQuery(*session, *serial),
         Pdu::ResetQuery => Said::ResetQuery,
         Pdu::CacheResponse { session } => Said::CacheResponse(*session),
+        Pdu::Prefix { announce, vrp } => {
+            let prefix = vrp.prefix();
+            match prefix.addr() {
+                Addr::V4(bits) => Said::Four(*announce, bits, prefix.len(), vrp.max(), vrp.asn()),
+                Addr::V6(bits) => Said::Six(*announce, bits, prefix.len(), vrp.max(), vrp.asn()),
+            }
+        }
         Pdu::Passed { kind } => Said::Passed(*kind),
         Pdu::EndOfData { session, serial } => Said::EndOfData(*session, *serial),
         Pdu::CacheReset => Said::CacheReset,
@@ -69,7 +79,8 @@ fn said_by(pdu: &Pdu) -> Said {
     }
 }
 
-fn next(framer: &mut Framer) -> Answer {
+// What the next unit is.
+pub(crate) fn next(framer: &mut Framer) -> Answer {
     match framer.next() {
         Ok(None) => Answer::Nothing,
         Ok(Some(pdu)) => Answer::Unit(said_by(&pdu)),
@@ -77,6 +88,7 @@ fn next(framer: &mut Framer) -> Answer {
         Err(PduFault::PduLength) => Answer::Refused(PduFault::PduLength, framer.report()),
         Err(PduFault::PduType) => Answer::Refused(PduFault::PduType, framer.report()),
         Err(PduFault::NoProviders) => Answer::Refused(PduFault::NoProviders, framer.report()),
+        Err(PduFault::PrefixRecord) => Answer::Refused(PduFault::PrefixRecord, framer.report()),
         Err(PduFault::NoMemory) => Answer::NoMemory,
     }
 }
@@ -93,9 +105,10 @@ const UNITS: [(&[u8], Said); 14] = [
     (&[2, 3, 1, 0, 0, 0, 0, 8], Said::CacheResponse(256)),
     (
         &[
-            2, 4, 0, 0, 0, 0, 0, 20, 1, 24, 24, 0, 198, 51, 100, 0, 0, 0, 0xFB, 0xF4,
+            2, 9, 0, 0, 0, 0, 0, 32, 0, 0, 0, 0, 0, 0, 0, 0, 0, 0, 0, 0, 0, 0, 0, 0, 0, 0, 0, 0, 0,
+            0, 0, 0,
         ],
-        Said::Passed(4),
+        Said::Passed(9),
     ),
     (&[2, 8, 0, 0, 0, 0, 0, 8], Said::CacheReset),
     // An Error Report with a copy of two bytes and a text of one.
@@ -278,7 +291,7 @@ fn the_units_are_the_same_in_any_pieces(rt: HostRuntime) -> Result<(), NoMemory>
 }
 
 // The bytes of a PDU other than an ASPA PDU, or `None` where there is no memory.
-fn written(alloc: Global, pdu: &Pdu) -> Option<Vec<u8>> {
+pub(crate) fn written(alloc: Global, pdu: &Pdu) -> Option<Vec<u8>> {
     let mut out = Vec::new(alloc);
     match pdu {
         Pdu::Passed { .. } => None,

@@ -1,15 +1,14 @@
-//! The client of a cache: each PDU in each phase, and what answers make of the rows.
-use crate::pdus::STREAM;
+//! The client of a cache: each PDU in each phase.
 use av_base::NoMemory;
-use path_model::{AsList, Patch, Rows};
-use rtr_pdu::{Framer, Pdu, PduFault};
+use origin_model::Vrp;
+use path_model::{Addr, AsList, Prefix};
+use rtr_pdu::Pdu;
 use rtr_session::{Act, Delta, Ending, Phase, Query, Session};
 use std::alloc::Global;
-use std::test::Fail;
 
 // A PDU of session 7, which the session is in from its first answer on, or of session 8.
 #[derive(Clone, Copy, Debug, PartialEq, Eq)]
-enum Sent {
+pub(crate) enum Sent {
     Notify(u16),
     SerialQuery,
     ResetQuery,
@@ -24,19 +23,34 @@ enum Sent {
     Withdraw,
     // 64499, which never has one, withdraws it
     WithdrawUnknown,
+    // the payload of AS 64500 is announced
+    AnnouncePrefix,
+    // that of AS 64496, which is there where the answer has changes, is withdrawn
+    WithdrawPrefix,
+    // one of AS 64496 with another maximum, which never is there, is withdrawn
+    WithdrawUnknownPrefix,
 }
 
-// What is done; of rows and patches how many customers they name.
+// What is done; of rows and patches how many customers they name, and how many payloads there are then.
 #[derive(Clone, Copy, Debug, PartialEq, Eq)]
-enum Did {
+pub(crate) enum Did {
     Nothing,
     AskedAll,
-    Whole(usize),
-    Part(usize),
+    Whole(usize, usize),
+    Part(usize, usize),
     End(Ending),
 }
 
-fn pdu(alloc: Global, sent: Sent) -> Result<Pdu, NoMemory> {
+// A prefix PDU of 198.51.100.0/24.
+pub(crate) fn prefix(announce: bool, max: u8, asn: u32) -> Pdu {
+    let prefix = Prefix::new(Addr::V4(0xC633_6400), 24);
+    match prefix.and_then(|prefix| Vrp::new(prefix, max, asn)) {
+        Some(vrp) => Pdu::Prefix { announce, vrp },
+        None => Pdu::CacheReset,
+    }
+}
+
+pub(crate) fn pdu(alloc: Global, sent: Sent) -> Result<Pdu, NoMemory> {
     Ok(match sent {
         Sent::Notify(session) => Pdu::Notify { session, serial: 9 },
         Sent::SerialQuery => Pdu::SerialQuery {
@@ -45,17 +59,20 @@ fn pdu(alloc: Global, sent: Sent) -> Result<Pdu, NoMemory> {
         },
         Sent::ResetQuery => Pdu::ResetQuery,
         Sent::Response(session) => Pdu::CacheResponse { session },
-        Sent::Passed => Pdu::Passed { kind: 4 },
+        Sent::Passed => Pdu::Passed { kind: 9 },
         Sent::End(session) => Pdu::EndOfData { session, serial: 2 },
         Sent::Reset => Pdu::CacheReset,
         Sent::Report => Pdu::ErrorReport { code: 2 },
         Sent::Announce => aspa(alloc, 64_500, &[64_501])?,
         Sent::Withdraw => withdrawal(alloc, 64_496),
         Sent::WithdrawUnknown => withdrawal(alloc, 64_499),
+        Sent::AnnouncePrefix => prefix(true, 24, 64_500),
+        Sent::WithdrawPrefix => prefix(false, 24, 64_496),
+        Sent::WithdrawUnknownPrefix => prefix(false, 25, 64_496),
     })
 }
 
-fn aspa(alloc: Global, customer: u32, providers: &[u32]) -> Result<Pdu, NoMemory> {
+pub(crate) fn aspa(alloc: Global, customer: u32, providers: &[u32]) -> Result<Pdu, NoMemory> {
     Ok(Pdu::Aspa {
         announce: true,
         customer,
@@ -63,7 +80,7 @@ fn aspa(alloc: Global, customer: u32, providers: &[u32]) -> Result<Pdu, NoMemory
     })
 }
 
-fn withdrawal(alloc: Global, customer: u32) -> Pdu {
+pub(crate) fn withdrawal(alloc: Global, customer: u32) -> Pdu {
     Pdu::Aspa {
         announce: false,
         customer,
@@ -72,7 +89,7 @@ fn withdrawal(alloc: Global, customer: u32) -> Pdu {
 }
 
 // Takes a PDU, unless the session is over.
-fn take(session: Session, pdu: Pdu) -> Result<(Session, Act), NoMemory> {
+pub(crate) fn take(session: Session, pdu: Pdu) -> Result<(Session, Act), NoMemory> {
     match session.phase() {
         Phase::Over => Ok((session, Act::Nothing)),
         Phase::Fresh => session.on(pdu),
@@ -84,12 +101,12 @@ fn take(session: Session, pdu: Pdu) -> Result<(Session, Act), NoMemory> {
     }
 }
 
-fn after(alloc: Global, session: Session, sent: Sent) -> Result<Session, NoMemory> {
+pub(crate) fn after(alloc: Global, session: Session, sent: Sent) -> Result<Session, NoMemory> {
     let (session, _) = take(session, pdu(alloc, sent)?)?;
     Ok(session)
 }
 
-fn asked(session: Session) -> Session {
+pub(crate) fn asked(session: Session) -> Session {
     let (session, _) = session.ask();
     session
 }
@@ -97,11 +114,12 @@ fn asked(session: Session) -> Session {
 fn ready(alloc: Global) -> Result<Session, NoMemory> {
     let session = after(alloc, asked(Session::new(alloc)), Sent::Response(7))?;
     let (session, _) = take(session, aspa(alloc, 64_496, &[64_497])?)?;
+    let (session, _) = take(session, prefix(true, 24, 64_496))?;
     after(alloc, session, Sent::End(7))
 }
 
-// A session in a phase. In Ready and behind it 64496 has a row.
-fn in_phase(alloc: Global, phase: Phase) -> Result<Session, NoMemory> {
+// A session in a phase. In Ready and behind it 64496 has a row and a payload.
+pub(crate) fn in_phase(alloc: Global, phase: Phase) -> Result<Session, NoMemory> {
     match phase {
         Phase::Fresh => Ok(Session::new(alloc)),
         Phase::AskedWhole => Ok(asked(Session::new(alloc))),
@@ -113,12 +131,16 @@ fn in_phase(alloc: Global, phase: Phase) -> Result<Session, NoMemory> {
     }
 }
 
-fn done_by(act: &Act) -> Did {
+pub(crate) fn done_by(act: &Act) -> Did {
     match act {
         Act::Nothing => Did::Nothing,
         Act::Send(_) => Did::AskedAll,
-        Act::Apply(Delta::Whole(rows)) => Did::Whole(rows.entries().count()),
-        Act::Apply(Delta::Part(patch)) => Did::Part(patch.entries().count()),
+        Act::Apply(Delta::Whole(rows, payloads)) => {
+            Did::Whole(rows.entries().count(), payloads.entries().count())
+        }
+        Act::Apply(Delta::Part(patch, payloads)) => {
+            Did::Part(patch.entries().count(), payloads.entries().count())
+        }
         Act::End(ending) => Did::End(*ending),
     }
 }
@@ -143,7 +165,7 @@ const UNKNOWN: Did = Did::End(Ending::UnknownWithdrawal);
 const REPORTED: Did = Did::End(Ending::PeerReported);
 
 // What each PDU does in each of the phases, in their order.
-const TABLE: [(Sent, [Did; 6]); 14] = [
+const TABLE: [(Sent, [Did; 6]); 17] = [
     (Sent::Notify(7), [SAME, SAME, SAME, SAME, SAME, SAME]),
     (Sent::Notify(8), [SAME, SAME, SAME, SAME, SAME, CHANGED]),
     (Sent::SerialQuery, [UNEXPECTED; 6]),
@@ -168,8 +190,8 @@ const TABLE: [(Sent, [Did; 6]); 14] = [
             UNEXPECTED,
             UNEXPECTED,
             UNEXPECTED,
-            Did::Whole(0),
-            Did::Part(0),
+            Did::Whole(0, 0),
+            Did::Part(0, 1),
             UNEXPECTED,
         ],
     ),
@@ -208,6 +230,23 @@ const TABLE: [(Sent, [Did; 6]); 14] = [
             UNEXPECTED, UNEXPECTED, UNEXPECTED, UNKNOWN, UNKNOWN, UNEXPECTED,
         ],
     ),
+    (
+        Sent::AnnouncePrefix,
+        [UNEXPECTED, UNEXPECTED, UNEXPECTED, SAME, SAME, UNEXPECTED],
+    ),
+    // Nor does a whole answer begin with payloads.
+    (
+        Sent::WithdrawPrefix,
+        [
+            UNEXPECTED, UNEXPECTED, UNEXPECTED, UNKNOWN, SAME, UNEXPECTED,
+        ],
+    ),
+    (
+        Sent::WithdrawUnknownPrefix,
+        [
+            UNEXPECTED, UNEXPECTED, UNEXPECTED, UNKNOWN, UNKNOWN, UNEXPECTED,
+        ],
+    ),
 ];
 
 // The phase behind an act, where the session isn't over.
@@ -215,8 +254,8 @@ fn phase_behind(phase: Phase, sent: Sent, did: Did) -> Phase {
     match did {
         Did::End(_) => Phase::Over,
         Did::AskedAll => Phase::AskedWhole,
-        Did::Whole(_) => Phase::Ready,
-        Did::Part(_) => Phase::Ready,
+        Did::Whole(..) => Phase::Ready,
+        Did::Part(..) => Phase::Ready,
         Did::Nothing => match sent {
             Sent::Response(_) => phase_behind_response(phase),
             _ => phase,
@@ -262,120 +301,6 @@ fn asks_in_two_phases_alone(rt: HostRuntime) -> Result<(), NoMemory> {
         };
         let (_, query) = in_phase(alloc, phase)?.ask();
         assert_eq!(rt; query, expected);
-    }
-    Ok(())
-}
-
-// The providers of a customer, or `None` where it has no row.
-fn row(rows: &Rows, customer: u32) -> Option<&[u32]> {
-    match rows.row(customer) {
-        Some(row) => Some(row.as_slice()),
-        None => None,
-    }
-}
-
-#[test]
-fn a_whole_answer_gives_all_rows(rt: HostRuntime) -> Result<(), Fail> {
-    let alloc = rt.alloc();
-    let mut session = in_phase(alloc, Phase::AskedWhole)?;
-    let mut framer = Framer::new(alloc).feed(&STREAM)?;
-    for _ in 0..2 {
-        if let Ok(Some(pdu)) = framer.next() {
-            let (next, act) = take(session, pdu)?;
-            assert_eq!(rt; done_by(&act), Did::Nothing);
-            session = next;
-        }
-    }
-    let (session, act) = take(session, pdu(alloc, Sent::End(7))?)?;
-    assert_eq!(rt; session.phase(), Phase::Ready);
-    match &act {
-        Act::Apply(Delta::Whole(rows)) => {
-            assert_eq!(rt; rows.entries().count(), 1);
-            assert_eq!(rt; row(rows, 64_496), Some([64_497u32].as_slice()));
-        }
-        _ => assert!(rt; false),
-    }
-    Ok(())
-}
-
-// The customers 1 to 1000 announce the next AS each, and the last of them 300 providers.
-#[test]
-fn a_thousand_rows(rt: HostRuntime) -> Result<(), Fail> {
-    let alloc = rt.alloc();
-    let mut session = in_phase(alloc, Phase::ReceivingWhole)?;
-    for customer in 1..=1_000u32 {
-        let (next, _) = take(session, aspa(alloc, customer, &[customer + 1])?)?;
-        session = next;
-    }
-    let mut providers = [0u32; 300];
-    for (place, provider) in providers.iter_mut().enumerate() {
-        *provider = place as u32;
-    }
-    let (session, _) = take(session, aspa(alloc, 1_000, &providers)?)?;
-    let (_, act) = take(session, pdu(alloc, Sent::End(7))?)?;
-    match &act {
-        Act::Apply(Delta::Whole(rows)) => {
-            assert_eq!(rt; rows.entries().count(), 1_000);
-            assert_eq!(rt; row(rows, 999), Some([1_000u32].as_slice()));
-            // 0 is none of them.
-            let last = row(rows, 1_000).unwrap_or(&[]);
-            assert_eq!(rt;
-                (last.len(), last.first(), last.last()),
-                (299, Some(&1), Some(&299))
-            );
-        }
-        _ => assert!(rt; false),
-    }
-    Ok(())
-}
-
-// The first provider of a row, and how many it has.
-fn first_and_count(row: &Option<AsList>) -> Option<(u32, usize)> {
-    match row {
-        Some(row) => Some((row.get(0).unwrap_or(0), row.len())),
-        None => None,
-    }
-}
-
-// What a patch says of its customers: each with its first provider and how many it has.
-fn named(alloc: Global, patch: &Patch) -> Result<Vec<(u32, Option<(u32, usize)>)>, NoMemory> {
-    let mut named = Vec::new(alloc);
-    for (customer, row) in patch.entries() {
-        named.push((customer, first_and_count(row)))?;
-    }
-    Ok(named)
-}
-
-// 64496 is withdrawn, 64500 has 3 and 5 at last, 64501 attests that it has no provider, 64502 comes and goes.
-#[test]
-fn an_answer_with_changes_gives_those_named(rt: HostRuntime) -> Result<(), Fail> {
-    let alloc = rt.alloc();
-    let mut session = in_phase(alloc, Phase::ReceivingChanges)?;
-    let pdus = [
-        withdrawal(alloc, 64_496),
-        aspa(alloc, 64_500, &[9])?,
-        aspa(alloc, 64_500, &[5, 0, 3, 5])?,
-        aspa(alloc, 64_501, &[0])?,
-        aspa(alloc, 64_502, &[1])?,
-        withdrawal(alloc, 64_502),
-    ];
-    for pdu in pdus {
-        let (next, act) = take(session, pdu)?;
-        assert_eq!(rt; done_by(&act), Did::Nothing);
-        session = next;
-    }
-    let (_, act) = take(session, pdu(alloc, Sent::End(7))?)?;
-    match &act {
-        Act::Apply(Delta::Part(patch)) => {
-            let expected = [
-                (64_496, None),
-                (64_500, Some((3, 2))),
-                (64_501, Some((0, 0))),
-                (64_502, None),
-            ];
-            assert_eq!(rt; named(alloc, patch)?.as_slice(), expected.as_slice());
-        }
-        _ => assert!(rt; false),
     }
     Ok(())
 }

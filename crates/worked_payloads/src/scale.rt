@@ -140,6 +140,7 @@ fn reads_a_thousand_filters_and_assertions(rt: HostRuntime) -> Result<(), NoMemo
         Slurm {
             filters,
             assertions,
+            ..
         },
     ) = slurm_rules::read(alloc, &file)
     else {

@@ -1,4 +1,6 @@
 //! SLURM files: good ones, refused ones, and cut ones.
+use origin_model::Vrp;
+use path_model::{Addr, Prefix};
 use slurm_rules::{Slurm, SlurmFault, read};
 use std::alloc::Global;
 
@@ -9,9 +11,9 @@ const FILE: &[u8] =
 fn with(alloc: Global, filters: &[u8], assertions: &[u8]) -> Option<Result<Slurm, SlurmFault>> {
     let mut bytes = Vec::new(alloc);
     let parts: [&[u8]; 5] = [
-        b"{\"locallyAddedAssertions\":{\"prefixAssertions\":[1,\"x\"],\"bgpsecAssertions\":[null],\"aspaAssertions\":[",
+        b"{\"locallyAddedAssertions\":{\"prefixAssertions\":[{\"asn\":1,\"prefix\":\"::/0\"}],\"bgpsecAssertions\":[null],\"aspaAssertions\":[",
         assertions,
-        b"]},\"slurmVersion\":2,\"validationOutputFilters\":{\"prefixFilters\":[{}],\"bgpsecFilters\":[[]],\"aspaFilters\":[",
+        b"]},\"slurmVersion\":2,\"validationOutputFilters\":{\"prefixFilters\":[{\"asn\":1}],\"bgpsecFilters\":[[]],\"aspaFilters\":[",
         filters,
         b"]}}",
     ];
@@ -154,5 +156,211 @@ fn a_cut_slurm_file_is_no_json(rt: HostRuntime) {
     for length in 0..FILE.len() {
         let (front, _) = FILE.split_at(length);
         assert_eq!(rt; fault_of(read(rt.alloc(), front)), Some(SlurmFault::Json));
+    }
+}
+
+// A file of version 1 with these elements.
+fn with_prefixes(
+    alloc: Global,
+    filters: &[u8],
+    assertions: &[u8],
+) -> Option<Result<Slurm, SlurmFault>> {
+    let mut bytes = Vec::new(alloc);
+    let parts: [&[u8]; 5] = [
+        b"{\"slurmVersion\":1,\"validationOutputFilters\":{\"prefixFilters\":[",
+        filters,
+        b"],\"bgpsecFilters\":[1]},\"locallyAddedAssertions\":{\"bgpsecAssertions\":[],\"prefixAssertions\":[",
+        assertions,
+        b"]}}",
+    ];
+    for part in parts {
+        if bytes.extend_from_slice(part).is_err() {
+            return None;
+        }
+    }
+    Some(read(alloc, &bytes))
+}
+
+// How many prefix filters and prefix assertions a file has.
+fn counts(file: Option<Result<Slurm, SlurmFault>>) -> Option<(usize, usize)> {
+    let slurm = file?.ok()?;
+    Some((
+        slurm.prefix_filters.iter().count(),
+        slurm.prefix_assertions.entries().count(),
+    ))
+}
+
+// Whether a file asserts a payload.
+fn asserts(
+    file: Option<Result<Slurm, SlurmFault>>,
+    addr: Addr,
+    len: u8,
+    max: u8,
+    asn: u32,
+) -> Option<bool> {
+    let slurm = file?.ok()?;
+    let vrp = Vrp::new(Prefix::new(addr, len)?, max, asn)?;
+    Some(slurm.prefix_assertions.contains(&vrp))
+}
+
+// Whether a file's filters hit a payload.
+fn hits(file: Option<Result<Slurm, SlurmFault>>, addr: Addr, len: u8, asn: u32) -> Option<bool> {
+    let slurm = file?.ok()?;
+    let vrp = Vrp::new(Prefix::new(addr, len)?, len, asn)?;
+    Some(slurm.prefix_filters.hit(&vrp))
+}
+
+const NET: Addr = Addr::V4(0xC633_6400);
+
+const DOC: Addr = Addr::V6(0x2001_0DB8 << 96);
+
+#[test]
+fn reads_prefix_assertions(rt: HostRuntime) {
+    let alloc = rt.alloc();
+    let one: &[u8] = b"{\"asn\":64500,\"prefix\":\"198.51.100.0/24\"}";
+    // Where no maximum is written it is the prefix's length.
+    assert_eq!(rt;
+        asserts(with_prefixes(alloc, b"", one), NET, 24, 24, 64_500),
+        Some(true)
+    );
+    assert_eq!(rt;
+        asserts(with_prefixes(alloc, b"", one), NET, 24, 25, 64_500),
+        Some(false)
+    );
+    let six: &[u8] =
+        b"{\"comment\":\"\",\"maxPrefixLength\":128,\"prefix\":\"2001:DB8::/32\",\"asn\":0},{\"maxPrefixLength\":128,\"prefix\":\"2001:0db8:0:0:0:0:0:0/32\",\"asn\":0}";
+    assert_eq!(rt;
+        asserts(with_prefixes(alloc, b"", six), DOC, 32, 128, 0),
+        Some(true)
+    );
+    // One payload in two spellings is one.
+    assert_eq!(rt; counts(with_prefixes(alloc, b"", six)), Some((0, 1)));
+    // What is escaped is read as what it stands for.
+    let escaped: &[u8] = b"{\"asn\":1,\"prefix\":\"198.51.100.0\\/24\"}";
+    assert_eq!(rt;
+        asserts(with_prefixes(alloc, b"", escaped), NET, 24, 24, 1),
+        Some(true)
+    );
+}
+
+#[test]
+fn reads_prefix_filters(rt: HostRuntime) {
+    let alloc = rt.alloc();
+    let by_asn: &[u8] = b"{\"asn\":64500}";
+    assert_eq!(rt;
+        hits(with_prefixes(alloc, by_asn, b""), NET, 24, 64_500),
+        Some(true)
+    );
+    assert_eq!(rt;
+        hits(with_prefixes(alloc, by_asn, b""), NET, 24, 64_501),
+        Some(false)
+    );
+    let by_prefix: &[u8] = b"{\"prefix\":\"198.51.0.0/16\",\"comment\":\"x\"}";
+    assert_eq!(rt;
+        hits(with_prefixes(alloc, by_prefix, b""), NET, 24, 1),
+        Some(true)
+    );
+    assert_eq!(rt;
+        hits(with_prefixes(alloc, by_prefix, b""), NET, 8, 1),
+        Some(false)
+    );
+    let by_both: &[u8] = b"{\"asn\":1,\"prefix\":\"198.51.0.0/16\"},{\"asn\":3},{\"asn\":3}";
+    assert_eq!(rt;
+        hits(with_prefixes(alloc, by_both, b""), NET, 24, 2),
+        Some(false)
+    );
+    assert_eq!(rt;
+        hits(with_prefixes(alloc, by_both, b""), NET, 24, 1),
+        Some(true)
+    );
+    assert_eq!(rt; counts(with_prefixes(alloc, by_both, b"")), Some((3, 0)));
+    // A filter isn't an assertion.
+    assert_eq!(rt;
+        asserts(with_prefixes(alloc, by_both, b""), NET, 24, 24, 1),
+        Some(false)
+    );
+}
+
+#[test]
+fn refuses_prefixes_by_the_first_cause(rt: HostRuntime) {
+    let alloc = rt.alloc();
+    let table: [(&[u8], &[u8], SlurmFault); 22] = [
+        (b"{}", b"", SlurmFault::Member),
+        (b"{\"comment\":\"x\"}", b"", SlurmFault::Member),
+        (b"1", b"", SlurmFault::Member),
+        (b"{\"asn\":\"1\"}", b"", SlurmFault::Member),
+        (b"{\"prefix\":1}", b"", SlurmFault::Member),
+        (
+            b"{\"asn\":1,\"maxPrefixLength\":1}",
+            b"",
+            SlurmFault::Member,
+        ),
+        (b"{\"asn\":1,\"comment\":null}", b"", SlurmFault::Member),
+        (b"", b"{\"asn\":1}", SlurmFault::Member),
+        (b"", b"{\"prefix\":\"::/0\"}", SlurmFault::Member),
+        (
+            b"",
+            b"{\"asn\":1,\"prefix\":\"::/0\",\"maxPrefixLength\":\"24\"}",
+            SlurmFault::Member,
+        ),
+        (
+            b"",
+            b"{\"asn\":1,\"prefix\":\"::/0\",\"x\":1}",
+            SlurmFault::Member,
+        ),
+        (b"", b"[]", SlurmFault::Member),
+        (b"{\"asn\":4294967296}", b"", SlurmFault::Number),
+        (
+            b"",
+            b"{\"asn\":1.0,\"prefix\":\"::/0\"}",
+            SlurmFault::Number,
+        ),
+        // A wrong number anywhere comes before a wrong prefix anywhere, and a wrong member before both.
+        (
+            b"{\"prefix\":\"x\"}",
+            b"{\"asn\":-1,\"prefix\":\"y\"}",
+            SlurmFault::Number,
+        ),
+        (
+            b"{\"prefix\":\"x\",\"asn\":1.5}",
+            b"{\"asn\":1,\"prefix\":null}",
+            SlurmFault::Member,
+        ),
+        (
+            b"{\"prefix\":\"198.51.100.1/24\"}",
+            b"",
+            SlurmFault::PrefixText,
+        ),
+        (
+            b"",
+            b"{\"asn\":1,\"prefix\":\"198.51.100.1/24\"}",
+            SlurmFault::PrefixText,
+        ),
+        (
+            b"",
+            b"{\"asn\":1,\"prefix\":\"1::2::/64\"}",
+            SlurmFault::PrefixText,
+        ),
+        (
+            b"",
+            b"{\"asn\":1,\"prefix\":\"198.51.100.0/24\",\"maxPrefixLength\":23}",
+            SlurmFault::PrefixText,
+        ),
+        (
+            b"",
+            b"{\"asn\":1,\"prefix\":\"198.51.100.0/24\",\"maxPrefixLength\":33}",
+            SlurmFault::PrefixText,
+        ),
+        (
+            b"",
+            b"{\"asn\":1,\"prefix\":\"198.51.100.0/24\",\"maxPrefixLength\":24.0}",
+            SlurmFault::PrefixText,
+        ),
+    ];
+    for (filters, assertions, fault) in table {
+        match with_prefixes(alloc, filters, assertions) {
+            None => assert!(rt; false),
+            Some(file) => assert_eq!(rt; fault_of(file), Some(fault)),
+        }
     }
 }
