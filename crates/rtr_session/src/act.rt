@@ -20,7 +20,7 @@ pub enum Phase {
     ReceivingWhole,
     /// The cache answers with what changed.
     ReceivingChanges,
-    /// The rows are those of the cache's serial.
+    /// The rows and the payloads are those of the cache's serial.
     Ready,
     /// The session ended.
     Over,
