@@ -2,4 +2,5 @@ pub mod ChangeLemmas
 pub mod CoverLemmas
 pub mod LawLemmas
 pub mod PayloadLemmas
+pub mod SaidLemmas
 pub mod StateLemmas

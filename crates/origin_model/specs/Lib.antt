@@ -4,4 +4,5 @@ pub mod Laws
 pub mod OriginState
 pub mod PrefixFilter
 pub mod Vrp
+pub mod VrpChanges
 pub mod VrpSet

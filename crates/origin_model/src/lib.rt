@@ -3,7 +3,8 @@
 //!
 //! The crate keeps no routes. The layers above use its definitions: which payloads are current (`specs/Current.antt`) and which state a
 //! route has by them (`specs/OriginState.antt`); and their laws, each the contract of a function of `laws`. It also has what those layers
-//! hold: [`VrpSet`], a set of payloads in their order, in which those of one prefix are found by a look-up, and [`PrefixFilters`].
+//! hold: [`VrpSet`], a set of payloads in their order, in which those of one prefix are found by a look-up; [`VrpChanges`], what was said of
+//! payloads since some moment; and [`PrefixFilters`].
 //! Begin reading in `specs/OriginState.antt`.
 #![tactic(auto)]
 
@@ -12,6 +13,7 @@ mod laws;
 mod origin_state;
 mod prefix_filter;
 mod vrp;
+mod vrp_changes;
 mod vrp_entries;
 mod vrp_set;
 
@@ -23,5 +25,6 @@ pub use laws::{
 pub use origin_state::{OriginState, origin_of};
 pub use prefix_filter::{PrefixFilter, PrefixFilters};
 pub use vrp::Vrp;
+pub use vrp_changes::{VrpChangeEntries, VrpChanges};
 pub use vrp_entries::VrpEntries;
 pub use vrp_set::VrpSet;
