@@ -5,16 +5,17 @@ use Rattle.std.specs.declared.cmp.Ordering.TheVariants.{Less, Equal, Greater}
 use Rattle.std.specs.declared.option.Option.{Option}
 use Rattle.std.specs.declared.option.Option.TheVariants.{Some, None}
 use Rattle.std.specs.BTreeMap.{insert_entry, is_at}
-use Rattle.std.specs.BTreeSet.{insert_key}
+use Rattle.std.specs.BTreeSet.{BTreeSet, insert_key}
 use Rattle.std.specs.Map.{lookup}
 use Rattle.std.specs.Option.{unwrap_or}
 use Rattle.std.specs.Ordering.{is_eq, match_ordering}
 use Rattle.std.specs.Set.{remove_key}
 use Rattle.std.specs.List.Sorted.{IsStrictlySortedBy}
-use Rattle.origin_model.specs.Vrp.{Payload, payload_cmp}
+use Rattle.std.proofs.lemmas.Map.Lookups.{btree_set_from_contains}
+use Rattle.origin_model.specs.Vrp.{Payload, payload_cmp, payload_total}
 use Rattle.origin_model.specs.VrpChanges.{Patches, said}
 use Rattle.origin_model.specs.VrpSet.{has}
-use Rattle.origin_model.proofs.ChangeLemmas.{has_inserted, removed_itself, removed_other}
+use Rattle.origin_model.proofs.ChangeLemmas.{has_inserted, removed_itself, removed_other, sorted_inserted, sorted_removed}
 use Rattle.origin_model.proofs.PayloadLemmas.{payload_exact, payload_itself, same_payload}
 
 again : {X : Type 0} (b : Bool) (x y z : X) → cond b x z ≡ cond b x (cond b y z)
@@ -61,27 +62,36 @@ or_said : (b : Bool) (s : Option Bool) (had now : Bool) → now ≡ unwrap_or s 
 or_said true s had now is = refl
 or_said false s had now is = is
 
-pub patches_none : (before : List Payload) → Patches [] before before
-patches_none before = record { members = λ v. refl }
+pub patches_none : (before : List Payload) → IsStrictlySortedBy payload_cmp before → Patches [] before before
+patches_none before sorted = record { in_order = sorted; members = λ v. refl }
 
 pub patches_announced : (cs : List (Payload × Bool)) (before now : List Payload) (v : Payload) → Patches cs before now
     → Patches (insert_entry payload_cmp cs v true) before (insert_key payload_cmp now v)
 patches_announced cs before now v patches = record {
+  in_order = sorted_inserted v now patches.in_order;
   members = λ q. has_inserted v q now
       ∙ or_said (is_at (payload_cmp q) v) (said cs q) (has before q) (has now q) (patches.members q)
       ∙ ap (λ (o : Option Bool). unwrap_or o (has before q)) (sym (said_inserted v q true cs));
 }
 
-pub patches_withdrawn : (cs : List (Payload × Bool)) (before now : List Payload) (v : Payload) → IsStrictlySortedBy payload_cmp now → Patches cs before now
+pub patches_withdrawn : (cs : List (Payload × Bool)) (before now : List Payload) (v : Payload) → Patches cs before now
     → Patches (insert_entry payload_cmp cs v false) before (remove_key (is_at (payload_cmp v)) now)
-patches_withdrawn cs before now v sorted patches = record { members = λ q. by q (is_at (payload_cmp q) v) refl } where
+patches_withdrawn cs before now v patches = record { in_order = sorted_removed (is_at (payload_cmp v)) now patches.in_order; members = λ q. by q (is_at (payload_cmp q) v) refl } where
   by : (q : Payload) (b : Bool) → is_at (payload_cmp q) v ≡ b
       → has (remove_key (is_at (payload_cmp v)) now) q ≡ unwrap_or (said (insert_entry payload_cmp cs v false) q) (has before q)
   by q true is =
       let same : q ≡ v = same_payload q v is in
       subst (λ (x : Payload). has (remove_key (is_at (payload_cmp v)) now) x ≡ unwrap_or (said (insert_entry payload_cmp cs v false) x) (has before x)) (sym same)
-      (removed_itself v now sorted ∙ ap (λ (o : Option Bool). unwrap_or o (has before v)) (sym (said_itself v false cs)))
+      (removed_itself v now patches.in_order ∙ ap (λ (o : Option Bool). unwrap_or o (has before v)) (sym (said_itself v false cs)))
   by q false is =
       let other : v ≡ q → ⊥ = (λ e. true≢false (sym (subst (λ (x : Payload). is_at (payload_cmp q) x ≡ true) (sym e) (payload_itself q)) ∙ is)) in
       removed_other v q now other ∙ patches.members q
       ∙ ap (λ (o : Option Bool). unwrap_or o (has before q)) (sym (said_other v q false cs other))
+
+abbrev set_of : List Payload → BTreeSet Payload
+set_of payloads = record { keys = payloads }
+
+-- what they make of payloads is one set
+pub one_set : (changes : List (Payload × Bool)) (before one other : List Payload) → Patches changes before one → Patches changes before other → one ≡ other
+one_set changes before one other a b =
+    btree_set_from_contains payload_total (set_of one) (set_of other) a.in_order b.in_order (λ v. a.members v ∙ sym (b.members v)) payload_exact

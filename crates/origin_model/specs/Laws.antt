@@ -1,5 +1,5 @@
 -- Laws of states and of covering, each the contract of a public function of the module `laws`.
-use Rattle.std.specs.Prelude.{◌≡◌, ◌≤◌, true, ◌⊎◌, []}
+use Rattle.std.specs.Prelude.{◌≡◌, ◌≤◌, true, Bool, ◌⊎◌, List, []}
 use Rattle.av_base.specs.One.{HasOne}
 use Rattle.path_model.specs.declared.key.Key.{Key}
 use Rattle.path_model.specs.Prefix.{Subnet, IsSubnet, bits_of}
@@ -9,6 +9,7 @@ use Rattle.origin_model.specs.Covering.{Covers}
 use Rattle.origin_model.specs.Current.{Parts, IsCurrent}
 use Rattle.origin_model.specs.OriginState.{Covering, IsStateOf}
 use Rattle.origin_model.specs.Vrp.{Payload}
+use Rattle.origin_model.specs.VrpChanges.{Patches}
 
 -- each route has exactly one state
 abbrev pub EachRouteHasOneState : Type 0
@@ -40,3 +41,7 @@ pub record CoveringIsAnOrder : Type 0 where
   pub between : (p q r : Subnet) → Covers p r → Covers q r → p.len ≤ q.len → Covers p q
   pub only : (p q : Subnet) → IsSubnet q → Covers p q → Covers q p → p ≡ q
   pub family : (p q : Subnet) → Covers p q → bits_of p.addr ≡ bits_of q.addr
+
+-- what changes make of payloads is one set
+abbrev pub ChangesMakeOneSet : Type 0
+ChangesMakeOneSet = (changes : List (Payload × Bool)) (before one other : List Payload) → Patches changes before one → Patches changes before other → one ≡ other

@@ -1,5 +1,5 @@
-//! Laws of states and of covering: the contract of each function is the law, and its body does nothing.
-ghost use Rattle.origin_model.specs.Laws.{As0MakesNothingValid, CoveringIsAnOrder, EachRouteHasOneState, RoutesWithoutOriginAreNeverValid};
+//! Laws of states, of covering and of changes: the contract of each function is the law, and its body does nothing.
+ghost use Rattle.origin_model.specs.Laws.{As0MakesNothingValid, ChangesMakeOneSet, CoveringIsAnOrder, EachRouteHasOneState, RoutesWithoutOriginAreNeverValid};
 
 /// Each route has exactly one state, whatever is current.
 pub fn each_route_has_one_state()
@@ -20,4 +20,9 @@ pub fn routes_without_origin_are_never_valid()
 /// covers the longer, and two that cover each other are one.
 pub fn covering_is_an_order()
     ensures { CoveringIsAnOrder }
+{}
+
+/// What changes make of payloads is one set.
+pub fn changes_make_one_set()
+    ensures { ChangesMakeOneSet }
 {}

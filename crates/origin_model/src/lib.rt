@@ -19,7 +19,7 @@ mod vrp_set;
 
 pub use covering::covers;
 pub use laws::{
-    as_0_makes_nothing_valid, covering_is_an_order, each_route_has_one_state,
+    as_0_makes_nothing_valid, changes_make_one_set, covering_is_an_order, each_route_has_one_state,
     routes_without_origin_are_never_valid,
 };
 pub use origin_state::{OriginState, origin_of};
