@@ -12,10 +12,11 @@ use Rattle.std.specs.Ordering.{is_eq, match_ordering}
 use Rattle.std.specs.Set.{remove_key}
 use Rattle.std.specs.List.Sorted.{IsStrictlySortedBy}
 use Rattle.std.proofs.lemmas.Map.Lookups.{btree_set_from_contains}
+use Rattle.av_base.specs.One.{HasOne}
 use Rattle.origin_model.specs.Vrp.{Payload, payload_cmp, payload_total}
 use Rattle.origin_model.specs.VrpChanges.{Patches, said}
 use Rattle.origin_model.specs.VrpSet.{has}
-use Rattle.origin_model.proofs.ChangeLemmas.{has_inserted, removed_itself, removed_other, sorted_inserted, sorted_removed}
+use Rattle.origin_model.proofs.ChangeLemmas.{has_inserted, removed_itself, removed_other, set_of_all, set_of_all-in_order, set_of_all-same, sorted_inserted, sorted_removed}
 use Rattle.origin_model.proofs.PayloadLemmas.{payload_exact, payload_itself, same_payload}
 
 again : {X : Type 0} (b : Bool) (x y z : X) → cond b x z ≡ cond b x (cond b y z)
@@ -62,6 +63,9 @@ or_said : (b : Bool) (s : Option Bool) (had now : Bool) → now ≡ unwrap_or s 
 or_said true s had now is = refl
 or_said false s had now is = is
 
+apart : (v q : Payload) → is_at (payload_cmp q) v ≡ false → v ≡ q → ⊥
+apart v q is same = true≢false (sym (subst (λ (x : Payload). is_at (payload_cmp q) x ≡ true) (sym same) (payload_itself q)) ∙ is)
+
 pub patches_none : (before : List Payload) → IsStrictlySortedBy payload_cmp before → Patches [] before before
 patches_none before sorted = record { in_order = sorted; members = λ v. refl }
 
@@ -84,14 +88,45 @@ patches_withdrawn cs before now v patches = record { in_order = sorted_removed (
       subst (λ (x : Payload). has (remove_key (is_at (payload_cmp v)) now) x ≡ unwrap_or (said (insert_entry payload_cmp cs v false) x) (has before x)) (sym same)
       (removed_itself v now patches.in_order ∙ ap (λ (o : Option Bool). unwrap_or o (has before v)) (sym (said_itself v false cs)))
   by q false is =
-      let other : v ≡ q → ⊥ = (λ e. true≢false (sym (subst (λ (x : Payload). is_at (payload_cmp q) x ≡ true) (sym e) (payload_itself q)) ∙ is)) in
-      removed_other v q now other ∙ patches.members q
-      ∙ ap (λ (o : Option Bool). unwrap_or o (has before q)) (sym (said_other v q false cs other))
+      removed_other v q now (apart v q is) ∙ patches.members q
+      ∙ ap (λ (o : Option Bool). unwrap_or o (has before q)) (sym (said_other v q false cs (apart v q is)))
 
 abbrev set_of : List Payload → BTreeSet Payload
 set_of payloads = record { keys = payloads }
 
--- what they make of payloads is one set
-pub one_set : (changes : List (Payload × Bool)) (before one other : List Payload) → Patches changes before one → Patches changes before other → one ≡ other
-one_set changes before one other a b =
-    btree_set_from_contains payload_total (set_of one) (set_of other) a.in_order b.in_order (λ v. a.members v ∙ sym (b.members v)) payload_exact
+-- what they make of payloads
+abbrev made_of : List (Payload × Bool) → List Payload → List Payload
+made_of [] before = set_of_all before
+made_of ((v, true) ∷ more) before = insert_key payload_cmp (made_of more before) v
+made_of ((v, false) ∷ more) before = remove_key (is_at (payload_cmp v)) (made_of more before)
+
+-- one more in front is said in place of what the others say
+front_announced : (v : Payload) (more : List (Payload × Bool)) (before now : List Payload) → Patches more before now → Patches ((v, true) ∷ more) before (insert_key payload_cmp now v)
+front_announced v more before now patches = record {
+  in_order = sorted_inserted v now patches.in_order;
+  members = λ q. has_inserted v q now ∙ or_said (is_at (payload_cmp q) v) (said more q) (has before q) (has now q) (patches.members q);
+}
+
+front_withdrawn : (v : Payload) (more : List (Payload × Bool)) (before now : List Payload) → Patches more before now
+    → Patches ((v, false) ∷ more) before (remove_key (is_at (payload_cmp v)) now)
+front_withdrawn v more before now patches = record { in_order = sorted_removed (is_at (payload_cmp v)) now patches.in_order; members = λ q. by q (is_at (payload_cmp q) v) refl } where
+  by : (q : Payload) (b : Bool) → is_at (payload_cmp q) v ≡ b → has (remove_key (is_at (payload_cmp v)) now) q ≡ unwrap_or (cond b (Some false) (said more q)) (has before q)
+  by q true is =
+      let same : q ≡ v = same_payload q v is in
+      subst (λ (x : Payload). has (remove_key (is_at (payload_cmp v)) now) x ≡ false) (sym same) (removed_itself v now patches.in_order)
+  by q false is = removed_other v q now (apart v q is) ∙ patches.members q
+
+made_so : (changes : List (Payload × Bool)) (before : List Payload) → Patches changes before (made_of changes before)
+made_so [] before = record { in_order = set_of_all-in_order before; members = set_of_all-same before }
+made_so ((v, true) ∷ more) before = front_announced v more before (made_of more before) (made_so more before)
+made_so ((v, false) ∷ more) before = front_withdrawn v more before (made_of more before) (made_so more before)
+
+-- they make exactly one set of payloads
+pub one_set : (changes : List (Payload × Bool)) (before : List Payload) → HasOne (Patches changes before)
+one_set changes before = record {
+  one = made_of changes before;
+  is = made_so changes before;
+  only = λ other b.
+      let a = made_so changes before in
+      btree_set_from_contains payload_total (set_of other) (set_of (made_of changes before)) b.in_order a.in_order (λ v. b.members v ∙ sym (a.members v)) payload_exact;
+}

@@ -42,6 +42,6 @@ pub record CoveringIsAnOrder : Type 0 where
   pub only : (p q : Subnet) → IsSubnet q → Covers p q → Covers q p → p ≡ q
   pub family : (p q : Subnet) → Covers p q → bits_of p.addr ≡ bits_of q.addr
 
--- what changes make of payloads is one set
+-- changes make exactly one set of payloads
 abbrev pub ChangesMakeOneSet : Type 0
-ChangesMakeOneSet = (changes : List (Payload × Bool)) (before one other : List Payload) → Patches changes before one → Patches changes before other → one ≡ other
+ChangesMakeOneSet = (changes : List (Payload × Bool)) (before : List Payload) → HasOne (Patches changes before)

@@ -22,7 +22,7 @@ pub fn covering_is_an_order()
     ensures { CoveringIsAnOrder }
 {}
 
-/// What changes make of payloads is one set.
+/// Changes make exactly one set of any payloads.
 pub fn changes_make_one_set()
     ensures { ChangesMakeOneSet }
 {}
