@@ -15,6 +15,8 @@ use Rattle.path_model.specs.declared.verdict.Verdict.{Verdict}
 use Rattle.path_model.specs.declared.verdict.Verdict.TheVariants.{Valid, Unknown, Invalid}
 use Rattle.path_model.specs.declared.witness.Witness.{Witness}
 use Rattle.path_model.specs.declared.witness.Witness.TheVariants.{Valid as ByLabelling, Empty, Set, Neighbour, Blocked, Unsettled}
+use Rattle.origin_model.specs.declared.origin_state.OriginState.{OriginState}
+use Rattle.origin_model.specs.declared.origin_state.OriginState.TheVariants.{Valid as OriginValid, Invalid as OriginInvalid, NotFound}
 use Rattle.av_text.specs.AddressText.{addr_text, hex4, octets_text, groups_text, parts_text}
 use Rattle.av_text.specs.Marks.{Lacks}
 use Rattle.av_text.specs.VerdictText.{verdict_text}
@@ -27,6 +29,7 @@ use Rattle.report_text.specs.declared.summary.Summary.{Summary}
 use Rattle.report_text.specs.Change.{mark_text, marks_text, change_line, changed_line}
 use Rattle.report_text.specs.Keys.{identifier_text, key_text}
 use Rattle.report_text.specs.Laws.{IsAnswerLine}
+use Rattle.report_text.specs.Origins.{origin_line, state_text}
 use Rattle.report_text.specs.Rows.{row_line}
 use Rattle.report_text.specs.Served.{served_line}
 use Rattle.report_text.specs.Summary.{verdicts_part, sources_part, summary_line}
@@ -131,10 +134,18 @@ of_key key words in_line = record {
   unmarked = begins_other (key_text key ++ 32 ∷ words) (key_start key (32 ∷ words));
 }
 
--- ---- rows and changes
+-- ---- rows, origins and changes
 
 pub row_is_one_line : (key : Key) (verdict : Verdict) → IsAnswerLine (row_line key verdict)
 row_is_one_line key verdict = of_key key (verdict_text verdict) (verdicts_in_line verdict)
+
+state_in_line : (state : OriginState) → IsInLine (state_text state)
+state_in_line OriginValid = clean (codes "valid") refl
+state_in_line OriginInvalid = clean (codes "invalid") refl
+state_in_line NotFound = clean (codes "not-found") refl
+
+pub origin_is_one_line : (key : Key) (state : OriginState) → IsAnswerLine (origin_line key state)
+origin_is_one_line key state = of_key key (state_text state) (state_in_line state)
 
 mark_in_line : (mark : Option Verdict) → IsInLine (mark_text mark)
 mark_in_line None = clean (codes "none") refl

@@ -1,7 +1,7 @@
 -- The causes for which input is refused, with the number and the word of each, which are part of what is printed.
 use Rattle.std.specs.Prelude.{ℕ, List, codes}
 use Rattle.report_text.specs.declared.cause.Cause.{Cause}
-use Rattle.report_text.specs.declared.cause.Cause.TheVariants.{NotDer, PayloadVersion, NoProviders, Order, SelfProvider, Base64, Json, SlurmVersion, Member, SlurmNumber, PduVersion, PduLength, PduType, PduNoProviders, Unexpected, UnknownWithdrawal, SessionChanged, PeerReported, Attributes, Message, NoPath, TooLong, CutShort, Body, NoPeerTable, PeerIndex, LongLine, NoCommand, Words, Number, NameTaken, NoName, NoFile, StreamOver, NoRoute, FileLong, Moment, RowLong, BmpVersion, BmpLength, BmpBody}
+use Rattle.report_text.specs.declared.cause.Cause.TheVariants.{NotDer, PayloadVersion, NoProviders, Order, SelfProvider, Base64, Json, SlurmVersion, Member, SlurmNumber, PduVersion, PduLength, PduType, PduNoProviders, Unexpected, UnknownWithdrawal, SessionChanged, PeerReported, Attributes, Message, NoPath, TooLong, CutShort, Body, NoPeerTable, PeerIndex, LongLine, NoCommand, Words, Number, NameTaken, NoName, NoFile, StreamOver, NoRoute, FileLong, Moment, PrefixText, PrefixRecord, RowLong, BmpVersion, BmpLength, BmpBody}
 
 abbrev pub listed : Cause → ℕ × List ℕ
 -- of files of payloads (draft-ietf-sidrops-aspa-profile)
@@ -47,6 +47,9 @@ listed NoRoute = (39, codes "NoRoute")
 listed FileLong = (40, codes "FileLong")
 -- of files of base64 lines
 listed Moment = (41, codes "Moment")
+-- of prefixes with the ASes that may originate them: in SLURM files (RFC 8416), and in PDUs (RFC 8210)
+listed PrefixText = (42, codes "PrefixText")
+listed PrefixRecord = (43, codes "PrefixRecord")
 -- of tables that are served (RFC 8210)
 listed RowLong = (44, codes "RowLong")
 -- of messages in dumps of BMP (RFC 7854)

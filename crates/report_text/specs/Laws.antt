@@ -5,12 +5,14 @@ use Rattle.std.specs.List.{starts_with}
 use Rattle.path_model.specs.declared.key.Key.{Key}
 use Rattle.path_model.specs.declared.verdict.Verdict.{Verdict}
 use Rattle.path_model.specs.declared.witness.Witness.{Witness}
+use Rattle.origin_model.specs.declared.origin_state.OriginState.{OriginState}
 use Rattle.av_text.specs.Spellings.{IsInLine}
 use Rattle.report_text.specs.declared.summary.Summary.{Summary}
 use Rattle.report_text.specs.declared.cause.Cause.{Cause}
 use Rattle.report_text.specs.Change.{change_line, changed_line}
 use Rattle.report_text.specs.declared.feed.FeedEnd.{FeedEnd}
 use Rattle.report_text.specs.Feeds.{feed_line}
+use Rattle.report_text.specs.Origins.{origin_line}
 use Rattle.report_text.specs.Refusals.{AnyPlace, of_line, of_unit, refusal_line}
 use Rattle.report_text.specs.Rows.{row_line}
 use Rattle.report_text.specs.Served.{served_line}
@@ -41,6 +43,9 @@ pub record IsAnswerLine (line : List ℕ) : Type 0 where
 
 abbrev pub EachRowIsOneLine : Type 0
 EachRowIsOneLine = (key : Key) (verdict : Verdict) → IsAnswerLine (row_line key verdict)
+
+abbrev pub EachOriginIsOneLine : Type 0
+EachOriginIsOneLine = (key : Key) (state : OriginState) → IsAnswerLine (origin_line key state)
 
 abbrev pub EachChangeIsOneLine : Type 0
 EachChangeIsOneLine = (key : Key) (before after : Option Verdict) → IsAnswerLine (change_line key before after)

@@ -85,6 +85,11 @@ pub enum Cause {
     // of files of base64 lines
     /// 41: what stands behind the space of a line is no moment.
     Moment,
+    // of prefixes with the ASes that may originate them: in SLURM files (RFC 8416), and in PDUs (RFC 8210)
+    /// 42: a text isn't a prefix, or a maximum length isn't a whole number from the prefix's length to 32 or 128.
+    PrefixText,
+    /// 43: a prefix PDU's maximum length is below the prefix's length, or over 32 or 128.
+    PrefixRecord,
     // of tables that are served (RFC 8210)
     /// 44: some row of the current table has more than 65,533 providers, and so doesn't fit a PDU.
     RowLong,
@@ -155,6 +160,8 @@ impl Cause {
             Cause::NoRoute => (39, "NoRoute"),
             Cause::FileLong => (40, "FileLong"),
             Cause::Moment => (41, "Moment"),
+            Cause::PrefixText => (42, "PrefixText"),
+            Cause::PrefixRecord => (43, "PrefixRecord"),
             Cause::RowLong => (44, "RowLong"),
             Cause::BmpVersion => (45, "BmpVersion"),
             Cause::BmpLength => (46, "BmpLength"),
