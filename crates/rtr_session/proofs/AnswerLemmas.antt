@@ -52,8 +52,8 @@ unnamed old next same = subst (λ (st : State). Does old st (λ q. ⊥)) (sym sa
 })
 
 -- other payloads alone name no customer
-more_payloads : (old next : State) (vs : List Payload) → next ≡ record old { payloads = vs } → Does old next (λ q. ⊥)
-more_payloads old next vs same = subst (λ (st : State). Does old st (λ q. ⊥)) (sym same) (record {
+more_payloads : (old next : State) (vs : List Payload) (cs : List (Payload × Bool)) → next ≡ record old { payloads = vs; payload_changes = cs } → Does old next (λ q. ⊥)
+more_payloads old next vs cs same = subst (λ (st : State). Does old st (λ q. ⊥)) (sym same) (record {
   phase = refl;
   named = λ q. (λ some. inl some, λ h. elim h [ inl some ↦ some | inr never ↦ absurd never ]);
   rows = λ q some. inl some;
@@ -123,7 +123,7 @@ withdrawn old next k (inl there) = to_new (named old k None) there.1.new_is (nam
 withdrawn old next k (inr none) = absurd (nothing_else none.1 (λ e. let never : ⊥ = cc in never))
 
 prefix_withdrawn : (old next : State) (v : Payload) → WithdrawsPrefix v old Nothing next → Does old next (λ q. ⊥)
-prefix_withdrawn old next v (inl there) = more_payloads old next (without_payload old v).payloads there.1.new_is
+prefix_withdrawn old next v (inl there) = more_payloads old next (without_payload old v).payloads (without_payload old v).payload_changes there.1.new_is
 prefix_withdrawn old next v (inr none) = absurd (nothing_else none.1 (λ e. let never : ⊥ = cc in never))
 
 -- a relation by the phase, in either of the receiving phases
@@ -141,7 +141,7 @@ step old next (SerialQuery session serial) at h = not_nothing _ h
 step old next ResetQuery at h = not_nothing _ h
 step old next (CacheResponse session) at h = at_phase (λ p. OnResponse p session old Nothing next) (Does old next (λ q. ⊥)) old.phase at h (λ g. not_nothing _ g) (λ g. not_nothing _ g)
 step old next (Prefix true v) at h = at_phase (λ p. OnPrefixAnnounce p v old Nothing next) (Does old next (λ q. ⊥)) old.phase at h
-    (λ g. more_payloads old next (with_payload old v).payloads g.new_is) (λ g. more_payloads old next (with_payload old v).payloads g.new_is)
+    (λ g. more_payloads old next (with_payload old v).payloads (with_payload old v).payload_changes g.new_is) (λ g. more_payloads old next (with_payload old v).payloads (with_payload old v).payload_changes g.new_is)
 step old next (Prefix false v) at h = at_phase (λ p. OnPrefixWithdraw p v old Nothing next) (Does old next (λ q. ⊥)) old.phase at h (prefix_withdrawn old next v) (prefix_withdrawn old next v)
 step old next (Passed kind) at h = at_phase (λ p. OnPassed p old Nothing next) (Does old next (λ q. ⊥)) old.phase at h (λ g. unnamed old next g.new_is) (λ g. unnamed old next g.new_is)
 step old next (EndOfData session serial) at h = at_phase (λ p. OnEnd p session serial old Nothing next) (Does old next (λ q. ⊥)) old.phase at h
@@ -216,34 +216,41 @@ pub record Begun (asked begun : State) : Type 0 where
   pub rows : begun.rows ≡ asked.rows
   pub changes : begun.changes ≡ map.empty
   pub payloads : begun.payloads ≡ asked.payloads
+  pub payload_changes : begun.payload_changes ≡ []
 
 pub begun_changes : (asked begun : State) (session : ℕ) → asked.phase ≡ AskedChanges → Client asked (CacheResponse session) Nothing begun → Begun asked begun
 begun_changes asked begun session phase h = elim (subst (λ (p : Phase). OnResponse p session asked Nothing begun) phase h) [
-  | inl is ↦ record { phase = ap (λ (s : State). s.phase) is.1.new_is; rows = ap (λ (s : State). s.rows) is.1.new_is; changes = ap (λ (s : State). s.changes) is.1.new_is; payloads = ap (λ (s : State). s.payloads) is.1.new_is }
+  | inl is ↦ record {
+    phase = ap (λ (s : State). s.phase) is.1.new_is;
+    rows = ap (λ (s : State). s.rows) is.1.new_is;
+    changes = ap (λ (s : State). s.changes) is.1.new_is;
+    payloads = ap (λ (s : State). s.payloads) is.1.new_is;
+    payload_changes = ap (λ (s : State). s.payload_changes) is.1.new_is;
+  }
   | inr not ↦ not_nothing _ not.1
 ]
 
 -- what is handed out is what the act has
-record AreSame {A : Type 0} (one other : A) (vs ws : List Payload) : Type 0 where
+record AreSame {A B : Type 0} (one other : A) (vs ws : B) : Type 0 where
   pub first : one ≡ other
   pub payloads : vs ≡ ws
 
-part_same : {one other : PatchMap} {vs ws : List Payload} → Apply (Part one vs) ≡ Apply (Part other ws) → AreSame one other vs ws
+part_same : {one other : PatchMap} {vs ws : List (Payload × Bool)} → Apply (Part one vs) ≡ Apply (Part other ws) → AreSame one other vs ws
 part_same e = record { first = cc; payloads = cc }
 
 whole_same : {one other : RowMap} {vs ws : List Payload} → Apply (Whole one vs) ≡ Apply (Whole other ws) → AreSame one other vs ws
 whole_same e = record { first = cc; payloads = cc }
 
 -- what an End of Data hands out, and what is kept then
-pub record Ended {A : Type 0} (given held : A) (given_payloads : List Payload) (whole done : State) : Type 0 where
+pub record Ended {A B : Type 0} (given held : A) (given_payloads held_payloads : B) (whole done : State) : Type 0 where
   pub handed : given ≡ held
-  pub payloads : given_payloads ≡ whole.payloads
+  pub payloads : given_payloads ≡ held_payloads
   pub kept_rows : done.rows ≡ whole.rows
   pub kept_payloads : done.payloads ≡ whole.payloads
 
-pub ended_changes : (whole done : State) (session serial : ℕ) (patch : PatchMap) (payloads : List Payload) → whole.phase ≡ ReceivingChanges → Client whole (EndOfData session serial) (Apply (Part patch payloads)) done
-    → Ended patch whole.changes payloads whole done
-ended_changes whole done session serial patch payloads phase h = elim (subst (λ (p : Phase). OnEnd p session serial whole (Apply (Part patch payloads)) done) phase h) [
+pub ended_changes : (whole done : State) (session serial : ℕ) (patch : PatchMap) (changes : List (Payload × Bool)) → whole.phase ≡ ReceivingChanges → Client whole (EndOfData session serial) (Apply (Part patch changes)) done
+    → Ended patch whole.changes changes whole.payload_changes whole done
+ended_changes whole done session serial patch changes phase h = elim (subst (λ (p : Phase). OnEnd p session serial whole (Apply (Part patch changes)) done) phase h) [
   | inl is ↦ let same = part_same is.1.act_is in record {
     handed = same.first;
     payloads = same.payloads;
@@ -260,12 +267,12 @@ none_some : {X : Type 0} (o : Option X) → o ≡ None → IsSome o → ⊥
 none_some None e some = let never : ⊥ = cc in never
 none_some (Some x) e some = let never : ⊥ = cc in never
 
-pub patch_named : (asked done : State) (pdus : List Pdu) (patch : PatchMap) (payloads : List Payload) → AnswersChanges asked pdus patch payloads done → IsPatchOf asked.rows pdus patch done.rows
+pub patch_named : (asked done : State) (pdus : List Pdu) (patch : PatchMap) (changes : List (Payload × Bool)) → AnswersChanges asked pdus patch changes done → IsPatchOf asked.rows pdus patch done.rows
 unfolding IsReceiving
-patch_named asked done pdus patch payloads a =
+patch_named asked done pdus patch changes a =
     let begun = begun_changes asked a.begun a.session a.phase a.begins in
     let does = received pdus a.begun a.whole (inr begun.phase) a.comes in
-    let ended = ended_changes a.whole done a.last_session a.serial patch payloads (does.phase ∙ begun.phase) a.ends in
+    let ended = ended_changes a.whole done a.last_session a.serial patch changes (does.phase ∙ begun.phase) a.ends in
     let start : Tracks asked.rows a.begun = (λ q. ap (λ (m : RowMap). map.get m q) begun.rows ∙ ap (λ (o : Option (Option (List ℕ))). patched o (map.get asked.rows q)) (sym (no_change a.begun q begun.changes))) in
     let now : (q : ℕ) → map.get done.rows q ≡ patched (map.get patch q) (map.get asked.rows q) = (λ q.
     ap (λ (m : RowMap). map.get m q) ended.kept_rows ∙ does.tracks asked.rows start q ∙ ap (λ (m : PatchMap). patched (map.get m q) (map.get asked.rows q)) (sym ended.handed)) in
@@ -289,7 +296,7 @@ begun_whole asked begun session phase h =
     record { phase = ap (λ (s : State). s.phase) goes.new_is; rows = ap (λ (s : State). s.rows) goes.new_is; payloads = ap (λ (s : State). s.payloads) goes.new_is }
 
 pub ended_whole : (whole done : State) (session serial : ℕ) (rows : RowMap) (payloads : List Payload) → whole.phase ≡ ReceivingWhole → Client whole (EndOfData session serial) (Apply (Whole rows payloads)) done
-    → Ended rows whole.rows payloads whole done
+    → Ended rows whole.rows payloads whole.payloads whole done
 ended_whole whole done session serial rows payloads phase h = elim (subst (λ (p : Phase). OnEnd p session serial whole (Apply (Whole rows payloads)) done) phase h) [
   | inl is ↦ let same = whole_same is.1.act_is in record {
     handed = same.first;

@@ -20,7 +20,7 @@ use Rattle.rtr_session.specs.declared.act.Phase.TheVariants.{Fresh, AskedWhole, 
 use Rattle.rtr_session.specs.declared.act.Query.{Query}
 use Rattle.rtr_session.specs.declared.act.Query.TheVariants.{Reset, Serial}
 use Rattle.rtr_session.specs.State.{State}
-use Rattle.rtr_session.specs.Client.{Announces, Asks, BySession, Client, Goes, OnAnnounce, OnEnd, OnNotify, OnPassed, OnPrefixAnnounce, OnPrefixWithdraw, OnReset, OnResponse, OnWithdraw, Withdraws, WithdrawsPrefix, named, with_payload, without_payload, without_zero}
+use Rattle.rtr_session.specs.Client.{Announces, Asks, BySession, Client, Goes, OnAnnounce, OnEnd, OnNotify, OnPassed, OnPrefixAnnounce, OnPrefixWithdraw, OnReset, OnResponse, OnWithdraw, Withdraws, WithdrawsPrefix, ended, named, with_payload, without_payload, without_zero}
 use Rattle.rtr_session.proofs.SetLemmas.{IsSetOf-unique, some_set}
 
 goes : (old : State) (does : Act) (to : State) → HasOnePair (λ act new. Goes old act new does to)
@@ -110,8 +110,8 @@ on_notify Over session old = stays old
 
 on_response : (phase : Phase) (session : ℕ) (old : State) → HasOnePair (λ act new. OnResponse phase session old act new)
 on_response Fresh session old = unexpected old
-on_response AskedWhole session old = goes old Nothing (record old { phase = ReceivingWhole; session = session; rows = map.empty; changes = map.empty; payloads = [] })
-on_response AskedChanges session old = by_session session old Nothing (record old { phase = ReceivingChanges; changes = map.empty })
+on_response AskedWhole session old = goes old Nothing (record old { phase = ReceivingWhole; session = session; rows = map.empty; changes = map.empty; payloads = []; payload_changes = [] })
+on_response AskedChanges session old = by_session session old Nothing (record old { phase = ReceivingChanges; changes = map.empty; payload_changes = [] })
 on_response ReceivingWhole session old = unexpected old
 on_response ReceivingChanges session old = unexpected old
 on_response Ready session old = unexpected old
@@ -166,8 +166,8 @@ on_end : (phase : Phase) (session : ℕ) (serial : ℕ) (old : State) → HasOne
 on_end Fresh session serial old = unexpected old
 on_end AskedWhole session serial old = unexpected old
 on_end AskedChanges session serial old = unexpected old
-on_end ReceivingWhole session serial old = by_session session old (Apply (Whole old.rows old.payloads)) (record old { phase = Ready; serial = serial; changes = map.empty })
-on_end ReceivingChanges session serial old = by_session session old (Apply (Part old.changes old.payloads)) (record old { phase = Ready; serial = serial; changes = map.empty })
+on_end ReceivingWhole session serial old = by_session session old (Apply (Whole old.rows old.payloads)) (ended old serial)
+on_end ReceivingChanges session serial old = by_session session old (Apply (Part old.changes old.payload_changes)) (ended old serial)
 on_end Ready session serial old = unexpected old
 on_end Over session serial old = unexpected old
 

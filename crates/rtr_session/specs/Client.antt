@@ -3,7 +3,7 @@ use Rattle.std.specs.Prelude.{◌≡◌, ◌≢◌, ℕ, ◌==◌, ◌⊎◌, Bo
 use Rattle.std.specs.declared.option.Option.{Option}
 use Rattle.std.specs.declared.option.Option.TheVariants.{Some, None}
 use Rattle.std.specs.FinMap as map
-use Rattle.std.specs.BTreeMap.{is_at}
+use Rattle.std.specs.BTreeMap.{insert_entry, is_at}
 use Rattle.std.specs.BTreeSet.{insert_key}
 use Rattle.std.specs.Set.{remove_key}
 use Rattle.path_model.specs.Sets.{IsSetOf}
@@ -55,12 +55,13 @@ abbrev pub named : State → ℕ → Option (List ℕ) → State
 named old customer (Some row) = record old { rows = map.insert old.rows customer row; changes = map.insert old.changes customer (Some row) }
 named old customer None = record old { rows = map.remove old.rows customer; changes = map.insert old.changes customer None }
 
--- the payload is among the pending ones, or it isn't
+-- the payload is named as announced, and is among the pending ones
 abbrev pub with_payload : State → Payload → State
-with_payload old v = record old { payloads = insert_key payload_cmp old.payloads v }
+with_payload old v = record old { payloads = insert_key payload_cmp old.payloads v; payload_changes = insert_entry payload_cmp old.payload_changes v true }
 
+-- it is named as withdrawn, and isn't among them
 abbrev pub without_payload : State → Payload → State
-without_payload old v = record old { payloads = remove_key (is_at (payload_cmp v)) old.payloads }
+without_payload old v = record old { payloads = remove_key (is_at (payload_cmp v)) old.payloads; payload_changes = insert_entry payload_cmp old.payload_changes v false }
 
 -- ---- one for each PDU
 
@@ -69,11 +70,12 @@ abbrev pub OnNotify : Phase → ℕ → State → Act → State → Type 0
 OnNotify Ready session old act new = BySession session old.session (Stays old act new) (Ends SessionChanged old act new)
 OnNotify phase session old act new = Stays old act new
 
--- a Cache Response: pending rows and payloads start empty for everything, and as the kept ones for changes; no customer is named yet
+-- a Cache Response: pending rows and payloads start empty for everything, and as the kept ones for changes; no customer and no payload is
+-- named yet
 abbrev pub OnResponse : Phase → ℕ → State → Act → State → Type 0
-OnResponse AskedWhole session old act new = Goes old act new Nothing (record old { phase = ReceivingWhole; session = session; rows = map.empty; changes = map.empty; payloads = [] })
+OnResponse AskedWhole session old act new = Goes old act new Nothing (record old { phase = ReceivingWhole; session = session; rows = map.empty; changes = map.empty; payloads = []; payload_changes = [] })
 OnResponse AskedChanges session old act new =
-    BySession session old.session (Goes old act new Nothing (record old { phase = ReceivingChanges; changes = map.empty })) (Ends SessionChanged old act new)
+    BySession session old.session (Goes old act new Nothing (record old { phase = ReceivingChanges; changes = map.empty; payload_changes = [] })) (Ends SessionChanged old act new)
 OnResponse phase session old act new = Ends Unexpected old act new
 
 -- an announcement in an answer: the customer's pending row is the set of the providers less 0
@@ -129,12 +131,16 @@ OnPassed ReceivingWhole old act new = Stays old act new
 OnPassed ReceivingChanges old act new = Stays old act new
 OnPassed phase old act new = Ends Unexpected old act new
 
--- an End of Data: the pending rows and payloads are kept, with the serial; all rows are handed out, or what was named, and all payloads
+-- the state behind an End of Data: nothing is named any more
+abbrev pub ended : State → ℕ → State
+ended old serial = record old { phase = Ready; serial = serial; changes = map.empty; payload_changes = [] }
+
+-- an End of Data: the pending rows and payloads are kept, with the serial; all of them are handed out, or what was named
 abbrev pub OnEnd : Phase → ℕ → ℕ → State → Act → State → Type 0
 OnEnd ReceivingWhole session serial old act new =
-    BySession session old.session (Goes old act new (Apply (Whole old.rows old.payloads)) (record old { phase = Ready; serial = serial; changes = map.empty })) (Ends SessionChanged old act new)
+    BySession session old.session (Goes old act new (Apply (Whole old.rows old.payloads)) (ended old serial)) (Ends SessionChanged old act new)
 OnEnd ReceivingChanges session serial old act new =
-    BySession session old.session (Goes old act new (Apply (Part old.changes old.payloads)) (record old { phase = Ready; serial = serial; changes = map.empty })) (Ends SessionChanged old act new)
+    BySession session old.session (Goes old act new (Apply (Part old.changes old.payload_changes)) (ended old serial)) (Ends SessionChanged old act new)
 OnEnd phase session serial old act new = Ends Unexpected old act new
 
 -- a Cache Reset: everything is asked for

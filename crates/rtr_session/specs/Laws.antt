@@ -8,6 +8,7 @@ use Rattle.av_base.specs.One.{HasOnePair}
 use Rattle.path_model.specs.Rows.{RowMap, PatchMap}
 use Rattle.path_model.specs.Sets.{IsSetOf}
 use Rattle.origin_model.specs.Vrp.{Payload, payload_cmp}
+use Rattle.origin_model.specs.VrpChanges.{Patches, said}
 use Rattle.origin_model.specs.VrpSet.{has}
 use Rattle.rtr_pdu.specs.declared.pdu.Pdu.{Pdu}
 use Rattle.rtr_pdu.specs.declared.pdu.Pdu.TheVariants.{CacheResponse, Prefix, EndOfData, Aspa}
@@ -55,7 +56,7 @@ pub record IsPatchOf (kept : RowMap) (pdus : List Pdu) (patch : PatchMap) (rows 
   pub patched : (q : ℕ) → map.get rows q ≡ patched (map.get patch q) (map.get kept q)
 
 -- an answer with changes: it begins, these PDUs come, and it ends
-pub record AnswersChanges (asked : State) (pdus : List Pdu) (patch : PatchMap) (payloads : List Payload) (done : State) : Type 0 where
+pub record AnswersChanges (asked : State) (pdus : List Pdu) (patch : PatchMap) (changes : List (Payload × Bool)) (done : State) : Type 0 where
   pub phase : asked.phase ≡ AskedChanges
   pub session : ℕ
   pub begun : State
@@ -64,10 +65,10 @@ pub record AnswersChanges (asked : State) (pdus : List Pdu) (patch : PatchMap) (
   pub comes : Receives begun pdus whole
   pub last_session : ℕ
   pub serial : ℕ
-  pub ends : Client whole (EndOfData last_session serial) (Apply (Part patch payloads)) done
+  pub ends : Client whole (EndOfData last_session serial) (Apply (Part patch changes)) done
 
 abbrev pub PatchIsWhatWasNamed : Type 0
-PatchIsWhatWasNamed = (asked done : State) (pdus : List Pdu) (patch : PatchMap) (payloads : List Payload) → AnswersChanges asked pdus patch payloads done
+PatchIsWhatWasNamed = (asked done : State) (pdus : List Pdu) (patch : PatchMap) (changes : List (Payload × Bool)) → AnswersChanges asked pdus patch changes done
     → IsPatchOf asked.rows pdus patch done.rows
 
 -- an answer with everything
@@ -125,12 +126,15 @@ pub record IsLastPrefix (pdus : List Pdu) (v : Payload) (announce : Bool) : Type
   pub whole : pdus ≡ front ++ Prefix announce v ∷ behind
   pub no_more : IsPayloadNamed behind v → ⊥
 
--- The payloads handed out are those kept then. One that is named is there exactly where the last PDU that names it announces it, and each
--- other one exactly where it was before.
-pub record ArePayloadsOf (before : List Payload) (pdus : List Pdu) (payloads kept : List Payload) : Type 0 where
-  pub kept_is : kept ≡ payloads
+-- One that is named is there exactly where the last PDU that names it announces it, and each other one exactly where it was before.
+pub record ArePayloadsOf (before : List Payload) (pdus : List Pdu) (payloads : List Payload) : Type 0 where
   pub named : (v : Payload) (announce : Bool) → IsLastPrefix pdus v announce → has payloads v ≡ announce
   pub others : (v : Payload) → (IsPayloadNamed pdus v → ⊥) → has payloads v ≡ has before v
+
+-- the payloads handed out are those kept then
+pub record AreAllPayloadsOf (pdus : List Pdu) (payloads kept : List Payload) : Type 0 where
+  pub kept_is : kept ≡ payloads
+  pub are : ArePayloadsOf [] pdus payloads
 
 -- in their order, each once, as those of every session are
 abbrev pub AreInOrder : List Payload → Type 0
@@ -139,6 +143,17 @@ AreInOrder payloads = IsStrictlySortedBy payload_cmp payloads
 -- an answer with everything begins with none, whatever was kept, and an answer with changes with those kept
 pub record PayloadsAreWhatWasAnnounced : Type 0 where
   pub everything : (asked done : State) (pdus : List Pdu) (rows : RowMap) (payloads : List Payload) → AnswersWhole asked pdus rows payloads done
-      → ArePayloadsOf [] pdus payloads done.payloads
-  pub changes : (asked done : State) (pdus : List Pdu) (patch : PatchMap) (payloads : List Payload) → AreInOrder asked.payloads
-      → AnswersChanges asked pdus patch payloads done → ArePayloadsOf asked.payloads pdus payloads done.payloads
+      → AreAllPayloadsOf pdus payloads done.payloads
+  pub changes : (asked done : State) (pdus : List Pdu) (patch : PatchMap) (changes : List (Payload × Bool)) → AreInOrder asked.payloads
+      → AnswersChanges asked pdus patch changes done → ArePayloadsOf asked.payloads pdus done.payloads
+
+-- The changes handed out name exactly the payloads that the PDUs name, each as the last PDU does that names it. What they make of the payloads
+-- kept before are those kept then.
+pub record ArePayloadChangesOf (before : List Payload) (pdus : List Pdu) (changes : List (Payload × Bool)) (kept : List Payload) : Type 0 where
+  pub named : (v : Payload) (announce : Bool) → IsLastPrefix pdus v announce → said changes v ≡ Some announce
+  pub others : (v : Payload) → (IsPayloadNamed pdus v → ⊥) → said changes v ≡ None
+  pub patches : Patches changes before kept
+
+abbrev pub PayloadChangesAreWhatWasNamed : Type 0
+PayloadChangesAreWhatWasNamed = (asked done : State) (pdus : List Pdu) (patch : PatchMap) (changes : List (Payload × Bool)) → AreInOrder asked.payloads
+    → AnswersChanges asked pdus patch changes done → ArePayloadChangesOf asked.payloads pdus changes done.payloads

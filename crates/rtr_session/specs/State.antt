@@ -1,7 +1,7 @@
 -- What a client's session keeps.
-use Rattle.std.specs.Prelude.{◌≡◌, ℕ, nat_eq, cond, List, [], refl}
+use Rattle.std.specs.Prelude.{◌≡◌, ℕ, nat_eq, Bool, cond, List, [], refl}
 use Rattle.std.specs.FinMap as map
-use Rattle.std.specs.Coded.{Coded, code_by, coded×, coded_ℕ, coded_list, coded_option}
+use Rattle.std.specs.Coded.{Coded, code_by, coded×, coded_ℕ, coded_bool, coded_list, coded_option}
 use Rattle.path_model.specs.Codes.{coded_subnet}
 use Rattle.path_model.specs.Prefix.{Subnet}
 use Rattle.path_model.specs.Rows.{RowMap, PatchMap}
@@ -11,8 +11,9 @@ use Rattle.rtr_session.specs.declared.act.Phase.TheVariants.{Fresh, AskedWhole, 
 
 -- The phase; the session and the serial of the last End of Data, and while an answer is received its session; the rows of the
 -- last End of Data, and while an answer is received the pending rows; for each customer that the answer named so far its pending
--- row, or none; and the payloads of the last End of Data, and while an answer is received the pending ones, in their order. What was kept
--- before an answer needs no place beside what is pending: an answer that isn't ended leaves the session over.
+-- row, or none; the payloads of the last End of Data, and while an answer is received the pending ones, in their order; and the payloads
+-- that the answer named so far, in their order, each with whether it was announced last. What was kept before an answer needs no place
+-- beside what is pending: an answer that isn't ended leaves the session over.
 pub record State : Type 0 where
   pub phase : Phase
   pub session : ℕ
@@ -20,10 +21,11 @@ pub record State : Type 0 where
   pub rows : RowMap
   pub changes : PatchMap
   pub payloads : List Payload
+  pub payload_changes : List (Payload × Bool)
 
 -- before anything was asked
 abbrev pub fresh : State
-fresh = record { phase = Fresh; session = 0; serial = 0; rows = map.empty; changes = map.empty; payloads = [] }
+fresh = record { phase = Fresh; session = 0; serial = 0; rows = map.empty; changes = map.empty; payloads = []; payload_changes = [] }
 
 -- ---- codes, which a Model with finite maps needs
 
@@ -61,9 +63,12 @@ coded_patch = map.code coded_ℕ (coded_option (coded_list coded_ℕ))
 abbrev pub coded_payload : Coded Payload
 coded_payload = code_by (Subnet × (ℕ × ℕ)) (coded× coded_subnet (coded× coded_ℕ coded_ℕ)) (λ v. (v.prefix, (v.max, v.asn))) (λ p. record { prefix = p.0; max = p.1.0; asn = p.1.1 }) (λ _. refl)
 
+abbrev pub coded_payload_changes : Coded (List (Payload × Bool))
+coded_payload_changes = coded_list (coded× coded_payload coded_bool)
+
 abbrev pub coded_state : Coded State
 coded_state =
-    code_by (Phase × (ℕ × (ℕ × (RowMap × (PatchMap × List Payload)))))
-    (coded× coded_phase (coded× coded_ℕ (coded× coded_ℕ (coded× coded_rows (coded× coded_patch (coded_list coded_payload))))))
-    (λ s. (s.phase, (s.session, (s.serial, (s.rows, (s.changes, s.payloads))))))
-    (λ p. record { phase = p.0; session = p.1.0; serial = p.1.1.0; rows = p.1.1.1.0; changes = p.1.1.1.1.0; payloads = p.1.1.1.1.1 }) (λ _. refl)
+    code_by (Phase × (ℕ × (ℕ × (RowMap × (PatchMap × (List Payload × List (Payload × Bool)))))))
+    (coded× coded_phase (coded× coded_ℕ (coded× coded_ℕ (coded× coded_rows (coded× coded_patch (coded× (coded_list coded_payload) coded_payload_changes))))))
+    (λ s. (s.phase, (s.session, (s.serial, (s.rows, (s.changes, (s.payloads, s.payload_changes)))))))
+    (λ p. record { phase = p.0; session = p.1.0; serial = p.1.1.0; rows = p.1.1.1.0; changes = p.1.1.1.1.0; payloads = p.1.1.1.1.1.0; payload_changes = p.1.1.1.1.1.1 }) (λ _. refl)

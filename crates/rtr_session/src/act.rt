@@ -2,7 +2,7 @@
 ghost use Rattle.std.specs.Prelude.{◌≡◌};
 ghost use Rattle.rtr_session.specs.Client.{code_on_end};
 
-use origin_model::VrpSet;
+use origin_model::{VrpChanges, VrpSet};
 use path_model::{Patch, Rows};
 use std::error::Error;
 use std::fmt;
@@ -35,14 +35,13 @@ pub enum Query {
     Serial { session: u16, serial: u32 },
 }
 
-/// What an End of Data makes of the rows and the payloads that the session stood for. The payloads are all that there are then, in either
-/// case.
+/// What an End of Data makes of the rows and the payloads that the session stood for.
 #[derive(Debug, Drop)]
 pub enum Delta {
-    /// All rows anew.
+    /// All rows and all payloads anew.
     Whole(Rows, VrpSet),
-    /// The rows of the customers named, in place of those that they had.
-    Part(Patch, VrpSet),
+    /// The rows of the customers named, in place of those that they had; and of the payloads named whether they are there or not.
+    Part(Patch, VrpChanges),
 }
 
 /// Why a session ended.

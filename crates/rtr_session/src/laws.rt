@@ -1,5 +1,5 @@
 //! Laws of the client: the contract of each function is the law, and its body does nothing.
-ghost use Rattle.rtr_session.specs.Laws.{EachPduHasOneCase, EachStateHasOneQuery, PatchIsWhatWasNamed, PayloadsAreWhatWasAnnounced, WholeAnswerIsWhatWasAnnounced};
+ghost use Rattle.rtr_session.specs.Laws.{EachPduHasOneCase, EachStateHasOneQuery, PatchIsWhatWasNamed, PayloadChangesAreWhatWasNamed, PayloadsAreWhatWasAnnounced, WholeAnswerIsWhatWasAnnounced};
 
 /// Every PDU has exactly one case in every state: one act, and one state behind it.
 pub fn each_pdu_has_one_case()
@@ -26,4 +26,10 @@ pub fn whole_answer_is_what_was_announced()
 /// named, and each other one is there exactly where it was kept.
 pub fn payloads_are_what_was_announced()
     ensures { PayloadsAreWhatWasAnnounced }
+{}
+
+/// An answer with changes hands out exactly the payloads that it named, each as announced or withdrawn by the last PDU that names it; and what
+/// that makes of the payloads kept before are the payloads kept then.
+pub fn payload_changes_are_what_was_named()
+    ensures { PayloadChangesAreWhatWasNamed }
 {}

@@ -8,15 +8,15 @@ ghost use Rattle.rtr_session.specs.Client.{Announces, Asks, Client, Ends, Goes, 
 use crate::act::{Act, Delta, Ending, Phase, Query};
 use crate::providers::without_zero;
 use av_base::NoMemory;
-use origin_model::{Vrp, VrpSet};
+use origin_model::{Vrp, VrpChanges, VrpSet};
 use path_model::{AsList, Patch, Rows};
 use rtr_pdu::Pdu;
 use std::alloc::Global;
 use std::marker::Model;
 use std::mem;
 
-/// A client's session with a cache. A PDU costs what its own bytes cost; only an End of Data copies all payloads, and that of a whole answer
-/// all rows, once.
+/// A client's session with a cache. A PDU costs what its own bytes cost; only the End of Data of a whole answer copies all rows and all
+/// payloads, once.
 #[derive(Debug, Drop)]
 pub struct Session {
     alloc: Global,
@@ -26,6 +26,8 @@ pub struct Session {
     changes: Patch,
     // the payloads of the last End of Data, or those that are pending while an answer is received
     payloads: VrpSet,
+    // the payloads that the answer named so far, each with whether it was announced last
+    payload_changes: VrpChanges,
     serial: u32,
     session: u16,
     phase: Phase,
@@ -38,7 +40,7 @@ impl Model for Session {
 
     ghost coded = { coded_state };
 
-    ghost view = { λ s. record { phase = s.phase; session = s.session; serial = s.serial; rows = s.rows; changes = s.changes; payloads = s.payloads } };
+    ghost view = { λ s. record { phase = s.phase; session = s.session; serial = s.serial; rows = s.rows; changes = s.changes; payloads = s.payloads; payload_changes = s.payload_changes } };
 }
 
 impl Session {
@@ -51,6 +53,7 @@ impl Session {
             rows: Rows::new(alloc),
             changes: Patch::new(alloc),
             payloads: VrpSet::new(alloc),
+            payload_changes: VrpChanges::new(alloc),
             serial: 0,
             session: 0,
             phase: Phase::Fresh,
@@ -103,7 +106,7 @@ impl Session {
                 if announce {
                     self.on_prefix_announce(vrp)
                 } else {
-                    Ok(self.on_prefix_withdraw(&vrp))
+                    self.on_prefix_withdraw(vrp)
                 }
             }
             Pdu::Passed { .. } => Ok(self.on_passed()),
@@ -156,12 +159,14 @@ impl Session {
                 self.rows = Rows::new(self.alloc);
                 self.changes = Patch::new(self.alloc);
                 self.payloads = VrpSet::new(self.alloc);
+                self.payload_changes = VrpChanges::new(self.alloc);
                 (self, Act::Nothing)
             }
             Phase::AskedChanges => {
                 if session == self.session {
                     self.phase = Phase::ReceivingChanges;
                     self.changes = Patch::new(self.alloc);
+                    self.payload_changes = VrpChanges::new(self.alloc);
                     (self, Act::Nothing)
                 } else {
                     self.end(Ending::SessionChanged)
@@ -231,28 +236,30 @@ impl Session {
     fn announce_prefix(mut self, vrp: Vrp) -> Result<(Session, Act), NoMemory>
         ensures { IfOk result (λ r. Goes self r.1 r.0 Act.Nothing (with_payload self vrp)) }
     {
+        self.payload_changes.note(vrp, true)?;
         self.payloads.add(vrp)?;
         Ok((self, Act::Nothing))
     }
 
-    fn on_prefix_withdraw(self, vrp: &Vrp) -> (Session, Act)
-        ensures { OnPrefixWithdraw self.phase vrp.now self result.1 result.0 }
+    fn on_prefix_withdraw(self, vrp: Vrp) -> Result<(Session, Act), NoMemory>
+        ensures { IfOk result (λ r. OnPrefixWithdraw self.phase vrp self r.1 r.0) }
     {
         match self.phase {
             Phase::ReceivingWhole => self.withdraw_prefix(vrp),
             Phase::ReceivingChanges => self.withdraw_prefix(vrp),
-            _ => self.end(Ending::Unexpected),
+            _ => Ok(self.end(Ending::Unexpected)),
         }
     }
 
-    fn withdraw_prefix(mut self, vrp: &Vrp) -> (Session, Act)
-        ensures { WithdrawsPrefix vrp.now self result.1 result.0 }
+    fn withdraw_prefix(mut self, vrp: Vrp) -> Result<(Session, Act), NoMemory>
+        ensures { IfOk result (λ r. WithdrawsPrefix vrp self r.1 r.0) }
     {
-        if self.payloads.contains(vrp) {
-            self.payloads.drop_one(vrp);
-            (self, Act::Nothing)
+        if self.payloads.contains(&vrp) {
+            self.payload_changes.note(vrp, false)?;
+            self.payloads.drop_one(&vrp);
+            Ok((self, Act::Nothing))
         } else {
-            self.end(Ending::UnknownWithdrawal)
+            Ok(self.end(Ending::UnknownWithdrawal))
         }
     }
 
@@ -273,6 +280,7 @@ impl Session {
             Phase::ReceivingWhole => {
                 if session == self.session {
                     self.changes = Patch::new(self.alloc);
+                    self.payload_changes = VrpChanges::new(self.alloc);
                     let rows = self.rows.copy()?;
                     let payloads = self.payloads.copy()?;
                     self.phase = Phase::Ready;
@@ -284,11 +292,12 @@ impl Session {
             }
             Phase::ReceivingChanges => {
                 if session == self.session {
-                    let payloads = self.payloads.copy()?;
                     let changes = mem::replace(&mut self.changes, Patch::new(self.alloc));
+                    let none = VrpChanges::new(self.alloc);
+                    let payload_changes = mem::replace(&mut self.payload_changes, none);
                     self.phase = Phase::Ready;
                     self.serial = serial;
-                    Ok((self, Act::Apply(Delta::Part(changes, payloads))))
+                    Ok((self, Act::Apply(Delta::Part(changes, payload_changes))))
                 } else {
                     Ok(self.end(Ending::SessionChanged))
                 }

@@ -4,7 +4,7 @@ use crate::sessions::{
     Did, Sent, after, asked, aspa, done_by, in_phase, pdu, prefix, take, withdrawal,
 };
 use av_base::NoMemory;
-use origin_model::{Vrp, VrpSet};
+use origin_model::Vrp;
 use path_model::{Addr, AsList, Patch, Prefix, Rows};
 use rtr_pdu::Framer;
 use rtr_session::{Act, Delta, Phase};
@@ -125,20 +125,40 @@ fn an_answer_with_changes_gives_those_named(rt: HostRuntime) -> Result<(), Fail>
     Ok(())
 }
 
-// The payloads that an End of Data hands out: how many there are, and whether that of a maximum and an AS is among them.
-fn handed(act: &Act, max: u8, asn: u32) -> Option<(usize, bool)> {
-    let payloads: &VrpSet = match act {
-        Act::Apply(Delta::Whole(_, payloads)) => payloads,
-        Act::Apply(Delta::Part(_, payloads)) => payloads,
-        _ => return None,
-    };
-    let vrp = Vrp::new(Prefix::new(Addr::V4(0xC633_6400), 24)?, max, asn)?;
-    Some((payloads.entries().count(), payloads.contains(&vrp)))
+// The payload of 198.51.100.0/24, a maximum and an AS.
+fn vrp(max: u8, asn: u32) -> Option<Vrp> {
+    Vrp::new(Prefix::new(Addr::V4(0xC633_6400), 24)?, max, asn)
 }
 
-// A payload takes effect at the End of Data; one that is announced twice is there once; a withdrawn one is gone.
+// The payloads that the End of Data of a whole answer hands out: how many there are, and whether one is among them.
+fn handed(act: &Act, max: u8, asn: u32) -> Option<(usize, bool)> {
+    match act {
+        Act::Apply(Delta::Whole(_, payloads)) => Some((
+            payloads.entries().count(),
+            payloads.contains(&vrp(max, asn)?),
+        )),
+        _ => None,
+    }
+}
+
+// The payloads that the End of Data of an answer with changes names: how many, and what it says of one.
+fn said(act: &Act, max: u8, asn: u32) -> Option<(usize, Option<bool>)> {
+    let Act::Apply(Delta::Part(_, changes)) = act else {
+        return None;
+    };
+    let wanted = vrp(max, asn)?;
+    for (named, announced) in changes.entries() {
+        if *named == wanted {
+            return Some((changes.len(), Some(announced)));
+        }
+    }
+    Some((changes.len(), None))
+}
+
+// A payload takes effect at the End of Data; one that is announced twice is there once; a withdrawn one is gone. Changes name what the answer
+// named alone, as it was named last.
 #[test]
-fn answers_give_all_payloads(rt: HostRuntime) -> Result<(), Fail> {
+fn answers_give_payloads(rt: HostRuntime) -> Result<(), Fail> {
     let alloc = rt.alloc();
     let mut session = in_phase(alloc, Phase::ReceivingWhole)?;
     for pdu in [
@@ -156,10 +176,21 @@ fn answers_give_all_payloads(rt: HostRuntime) -> Result<(), Fail> {
     assert_eq!(rt; handed(&act, 24, 64_500), Some((2, true)));
     assert_eq!(rt; handed(&act, 25, 64_500), Some((2, false)));
     assert_eq!(rt; handed(&act, 32, 0), Some((2, true)));
+    let mut session = after(alloc, asked(session), Sent::Response(7))?;
+    for pdu in [
+        prefix(false, 32, 0),
+        prefix(true, 25, 64_500),
+        prefix(false, 25, 64_500),
+        prefix(true, 25, 64_500),
+    ] {
+        session = take(session, pdu)?.0;
+    }
+    let (session, act) = take(session, pdu(alloc, Sent::End(7))?)?;
+    assert_eq!(rt; said(&act, 32, 0), Some((2, Some(false))));
+    assert_eq!(rt; said(&act, 25, 64_500), Some((2, Some(true))));
+    assert_eq!(rt; said(&act, 24, 64_500), Some((2, None)));
     let session = after(alloc, asked(session), Sent::Response(7))?;
-    let (session, _) = take(session, prefix(false, 32, 0))?;
     let (_, act) = take(session, pdu(alloc, Sent::End(7))?)?;
-    assert_eq!(rt; handed(&act, 24, 64_500), Some((1, true)));
-    assert_eq!(rt; handed(&act, 32, 0), Some((1, false)));
+    assert_eq!(rt; said(&act, 25, 64_500), Some((0, None)));
     Ok(())
 }

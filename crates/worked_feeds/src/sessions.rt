@@ -31,7 +31,7 @@ pub(crate) enum Sent {
     WithdrawUnknownPrefix,
 }
 
-// What is done; of rows and patches how many customers they name, and how many payloads there are then.
+// What is done; of rows and patches how many customers they name, and how many payloads there are then, or are named.
 #[derive(Clone, Copy, Debug, PartialEq, Eq)]
 pub(crate) enum Did {
     Nothing,
@@ -138,8 +138,8 @@ pub(crate) fn done_by(act: &Act) -> Did {
         Act::Apply(Delta::Whole(rows, payloads)) => {
             Did::Whole(rows.entries().count(), payloads.entries().count())
         }
-        Act::Apply(Delta::Part(patch, payloads)) => {
-            Did::Part(patch.entries().count(), payloads.entries().count())
+        Act::Apply(Delta::Part(patch, changes)) => {
+            Did::Part(patch.entries().count(), changes.len())
         }
         Act::End(ending) => Did::End(*ending),
     }
@@ -191,7 +191,7 @@ const TABLE: [(Sent, [Did; 6]); 17] = [
             UNEXPECTED,
             UNEXPECTED,
             Did::Whole(0, 0),
-            Did::Part(0, 1),
+            Did::Part(0, 0),
             UNEXPECTED,
         ],
     ),
