@@ -70,16 +70,16 @@ none_there : (o : Option (List ℕ)) → is_some o ≡ false → o ≡ None
 none_there None e = refl
 none_there (Some row) e = let never : ⊥ = cc in absurd never
 
-whole_run : (cache : Versions) (session serial : ℕ) (rows : RowMap) (changes : PatchMap) (vs : List Payload) (pdus : List Pdu) → AreGood cache.current.rows → AreRows cache.current.rows pdus
-    → Run cache (record { phase = AskedWhole; session = session; serial = serial; rows = rows; changes = changes; payloads = vs }) (answer cache pdus)
-whole_run cache session serial rows changes vs pdus good are =
+whole_run : (cache : Versions) (session serial : ℕ) (rows : RowMap) (changes : PatchMap) (vs : List Payload) (cs : List (Payload × Bool)) (pdus : List Pdu) → AreGood cache.current.rows → AreRows cache.current.rows pdus
+    → Run cache (record { phase = AskedWhole; session = session; serial = serial; rows = rows; changes = changes; payloads = vs; payload_changes = cs }) (answer cache pdus)
+whole_run cache session serial rows changes vs cs pdus good are =
     let to = cache.current.rows in
     let took = takes_told true cache.session serial to are.customers map.empty map.empty [] good (sorted_from_strictly_increasing are.customers are.rising)
     (λ x among same. some_missing (map.get to x) (sym (are.exactly x) ∙ among) (sym (map.get-empty nat_cmp x) ∙ same)) in
     let all : took.rows ≡ to = same_map took.rows to (λ q. took.gets q ∙ chosen (has are.customers q) (map.get to q) (map.get map.empty q) (λ out. map.get-empty nat_cmp q ∙ sym (none_there (map.get to q) (sym (are.exactly q) ∙ out)))) in
-    let start : State = record { phase = AskedWhole; session = session; serial = serial; rows = rows; changes = changes; payloads = vs } in
-    let done : State = record { phase = Ready; session = cache.session; serial = cache.current.serial; rows = took.rows; changes = map.empty; payloads = [] } in
-    subst (λ (list : List Pdu). Run cache (record { phase = AskedWhole; session = session; serial = serial; rows = rows; changes = changes; payloads = vs }) (answer cache list)) (sym are.are) (record {
+    let start : State = record { phase = AskedWhole; session = session; serial = serial; rows = rows; changes = changes; payloads = vs; payload_changes = cs } in
+    let done : State = record { phase = Ready; session = cache.session; serial = cache.current.serial; rows = took.rows; changes = map.empty; payloads = []; payload_changes = [] } in
+    subst (λ (list : List Pdu). Run cache (record { phase = AskedWhole; session = session; serial = serial; rows = rows; changes = changes; payloads = vs; payload_changes = cs }) (answer cache list)) (sym are.are) (record {
       acts = Nothing ∷ (nothings are.customers ++ Apply (Whole took.rows []) ∷ []);
       done = done;
       takes = Takes-then start (at true cache.session serial map.empty map.empty []) done (CacheResponse cache.session) (told_of to are.customers ++ EndOfData cache.session cache.current.serial ∷ []) Nothing (nothings are.customers ++ Apply (Whole took.rows []) ∷ []) (record { act_is = refl; new_is = refl })
@@ -89,21 +89,21 @@ whole_run cache session serial rows changes vs pdus good are =
       holds = record { ready = refl; session = refl; serial = refl; rows = all };
     })
 
-changes_run : (cache : Versions) (serial : ℕ) (rows : RowMap) (changes : PatchMap) (vs : List Payload) (pdus : List Pdu) → AreGood cache.current.rows → IsDifference rows cache.current.rows pdus
-    → Run cache (record { phase = AskedChanges; session = cache.session; serial = serial; rows = rows; changes = changes; payloads = vs }) (answer cache pdus)
-changes_run cache serial rows changes vs pdus good are =
+changes_run : (cache : Versions) (serial : ℕ) (rows : RowMap) (changes : PatchMap) (vs : List Payload) (cs : List (Payload × Bool)) (pdus : List Pdu) → AreGood cache.current.rows → IsDifference rows cache.current.rows pdus
+    → Run cache (record { phase = AskedChanges; session = cache.session; serial = serial; rows = rows; changes = changes; payloads = vs; payload_changes = cs }) (answer cache pdus)
+changes_run cache serial rows changes vs cs pdus good are =
     let to = cache.current.rows in
     let took = takes_told false cache.session serial to are.customers rows map.empty vs good (sorted_from_strictly_increasing are.customers are.rising) are.differ in
     let all : took.rows ≡ to = same_map took.rows to (λ q. took.gets q ∙ chosen (has are.customers q) (map.get to q) (map.get rows q) (are.others q)) in
-    let start : State = record { phase = AskedChanges; session = cache.session; serial = serial; rows = rows; changes = changes; payloads = vs } in
-    let done : State = record { phase = Ready; session = cache.session; serial = cache.current.serial; rows = took.rows; changes = map.empty; payloads = vs } in
-    subst (λ (list : List Pdu). Run cache (record { phase = AskedChanges; session = cache.session; serial = serial; rows = rows; changes = changes; payloads = vs }) (answer cache list)) (sym are.are) (record {
-      acts = Nothing ∷ (nothings are.customers ++ Apply (Part took.named vs) ∷ []);
+    let start : State = record { phase = AskedChanges; session = cache.session; serial = serial; rows = rows; changes = changes; payloads = vs; payload_changes = cs } in
+    let done : State = record { phase = Ready; session = cache.session; serial = cache.current.serial; rows = took.rows; changes = map.empty; payloads = vs; payload_changes = [] } in
+    subst (λ (list : List Pdu). Run cache (record { phase = AskedChanges; session = cache.session; serial = serial; rows = rows; changes = changes; payloads = vs; payload_changes = cs }) (answer cache list)) (sym are.are) (record {
+      acts = Nothing ∷ (nothings are.customers ++ Apply (Part took.named []) ∷ []);
       done = done;
-      takes = Takes-then start (at false cache.session serial rows map.empty vs) done (CacheResponse cache.session) (told_of to are.customers ++ EndOfData cache.session cache.current.serial ∷ []) Nothing (nothings are.customers ++ Apply (Part took.named vs) ∷ []) (inl (refl, record { act_is = refl; new_is = refl }))
-          (Takes-append (told_of to are.customers) (EndOfData cache.session cache.current.serial ∷ []) (at false cache.session serial rows map.empty vs) (at false cache.session serial took.rows took.named vs) done (nothings are.customers) (Apply (Part took.named vs) ∷ []) took.takes
-          (Takes-one (at false cache.session serial took.rows took.named vs) done (EndOfData cache.session cache.current.serial) (Apply (Part took.named vs)) (inl (refl, record { act_is = refl; new_is = refl }))));
-      quiet = no_query are.customers (Part took.named vs);
+      takes = Takes-then start (at false cache.session serial rows map.empty vs) done (CacheResponse cache.session) (told_of to are.customers ++ EndOfData cache.session cache.current.serial ∷ []) Nothing (nothings are.customers ++ Apply (Part took.named []) ∷ []) (inl (refl, record { act_is = refl; new_is = refl }))
+          (Takes-append (told_of to are.customers) (EndOfData cache.session cache.current.serial ∷ []) (at false cache.session serial rows map.empty vs) (at false cache.session serial took.rows took.named vs) done (nothings are.customers) (Apply (Part took.named []) ∷ []) took.takes
+          (Takes-one (at false cache.session serial took.rows took.named vs) done (EndOfData cache.session cache.current.serial) (Apply (Part took.named [])) (inl (refl, record { act_is = refl; new_is = refl }))));
+      quiet = no_query are.customers (Part took.named []);
       holds = record { ready = refl; session = refl; serial = refl; rows = all };
     })
 
@@ -128,7 +128,7 @@ whole_exchange cache asked done acts serves phase t =
     subst (λ (pdus : List Pdu). All IsWritable pdus) (sym (reply.are ∙ ap (λ (list : List Pdu). answer cache list) rows.are)) (answer_writable cache rows.customers serves.fit) in
     let start : record asked { phase = AskedWhole } ≡ asked = λ i. record asked { phase = sym phase i } in
     let run : Run cache asked t.replies.pdus = subst (λ (s : State). Run cache s t.replies.pdus) start
-    (subst (λ (pdus : List Pdu). Run cache (record asked { phase = AskedWhole }) pdus) (sym reply.are) (whole_run cache asked.session asked.serial asked.rows asked.changes asked.payloads reply.rows serves.good rows)) in
+    (subst (λ (pdus : List Pdu). Run cache (record asked { phase = AskedWhole }) pdus) (sym reply.are) (whole_run cache asked.session asked.serial asked.rows asked.changes asked.payloads asked.payload_changes reply.rows serves.good rows)) in
     by_run cache asked done t.replies.pdus acts run (reply_taken cache asked Reset acts done t writable)
 
 -- the rows are current, or everything is asked for now
@@ -150,11 +150,11 @@ by_serial cache asked mid acts pdus turn (Some from) serves phase session holds 
     let reply = gives.is_difference in
     let writable : All IsWritable pdus =
     subst (λ (list : List Pdu). All IsWritable list) (sym (gives.are ∙ ap (λ (list : List Pdu). answer cache list) reply.are)) (answer_writable cache reply.customers serves.fit) in
-    let start : record { phase = AskedChanges; session = cache.session; serial = asked.serial; rows = from; changes = asked.changes; payloads = asked.payloads } ≡ asked =
-    λ i. record { phase = sym phase i; session = sym session i; serial = asked.serial; rows = sym (holds from refl) i; changes = asked.changes; payloads = asked.payloads } in
+    let start : record { phase = AskedChanges; session = cache.session; serial = asked.serial; rows = from; changes = asked.changes; payloads = asked.payloads; payload_changes = asked.payload_changes } ≡ asked =
+    λ i. record { phase = sym phase i; session = sym session i; serial = asked.serial; rows = sym (holds from refl) i; changes = asked.changes; payloads = asked.payloads; payload_changes = asked.payload_changes } in
     let run : Run cache asked pdus = subst (λ (s : State). Run cache s pdus) start
-    (subst (λ (list : List Pdu). Run cache (record { phase = AskedChanges; session = cache.session; serial = asked.serial; rows = from; changes = asked.changes; payloads = asked.payloads }) list) (sym gives.are)
-    (changes_run cache asked.serial from asked.changes asked.payloads gives.difference serves.good reply)) in
+    (subst (λ (list : List Pdu). Run cache (record { phase = AskedChanges; session = cache.session; serial = asked.serial; rows = from; changes = asked.changes; payloads = asked.payloads; payload_changes = asked.payload_changes }) list) (sym gives.are)
+    (changes_run cache asked.serial from asked.changes asked.payloads asked.payload_changes gives.difference serves.good reply)) in
     inl (by_run cache asked mid pdus acts run (takes writable))
 
 changes_exchange : (cache : Versions) (asked mid : State) (acts : List Act) → Serves cache → asked.phase ≡ AskedChanges → asked.session ≡ cache.session

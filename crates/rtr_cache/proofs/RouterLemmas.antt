@@ -35,9 +35,9 @@ abbrev pub receiving : Bool → Phase
 receiving true = ReceivingWhole
 receiving false = ReceivingChanges
 
--- a router that receives everything, or changes
+-- a router that receives everything, or changes, and was told nothing of payloads
 abbrev pub at : Bool → ℕ → ℕ → RowMap → PatchMap → List Payload → State
-at whole session serial rows changes payloads = record { phase = receiving whole; session = session; serial = serial; rows = rows; changes = changes; payloads = payloads }
+at whole session serial rows changes payloads = record { phase = receiving whole; session = session; serial = serial; rows = rows; changes = changes; payloads = payloads; payload_changes = [] }
 
 -- ---- an announcement
 
