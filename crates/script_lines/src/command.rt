@@ -64,6 +64,8 @@ pub enum Command {
 pub enum Show {
     /// `report`: each route of the table, with the verdict of its path.
     Report,
+    /// `origins`: each route of the table, with the state of its origin by validated ROA payloads (RFC 6811, section 2).
+    Origins,
     /// `summary`: how many routes and customers there are, and how many units were passed over and lines refused.
     Summary,
 }

@@ -84,6 +84,7 @@ fn command_name(word: &[u8]) -> Option<CommandName>
         b"changes" => Some(CommandName::Changes),
         b"why" => Some(CommandName::Why),
         b"report" => Some(CommandName::Show(Show::Report)),
+        b"origins" => Some(CommandName::Show(Show::Origins)),
         b"summary" => Some(CommandName::Show(Show::Summary)),
         _ => None,
     }
