@@ -4,10 +4,10 @@ use Rattle.std.specs.declared.option.Option.{Option}
 use Rattle.std.specs.declared.option.Option.TheVariants.{Some, None}
 use Rattle.rtr_pdu.specs.declared.pdu.Pdu.TheVariants.{ErrorReport}
 use Rattle.rtr_pdu.specs.declared.pdu.PduFault.{PduFault}
-use Rattle.rtr_pdu.specs.declared.pdu.PduFault.TheVariants.{PduVersion as BadVersion, PduLength as BadLength, PduType as BadType, NoProviders as HasNoProviders, NoMemory}
+use Rattle.rtr_pdu.specs.declared.pdu.PduFault.TheVariants.{PduVersion as BadVersion, PduLength as BadLength, PduType as BadType, NoProviders as HasNoProviders, PrefixRecord as BadPrefix, NoMemory}
 use Rattle.rtr_pdu.specs.Spelled.{spelled}
 use Rattle.report_text.specs.declared.cause.Cause.{Cause}
-use Rattle.report_text.specs.declared.cause.Cause.TheVariants.{PduVersion, PduLength, PduType, PduNoProviders}
+use Rattle.report_text.specs.declared.cause.Cause.TheVariants.{PduVersion, PduLength, PduType, PduNoProviders, PrefixRecord}
 
 -- the error report with this code, or none
 abbrev pub report_bytes : Option ℕ → List ℕ
@@ -20,4 +20,5 @@ IsCauseOf BadVersion cause = cause ≡ PduVersion
 IsCauseOf BadLength cause = cause ≡ PduLength
 IsCauseOf BadType cause = cause ≡ PduType
 IsCauseOf HasNoProviders cause = cause ≡ PduNoProviders
+IsCauseOf BadPrefix cause = cause ≡ PrefixRecord
 IsCauseOf NoMemory cause = ⊥

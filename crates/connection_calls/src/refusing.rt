@@ -6,7 +6,7 @@ use av_base::NoMemory;
 use report_text::Cause;
 use rtr_pdu::PduFault;
 
-/// The cause of a refused PDU, 15 to 18; want of memory is none.
+/// The cause of a refused PDU, 15 to 18 or 43; want of memory is none.
 pub fn refusal(fault: PduFault) -> Result<Cause, NoMemory>
     ensures { IfOk result (λ cause. IsCauseOf fault cause) }
 {
@@ -15,6 +15,7 @@ pub fn refusal(fault: PduFault) -> Result<Cause, NoMemory>
         PduFault::PduLength => Ok(Cause::PduLength),
         PduFault::PduType => Ok(Cause::PduType),
         PduFault::NoProviders => Ok(Cause::PduNoProviders),
+        PduFault::PrefixRecord => Ok(Cause::PrefixRecord),
         PduFault::NoMemory => Err(NoMemory),
     }
 }

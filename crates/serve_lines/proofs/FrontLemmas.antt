@@ -7,7 +7,7 @@ use Rattle.std.specs.declared.option.Option.{Option}
 use Rattle.std.specs.declared.result.Result.{Result}
 use Rattle.rtr_pdu.specs.declared.pdu.Pdu.{Pdu}
 use Rattle.rtr_pdu.specs.declared.pdu.PduFault.{PduFault}
-use Rattle.rtr_pdu.specs.declared.pdu.PduFault.TheVariants.{PduVersion as BadVersion, PduLength as BadLength, PduType as BadType, NoProviders as HasNoProviders, NoMemory}
+use Rattle.rtr_pdu.specs.declared.pdu.PduFault.TheVariants.{PduVersion as BadVersion, PduLength as BadLength, PduType as BadType, NoProviders as HasNoProviders, PrefixRecord as BadPrefix, NoMemory}
 use Rattle.rtr_pdu.specs.Units.{Answers}
 use Rattle.rtr_pdu.proofs.NextLemmas.{one_next}
 use Rattle.report_text.specs.declared.cause.Cause.{Cause}
@@ -193,6 +193,7 @@ cause_one BadVersion one other a b = a ∙ sym b
 cause_one BadLength one other a b = a ∙ sym b
 cause_one BadType one other a b = a ∙ sym b
 cause_one HasNoProviders one other a b = a ∙ sym b
+cause_one BadPrefix one other a b = a ∙ sym b
 cause_one NoMemory one other a b = absurd a
 
 abbrev refused_so : ℕ → Option RouterEnd → Refusal → Outcome
