@@ -1,80 +1,111 @@
 -- What was done to a feed, with the change that follows and what it may cost.
 use Rattle.std.proofs.Common.{◌≡◌, ℕ, ◌+◌, inl, inr, List, [], ◌∷◌, None, Some, refl, sym, ◌∙◌, subst, arith}
 use Rattle.std.specs.Prelude.{IfOk}
+use Rattle.std.specs.Result.{IsErr}
 use Rattle.std.specs.declared.option.Option.{Option}
 use Rattle.std.specs.declared.result.Result.{Result}
 use Rattle.std.specs.declared.result.Result.TheVariants.{Ok, Err}
 use Rattle.av_base.specs.Connections.{Agrees, IsUsable, Link}
 use Rattle.av_base.specs.declared.standing.Standing.{Standing}
-use Rattle.vap_table.specs.declared.change.TableChange.{TableChange}
+use Rattle.origin_model.specs.Current.{Parts}
+use Rattle.origin_model.proofs.SaidLemmas.{one_set}
+use Rattle.origin_validation.specs.Records.{or_none, source_of, with_source}
 use Rattle.rib_store.specs.State.{State as Analysis}
-use Rattle.analyser.specs.declared.event.Event.{Event}
+use Rattle.analyser.specs.declared.event.Event.TheVariants.{Table}
 use Rattle.analyser.specs.Events.{Happens}
 use Rattle.analyser.specs.Touched.{TicksWithin}
 use Rattle.analyser.proofs.CostLemmas.{some_cost}
 use Rattle.analyser.proofs.EventLemmas.{some_outcome}
+use Rattle.feed_lines.specs.declared.changing.PayloadsChange.{PayloadsChange}
+use Rattle.feed_lines.specs.declared.changing.PayloadsChange.TheVariants.{Replace as ReplacePayloads, Patch as PatchPayloads}
+use Rattle.feed_lines.specs.declared.changing.SourceChange.{SourceChange}
 use Rattle.feed_lines.specs.declared.feed.OpenFeed.{OpenFeed}
 use Rattle.feed_lines.specs.declared.taking.Outcome.{Outcome}
 use Rattle.feed_lines.specs.declared.taking.Outcome.TheVariants.{Open as GoesOn, Ended}
 use Rattle.feed_lines.specs.declared.telling.Telling.{Telling}
 use Rattle.connection_calls.specs.Connection.{Now}
 use Rattle.connection_calls.specs.Moves.{KeepsSent}
-use Rattle.feed_lines.specs.Feeds.{Feed, Taking, Counts, Stays, Follows}
+use Rattle.feed_lines.specs.Feeds.{Feed, Taking, Changes, ChangesPayloads, Stays, Follows}
 use Rattle.feed_lines.specs.Holding.{AreWithin, StandsFor}
-use Rattle.feed_lines.specs.Steps.{Before, Halted, MayDo, MovedAs, OutcomeFits, Passes, TookAs, going, over}
+use Rattle.feed_lines.specs.Steps.{Before, Halted, Made, MayDo, MovedAs, OutcomeFits, Passes, TookAs, going, made, over, taking}
 use Rattle.connection_calls.proofs.ConnectionLemmas.{Now-map, Ever-map}
 use Rattle.connection_calls.proofs.StandingLemmas.{still_open}
 
--- ---- events
+-- ---- changes
 
--- an event happens, whether or not there is memory for it
-module _ {E : Type 0} (before after : ℕ) (event : Event) (old : Taking) (slot : Option Feed) (few : TicksWithin old.state event before after) where
-  counts : (result : Result Analysis E) (next : Analysis) → IfOk result (λ n. n ≡ next) → Happens old.state event next → Passes result before after old (Counts old event) slot
-  counts result next is happens =
-      let cost = some_cost old.state event next in
-      let most = few next cost.0 happens cost.1 in
+-- some records are what a change makes of others
+some_payloads : (name : List ℕ) (change : PayloadsChange) (old : Parts) → (new : Parts) × ChangesPayloads name change old new
+some_payloads name (ReplacePayloads payloads) old = (with_source old name payloads, refl)
+some_payloads name (PatchPayloads changes) old =
+    let one = one_set changes (or_none (source_of old.sources name)) in
+    (with_source old name one.one, record { payloads = one.one; patches = one.is; puts = refl })
+
+-- what is said of a result that is no error
+on_no_ok : {A E : Type 0} (P : A → Type 0) (result : Result A E) → IsErr result → IfOk result P
+on_no_ok P (Ok x) is = let none : ⊥ = cc in absurd none
+on_no_ok P (Err e) is = tt
+
+-- a change is made, whether or not there is memory for it
+module _ {E : Type 0} (before after : ℕ) (change : SourceChange) (old : Taking) (slot : Option Feed) (few : TicksWithin old.state (Table change.rows) before after) where
+  changes : (result : Result Analysis E) (parts : Parts) (next : Made) → IfOk result (λ n. made n parts ≡ next) → Happens old.state (Table change.rows) next.analysis
+      → ChangesPayloads change.name change.payloads old.parts next.parts → Passes result parts before after old (Changes old change) slot
+  changes result parts next is happens payloads =
+      let cost = some_cost old.state (Table change.rows) next.analysis in
+      let most = few next.analysis cost.0 happens cost.1 in
       record {
         state = next;
         judgements = old.judgements + cost.0;
         is = is;
         within = omega (arith, most);
-        done = record { happens = happens; cost = cost.0; costs = cost.1; counted = refl };
+        done = record { happens = happens; cost = cost.0; costs = cost.1; counted = refl; payloads = payloads };
       }
 
-  pub event_passes : (result : Result Analysis E) → IfOk result (λ next. Happens old.state event next) → Passes result before after old (Counts old event) slot
-  event_passes (Ok next) happens = counts (Ok next) next refl happens
-  event_passes (Err e) happens = let one = some_outcome old.state event in counts (Err e) one.0 tt one.1
+  -- all of it
+  pub change_passes : (next : Analysis) (parts : Parts) → Happens old.state (Table change.rows) next → ChangesPayloads change.name change.payloads old.parts parts
+      → Passes {E = E} (Ok next) parts before after old (Changes old change) slot
+  change_passes next parts happens payloads = changes (Ok next) parts (made next parts) refl happens payloads
+
+  -- there was no memory for the records
+  pub records_fail : (result : Result Analysis E) (parts : Parts) (next : Analysis) → IsErr result → Happens old.state (Table change.rows) next → Passes result parts before after old (Changes old change) slot
+  records_fail result parts next is happens =
+      let some = some_payloads change.name change.payloads old.parts in
+      changes result parts (made next some.0) (on_no_ok (λ n. made n parts ≡ made next some.0) result is) happens some.1
+
+  -- there was none for the event
+  pub event_fails : (result : Result Analysis E) (parts : Parts) → IsErr result → Passes result parts before after old (Changes old change) slot
+  event_fails result parts is = let one = some_outcome old.state (Table change.rows) in records_fail result parts one.0 is one.1
 
 -- none was due
-pub stays_passes : {E : Type 0} (steps : ℕ) (analyser : Analysis) (old : Taking) (slot : Option Feed) → old.state ≡ analyser → Passes {E = E} (Ok analyser) steps steps old (Stays old) slot
-stays_passes steps analyser old slot from = record {
-  state = old.state;
+pub stays_passes : {E : Type 0} (steps : ℕ) (analyser : Analysis) (parts : Parts) (old : Taking) (slot : Option Feed) → old.state ≡ analyser → old.parts ≡ parts
+    → Passes {E = E} (Ok analyser) parts steps steps old (Stays old) slot
+stays_passes steps analyser parts old slot from from_parts = record {
+  state = made old.state old.parts;
   judgements = old.judgements;
-  is = sym from;
+  is = λ i. made (sym from i) (sym from_parts i);
   within = omega arith;
   done = refl;
 }
 
 -- ---- with the feed
 
--- the next analysis, where there was memory for it
-passed : {E : Type 0} (after : Analysis) (steps_old steps_new : ℕ) (old : Taking) (does : Taking → Type 0) (slot : Option Feed) → Passes {E = E} (Ok after) steps_old steps_new old does slot
-    → (judgements : ℕ) × AreWithin steps_old steps_new old.judgements judgements × does (record { feed = slot; state = after; judgements = judgements })
-passed after steps_old steps_new old does slot passes =
-    (passes.judgements, passes.within, subst (λ (s : Analysis). does (record { feed = slot; state = s; judgements = passes.judgements })) (sym passes.is) passes.done)
+-- the next analysis and records, where there was memory for them
+passed : {E : Type 0} (after : Analysis) (parts : Parts) (steps_old steps_new : ℕ) (old : Taking) (does : Taking → Type 0) (slot : Option Feed) → Passes {E = E} (Ok after) parts steps_old steps_new old does slot
+    → (judgements : ℕ) × AreWithin steps_old steps_new old.judgements judgements × does (taking slot (made after parts) judgements)
+passed after parts steps_old steps_new old does slot passes =
+    (passes.judgements, passes.within, subst (λ (s : Made). does (taking slot s passes.judgements)) (sym passes.is) passes.done)
 
-module _ {E : Type 0} (wire : Option (List Link)) (link : ℕ) (change : Option TableChange) (takes : Link → Taking → List Telling → Taking → Type 0) (steps_old steps_new : ℕ) (old : Taking) where
-  pub moved_took : (after : Analysis) (outcome : Outcome) → MovedAs wire link (λ t. Before change (takes t)) outcome → ((slot : Option Feed) → Passes {E = E} (Ok after) steps_old steps_new old (Follows change old) slot)
-      → TookAs wire link (AreWithin steps_old steps_new old.judgements) (λ t. takes t old) outcome after
+module _ {E : Type 0} (wire : Option (List Link)) (link : ℕ) (change : Option SourceChange) (takes : Link → Taking → List Telling → Taking → Type 0) (parts : Parts) (steps_old steps_new : ℕ) (old : Taking) where
+  pub moved_took : (after : Analysis) (outcome : Outcome) → MovedAs wire link (λ t. Before change (takes t)) outcome → ((slot : Option Feed) → Passes {E = E} (Ok after) parts steps_old steps_new old (Follows change old) slot)
+      → TookAs wire link (AreWithin steps_old steps_new old.judgements) (λ t. takes t old) outcome (made after parts)
   moved_took after (GoesOn kept) moved passes =
-      let had = passed after steps_old steps_new old (Follows change old) (Some moved.0) (passes (Some moved.0)) in
-      (moved.0, had.0, moved.1, moved.2, had.1, Ever-map (λ t before. before old (going moved.0 after had.0) refl had.2) moved.3)
+      let had = passed after parts steps_old steps_new old (Follows change old) (Some moved.0) (passes (Some moved.0)) in
+      (moved.0, had.0, moved.1, moved.2, had.1, Ever-map (λ t before. before old (going moved.0 (made after parts) had.0) refl had.2) moved.3)
   moved_took after (Ended telling) moved passes =
-      let had = passed after steps_old steps_new old (Follows change old) None (passes None) in
-      (had.0, had.1, Ever-map (λ t before. before old (over after had.0) refl had.2) moved)
+      let had = passed after parts steps_old steps_new old (Follows change old) None (passes None) in
+      (had.0, had.1, Ever-map (λ t before. before old (over (made after parts) had.0) refl had.2) moved)
 
   -- for want of memory at the event
-  pub moved_halted : (result : Result Analysis E) (outcome : Outcome) → MovedAs wire link (λ t. Before change (takes t)) outcome → ((slot : Option Feed) → Passes result steps_old steps_new old (Follows change old) slot)
+  pub moved_halted : (result : Result Analysis E) (outcome : Outcome) → MovedAs wire link (λ t. Before change (takes t)) outcome → ((slot : Option Feed) → Passes result parts steps_old steps_new old (Follows change old) slot)
       → (standings : List Standing) (most : ℕ) → Agrees wire standings → OutcomeFits standings link most outcome
       → Halted wire link (AreWithin steps_old steps_new old.judgements) (λ t. MayDo (takes t old) old)
   moved_halted result (GoesOn kept) moved passes standings most agrees fits =
@@ -100,7 +131,7 @@ module _ {E : Type 0} (wire : Option (List Link)) (link : ℕ) (change : Option 
       }
 
 -- nothing was done
-pub none_halted : (old new : Option (List Link)) (kept : OpenFeed) (takes : Link → List Telling → Taking → Type 0) (state : Analysis) (steps : ℕ) (feed : Feed) (judgements : ℕ) → StandsFor old kept feed → KeepsSent kept.link old new
+pub none_halted : (old new : Option (List Link)) (kept : OpenFeed) (takes : Link → List Telling → Taking → Type 0) (state : Made) (steps : ℕ) (feed : Feed) (judgements : ℕ) → StandsFor old kept feed → KeepsSent kept.link old new
     → (standings : List Standing) → Agrees new standings → IsUsable standings kept.link
     → Halted new kept.link (AreWithin steps steps judgements) (λ t. MayDo (takes t) (going feed state judgements))
 none_halted old new kept takes state steps feed judgements stands keeps standings agrees usable = record {

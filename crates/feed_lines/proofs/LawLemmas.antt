@@ -11,10 +11,12 @@ use Rattle.rtr_session.specs.declared.act.Query.{Query}
 use Rattle.rtr_session.specs.declared.act.Query.TheVariants.{Reset}
 use Rattle.rtr_session.specs.State.{State as Session}
 use Rattle.rtr_session.proofs.CaseLemmas.{one_case, one_query}
-use Rattle.vap_table.specs.declared.change.TableChange.{TableChange}
+use Rattle.origin_model.specs.Current.{Parts}
+use Rattle.origin_model.specs.Vrp.{Payload}
+use Rattle.origin_model.proofs.SaidLemmas.{one_set}
+use Rattle.origin_validation.specs.Records.{or_none, source_of, with_source}
 use Rattle.rib_store.specs.State.{State as Analysis}
 use Rattle.analyser.specs.declared.event.Event.TheVariants.{Table}
-use Rattle.analyser.specs.declared.event.Event.{Event}
 use Rattle.analyser.specs.Touched.{Costs}
 use Rattle.analyser.proofs.CostLemmas.{Costs-unique}
 use Rattle.analyser.proofs.EventLemmas.{one_outcome as one_event_outcome}
@@ -23,6 +25,9 @@ use Rattle.report_text.specs.Feeds.{feed_line}
 use Rattle.report_text.proofs.RefusalLemmas.{refusal_is_one_line, feed_end_is_one_line}
 use Rattle.report_text.specs.declared.cause.Cause.{Cause}
 use Rattle.report_text.specs.declared.cause.Cause.TheVariants.{NoName as NameIsNone, StreamOver as StreamIsOver}
+use Rattle.feed_lines.specs.declared.changing.PayloadsChange.{PayloadsChange}
+use Rattle.feed_lines.specs.declared.changing.PayloadsChange.TheVariants.{Replace as ReplacePayloads, Patch as PatchPayloads}
+use Rattle.feed_lines.specs.declared.changing.SourceChange.{SourceChange}
 use Rattle.feed_lines.specs.declared.telling.Telling.{Telling}
 use Rattle.feed_lines.specs.declared.telling.Telling.TheVariants.{NoName, StreamOver, Pdu as PduRefused, End as FeedEnds}
 use Rattle.feed_lines.specs.declared.working.Work.{Work}
@@ -30,7 +35,7 @@ use Rattle.feed_lines.specs.declared.working.Work.TheVariants.{Ask, Take, Sync}
 use Rattle.feed_lines.specs.Tellings.{Asking, tells_text}
 use Rattle.connection_calls.proofs.RefusedLemmas.{cause_unique}
 use Rattle.connection_calls.proofs.NextLemmas.{same_shown, shown_bad, shown_none, shown_pdu, whole_or_cut}
-use Rattle.feed_lines.specs.Feeds.{Feed, Taking, Coming, OnePdu, BadPdu, NoMore, Queries, IsComing, Moves, Follows, Counts, Stays, TakesPdu, TakesComing, TakesFrom, TakesPdus, Syncs, AsksFeed, AsksBy, after_pdu, asked_of, change_due, query_bytes, short_of}
+use Rattle.feed_lines.specs.Feeds.{Feed, Taking, Coming, OnePdu, BadPdu, NoMore, Queries, IsComing, Moves, Changes, ChangesPayloads, Follows, Stays, TakesPdu, TakesComing, TakesFrom, TakesPdus, Syncs, AsksFeed, AsksBy, after_pdu, asked_of, change_due, query_bytes, short_of}
 use Rattle.connection_calls.specs.World.{World}
 use Rattle.feed_lines.specs.Lines.{State, Connects, StartsBy, Does, Works, WorksBy, Writes, taking_of, with_feed, with_taking}
 use Rattle.feed_lines.specs.Laws.{FeedLinesHaveOneOutcome, EachTellingIsOneLine}
@@ -93,19 +98,28 @@ queries_unique t feed query one other slot last a b = elim a [
   ]
 ]
 
-counts_unique : (old : Taking) (event : Event) (end last : Taking) → Counts old event end → Counts old event last → end.feed ≡ last.feed → end ≡ last
-counts_unique old event end last a b feeds =
+payloads_unique : (name : List ℕ) (change : PayloadsChange) (old end last : Parts) → ChangesPayloads name change old end → ChangesPayloads name change old last → end ≡ last
+payloads_unique name (ReplacePayloads payloads) old end last a b = a ∙ sym b
+payloads_unique name (PatchPayloads changes) old end last a b =
+    let one = one_set changes (or_none (source_of old.sources name)) in
+    let same : a.payloads ≡ b.payloads = one.only a.payloads a.patches ∙ sym (one.only b.payloads b.patches) in
+    a.puts ∙ ap (λ (vs : List Payload). with_source old name vs) same ∙ sym b.puts
+
+changes_unique : (old : Taking) (change : SourceChange) (end last : Taking) → Changes old change end → Changes old change last → end.feed ≡ last.feed → end ≡ last
+changes_unique old change end last a b feeds =
+    let event = Table change.rows in
     let states = one_event_outcome old.state event last.state end.state b.happens a.happens in
+    let parts = payloads_unique change.name change.payloads old.parts end.parts last.parts a.payloads b.payloads in
     let costs = Costs-unique old.state event last.state a.cost b.cost (subst (λ (s : Analysis). Costs old.state event s a.cost) states a.costs) b.costs in
     let judgements = a.counted ∙ ap (λ n. old.judgements + n) costs ∙ sym b.counted in
-    λ i. record { feed = feeds i; state = states i; judgements = judgements i }
+    λ i. record { feed = feeds i; state = states i; parts = parts i; judgements = judgements i }
 
 stays_unique : (old end last : Taking) → Stays old end → Stays old last → end.feed ≡ last.feed → end ≡ last
 stays_unique old end last a b feeds = a ∙ ap (λ (f : Option Feed). record old { feed = f }) feeds ∙ sym b
 
-follows_unique : (change : Option TableChange) (old end last : Taking) → Follows change old end → Follows change old last → end.feed ≡ last.feed → end ≡ last
+follows_unique : (change : Option SourceChange) (old end last : Taking) → Follows change old end → Follows change old last → end.feed ≡ last.feed → end ≡ last
 follows_unique None old end last a b feeds = stays_unique old end last a b feeds
-follows_unique (Some change) old end last a b feeds = counts_unique old (Table change) end last a b feeds
+follows_unique (Some change) old end last a b feeds = changes_unique old change end last a b feeds
 
 moves_unique : (t : Link) (feed : Feed) (act : Act) (one other : List Telling) (slot last : Option Feed) → Moves t feed act one slot → Moves t feed act other last → (one ≡ other) × (slot ≡ last)
 moves_unique t feed Nothing one other slot last a b = both one other _ slot last _ a b

@@ -5,6 +5,7 @@ use Rattle.std.specs.declared.option.Option.{Option}
 use Rattle.av_base.specs.Connections.{Agrees, Attempt, Link, ToldLater}
 use Rattle.av_base.specs.declared.standing.Standing.{Standing}
 use Rattle.av_base.proofs.LaterLemmas.{ToldLater-refl}
+use Rattle.origin_model.specs.Current.{Parts}
 use Rattle.rib_store.specs.State.{State as Analysis}
 use Rattle.feed_lines.specs.declared.feed.Feeds.{Feeds}
 use Rattle.feed_lines.specs.declared.lines.Progress.{Progress}
@@ -13,7 +14,8 @@ use Rattle.feed_lines.specs.declared.working.Work.{Work}
 use Rattle.connection_calls.specs.World.{AddsAttempts}
 use Rattle.feed_lines.specs.Holding.{AreWithin, Goes, HasMoved, Holds, HoldsFeeds, IsSound}
 use Rattle.feed_lines.specs.Lines.{ConnectLine, ConnectPart, State, WorkLine, WorkPart}
-use Rattle.feed_lines.specs.Named.{BeganNamed, ConnectedNamed, WorkedNamed}
+use Rattle.feed_lines.specs.Named.{BeganNamed, ConnectedNamed, WorkedNamed, made_of}
+use Rattle.feed_lines.specs.Steps.{Made, made}
 use Rattle.feed_lines.specs.Tellings.{Asking, tells_text}
 use Rattle.connection_calls.proofs.GoingLemmas.{AddsAttempts-refl}
 use Rattle.feed_lines.proofs.NamedLemmas.{holds_moved}
@@ -28,11 +30,11 @@ counted_holds attempts wire feeds state told holds = record { made = holds.made;
 module _ (attempts_old attempts_new : Option (List Attempt)) (wire_old wire_new : Option (List Link)) (feeds_old : Feeds) (progress : Progress) (text_old text_new : List ℕ) (asking : Asking) where
   -- ---- connecting
 
-  module _ (place : List ℕ) (feeds_new : Feeds) (told : Option Telling) (connected : ConnectedNamed attempts_old attempts_new wire_old wire_new asking.name place feeds_old feeds_new told) where
+  module _ (place : List ℕ) (feeds_new : Feeds) (told : Option Telling) (parts : Parts) (connected : ConnectedNamed attempts_old attempts_new wire_old wire_new asking.name place feeds_old feeds_new told) where
     pub connect_goes : (next : Progress) → text_new ≡ text_old ++ tells_text asking (option_to_list told)
         → next ≡ record { analyser = progress.analyser; refused = progress.refused + length (option_to_list told) }
-        → Goes attempts_old attempts_new wire_old wire_new (Holds attempts_old wire_old feeds_old progress)
-        (λ old new. Holds attempts_new wire_new feeds_new next new × (new.judgements ≡ old.judgements)) text_old text_new (λ world old added new. ConnectLine world asking place old added new)
+        → Goes attempts_old attempts_new wire_old wire_new (Holds attempts_old wire_old feeds_old progress parts)
+        (λ old new. Holds attempts_new wire_new feeds_new next parts new × (new.judgements ≡ old.judgements)) text_old text_new (λ world old added new. ConnectLine world asking place old added new)
     connect_goes next added is = record {
       attempts = connected.attempts;
       links = connected.links;
@@ -44,7 +46,8 @@ module _ (attempts_old attempts_new : Option (List Attempt)) (wire_old wire_new 
             (
               record {
                 held = counted_holds attempts_new wire_new feeds_new had.0 told had.1;
-                analysis = ap (λ (p : Progress). p.analyser) is ∙ holds.analysis ∙ sym had.2;
+                analysis = ap (λ (p : Progress). p.analyser) is ∙ holds.analysis ∙ sym (ap (λ (m : Made). m.analysis) had.2);
+                parts_are = holds.parts_are ∙ sym (ap (λ (m : Made). m.parts) had.2);
                 refused = ap (λ (p : Progress). p.refused) is ∙ ap (λ n. n + length (option_to_list told)) (holds.refused ∙ sym had.3);
               },
               had.4,
@@ -55,7 +58,7 @@ module _ (attempts_old attempts_new : Option (List Attempt)) (wire_old wire_new 
 
     -- all but the text
     pub connect_unwritten : text_new ≡ text_old → (stands : List Standing) (most : ℕ) → Agrees wire_new stands → IsSound stands most feeds_new
-        → Goes attempts_old attempts_new wire_old wire_new (Holds attempts_old wire_old feeds_old progress)
+        → Goes attempts_old attempts_new wire_old wire_new (Holds attempts_old wire_old feeds_old progress parts)
         (λ old new. HasMoved attempts_new wire_new new × (new.judgements ≡ old.judgements)) text_old text_new (λ world old added new. ConnectPart world asking place old new)
     connect_unwritten same stands most agrees sound = record {
       attempts = connected.attempts;
@@ -71,10 +74,10 @@ module _ (attempts_old attempts_new : Option (List Attempt)) (wire_old wire_new 
     }
 
   -- nothing was done
-  pub connect_nothing : (place : List ℕ) (stands : List Standing) (most : ℕ) → Agrees wire_old stands → IsSound stands most feeds_old → attempts_new ≡ attempts_old → wire_new ≡ wire_old → text_new ≡ text_old
-      → Goes attempts_old attempts_new wire_old wire_new (Holds attempts_old wire_old feeds_old progress)
+  pub connect_nothing : (place : List ℕ) (parts : Parts) (stands : List Standing) (most : ℕ) → Agrees wire_old stands → IsSound stands most feeds_old → attempts_new ≡ attempts_old → wire_new ≡ wire_old → text_new ≡ text_old
+      → Goes attempts_old attempts_new wire_old wire_new (Holds attempts_old wire_old feeds_old progress parts)
       (λ old new. HasMoved attempts_new wire_new new × (new.judgements ≡ old.judgements)) text_old text_new (λ world old added new. ConnectPart world asking place old new)
-  connect_nothing place stands most agrees sound same_attempts same_wire same = record {
+  connect_nothing place parts stands most agrees sound same_attempts same_wire same = record {
     attempts = subst (λ (a : Option (List Attempt)). AddsAttempts wire_old attempts_old a) (sym same_attempts) (AddsAttempts-refl wire_old attempts_old);
     links = subst (λ (w : Option (List Link)). ToldLater wire_old w) (sym same_wire) (ToldLater-refl wire_old);
     text = [];
@@ -91,27 +94,32 @@ module _ (attempts_old attempts_new : Option (List Attempt)) (wire_old wire_new 
 
   -- ---- works
 
-  module _ (work : Work) (steps_old steps_new : ℕ) (same_attempts : attempts_new ≡ attempts_old) (later : ToldLater wire_old wire_new) where
+  module _ (work : Work) (parts_old : Parts) (steps_old steps_new : ℕ) (same_attempts : attempts_new ≡ attempts_old) (later : ToldLater wire_old wire_new) where
+    as_held : (old : State) → Holds attempts_old wire_old feeds_old progress parts_old old → made progress.analyser parts_old ≡ made_of old
+    as_held old holds = λ i. made (holds.analysis i) (holds.parts_are i)
+
     adds_none : AddsAttempts wire_old attempts_old attempts_new
     adds_none = subst (λ (a : Option (List Attempt)). AddsAttempts wire_old attempts_old a) (sym same_attempts) (AddsAttempts-refl wire_old attempts_old)
 
-    module _ (feeds_new : Feeds) (told : Option Telling) (after : Analysis) (worked : WorkedNamed attempts_old attempts_new wire_old wire_new asking.name work feeds_old feeds_new progress.analyser told after steps_old steps_new) where
+    module _ (feeds_new : Feeds) (told : Option Telling) (after : Analysis) (parts_new : Parts)
+        (worked : WorkedNamed attempts_old attempts_new wire_old wire_new asking.name work feeds_old feeds_new (made progress.analyser parts_old) told (made after parts_new) steps_old steps_new) where
       pub work_goes : (next : Progress) → text_new ≡ text_old ++ tells_text asking (option_to_list told)
           → next ≡ record { analyser = after; refused = progress.refused + length (option_to_list told) }
-          → Goes attempts_old attempts_new wire_old wire_new (Holds attempts_old wire_old feeds_old progress)
-          (λ old new. Holds attempts_new wire_new feeds_new next new × AreWithin steps_old steps_new old.judgements new.judgements) text_old text_new (λ world old added new. WorkLine world asking work old added new)
+          → Goes attempts_old attempts_new wire_old wire_new (Holds attempts_old wire_old feeds_old progress parts_old)
+          (λ old new. Holds attempts_new wire_new feeds_new next parts_new new × AreWithin steps_old steps_new old.judgements new.judgements) text_old text_new (λ world old added new. WorkLine world asking work old added new)
       work_goes next added is = record {
         attempts = adds_none;
         links = later;
         text = tells_text asking (option_to_list told);
         added = added;
         goes = λ old holds.
-            let had = worked.goes old holds.held holds.analysis in (
+            let had = worked.goes old holds.held (as_held old holds) in (
               counted had.0 told,
               (
                 record {
                   held = counted_holds attempts_new wire_new feeds_new had.0 told had.1;
-                  analysis = ap (λ (p : Progress). p.analyser) is ∙ had.2;
+                  analysis = ap (λ (p : Progress). p.analyser) is ∙ ap (λ (m : Made). m.analysis) had.2;
+                  parts_are = ap (λ (m : Made). m.parts) had.2;
                   refused = ap (λ (p : Progress). p.refused) is ∙ ap (λ n. n + length (option_to_list told)) (holds.refused ∙ sym had.3);
                 },
                 had.4,
@@ -122,7 +130,7 @@ module _ (attempts_old attempts_new : Option (List Attempt)) (wire_old wire_new 
 
       -- all but the text
       pub work_unwritten : text_new ≡ text_old → (stands : List Standing) (most : ℕ) → Agrees wire_new stands → IsSound stands most feeds_new
-          → Goes attempts_old attempts_new wire_old wire_new (Holds attempts_old wire_old feeds_old progress)
+          → Goes attempts_old attempts_new wire_old wire_new (Holds attempts_old wire_old feeds_old progress parts_old)
           (λ old new. HasMoved attempts_new wire_new new × AreWithin steps_old steps_new old.judgements new.judgements) text_old text_new (λ world old added new. WorkPart world asking work old new)
       work_unwritten same stands most agrees sound = record {
         attempts = adds_none;
@@ -130,7 +138,7 @@ module _ (attempts_old attempts_new : Option (List Attempt)) (wire_old wire_new 
         text = [];
         added = same ∙ sym (append-nil text_old);
         goes = λ old holds.
-            let had = worked.goes old holds.held holds.analysis in (
+            let had = worked.goes old holds.held (as_held old holds) in (
               counted had.0 told,
               (holds_moved wire_new stands agrees most attempts_new feeds_new (counted had.0 told) sound (counted_holds attempts_new wire_new feeds_new had.0 told had.1), had.4),
               λ world comes. inl (tells_text asking (option_to_list told), record { tells = option_to_list told; after = had.0; done = had.5 world comes; text_is = refl; left = refl }),
@@ -138,13 +146,13 @@ module _ (attempts_old attempts_new : Option (List Attempt)) (wire_old wire_new 
       }
 
     -- some first moves
-    pub work_began : BeganNamed attempts_old attempts_new wire_old wire_new asking.name work feeds_old progress.analyser steps_old steps_new → text_new ≡ text_old
-        → Goes attempts_old attempts_new wire_old wire_new (Holds attempts_old wire_old feeds_old progress)
+    pub work_began : BeganNamed attempts_old attempts_new wire_old wire_new asking.name work feeds_old (made progress.analyser parts_old) steps_old steps_new → text_new ≡ text_old
+        → Goes attempts_old attempts_new wire_old wire_new (Holds attempts_old wire_old feeds_old progress parts_old)
         (λ old new. HasMoved attempts_new wire_new new × AreWithin steps_old steps_new old.judgements new.judgements) text_old text_new (λ world old added new. WorkPart world asking work old new)
     work_began began same = record {
       attempts = adds_none;
       links = later;
       text = [];
       added = same ∙ sym (append-nil text_old);
-      goes = λ old holds. let had = began.goes old holds.held holds.analysis in (had.0, (had.1, had.2), λ world comes. inr (had.3 world comes));
+      goes = λ old holds. let had = began.goes old holds.held (as_held old holds) in (had.0, (had.1, had.2), λ world comes. inr (had.3 world comes));
     }

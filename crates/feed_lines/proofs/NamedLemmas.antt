@@ -9,7 +9,6 @@ use Rattle.std.specs.declared.option.Option.{Option}
 use Rattle.std.proofs.lemmas.Map.Views.{exact_unsigned_eq}
 use Rattle.av_base.specs.Connections.{Agrees, Attempt, IsUsable, Link}
 use Rattle.av_base.specs.declared.standing.Standing.{Standing}
-use Rattle.rib_store.specs.State.{State as Analysis}
 use Rattle.feed_lines.specs.declared.feed.OpenFeed.{OpenFeed}
 use Rattle.feed_lines.specs.declared.feed.Feeds.{Feeds}
 use Rattle.feed_lines.specs.declared.telling.Telling.{Telling}
@@ -22,7 +21,7 @@ use Rattle.feed_lines.specs.Holding.{AreWithin, HasMoved, HoldsFeeds, HoldsOr, I
 use Rattle.feed_lines.specs.Lines.{Begins, Does, State, WorksBy, same_name, taking_of, with_feed, with_taking}
 use Rattle.connection_calls.specs.World.{InEnd, World}
 use Rattle.feed_lines.specs.Named.{BeganNamed, Puts, Same, WorkedNamed}
-use Rattle.feed_lines.specs.Steps.{Halted, HasSentAll, IsFit, SlotFits, StandsSlot, WorkedAs, going}
+use Rattle.feed_lines.specs.Steps.{Halted, HasSentAll, IsFit, Made, SlotFits, StandsSlot, WorkedAs, going, taking}
 use Rattle.connection_calls.proofs.ConnectionLemmas.{Now-map}
 use Rattle.connection_calls.proofs.GoingLemmas.{Now-later, in_end}
 use Rattle.connection_calls.proofs.StandingLemmas.{still_open}
@@ -187,12 +186,12 @@ module _ {P : ℕ → Type 0} (wire_old wire_new : Option (List Link)) {stood st
 
 -- ---- works
 
-module _ (attempts_old attempts_new : Option (List Attempt)) (wire_old wire_new : Option (List Link)) (stood stands : List Standing) (name : List ℕ) (work : Work) (feeds_old : Feeds) (kept : OpenFeed) (before : Analysis)
+module _ (attempts_old attempts_new : Option (List Attempt)) (wire_old wire_new : Option (List Link)) (stood stands : List Standing) (name : List ℕ) (work : Work) (feeds_old : Feeds) (kept : OpenFeed) (before : Made)
     (steps_old steps_new : ℕ) (same : attempts_new ≡ attempts_old) (limit : ℕ) (sound : IsSound stood limit feeds_old) (there : feed_in feeds_old name ≡ Some (Some kept)) (only : Only kept.link wire_old wire_new stood stands) where
   away : (q : List ℕ) (other : OpenFeed) → name ≢ q → feed_in feeds_old q ≡ Some (Some other) → other.link ≢ kept.link
   away q other apart is = λ e. sound.apart name q kept other apart there is (sym e)
 
-  pub works_named : (mid feeds_new : Feeds) (slot : Option OpenFeed) (told : Option Telling) (after : Analysis) → Puts feeds_old mid name None → Puts mid feeds_new name slot
+  pub works_named : (mid feeds_new : Feeds) (slot : Option OpenFeed) (told : Option Telling) (after : Made) → Puts feeds_old mid name None → Puts mid feeds_new name slot
       → ((state : Feed) (judgements : ℕ) → StandsFor wire_old kept state
       → WorkedAs wire_new kept.link (AreWithin steps_old steps_new judgements) (λ t. Does t name work state (going state before judgements)) slot told after)
       → WorkedNamed attempts_old attempts_new wire_old wire_new name work feeds_old feeds_new before told after steps_old steps_new
@@ -200,7 +199,7 @@ module _ (attempts_old attempts_new : Option (List Attempt)) (wire_old wire_new 
     goes = λ old holds analysis.
         let owner = opened wire_old (feed_in feeds_old name) kept (old.feeds name) there (holds.each name) in
         let had = works owner.0 old.judgements owner.2 in
-        let end : Taking = record { feed = had.feed; state = after; judgements = had.judgements } in
+        let end : Taking = taking had.feed after had.judgements in
         let new = with_taking name end old in (
           new,
           record {
@@ -214,7 +213,7 @@ module _ (attempts_old attempts_new : Option (List Attempt)) (wire_old wire_new 
               subst (λ (f : Option (Option Feed)). WorksBy world old name work f (option_to_list told) new) (sym owner.1) (record {
                 end = end;
                 does = subst (λ k. InEnd world k (λ t. Does t name work owner.0 (taking_of owner.0 old) (option_to_list told) end)) owner.2.link
-                    (subst (λ (a : Analysis). InEnd world kept.link (λ t. Does t name work owner.0 (going owner.0 a old.judgements) (option_to_list told) end)) analysis
+                    (subst (λ (a : Made). InEnd world kept.link (λ t. Does t name work owner.0 (going owner.0 a old.judgements) (option_to_list told) end)) analysis
                     (in_end kept.link (Now-later kept.link only.later owner.2.now) had.done world comes));
                 left = refl;
               }),
@@ -239,7 +238,7 @@ module _ (attempts_old attempts_new : Option (List Attempt)) (wire_old wire_new 
             open_feed = owner.1;
             end = had.end;
             begins = subst (λ k. InEnd world k (λ t. Begins t name work (taking_of owner.0 old) had.end)) owner.2.link
-                (subst (λ (a : Analysis). InEnd world kept.link (λ t. Begins t name work (going owner.0 a old.judgements) had.end)) analysis
+                (subst (λ (a : Made). InEnd world kept.link (λ t. Begins t name work (going owner.0 a old.judgements) had.end)) analysis
                 (in_end kept.link (Now-later kept.link only.later owner.2.now) had.done world comes));
             left = refl;
           },
@@ -247,7 +246,7 @@ module _ (attempts_old attempts_new : Option (List Attempt)) (wire_old wire_new 
   }
 
 -- nothing was done
-pub refused_named : (attempts : Option (List Attempt)) (wire : Option (List Link)) (name : List ℕ) (work : Work) (feeds_old feeds_new : Feeds) (told : Telling) (state : Analysis) (steps : ℕ) → Same feeds_old feeds_new
+pub refused_named : (attempts : Option (List Attempt)) (wire : Option (List Link)) (name : List ℕ) (work : Work) (feeds_old feeds_new : Feeds) (told : Telling) (state : Made) (steps : ℕ) → Same feeds_old feeds_new
     → ((world : World) (old : State) → HoldsOr wire (feed_in feeds_old name) (old.feeds name) → WorksBy world old name work (old.feeds name) (told ∷ []) old)
     → WorkedNamed attempts attempts wire wire name work feeds_old feeds_new state (Some told) state steps steps
 refused_named attempts wire name work feeds_old feeds_new told state steps same does = record {

@@ -1,14 +1,15 @@
 -- A session is over only where a PDU ends it, and what comes next on a connection is one thing.
 use Rattle.std.proofs.Common.{◌≢◌, ℕ, inl, inr, Bool, true, false, List, sym, ◌∙◌, ap, subst}
+use Rattle.origin_model.specs.Vrp.{Payload}
 use Rattle.rtr_pdu.specs.declared.pdu.Pdu.{Pdu}
-use Rattle.rtr_pdu.specs.declared.pdu.Pdu.TheVariants.{Notify, SerialQuery, ResetQuery, CacheResponse, Passed, EndOfData, CacheReset, ErrorReport, Aspa}
+use Rattle.rtr_pdu.specs.declared.pdu.Pdu.TheVariants.{Notify, SerialQuery, ResetQuery, CacheResponse, Prefix, Passed, EndOfData, CacheReset, ErrorReport, Aspa}
 use Rattle.rtr_session.specs.declared.act.Act.{Act}
 use Rattle.rtr_session.specs.declared.act.Act.TheVariants.{End}
 use Rattle.rtr_session.specs.declared.act.Ending.{Ending}
 use Rattle.rtr_session.specs.declared.act.Phase.{Phase}
 use Rattle.rtr_session.specs.declared.act.Phase.TheVariants.{Fresh, AskedWhole, AskedChanges, ReceivingWhole, ReceivingChanges, Ready, Over}
 use Rattle.rtr_session.specs.State.{State as Session}
-use Rattle.rtr_session.specs.Client.{Client, Goes, OnNotify, OnResponse, OnAspa, OnPassed, OnEnd, OnReset}
+use Rattle.rtr_session.specs.Client.{Client, Goes, OnNotify, OnResponse, OnAspa, OnPrefix, OnPassed, OnEnd, OnReset}
 use Rattle.feed_lines.specs.Steps.{IsNoEnd}
 
 -- ---- phases
@@ -80,12 +81,29 @@ on_aspa ReceivingChanges false customer providers old act new apart on is = elim
 on_aspa Ready false customer providers old act new apart on is = ends old act new _ _ is on
 on_aspa Over false customer providers old act new apart on is = ends old act new _ _ is on
 
+on_prefix : (phase : Phase) (announce : Bool) (v : Payload) (old : Session) (act : Act) (new : Session) → old.phase ≢ Over → IsNoEnd act → OnPrefix phase announce v old act new → new.phase ≢ Over
+on_prefix Fresh true v old act new apart on is = ends old act new _ _ is on
+on_prefix AskedWhole true v old act new apart on is = ends old act new _ _ is on
+on_prefix AskedChanges true v old act new apart on is = ends old act new _ _ is on
+on_prefix ReceivingWhole true v old act new apart on is = goes old act new _ _ is apart
+on_prefix ReceivingChanges true v old act new apart on is = goes old act new _ _ is apart
+on_prefix Ready true v old act new apart on is = ends old act new _ _ is on
+on_prefix Over true v old act new apart on is = ends old act new _ _ is on
+on_prefix Fresh false v old act new apart on is = ends old act new _ _ is on
+on_prefix AskedWhole false v old act new apart on is = ends old act new _ _ is on
+on_prefix AskedChanges false v old act new apart on is = ends old act new _ _ is on
+on_prefix ReceivingWhole false v old act new apart on is = elim is [ inl there ↦ goes old act new _ _ there.1 apart | inr gone ↦ ends old act new _ _ gone.1 on ]
+on_prefix ReceivingChanges false v old act new apart on is = elim is [ inl there ↦ goes old act new _ _ there.1 apart | inr gone ↦ ends old act new _ _ gone.1 on ]
+on_prefix Ready false v old act new apart on is = ends old act new _ _ is on
+on_prefix Over false v old act new apart on is = ends old act new _ _ is on
+
 -- a session that goes on isn't over
 pub goes_on : (old : Session) (pdu : Pdu) (act : Act) (new : Session) → Client old pdu act new → old.phase ≢ Over → IsNoEnd act → new.phase ≢ Over
 goes_on old (Notify session serial) act new is apart on = on_notify old.phase session old act new apart on is
 goes_on old (SerialQuery session serial) act new is apart on = ends old act new _ _ is on
 goes_on old ResetQuery act new is apart on = ends old act new _ _ is on
 goes_on old (CacheResponse session) act new is apart on = on_response old.phase session old act new apart on is
+goes_on old (Prefix announce v) act new is apart on = on_prefix old.phase announce v old act new apart on is
 goes_on old (Passed kind) act new is apart on = on_passed old.phase old act new apart on is
 goes_on old (EndOfData session serial) act new is apart on = on_end old.phase session serial old act new apart on is
 goes_on old CacheReset act new is apart on = on_reset old.phase old act new apart on is

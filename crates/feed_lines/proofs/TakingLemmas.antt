@@ -16,11 +16,10 @@ use Rattle.rtr_session.specs.declared.act.Ending.{Ending}
 use Rattle.rtr_session.specs.declared.act.Query.{Query}
 use Rattle.rtr_session.specs.State.{State as Session}
 use Rattle.rtr_session.specs.Client.{Client, code_on_end}
-use Rattle.vap_table.specs.declared.change.TableChange.{TableChange}
-use Rattle.rib_store.specs.State.{State as Analysis}
 use Rattle.report_text.specs.declared.feed.FeedEnd.TheVariants.{Lost as LostFeed}
 use Rattle.connection_calls.specs.declared.asking.Asked.{Asked}
 use Rattle.connection_calls.specs.declared.asking.Asked.TheVariants.{Pdu as Took, Refused, Ended as NoneCame, Lost}
+use Rattle.feed_lines.specs.declared.changing.SourceChange.{SourceChange}
 use Rattle.feed_lines.specs.declared.feed.OpenFeed.{OpenFeed}
 use Rattle.feed_lines.specs.declared.taking.Outcome.{Outcome}
 use Rattle.feed_lines.specs.declared.taking.Outcome.TheVariants.{Open as GoesOn, Ended}
@@ -35,7 +34,7 @@ use Rattle.feed_lines.specs.Feeds.{Feed, Taking, HasEnded, Queries, OnePdu, BadP
 use Rattle.connection_calls.specs.Ends.{IsClosed, LostAtSend}
 use Rattle.feed_lines.specs.Holding.{AreWithin, StandsFor}
 use Rattle.feed_lines.specs.Lines.{TakesSome}
-use Rattle.feed_lines.specs.Steps.{Before, Halted, MayDo, MovedAs, TookAs, going}
+use Rattle.feed_lines.specs.Steps.{Before, Halted, Made, MayDo, MovedAs, TookAs, going}
 use Rattle.connection_calls.proofs.RefusedLemmas.{known_of}
 use Rattle.connection_calls.proofs.ConnectionLemmas.{Now-change, Now-map, Ever-later, Ever-map, Ever-now, Ever-closed, finished}
 
@@ -54,7 +53,7 @@ MovedAs-with wire link known p r (GoesOn kept) ever joins moved =
 MovedAs-with wire link known p r (Ended telling) ever joins moved = λ links final is goes t there. joins t _ _ (ever links final is goes t there) (moved links final is goes t there)
 
 -- and of the steps
-pub TookAs-with : (wire : Option (List Link)) (link : ℕ) (known : Link → Type 0) (few more : ℕ → Type 0) (p r : Link → List Telling → Taking → Type 0) (outcome : Outcome) (state : Analysis) → Ever wire link known
+pub TookAs-with : (wire : Option (List Link)) (link : ℕ) (known : Link → Type 0) (few more : ℕ → Type 0) (p r : Link → List Telling → Taking → Type 0) (outcome : Outcome) (state : Made) → Ever wire link known
     → ((n : ℕ) → few n → more n) → ((t : Link) (tells : List Telling) (new : Taking) → known t → p t tells new → r t tells new) → TookAs wire link few p outcome state → TookAs wire link more r outcome state
 TookAs-with wire link known few more p r (GoesOn kept) state ever counts joins took =
     (took.0, took.1, took.2, took.3, counts took.1 took.4, λ links final is goes t there. joins t _ _ (ever links final is goes t there) (took.5 links final is goes t there))
@@ -167,7 +166,7 @@ module _ (old wire new : Option (List Link)) (name : List ℕ) (kept : OpenFeed)
       })
       (Ever-closed (λ t had. had.2) done))
 
-  pub next_pdu : (pdu : Pdu) (act : Act) (session : Session) (outcome : Outcome) (change : Option TableChange) → ToldLater wire new → asked ≡ Took pdu → Client kept.session pdu act session → change ≡ change_due name act
+  pub next_pdu : (pdu : Pdu) (act : Act) (session : Session) (outcome : Outcome) (change : Option SourceChange) → ToldLater wire new → asked ≡ Took pdu → Client kept.session pdu act session → change ≡ change_due name act
       → ((now : Feed) → StandsFor wire (record { framer = held; session = session; taken = kept.taken + 1; link = kept.link }) now → MovedAs new kept.link (λ t. Moves t now act) outcome)
       → MovedAs new kept.link (λ t. Before change (TakesNext t name feed)) outcome
   next_pdu pdu act session outcome change later is client due moves =
@@ -186,7 +185,7 @@ module _ (old wire new : Option (List Link)) (name : List ℕ) (kept : OpenFeed)
           session = session;
           client = subst (λ (s : Session). Client s pdu act session) stands.session client;
           moves = subst (λ (f : Option Feed). Moves t now act tells f) (sym is_slot) moves;
-          follows = subst (λ (c : Option TableChange). Follows c before after) due follows;
+          follows = subst (λ (c : Option SourceChange). Follows c before after) due follows;
         };
       }) moved
 
@@ -228,7 +227,7 @@ pub asked_none : (until : Bool) (feed : Feed) → is_enough_at until feed.sessio
 asked_none until feed enough = ap (λ (b : Bool). cond b None (Some feed)) enough
 
 -- one more after those so far
-takes_more : (t : Link) (until : Bool) (name : List ℕ) (count : ℕ) (start : Taking) (feed : Feed) (state : Analysis) (judgements : ℕ) (tells : List Telling) (new : Taking)
+takes_more : (t : Link) (until : Bool) (name : List ℕ) (count : ℕ) (start : Taking) (feed : Feed) (state : Made) (judgements : ℕ) (tells : List Telling) (new : Taking)
     → is_enough_at until feed.session.phase ≡ false → TakesPdus t until name count start [] (going feed state judgements) → TakesNext t name feed (going feed state judgements) tells new
     → TakesPdus t until name (count + 1) start tells new
 takes_more t until name count start feed state judgements tells new more so_far next =
@@ -246,12 +245,12 @@ takes_stays t until name first count start end tells within none takes =
 
 module _ (until : Bool) (name : List ℕ) (start : Taking) (link : ℕ) (steps : ℕ) where
   -- none yet
-  pub pdus_start : (wire : Option (List Link)) (kept : OpenFeed) (feed : Feed) (state : Analysis) → start ≡ going feed state start.judgements → kept.link ≡ link → StandsFor wire kept feed
+  pub pdus_start : (wire : Option (List Link)) (kept : OpenFeed) (feed : Feed) (state : Made) → start ≡ going feed state start.judgements → kept.link ≡ link → StandsFor wire kept feed
       → TookAs wire link (AreWithin steps steps start.judgements) (λ t. TakesPdus t until name 0 start) (GoesOn kept) state
   pdus_start wire kept feed state is same stands = (feed, start.judgements, stands, sym stands.link ∙ same, omega arith, λ links final told goes t there. (refl, sym is))
 
   -- one more
-  module _ (steps_mid steps_new : ℕ) (wire new : Option (List Link)) (count : ℕ) (kept : OpenFeed) (state : Analysis) (same : kept.link ≡ link) (more : is_enough_at until kept.session.phase ≡ false) (later : ToldLater wire new)
+  module _ (steps_mid steps_new : ℕ) (wire new : Option (List Link)) (count : ℕ) (kept : OpenFeed) (state : Made) (same : kept.link ≡ link) (more : is_enough_at until kept.session.phase ≡ false) (later : ToldLater wire new)
       (so_far : TookAs wire link (AreWithin steps steps_mid start.judgements) (λ t. TakesPdus t until name count start) (GoesOn kept) state) where
     abbrev before : Taking
     before = going so_far.0 state so_far.1
@@ -262,7 +261,7 @@ module _ (until : Bool) (name : List ℕ) (start : Taking) (link : ℕ) (steps :
     counts : (n : ℕ) → AreWithin steps_mid steps_new so_far.1 n → AreWithin steps steps_new start.judgements n
     counts n few = omega (arith, few, so_far.4)
 
-    pub pdus_next : (after : Analysis) (outcome is_one : Outcome) → outcome ≡ is_one
+    pub pdus_next : (after : Made) (outcome is_one : Outcome) → outcome ≡ is_one
         → ((feed : Feed) (judgements : ℕ) → StandsFor wire kept feed
         → TookAs new kept.link (AreWithin steps_mid steps_new judgements) (λ t. TakesNext t name feed (going feed state judgements)) outcome after)
         → TookAs new link (AreWithin steps steps_new start.judgements) (λ t. TakesPdus t until name (count + 1) start) is_one after
@@ -289,7 +288,7 @@ module _ (until : Bool) (name : List ℕ) (start : Taking) (link : ℕ) (steps :
         ])
         (subst (λ k. Halted new k (AreWithin steps_mid steps_new so_far.1) (λ t. MayDo (TakesNext t name so_far.0 before) before)) same (next so_far.0 so_far.1 so_far.2))
 
-module _ (until : Bool) (name : List ℕ) (start : Taking) (link : ℕ) (few : ℕ → Type 0) (wire : Option (List Link)) (first count : ℕ) (state : Analysis) (within : first ≤ count) where
+module _ (until : Bool) (name : List ℕ) (start : Taking) (link : ℕ) (few : ℕ → Type 0) (wire : Option (List Link)) (first count : ℕ) (state : Made) (within : first ≤ count) where
   -- all that came
   pub pdus_ended : (telling : Telling) → TookAs wire link few (λ t. TakesPdus t until name first start) (Ended telling) state → TookAs wire link few (λ t. TakesPdus t until name count start) (Ended telling) state
   pdus_ended telling took = (took.0, took.1, Ever-map (λ t takes. takes_stays t until name first count start _ _ within refl takes) took.2)

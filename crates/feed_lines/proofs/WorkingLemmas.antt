@@ -6,7 +6,6 @@ use Rattle.av_base.specs.declared.standing.Standing.{Standing}
 use Rattle.rtr_session.specs.declared.act.Query.{Query}
 use Rattle.rtr_session.specs.State.{State as Session}
 use Rattle.rtr_session.specs.Client.{Asks as AsksSession}
-use Rattle.rib_store.specs.State.{State as Analysis}
 use Rattle.report_text.specs.declared.feed.FeedEnd.TheVariants.{Lost as LostFeed, Short, Unreachable}
 use Rattle.feed_lines.specs.declared.feed.OpenFeed.{OpenFeed}
 use Rattle.feed_lines.specs.declared.taking.Outcome.TheVariants.{Open as GoesOn, Ended}
@@ -18,12 +17,12 @@ use Rattle.connection_calls.specs.Moves.{KeepsSent, SendsOrCloses}
 use Rattle.feed_lines.specs.Feeds.{AsksFeed, Feed, Taking, TakesPdus, is_enough_at, query_bytes, short_of}
 use Rattle.feed_lines.specs.Holding.{AreWithin, StandsFor}
 use Rattle.feed_lines.specs.Lines.{Begins, Does}
-use Rattle.feed_lines.specs.Steps.{Halted, LeftAs, TookAs, WorkedAs, going}
+use Rattle.feed_lines.specs.Steps.{Halted, LeftAs, Made, TookAs, WorkedAs, going}
 use Rattle.connection_calls.proofs.ConnectionLemmas.{Now-map, Ever-map}
 use Rattle.connection_calls.proofs.StandingLemmas.{still_open}
 use Rattle.feed_lines.proofs.TakingLemmas.{asked_feed, asked_none, query_whole, query_lost}
 
-module _ (wire : Option (List Link)) (link : ℕ) (few : ℕ → Type 0) (name : List ℕ) (count : ℕ) (feed : Feed) (old : Taking) (after : Analysis) where
+module _ (wire : Option (List Link)) (link : ℕ) (few : ℕ → Type 0) (name : List ℕ) (count : ℕ) (feed : Feed) (old : Taking) (after : Made) where
   pub took_on : (kept : OpenFeed) → TookAs wire link few (λ t. TakesPdus t false name count old) (GoesOn kept) after
       → WorkedAs wire link few (λ t. Does t name (Take count) feed old) (Some kept) None after
   took_on kept took = record { feed = Some took.0; judgements = took.1; few = took.4; stands = took.2; done = took.5 }
@@ -94,7 +93,7 @@ module _ (wire new : Option (List Link)) (kept : OpenFeed) (session : Session) (
         let had = query_lost wire new (record { framer = kept.framer; session = session; taken = kept.taken; link = kept.link }) (record feed { session = session }) one bytes stands_then spelled whole went sends in
         record { feed = None; stands = tt; done = Ever-map (λ t q. record { query = Some one; session = session; asks = asks_then (Some one) is; sends = q }) had }
 
-module _ (new : Option (List Link)) (name : List ℕ) (kept : OpenFeed) (state : Analysis) (steps : ℕ) (feed : Feed) (judgements : ℕ) where
+module _ (new : Option (List Link)) (name : List ℕ) (kept : OpenFeed) (state : Made) (steps : ℕ) (feed : Feed) (judgements : ℕ) where
   pub worked_ask : (slot : Option OpenFeed) (told : Option Telling) → LeftAs new kept.link (λ t. AsksFeed t feed) slot told
       → WorkedAs new kept.link (AreWithin steps steps judgements) (λ t. Does t name Ask feed (going feed state judgements)) slot told state
   worked_ask slot told left = record { feed = left.feed; judgements = judgements; few = omega arith; stands = left.stands; done = Ever-map (λ t asks. (asks, refl)) left.done }

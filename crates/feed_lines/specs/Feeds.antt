@@ -24,10 +24,10 @@ use Rattle.rtr_session.specs.declared.act.Act.TheVariants.{Nothing, Send, Apply,
 use Rattle.rtr_session.specs.State.{State as Session}
 use Rattle.rtr_session.specs.Client.{Asks, Client, code_on_end}
 use Rattle.attestations.specs.Terms.{terms_of}
-use Rattle.vap_table.specs.declared.change.TableChange.{TableChange}
+use Rattle.origin_model.specs.Current.{Parts}
+use Rattle.origin_validation.specs.Records.{PatchesSource, with_source}
 use Rattle.vap_table.specs.declared.change.TableChange.TheVariants.{Replace, Patch}
 use Rattle.rib_store.specs.State.{State as Analysis}
-use Rattle.analyser.specs.declared.event.Event.{Event}
 use Rattle.analyser.specs.declared.event.Event.TheVariants.{Table}
 use Rattle.analyser.specs.Events.{Happens}
 use Rattle.analyser.specs.Touched.{Costs}
@@ -35,6 +35,9 @@ use Rattle.report_text.specs.declared.feed.FeedEnd.TheVariants.{Lost, Short}
 use Rattle.report_text.specs.declared.cause.Cause.{Cause}
 use Rattle.connection_calls.specs.Ends.{HasSent, IsClosed, LostAtSend}
 use Rattle.connection_calls.specs.Refusals.{IsCauseOf, report_bytes}
+use Rattle.feed_lines.specs.declared.changing.PayloadsChange.{PayloadsChange}
+use Rattle.feed_lines.specs.declared.changing.PayloadsChange.TheVariants.{Replace as ReplacePayloads, Patch as PatchPayloads}
+use Rattle.feed_lines.specs.declared.changing.SourceChange.{SourceChange}
 use Rattle.feed_lines.specs.declared.telling.Telling.{Telling}
 use Rattle.feed_lines.specs.declared.telling.Telling.TheVariants.{Pdu as PduRefused, End as FeedEnds}
 use Rattle.feed_lines.specs.Tellings.{cause_of_end}
@@ -48,11 +51,12 @@ pub record Feed : Type 0 where
   pub taken : ℕ
   pub session : Session
 
--- what a taken PDU changes: the feed, which is none once its session is over, the analysis, and how many judgements the events so far may
--- have cost
+-- what a taken PDU changes: the feed, which is none once its session is over, the analysis, the origin records, and how many judgements the
+-- events so far may have cost
 pub record Taking : Type 0 where
   pub feed : Option Feed
   pub state : Analysis
+  pub parts : Parts
   pub judgements : ℕ
 
 -- ---- what is sent
@@ -104,16 +108,16 @@ abbrev pub after_pdu : Feed → List ℕ → Session → Feed
 after_pdu feed bytes session = record feed { used = feed.used ++ bytes; taken = feed.taken + 1; session = session }
 
 -- What an End of Data makes of the source of the feed's name. What a cache says never ends.
-abbrev pub change_by : List ℕ → Delta → TableChange
-change_by name (Whole rows) = Replace name (terms_of rows)
-change_by name (Part patch) = Patch name patch
+abbrev pub change_by : List ℕ → Delta → SourceChange
+change_by name (Whole rows payloads) = record { name = name; rows = Replace name (terms_of rows); payloads = ReplacePayloads payloads }
+change_by name (Part patch changes) = record { name = name; rows = Patch name patch; payloads = PatchPayloads changes }
 
--- what becomes of that source: at a changed session it has no rows any more
-abbrev pub change_due : List ℕ → Act → Option TableChange
+-- what becomes of that source: at a changed session it has no rows and no payloads any more
+abbrev pub change_due : List ℕ → Act → Option SourceChange
 change_due name Nothing = None
 change_due name (Send query) = None
 change_due name (Apply delta) = Some (change_by name delta)
-change_due name (End SessionChanged) = Some (Replace name map.empty)
+change_due name (End SessionChanged) = Some (record { name = name; rows = Replace name map.empty; payloads = ReplacePayloads [] })
 change_due name (End ending) = None
 
 -- what a PDU asks for is done with the feed, which has taken it already
@@ -124,21 +128,27 @@ Moves t feed (Apply delta) tells slot = (tells ≡ []) × (slot ≡ Some feed)
 Moves t feed (End ending) tells slot =
     Reports t feed.sent (code_on_end ending) × (tells ≡ PduRefused feed.taken (cause_of_end ending) ∷ []) × (slot ≡ None)
 
--- an event happens, and what it may cost is counted
-pub record Counts (old : Taking) (event : Event) (new : Taking) : Type 0 where
-  pub happens : Happens old.state event new.state
-  pub cost : ℕ
-  pub costs : Costs old.state event new.state cost
-  pub counted : new.judgements ≡ old.judgements + cost
+-- what becomes of the payloads that the source of a name has in the origin records
+abbrev pub ChangesPayloads : List ℕ → PayloadsChange → Parts → Parts → Type 0
+ChangesPayloads name (ReplacePayloads payloads) old new = new ≡ with_source old name payloads
+ChangesPayloads name (PatchPayloads changes) old new = PatchesSource old name changes new
 
--- no event happens
+-- the change of a source's rows is one event, which happens, and what it may cost is counted; and its payloads change
+pub record Changes (old : Taking) (change : SourceChange) (new : Taking) : Type 0 where
+  pub happens : Happens old.state (Table change.rows) new.state
+  pub cost : ℕ
+  pub costs : Costs old.state (Table change.rows) new.state cost
+  pub counted : new.judgements ≡ old.judgements + cost
+  pub payloads : ChangesPayloads change.name change.payloads old.parts new.parts
+
+-- no event happens, and no records change
 abbrev pub Stays : Taking → Taking → Type 0
 Stays old new = new ≡ record old { feed = new.feed }
 
--- a change that is due is one event
-abbrev pub Follows : Option TableChange → Taking → Taking → Type 0
+-- a change that is due is made
+abbrev pub Follows : Option SourceChange → Taking → Taking → Type 0
 Follows None old new = Stays old new
-Follows (Some change) old new = Counts old (Table change) new
+Follows (Some change) old new = Changes old change new
 
 -- the session takes a PDU
 pub record TakesPdu (t : Link) (name : List ℕ) (feed : Feed) (old : Taking) (bytes : List ℕ) (pdu : Pdu) (tells : List Telling) (new : Taking) : Type 0 where

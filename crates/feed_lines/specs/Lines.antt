@@ -7,6 +7,7 @@ use Rattle.av_base.specs.Connections.{Link, Attempt, Made, Failed, Unaccepted}
 use Rattle.rtr_session.specs.declared.act.Phase.TheVariants.{AskedWhole}
 use Rattle.rtr_session.specs.declared.act.Query.TheVariants.{Reset}
 use Rattle.rtr_session.specs.State.{fresh}
+use Rattle.origin_model.specs.Current.{Parts}
 use Rattle.rib_store.specs.State.{State as Analysis}
 use Rattle.report_text.specs.declared.feed.FeedEnd.TheVariants.{Unreachable}
 use Rattle.connection_calls.specs.World.{InEnd, IsAttempt, World}
@@ -18,12 +19,13 @@ use Rattle.feed_lines.specs.Tellings.{Asking, tells_text}
 use Rattle.feed_lines.specs.Feeds.{Feed, Taking, Queries, Stays, AsksFeed, TakesPdus, Syncs}
 use Rattle.connection_calls.specs.Ends.{IsClosed}
 
--- What some lines have left: the feeds by name, none where a session is over, the number of attempts made, the analysis, how many
--- judgements the events so far may have cost, and how many lines of text report a refusal or a feed's end.
+-- What some lines have left: the feeds by name, none where a session is over, the number of attempts made, the analysis, the origin
+-- records, how many judgements the events so far may have cost, and how many lines of text report a refusal or a feed's end.
 pub record State : Type 0 where
   pub feeds : List ℕ → Option (Option Feed)
   pub made : ℕ
   pub analysis : Analysis
+  pub parts : Parts
   pub judgements : ℕ
   pub refused : ℕ
 
@@ -63,9 +65,9 @@ pub record Connects (world : World) (old : State) (name place : List ℕ) (tells
 
 -- ---- `ask NAME`, `take NAME N`, `sync NAME N`
 
--- a feed that goes on, with what the lines so far have made of the analysis
+-- a feed that goes on, with what the lines so far have made of the analysis and of the origin records
 abbrev pub taking_of : Feed → State → Taking
-taking_of feed old = record { feed = Some feed; state = old.analysis; judgements = old.judgements }
+taking_of feed old = record { feed = Some feed; state = old.analysis; parts = old.parts; judgements = old.judgements }
 
 -- what the line does with the feed, whose connection in the end is this
 abbrev pub Does : Link → List ℕ → Work → Feed → Taking → List Telling → Taking → Type 0
@@ -73,10 +75,10 @@ Does t name Ask feed old tells new = AsksFeed t feed tells new.feed × Stays old
 Does t name (Take count) feed old tells new = TakesPdus t false name count old tells new
 Does t name (Sync count) feed old tells new = Syncs t name count old tells new
 
--- what was made of a feed, put under its name, and of the analysis
+-- what was made of a feed, put under its name, of the analysis and of the origin records
 abbrev pub with_taking : List ℕ → Taking → State → State
 with_taking name end old =
-    record old { feeds = with_feed name end.feed old.feeds; analysis = end.state; judgements = end.judgements }
+    record old { feeds = with_feed name end.feed old.feeds; analysis = end.state; parts = end.parts; judgements = end.judgements }
 
 -- the most PDUs that a work takes
 abbrev pub units_of : Work → ℕ

@@ -6,7 +6,6 @@ use Rattle.std.specs.declared.option.Option.TheVariants.{None}
 use Rattle.av_base.specs.Connections.{Link, Attempt, ToldLater}
 use Rattle.av_base.specs.declared.standing.Standing.{Standing}
 use Rattle.rtr_session.specs.declared.act.Query.TheVariants.{Reset}
-use Rattle.rib_store.specs.State.{State as Analysis}
 use Rattle.feed_lines.specs.declared.feed.OpenFeed.{OpenFeed}
 use Rattle.feed_lines.specs.declared.feed.Feeds.{Feeds}
 use Rattle.feed_lines.specs.declared.telling.Telling.{Telling}
@@ -17,7 +16,7 @@ use Rattle.connection_calls.specs.Ends.{IsClosed}
 use Rattle.connection_calls.specs.World.{AddsAttempts, ComesTo, IsAttempt, World}
 use Rattle.feed_lines.specs.Holding.{AreWithin, HasMoved, HoldsFeeds, StandsFor, feed_in}
 use Rattle.feed_lines.specs.Lines.{BeginsOn, Connects, StartsBy, State, Works, same_name, starting}
-use Rattle.feed_lines.specs.Steps.{IsFit, StandsSlot}
+use Rattle.feed_lines.specs.Steps.{IsFit, Made, StandsSlot, made}
 
 -- this is held under the name, and nothing else changed
 pub record Puts (old new : Feeds) (name : List ℕ) (slot : Option OpenFeed) : Type 0 where
@@ -41,20 +40,24 @@ abbrev pub IsSlotFit : List Standing → Option OpenFeed → Type 0
 IsSlotFit stands None = Unit {0}
 IsSlotFit stands (Some feed) = IsFit stands feed
 
+-- what some lines have made of the analysis and of the origin records
+abbrev pub made_of : State → Made
+made_of state = made state.analysis state.parts
+
 -- ---- works
 
 -- the work was done on the feed of a name, from any state that was held
 pub record WorkedNamed (attempts_old attempts_new : Option (List Attempt)) (wire_old wire_new : Option (List Link)) (name : List ℕ) (work : Work)
-    (feeds_old feeds_new : Feeds) (before : Analysis) (told : Option Telling) (after : Analysis) (steps_old steps_new : ℕ) : Type 0 where
-  pub goes : (old : State) → HoldsFeeds attempts_old wire_old feeds_old old → before ≡ old.analysis
-      → (new : State) × HoldsFeeds attempts_new wire_new feeds_new new × (after ≡ new.analysis) × (new.refused ≡ old.refused)
+    (feeds_old feeds_new : Feeds) (before : Made) (told : Option Telling) (after : Made) (steps_old steps_new : ℕ) : Type 0 where
+  pub goes : (old : State) → HoldsFeeds attempts_old wire_old feeds_old old → before ≡ made_of old
+      → (new : State) × HoldsFeeds attempts_new wire_new feeds_new new × (after ≡ made_of new) × (new.refused ≡ old.refused)
       × AreWithin steps_old steps_new old.judgements new.judgements
       × ((world : World) → ComesTo attempts_new wire_new world → Works world old name work (option_to_list told) new)
 
 -- some first moves were made
 pub record BeganNamed (attempts_old attempts_new : Option (List Attempt)) (wire_old wire_new : Option (List Link)) (name : List ℕ) (work : Work)
-    (feeds_old : Feeds) (before : Analysis) (steps_old steps_new : ℕ) : Type 0 where
-  pub goes : (old : State) → HoldsFeeds attempts_old wire_old feeds_old old → before ≡ old.analysis
+    (feeds_old : Feeds) (before : Made) (steps_old steps_new : ℕ) : Type 0 where
+  pub goes : (old : State) → HoldsFeeds attempts_old wire_old feeds_old old → before ≡ made_of old
       → (new : State) × HasMoved attempts_new wire_new new × AreWithin steps_old steps_new old.judgements new.judgements
       × ((world : World) → ComesTo attempts_new wire_new world → BeginsOn world old name work new)
 
@@ -87,6 +90,6 @@ pub record ConnectedNamed (attempts_old attempts_new : Option (List Attempt)) (w
   pub attempts : AddsAttempts wire_old attempts_old attempts_new
   pub links : ToldLater wire_old wire_new
   pub goes : (old : State) → HoldsFeeds attempts_old wire_old feeds_old old
-      → (new : State) × HoldsFeeds attempts_new wire_new feeds_new new × (new.analysis ≡ old.analysis) × (new.refused ≡ old.refused)
+      → (new : State) × HoldsFeeds attempts_new wire_new feeds_new new × (made_of new ≡ made_of old) × (new.refused ≡ old.refused)
       × (new.judgements ≡ old.judgements)
       × ((world : World) → ComesTo attempts_new wire_new world → Connects world old name place (option_to_list told) new)

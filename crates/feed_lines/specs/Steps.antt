@@ -9,8 +9,9 @@ use Rattle.av_base.specs.declared.standing.Standing.{Standing}
 use Rattle.rtr_session.specs.declared.act.Act.{Act}
 use Rattle.rtr_session.specs.declared.act.Act.TheVariants.{Nothing, Send, Apply, End}
 use Rattle.rtr_session.specs.declared.act.Phase.TheVariants.{Over}
-use Rattle.vap_table.specs.declared.change.TableChange.{TableChange}
+use Rattle.origin_model.specs.Current.{Parts}
 use Rattle.rib_store.specs.State.{State as Analysis}
+use Rattle.feed_lines.specs.declared.changing.SourceChange.{SourceChange}
 use Rattle.feed_lines.specs.declared.feed.OpenFeed.{OpenFeed}
 use Rattle.feed_lines.specs.declared.taking.Outcome.{Outcome}
 use Rattle.feed_lines.specs.declared.taking.Outcome.TheVariants.{Open as GoesOn, Ended}
@@ -43,7 +44,7 @@ MovedAs wire link does (GoesOn kept) =
 MovedAs wire link does (Ended telling) = Ever wire link (λ t. does t (telling ∷ []) None)
 
 -- this is done wherever the change that is due follows
-abbrev pub Before : Option TableChange → (Taking → List Telling → Taking → Type 0) → List Telling → Option Feed → Type 0
+abbrev pub Before : Option SourceChange → (Taking → List Telling → Taking → Type 0) → List Telling → Option Feed → Type 0
 Before change takes tells slot = (old new : Taking) → new.feed ≡ slot → Follows change old new → takes old tells new
 
 -- the session goes on after this act
@@ -53,26 +54,36 @@ IsNoEnd (Send query) = Unit {0}
 IsNoEnd (Apply delta) = Unit {0}
 IsNoEnd (End ending) = ⊥
 
--- a feed that goes on, with its analysis and what is counted so far
-abbrev pub going : Feed → Analysis → ℕ → Taking
-going feed state judgements = record { feed = Some feed; state = state; judgements = judgements }
+-- what the lines so far have made of the analysis and of the origin records
+pub record Made : Type 0 where
+  pub analysis : Analysis
+  pub parts : Parts
 
--- one that is over
-abbrev pub over : Analysis → ℕ → Taking
-over state judgements = record { feed = None; state = state; judgements = judgements }
+abbrev pub made : Analysis → Parts → Made
+made analysis parts = record { analysis = analysis; parts = parts }
 
--- The analysis went on so from one that was held, whether or not there was memory for the next one, and no more steps were taken than
--- judgements were counted.
-pub record Passes {E : Type 0} (result : Result Analysis E) (steps_old steps_new : ℕ) (old : Taking) (does : Taking → Type 0) (slot : Option Feed) : Type 0 where
-  pub state : Analysis
+-- a feed that goes on, or none where its session is over, with these and what is counted so far
+abbrev pub taking : Option Feed → Made → ℕ → Taking
+taking slot state judgements = record { feed = slot; state = state.analysis; parts = state.parts; judgements = judgements }
+
+abbrev pub going : Feed → Made → ℕ → Taking
+going feed state judgements = taking (Some feed) state judgements
+
+abbrev pub over : Made → ℕ → Taking
+over state judgements = taking None state judgements
+
+-- The analysis and the origin records went on so from those that were held, whether or not there was memory for the next ones, and no more
+-- steps were taken than judgements were counted.
+pub record Passes {E : Type 0} (result : Result Analysis E) (parts : Parts) (steps_old steps_new : ℕ) (old : Taking) (does : Taking → Type 0) (slot : Option Feed) : Type 0 where
+  pub state : Made
   pub judgements : ℕ
-  pub is : IfOk result (λ next. next ≡ state)
+  pub is : IfOk result (λ next. made next parts ≡ state)
   pub within : AreWithin steps_old steps_new old.judgements judgements
-  pub done : does (record { feed = slot; state = state; judgements = judgements })
+  pub done : does (taking slot state judgements)
 
 -- The feed goes on and nothing is reported, or it is over. This was done, whatever becomes of the connection, and so many judgements are
 -- counted then.
-abbrev pub TookAs : Option (List Link) → ℕ → (ℕ → Type 0) → (Link → List Telling → Taking → Type 0) → Outcome → Analysis → Type 0
+abbrev pub TookAs : Option (List Link) → ℕ → (ℕ → Type 0) → (Link → List Telling → Taking → Type 0) → Outcome → Made → Type 0
 TookAs wire link within does (GoesOn kept) state =
     (feed : Feed) × (judgements : ℕ) × StandsFor wire kept feed × (feed.link ≡ link) × within judgements × Ever wire link (λ t. does t [] (going feed state judgements))
 TookAs wire link within does (Ended telling) state =
@@ -89,14 +100,14 @@ pub record LeftAs (wire : Option (List Link)) (link : ℕ) (does : Link → List
   pub stands : StandsSlot wire slot feed
   pub done : Ever wire link (λ t. does t (option_to_list told) feed)
 
--- with the analysis
+-- with what was made
 pub record WorkedAs (wire : Option (List Link)) (link : ℕ) (within : ℕ → Type 0) (does : Link → List Telling → Taking → Type 0)
-    (slot : Option OpenFeed) (told : Option Telling) (state : Analysis) : Type 0 where
+    (slot : Option OpenFeed) (told : Option Telling) (state : Made) : Type 0 where
   pub feed : Option Feed
   pub judgements : ℕ
   pub few : within judgements
   pub stands : StandsSlot wire slot feed
-  pub done : Ever wire link (λ t. does t (option_to_list told) (record { feed = feed; state = state; judgements = judgements }))
+  pub done : Ever wire link (λ t. does t (option_to_list told) (taking feed state judgements))
 
 -- a feed that goes on has sent what its connection has, which is neither closed nor broken
 abbrev pub HasSentAll : Option (List Link) → ℕ → Option Feed → Type 0

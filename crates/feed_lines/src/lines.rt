@@ -1,6 +1,7 @@
 //! The script's lines on feeds, with their texts.
 ghost use Rattle.std.specs.Prelude.{◌≡◌, ◌≢◌, ℕ, ◌+◌, ◌++◌, ◌^◌, ◌<◌, ◌≤◌, Option, Some, length, IfOk, OnOk, OnErr};
 ghost use Rattle.std.specs.Option.{option_to_list};
+ghost use Rattle.origin_model.specs.Current.{Parts};
 ghost use Rattle.report_text.specs.declared.feed.FeedEnd.TheVariants.{Unreachable};
 ghost use Rattle.feed_lines.specs.declared.telling.Telling.{Telling as TellingOf};
 ghost use Rattle.feed_lines.specs.declared.telling.Telling.TheVariants.{End as FeedEnds};
@@ -17,6 +18,7 @@ use crate::telling::{Telling, put_telling};
 use crate::working::Work;
 use analyser::Analyser;
 use av_base::{Links, NoMemory, Steps};
+use origin_validation::Origins;
 use path_model::Name;
 use std::alloc::Global;
 use std::sync::ledger::Ledger;
@@ -45,20 +47,20 @@ pub fn connect<K: Links>(
     requires sound { IsSound (K.standings links.old) (2 ^ 61) feeds.old }
     requires few_refused { progress.refused < 2 ^ 62 }
 
-    // What it did, where the connections are told.
-    ensures goes { IfOk result (λ next. Goes (K.attempts links.old) (K.attempts links.new)
+    // What it did, where the connections are told, whatever the origin records are.
+    ensures goes { IfOk result (λ next. (parts : Parts) → Goes (K.attempts links.old) (K.attempts links.new)
         (K.wire links.old) (K.wire links.new)
-        (Holds (K.attempts links.old) (K.wire links.old) feeds.old progress)
-        (λ old new. Holds (K.attempts links.new) (K.wire links.new) feeds.new next new
+        (Holds (K.attempts links.old) (K.wire links.old) feeds.old progress parts)
+        (λ old new. Holds (K.attempts links.new) (K.wire links.new) feeds.new next parts new
         × (new.judgements ≡ old.judgements))
         text.old.items text.new.items
         (λ world old added new. ConnectLine world (record { line = line; name = name.now })
         place.now old added new)) }
 
     // Where memory ran out: all of its moves, but for the text, or none.
-    ensures part { OnErr result (Goes (K.attempts links.old) (K.attempts links.new)
+    ensures part { OnErr result ((parts : Parts) → Goes (K.attempts links.old) (K.attempts links.new)
         (K.wire links.old) (K.wire links.new)
-        (Holds (K.attempts links.old) (K.wire links.old) feeds.old progress)
+        (Holds (K.attempts links.old) (K.wire links.old) feeds.old progress parts)
         (λ old new. HasMoved (K.attempts links.new) (K.wire links.new) new
         × (new.judgements ≡ old.judgements))
         text.old.items text.new.items
@@ -86,8 +88,8 @@ pub fn connect<K: Links>(
     Ok(next)
 }
 
-/// Performs `ask NAME`, `take NAME N` or `sync NAME N`, the second on a feed. An End of Data is one event. It takes a step for each
-/// judgement. The text is held.
+/// Performs `ask NAME`, `take NAME N` or `sync NAME N`, the second on a feed. An End of Data is one event, and then the origin records of the
+/// feed's name are replaced or patched. It takes a step for each judgement. The text is held.
 pub fn work<K: Links, L: Ledger>(
     alloc: Global,
     line: u64,
@@ -95,6 +97,7 @@ pub fn work<K: Links, L: Ledger>(
     work: Work,
     feeds: &mut Feeds,
     progress: Progress,
+    origins: &mut Origins,
     links: &mut K,
     text: &mut Vec<u8>,
     steps: &mut Steps<L>,
@@ -105,8 +108,8 @@ pub fn work<K: Links, L: Ledger>(
     // What it did, where the connections are told, in no more steps than the judgements that it counts.
     ensures goes { IfOk result (λ next. Goes (K.attempts links.old) (K.attempts links.new)
         (K.wire links.old) (K.wire links.new)
-        (Holds (K.attempts links.old) (K.wire links.old) feeds.old progress)
-        (λ old new. Holds (K.attempts links.new) (K.wire links.new) feeds.new next new
+        (Holds (K.attempts links.old) (K.wire links.old) feeds.old progress origins.old)
+        (λ old new. Holds (K.attempts links.new) (K.wire links.new) feeds.new next origins.new new
         × AreWithin steps.old steps.new old.judgements new.judgements)
         text.old.items text.new.items
         (λ world old added new. WorkLine world (record { line = line; name = name.now })
@@ -115,7 +118,7 @@ pub fn work<K: Links, L: Ledger>(
     // Where memory ran out: all of its moves, but for the text, or some first of them. An event in which it ran out is among them.
     ensures part { OnErr result (Goes (K.attempts links.old) (K.attempts links.new)
         (K.wire links.old) (K.wire links.new)
-        (Holds (K.attempts links.old) (K.wire links.old) feeds.old progress)
+        (Holds (K.attempts links.old) (K.wire links.old) feeds.old progress origins.old)
         (λ old new. HasMoved (K.attempts links.new) (K.wire links.new) new
         × AreWithin steps.old steps.new old.judgements new.judgements)
         text.old.items text.new.items
@@ -140,7 +143,7 @@ pub fn work<K: Links, L: Ledger>(
         (K.standings links.old) (K.standings links.new) }
 {
     let Progress { analyser, refused } = progress;
-    let (told, analyser) = work_named(alloc, name, work, feeds, analyser, links, steps)?;
+    let (told, analyser) = work_named(alloc, name, work, feeds, analyser, origins, links, steps)?;
     let next = report(line, name, told, Progress { analyser, refused }, text)?;
     Ok(next)
 }

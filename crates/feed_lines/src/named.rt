@@ -7,12 +7,14 @@ ghost use Rattle.feed_lines.specs.declared.telling.Telling.TheVariants.{End as F
 ghost use Rattle.feed_lines.specs.Holding.{IsNoFeeds, IsSound, feed_in};
 ghost use Rattle.feed_lines.specs.Lines.{units_of};
 ghost use Rattle.feed_lines.specs.Named.{BeganNamed, Puts, Same, WasHeld, WorkedNamed};
+ghost use Rattle.feed_lines.specs.Steps.{made};
 
 use crate::feed::{Feeds, OpenFeed};
 use crate::telling::Telling;
 use crate::working::{Work, Worked, work_on};
 use analyser::Analyser;
 use av_base::{Links, NoMemory, Steps};
+use origin_validation::Origins;
 use path_model::Name;
 use std::alloc::Global;
 use std::mem;
@@ -25,16 +27,17 @@ pub(crate) fn work_named<K: Links, L: Ledger>(
     work: Work,
     feeds: &mut Feeds,
     analyser: Analyser,
+    origins: &mut Origins,
     links: &mut K,
     steps: &mut Steps<L>,
 ) -> Result<(Option<Telling>, Analyser), NoMemory>
     requires sound { IsSound (K.standings links.old) (2 ^ 61) feeds.old }
     ensures works { IfOk result (λ r. WorkedNamed (K.attempts links.old) (K.attempts links.new)
-        (K.wire links.old) (K.wire links.new) name.now work feeds.old feeds.new analyser r.0 r.1
-        steps.old steps.new) }
+        (K.wire links.old) (K.wire links.new) name.now work feeds.old feeds.new
+        (made analyser origins.old) r.0 (made r.1 origins.new) steps.old steps.new) }
     ensures halts { OnErr result (BeganNamed (K.attempts links.old) (K.attempts links.new)
-        (K.wire links.old) (K.wire links.new) name.now work feeds.old analyser
-        steps.old steps.new) }
+        (K.wire links.old) (K.wire links.new) name.now work feeds.old
+        (made analyser origins.old) steps.old steps.new) }
     ensures sound { IfOk result (λ r. (most : ℕ)
         → IsSound (K.standings links.old) most feeds.old
         → IsSound (K.standings links.new) (most + units_of work) feeds.new) }
@@ -53,7 +56,7 @@ pub(crate) fn work_named<K: Links, L: Ledger>(
                 slot,
                 told,
                 analyser,
-            } = work_on(alloc, name, feed, work, analyser, links, steps)?;
+            } = work_on(alloc, name, feed, work, analyser, origins, links, steps)?;
             give(feeds, name, slot);
             Ok((told, analyser))
         }

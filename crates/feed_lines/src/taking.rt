@@ -1,28 +1,27 @@
 //! Taking PDUs from a feed.
-ghost use Rattle.std.specs.Prelude.{◌≡◌, ◌≢◌, ℕ, ◌+◌, ◌^◌, ◌<◌, Option, IfOk, OnErr};
+ghost use Rattle.std.specs.Prelude.{◌≡◌, ◌≢◌, ℕ, ◌+◌, ◌^◌, ◌<◌, IfOk, OnErr};
 ghost use Rattle.av_base.specs.Connections.{IsUsable};
-ghost use Rattle.rtr_session.specs.declared.act.Act.TheVariants.{End as EndAct};
 ghost use Rattle.rtr_session.specs.declared.act.Phase.TheVariants.{Over};
 ghost use Rattle.connection_calls.specs.Faults.{BreaksByFault};
 ghost use Rattle.connection_calls.specs.Moves.{KeepsSent, Only};
-ghost use Rattle.feed_lines.specs.Feeds.{Feed, Follows, Moves, Taking, TakesNext, TakesPdus, change_by, change_due, is_enough_at};
+ghost use Rattle.feed_lines.specs.Feeds.{Feed, Moves, TakesNext, TakesPdus, change_due, is_enough_at};
 ghost use Rattle.feed_lines.specs.Holding.{AreWithin, StandsFor};
 ghost use Rattle.feed_lines.specs.Lines.{TakesSome};
-ghost use Rattle.feed_lines.specs.Steps.{Before, Halted, IsFit, IsNoEnd, MayDo, MovedAs, OutcomeFits, Passes, TookAs, going};
+ghost use Rattle.feed_lines.specs.Steps.{Before, Halted, IsFit, IsNoEnd, MayDo, MovedAs, OutcomeFits, TookAs, going, made};
 
+use crate::changing::{SourceChange, change_of, clearing, follow};
 use crate::feed::OpenFeed;
 use crate::spelling::spell_query;
 use crate::telling::{Telling, cause_of_end};
-use analyser::{Analyser, Event};
-use attestations::Terms;
+use analyser::Analyser;
 use av_base::{Links, NoMemory, Steps};
 use connection_calls::{Asked, finish, next_pdu, send_or_close, spell_report};
+use origin_validation::Origins;
 use path_model::Name;
 use report_text::FeedEnd;
-use rtr_session::{Act, Delta, Ending, Phase};
+use rtr_session::{Act, Phase};
 use std::alloc::Global;
 use std::sync::ledger::Ledger;
-use vap_table::TableChange;
 
 /// How a feed stands after a PDU was asked for.
 #[derive(Drop)]
@@ -41,6 +40,7 @@ pub(crate) fn take_pdus<K: Links, L: Ledger>(
     count: u32,
     until_ready: bool,
     analyser: Analyser,
+    origins: &mut Origins,
     links: &mut K,
     steps: &mut Steps<L>,
 ) -> Result<(Outcome, Analyser), NoMemory>
@@ -49,12 +49,12 @@ pub(crate) fn take_pdus<K: Links, L: Ledger>(
     ensures took { IfOk result (λ r. (state : Feed) (judgements : ℕ)
         → StandsFor (K.wire links.old) feed state
         → TookAs (K.wire links.new) feed.link (AreWithin steps.old steps.new judgements)
-        (λ t. TakesPdus t until_ready name.now count (going state analyser judgements))
-        r.0 r.1) }
+        (λ t. TakesPdus t until_ready name.now count (going state (made analyser origins.old) judgements))
+        r.0 (made r.1 origins.new)) }
     ensures halts { OnErr result ((state : Feed) (judgements : ℕ)
         → StandsFor (K.wire links.old) feed state
         → Halted (K.wire links.new) feed.link (AreWithin steps.old steps.new judgements)
-        (λ t. TakesSome t until_ready name.now count (going state analyser judgements))) }
+        (λ t. TakesSome t until_ready name.now count (going state (made analyser origins.old) judgements))) }
     ensures only { Only feed.link (K.wire links.old) (K.wire links.new)
         (K.standings links.old) (K.standings links.new) }
     ensures fits { IfOk result (λ r.
@@ -69,7 +69,7 @@ pub(crate) fn take_pdus<K: Links, L: Ledger>(
         if is_enough(until_ready, &feed) {
             return Ok((Outcome::Open(feed), analyser));
         }
-        let (outcome, next) = take_pdu(alloc, name, feed, analyser, links, steps)?;
+        let (outcome, next) = take_pdu(alloc, name, feed, analyser, origins, links, steps)?;
         match outcome {
             Outcome::Open(more) => feed = more,
             Outcome::Ended(telling) => return Ok((Outcome::Ended(telling), next)),
@@ -98,6 +98,7 @@ fn take_pdu<K: Links, L: Ledger>(
     name: &Name,
     feed: OpenFeed,
     analyser: Analyser,
+    origins: &mut Origins,
     links: &mut K,
     steps: &mut Steps<L>,
 ) -> Result<(Outcome, Analyser), NoMemory>
@@ -106,12 +107,13 @@ fn take_pdu<K: Links, L: Ledger>(
     ensures took { IfOk result (λ r. (state : Feed) (judgements : ℕ)
         → StandsFor (K.wire links.old) feed state
         → TookAs (K.wire links.new) feed.link (AreWithin steps.old steps.new judgements)
-        (λ t. TakesNext t name.now state (going state analyser judgements)) r.0 r.1) }
+        (λ t. TakesNext t name.now state (going state (made analyser origins.old) judgements))
+        r.0 (made r.1 origins.new)) }
     ensures halts { OnErr result ((state : Feed) (judgements : ℕ)
         → StandsFor (K.wire links.old) feed state
         → Halted (K.wire links.new) feed.link (AreWithin steps.old steps.new judgements)
-        (λ t. MayDo (TakesNext t name.now state (going state analyser judgements))
-        (going state analyser judgements))) }
+        (λ t. MayDo (TakesNext t name.now state (going state (made analyser origins.old) judgements))
+        (going state (made analyser origins.old) judgements))) }
     ensures only { Only feed.link (K.wire links.old) (K.wire links.new)
         (K.standings links.old) (K.standings links.new) }
     ensures fits { IfOk result (λ r.
@@ -121,23 +123,8 @@ fn take_pdu<K: Links, L: Ledger>(
         (K.standings links.old) (K.standings links.new) }
 {
     let (outcome, change) = move_feed(alloc, name, feed, links)?;
-    let analyser = follow(change, analyser, steps)?;
+    let analyser = follow(change, analyser, origins, steps)?;
     Ok((outcome, analyser))
-}
-
-// A change that is due is one event.
-fn follow<L: Ledger>(
-    change: Option<TableChange>,
-    analyser: Analyser,
-    steps: &mut Steps<L>,
-) -> Result<Analyser, NoMemory>
-    ensures { (old : Taking) (slot : Option Feed) → old.state ≡ analyser
-        → Passes result steps.old steps.new old (Follows change old) slot }
-{
-    match change {
-        Some(change) => analyser.step(Event::Table(change), steps),
-        None => Ok(analyser),
-    }
 }
 
 // Asks for the next PDU and does what it asks for, but for the change that is due then.
@@ -146,7 +133,7 @@ fn move_feed<K: Links>(
     name: &Name,
     feed: OpenFeed,
     links: &mut K,
-) -> Result<(Outcome, Option<TableChange>), NoMemory>
+) -> Result<(Outcome, Option<SourceChange>), NoMemory>
     requires fit { IsFit (K.standings links.old) feed }
     requires room { feed.taken < 2 ^ 63 }
     ensures moved { IfOk result (λ r. (state : Feed) → StandsFor (K.wire links.old) feed state
@@ -205,7 +192,7 @@ fn perform<K: Links>(
     feed: OpenFeed,
     act: Act,
     links: &mut K,
-) -> Result<(Outcome, Option<TableChange>), NoMemory>
+) -> Result<(Outcome, Option<SourceChange>), NoMemory>
     requires usable { IsUsable (K.standings links.old) feed.link }
     requires phase { IsNoEnd act → feed.session.phase ≢ Over }
     ensures moved { IfOk result (λ r. (state : Feed) → StandsFor (K.wire links.old) feed state
@@ -244,30 +231,5 @@ fn perform<K: Links>(
             };
             Ok((Outcome::Ended(telling), change))
         }
-    }
-}
-
-// An End of Data replaces or patches the source of the feed's name.
-fn change_of(alloc: Global, name: &Name, delta: Delta) -> Result<TableChange, NoMemory>
-    ensures { IfOk result (λ change. change ≡ change_by name.now delta) }
-{
-    match delta {
-        Delta::Whole(rows) => Ok(TableChange::Replace(name.copy()?, Terms::of(alloc, rows)?)),
-        Delta::Part(patch) => Ok(TableChange::Patch(name.copy()?, patch)),
-    }
-}
-
-// At a changed session the rows of the source of the feed's name are replaced by none.
-fn clearing(alloc: Global, name: &Name, ending: Ending) -> Result<Option<TableChange>, NoMemory>
-    ensures { IfOk result (λ change. change ≡ change_due name.now (EndAct ending)) }
-{
-    match ending {
-        Ending::SessionChanged => {
-            let name = name.copy()?;
-            Ok(Some(TableChange::Replace(name, Terms::new(alloc))))
-        }
-        Ending::Unexpected => Ok(None),
-        Ending::UnknownWithdrawal => Ok(None),
-        Ending::PeerReported => Ok(None),
     }
 }

@@ -9,7 +9,7 @@ ghost use Rattle.connection_calls.specs.Moves.{KeepsSent, Only};
 ghost use Rattle.feed_lines.specs.Feeds.{AsksFeed, Feed};
 ghost use Rattle.feed_lines.specs.Holding.{AreWithin, StandsFor};
 ghost use Rattle.feed_lines.specs.Lines.{Begins, Does, units_of};
-ghost use Rattle.feed_lines.specs.Steps.{Halted, IsFit, LeftAs, SlotFits, WorkedAs, going};
+ghost use Rattle.feed_lines.specs.Steps.{Halted, IsFit, LeftAs, SlotFits, WorkedAs, going, made};
 
 use crate::feed::OpenFeed;
 use crate::spelling::spell_query;
@@ -18,6 +18,7 @@ use crate::telling::Telling;
 use analyser::Analyser;
 use av_base::{Links, NoMemory, Steps};
 use connection_calls::send_or_close;
+use origin_validation::Origins;
 use path_model::Name;
 use report_text::FeedEnd;
 use std::alloc::Global;
@@ -49,6 +50,7 @@ pub(crate) fn work_on<K: Links, L: Ledger>(
     feed: OpenFeed,
     work: Work,
     analyser: Analyser,
+    origins: &mut Origins,
     links: &mut K,
     steps: &mut Steps<L>,
 ) -> Result<Worked, NoMemory>
@@ -57,12 +59,12 @@ pub(crate) fn work_on<K: Links, L: Ledger>(
     ensures works { IfOk result (λ r. (state : Feed) (judgements : ℕ)
         → StandsFor (K.wire links.old) feed state
         → WorkedAs (K.wire links.new) feed.link (AreWithin steps.old steps.new judgements)
-        (λ t. Does t name.now work state (going state analyser judgements))
-        r.slot r.told r.analyser) }
+        (λ t. Does t name.now work state (going state (made analyser origins.old) judgements))
+        r.slot r.told (made r.analyser origins.new)) }
     ensures halts { OnErr result ((state : Feed) (judgements : ℕ)
         → StandsFor (K.wire links.old) feed state
         → Halted (K.wire links.new) feed.link (AreWithin steps.old steps.new judgements)
-        (λ t. Begins t name.now work (going state analyser judgements))) }
+        (λ t. Begins t name.now work (going state (made analyser origins.old) judgements))) }
     ensures only { Only feed.link (K.wire links.old) (K.wire links.new)
         (K.standings links.old) (K.standings links.new) }
     ensures fits { IfOk result (λ r.
@@ -81,8 +83,8 @@ pub(crate) fn work_on<K: Links, L: Ledger>(
                 analyser,
             })
         }
-        Work::Take(count) => take_some(alloc, name, feed, count, analyser, links, steps),
-        Work::Sync(count) => sync_some(alloc, name, feed, count, analyser, links, steps),
+        Work::Take(count) => take_some(alloc, name, feed, count, analyser, origins, links, steps),
+        Work::Sync(count) => sync_some(alloc, name, feed, count, analyser, origins, links, steps),
     }
 }
 
@@ -138,6 +140,7 @@ fn take_some<K: Links, L: Ledger>(
     feed: OpenFeed,
     count: u32,
     analyser: Analyser,
+    origins: &mut Origins,
     links: &mut K,
     steps: &mut Steps<L>,
 ) -> Result<Worked, NoMemory>
@@ -146,12 +149,12 @@ fn take_some<K: Links, L: Ledger>(
     ensures works { IfOk result (λ r. (state : Feed) (judgements : ℕ)
         → StandsFor (K.wire links.old) feed state
         → WorkedAs (K.wire links.new) feed.link (AreWithin steps.old steps.new judgements)
-        (λ t. Does t name.now (TakeWork count) state (going state analyser judgements))
-        r.slot r.told r.analyser) }
+        (λ t. Does t name.now (TakeWork count) state (going state (made analyser origins.old) judgements))
+        r.slot r.told (made r.analyser origins.new)) }
     ensures halts { OnErr result ((state : Feed) (judgements : ℕ)
         → StandsFor (K.wire links.old) feed state
         → Halted (K.wire links.new) feed.link (AreWithin steps.old steps.new judgements)
-        (λ t. Begins t name.now (TakeWork count) (going state analyser judgements))) }
+        (λ t. Begins t name.now (TakeWork count) (going state (made analyser origins.old) judgements))) }
     ensures only { Only feed.link (K.wire links.old) (K.wire links.new)
         (K.standings links.old) (K.standings links.new) }
     ensures fits { IfOk result (λ r.
@@ -161,7 +164,9 @@ fn take_some<K: Links, L: Ledger>(
     ensures broke { BreaksByFault (K.faults links.old) (K.faults links.new)
         (K.standings links.old) (K.standings links.new) }
 {
-    let (outcome, analyser) = take_pdus(alloc, name, feed, count, false, analyser, links, steps)?;
+    let (outcome, analyser) = take_pdus(
+        alloc, name, feed, count, false, analyser, origins, links, steps,
+    )?;
     match outcome {
         Outcome::Open(feed) => Ok(goes_on(feed, analyser)),
         Outcome::Ended(telling) => Ok(ends(telling, analyser)),
@@ -175,6 +180,7 @@ fn sync_some<K: Links, L: Ledger>(
     feed: OpenFeed,
     count: u32,
     analyser: Analyser,
+    origins: &mut Origins,
     links: &mut K,
     steps: &mut Steps<L>,
 ) -> Result<Worked, NoMemory>
@@ -183,12 +189,12 @@ fn sync_some<K: Links, L: Ledger>(
     ensures works { IfOk result (λ r. (state : Feed) (judgements : ℕ)
         → StandsFor (K.wire links.old) feed state
         → WorkedAs (K.wire links.new) feed.link (AreWithin steps.old steps.new judgements)
-        (λ t. Does t name.now (SyncWork count) state (going state analyser judgements))
-        r.slot r.told r.analyser) }
+        (λ t. Does t name.now (SyncWork count) state (going state (made analyser origins.old) judgements))
+        r.slot r.told (made r.analyser origins.new)) }
     ensures halts { OnErr result ((state : Feed) (judgements : ℕ)
         → StandsFor (K.wire links.old) feed state
         → Halted (K.wire links.new) feed.link (AreWithin steps.old steps.new judgements)
-        (λ t. Begins t name.now (SyncWork count) (going state analyser judgements))) }
+        (λ t. Begins t name.now (SyncWork count) (going state (made analyser origins.old) judgements))) }
     ensures only { Only feed.link (K.wire links.old) (K.wire links.new)
         (K.standings links.old) (K.standings links.new) }
     ensures fits { IfOk result (λ r.
@@ -198,7 +204,9 @@ fn sync_some<K: Links, L: Ledger>(
     ensures broke { BreaksByFault (K.faults links.old) (K.faults links.new)
         (K.standings links.old) (K.standings links.new) }
 {
-    let (outcome, analyser) = take_pdus(alloc, name, feed, count, true, analyser, links, steps)?;
+    let (outcome, analyser) = take_pdus(
+        alloc, name, feed, count, true, analyser, origins, links, steps,
+    )?;
     match outcome {
         Outcome::Open(feed) => {
             if is_enough(true, &feed) {

@@ -30,6 +30,7 @@ enum Reading {
     Serve(&'static str, u16, u32),
     Judge(Role, u32, &'static [u32]),
     Report,
+    Origins,
     // of the peer 192.0.2.1 in AS 64501 and the prefix 198.51.100.0/24, with a path identifier or without
     Why(Option<u32>),
     Refused(LineFault),
@@ -112,7 +113,7 @@ const AMENDMENTS: [Row; 20] = [
     (b"at 00", Reading::Refused(LineFault::Number)),
 ];
 
-const DUMPS: [Row; 20] = [
+const DUMPS: [Row; 21] = [
     (
         b"role 64501 customer",
         Reading::Role(64_501, Role::Customer),
@@ -138,6 +139,7 @@ const DUMPS: [Row; 20] = [
     (b"take d 0", Reading::Refused(LineFault::Number)),
     (b"take d 100000001", Reading::Refused(LineFault::Number)),
     (b"report", Reading::Report),
+    (b"origins", Reading::Origins),
     (b"report now", Reading::Refused(LineFault::Words)),
 ];
 
@@ -299,6 +301,7 @@ fn is_read_so(read: &Result<Command, LineFault>, reading: Reading) -> bool {
             place.text() == at && *session == of && *count == wanted
         }
         (Ok(Command::Show(Show::Report)), Reading::Report) => true,
+        (Ok(Command::Show(Show::Origins)), Reading::Origins) => true,
         (Ok(Command::Judge(role, neighbour, path)), Reading::Judge(of, wanted, all)) => {
             *role == of && *neighbour == wanted && path.as_slice() == all
         }

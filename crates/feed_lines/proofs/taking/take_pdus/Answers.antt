@@ -3,7 +3,7 @@ use Rattle.feed_lines.specs.declared.taking.Outcome.{Outcome}
 use Rattle.feed_lines.specs.declared.taking.Outcome.TheVariants.{Open as GoesOn, Ended}
 use Rattle.connection_calls.specs.Moves.{Only}
 use Rattle.feed_lines.specs.Holding.{AreWithin}
-use Rattle.feed_lines.specs.Steps.{OutcomeFits, going}
+use Rattle.feed_lines.specs.Steps.{OutcomeFits, going, made}
 use Rattle.connection_calls.proofs.ConnectionLemmas.{Spares-refl, Spares-trans}
 use Rattle.connection_calls.proofs.FaultsLemmas.{BreaksByFault-refl, BreaksByFault-trans}
 use Rattle.feed_lines.proofs.TakingLemmas.{pdus_start, pdus_next, pdus_ended, pdus_enough, pdus_halted, on_err}
@@ -11,7 +11,7 @@ use Rattle.feed_lines.proofs.taking.take_pdus.Goals as goal
 
 pub loop-turn-init : goal.loop-turn-init
 loop-turn-init g c = record {
-  took = λ state judgements stands. pdus_start c.args.until_ready c.args.name.now (going state c.args.analyser judgements) c.args.feed.link c.args.steps.now _ c.args.feed state c.args.analyser refl refl stands;
+  took = λ state judgements stands. pdus_start c.args.until_ready c.args.name.now (going state (made c.args.analyser c.args.origins.now) judgements) c.args.feed.link c.args.steps.now _ c.args.feed state (made c.args.analyser c.args.origins.now) refl refl stands;
   within = omega arith;
   fit = c.requires.fit;
   same = refl;
@@ -23,15 +23,15 @@ loop-turn-init g c = record {
 
 pub returns-then-is_enough-clause-took : goal.returns-then-is_enough-clause-took
 returns-then-is_enough-clause-took g c = λ state judgements stands.
-    pdus_enough c.args.until_ready c.args.name.now (going state c.args.analyser judgements) c.args.feed.link (AreWithin c.args.steps.now c.loop-turn.steps judgements) _ c.loop-turn._turn c.args.count c.loop-turn.analyser
+    pdus_enough c.args.until_ready c.args.name.now (going state (made c.args.analyser c.args.origins.now) judgements) c.args.feed.link (AreWithin c.args.steps.now c.loop-turn.steps judgements) _ c.loop-turn._turn c.args.count (made c.loop-turn.analyser c.loop-turn.origins)
     c.loop-turn.invariant.within c.loop-turn.feed (sym c.is_enough.ensures ∙ c.if-is_enough.true) (c.loop-turn.invariant.took state judgements stands)
 
 pub returns-in_err-outcome-clause-halts : goal.returns-in_err-outcome-clause-halts
 returns-in_err-outcome-clause-halts g c =
     on_err c.from_residual.result c.from_residual.ensures.0
     (λ state judgements stands.
-    pdus_halted c.args.until_ready c.args.name.now (going state c.args.analyser judgements) c.args.feed.link c.args.steps.now c.loop-turn.steps c.take_pdu.new.steps (g.K.Links.wire c.loop-turn.links) _
-    c.loop-turn._turn c.loop-turn.feed c.loop-turn.analyser c.loop-turn.invariant.same (sym c.is_enough.ensures ∙ c.if-is_enough.false) c.take_pdu.ensures.only.later (c.loop-turn.invariant.took state judgements stands)
+    pdus_halted c.args.until_ready c.args.name.now (going state (made c.args.analyser c.args.origins.now) judgements) c.args.feed.link c.args.steps.now c.loop-turn.steps c.take_pdu.new.steps (g.K.Links.wire c.loop-turn.links) _
+    c.loop-turn._turn c.loop-turn.feed (made c.loop-turn.analyser c.loop-turn.origins) c.loop-turn.invariant.same (sym c.is_enough.ensures ∙ c.if-is_enough.false) c.take_pdu.ensures.only.later (c.loop-turn.invariant.took state judgements stands)
     c.args.count (omega arith) c.in_err-outcome.ensures.halts)
 
 pub returns-in_err-outcome-clause-only : goal.returns-in_err-outcome-clause-only
@@ -41,11 +41,11 @@ returns-in_err-outcome-clause-only g c =
 
 pub returns-in-Ended-clause-took : goal.returns-in-Ended-clause-took
 returns-in-Ended-clause-took g c = λ state judgements stands.
-    pdus_ended c.args.until_ready c.args.name.now (going state c.args.analyser judgements) c.args.feed.link (AreWithin c.args.steps.now c.take_pdu.new.steps judgements) _ (c.loop-turn._turn + 1) c.args.count c.in_ok-outcome.next (omega arith)
+    pdus_ended c.args.until_ready c.args.name.now (going state (made c.args.analyser c.args.origins.now) judgements) c.args.feed.link (AreWithin c.args.steps.now c.take_pdu.new.steps judgements) _ (c.loop-turn._turn + 1) c.args.count (made c.in_ok-outcome.next c.take_pdu.new.origins) (omega arith)
     c.in-Ended.telling
-    (pdus_next c.args.until_ready c.args.name.now (going state c.args.analyser judgements) c.args.feed.link c.args.steps.now c.loop-turn.steps c.take_pdu.new.steps (g.K.Links.wire c.loop-turn.links) _
-    c.loop-turn._turn c.loop-turn.feed c.loop-turn.analyser c.loop-turn.invariant.same (sym c.is_enough.ensures ∙ c.if-is_enough.false) c.take_pdu.ensures.only.later (c.loop-turn.invariant.took state judgements stands)
-    c.in_ok-outcome.next c.in_ok-outcome.outcome (Ended c.in-Ended.telling) c.in-Ended.is c.in_ok-outcome.ensures.took)
+    (pdus_next c.args.until_ready c.args.name.now (going state (made c.args.analyser c.args.origins.now) judgements) c.args.feed.link c.args.steps.now c.loop-turn.steps c.take_pdu.new.steps (g.K.Links.wire c.loop-turn.links) _
+    c.loop-turn._turn c.loop-turn.feed (made c.loop-turn.analyser c.loop-turn.origins) c.loop-turn.invariant.same (sym c.is_enough.ensures ∙ c.if-is_enough.false) c.take_pdu.ensures.only.later (c.loop-turn.invariant.took state judgements stands)
+    (made c.in_ok-outcome.next c.take_pdu.new.origins) c.in_ok-outcome.outcome (Ended c.in-Ended.telling) c.in-Ended.is c.in_ok-outcome.ensures.took)
 
 pub returns-in-Ended-clause-only : goal.returns-in-Ended-clause-only
 returns-in-Ended-clause-only g c =
@@ -57,9 +57,9 @@ loop-turn-preserved g c =
     let fits = subst (λ (o : Outcome). OutcomeFits (g.K.Links.standings c.take_pdu.new.links) c.loop-turn.feed.link (c.loop-turn.feed.taken + 1) o) c.in-Open.is c.in_ok-outcome.ensures.fits in
     record {
       took = λ state judgements stands.
-          pdus_next c.args.until_ready c.args.name.now (going state c.args.analyser judgements) c.args.feed.link c.args.steps.now c.loop-turn.steps c.take_pdu.new.steps (g.K.Links.wire c.loop-turn.links) _
-          c.loop-turn._turn c.loop-turn.feed c.loop-turn.analyser c.loop-turn.invariant.same (sym c.is_enough.ensures ∙ c.if-is_enough.false) c.take_pdu.ensures.only.later (c.loop-turn.invariant.took state judgements stands)
-          c.in_ok-outcome.next c.in_ok-outcome.outcome (GoesOn c.in-Open.more) c.in-Open.is c.in_ok-outcome.ensures.took;
+          pdus_next c.args.until_ready c.args.name.now (going state (made c.args.analyser c.args.origins.now) judgements) c.args.feed.link c.args.steps.now c.loop-turn.steps c.take_pdu.new.steps (g.K.Links.wire c.loop-turn.links) _
+          c.loop-turn._turn c.loop-turn.feed (made c.loop-turn.analyser c.loop-turn.origins) c.loop-turn.invariant.same (sym c.is_enough.ensures ∙ c.if-is_enough.false) c.take_pdu.ensures.only.later (c.loop-turn.invariant.took state judgements stands)
+          (made c.in_ok-outcome.next c.take_pdu.new.origins) c.in_ok-outcome.outcome (GoesOn c.in-Open.more) c.in-Open.is c.in_ok-outcome.ensures.took;
       within = omega arith;
       fit = fits.0;
       same = fits.1 ∙ c.loop-turn.invariant.same;

@@ -4,13 +4,13 @@ use Rattle.connection_calls.specs.Faults.{BreaksByFault}
 use Rattle.connection_calls.specs.Moves.{Only}
 use Rattle.feed_lines.specs.Feeds.{Feed, TakesPdus}
 use Rattle.feed_lines.specs.Holding.{AreWithin, StandsFor}
-use Rattle.feed_lines.specs.Steps.{IsFit, TookAs, going}
+use Rattle.feed_lines.specs.Steps.{IsFit, TookAs, going, made}
 use Rattle.feed_lines.proofs.taking.take_pdus.Given as goal
 
 abbrev pub invariant-loop-turn : goal.invariant-loop-turn
 invariant-loop-turn g l = record {
   took : (state : Feed) (judgements : ℕ) → StandsFor (g.K.Links.wire l.fn.links) l.fn.feed state
-      → TookAs (g.K.Links.wire l.links) l.fn.feed.link (AreWithin l.fn.steps l.steps judgements) (λ t. TakesPdus t l.until_ready l.name l._turn (going state l.fn.analyser judgements)) (GoesOn l.feed) l.analyser;
+      → TookAs (g.K.Links.wire l.links) l.fn.feed.link (AreWithin l.fn.steps l.steps judgements) (λ t. TakesPdus t l.until_ready l.name l._turn (going state (made l.fn.analyser l.fn.origins) judgements)) (GoesOn l.feed) (made l.analyser l.origins);
   within : l._turn ≤ l.count;
   fit : IsFit (g.K.Links.standings l.links) l.feed;
   same : l.feed.link ≡ l.fn.feed.link;
