@@ -1,5 +1,5 @@
 //! Sets of validated ROA payloads.
-ghost use Rattle.std.specs.Prelude.{◌≡◌, ◌↔◌, [], IfNone, IfOk, IfSome, IsTrue, OnErr, OnOk};
+ghost use Rattle.std.specs.Prelude.{◌≡◌, ◌<◌, ◌^◌, ◌↔◌, [], length, IfNone, IfOk, IfSome, IsTrue, OnErr, OnOk};
 ghost use Rattle.std.specs.BTreeMap.{is_at};
 ghost use Rattle.std.specs.BTreeSet.{insert_key};
 ghost use Rattle.std.specs.Set.{remove_key};
@@ -76,6 +76,14 @@ impl VrpSet {
         ensures { IsTrue result ↔ (self.now ≡ []) }
     {
         self.members.is_empty()
+    }
+
+    /// How many payloads are there.
+    pub fn len(&self) -> usize
+        ensures len { result ≡ length self.now }
+        ensures small { result < 2 ^ 63 }
+    {
+        self.members.len()
     }
 
     /// All payloads in their order. It takes no memory.
