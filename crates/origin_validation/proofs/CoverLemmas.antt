@@ -139,7 +139,7 @@ same_addr a = itself (addr_cmp a a) (addr_total.antisymm a a) where
   itself Equal e = refl
   itself Greater e = absurd cc
 
-not_longer : (p x : Subnet) → IsSubnet x → prefix_of x.addr p.len ≡ Some p → is_le (subnet_cmp p x) ≡ true → p.len ≤ x.len
+pub not_longer : (p x : Subnet) → IsSubnet x → prefix_of x.addr p.len ≡ Some p → is_le (subnet_cmp p x) ≡ true → p.len ≤ x.len
 not_longer p x is front le = elim (le_or_less p.len x.len) [
   | inl within ↦ within
   | inr longer ↦

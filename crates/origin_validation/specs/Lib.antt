@@ -1,2 +1,5 @@
 pub mod Fronts
+pub mod Held
+pub mod Laws
 pub mod Records
+pub mod Rows

@@ -1,10 +1,11 @@
 -- What changes of the parts of which the current payloads are made; and the parts of a look-up, which private contracts alone cite.
-use Rattle.std.specs.Prelude.{◌≡◌, ◌≤◌, ℕ, true, List}
+use Rattle.std.specs.Prelude.{◌≡◌, ◌≤◌, ℕ, true, List, []}
 use Rattle.std.specs.BTreeMap.{insert_entry, is_at}
 use Rattle.std.specs.Cmp.Lexicographic.{slice_cmp}
 use Rattle.std.specs.Map.{lookup}
 use Rattle.std.specs.Ordering.{nat_cmp}
 use Rattle.std.specs.declared.option.Option.{Option}
+use Rattle.std.specs.declared.option.Option.TheVariants.{Some, None}
 use Rattle.path_model.specs.Prefix.{Subnet}
 use Rattle.origin_model.specs.declared.prefix_filter.PrefixFilter.{PrefixFilter}
 use Rattle.origin_model.specs.Current.{Parts, IsGiven}
@@ -15,6 +16,11 @@ use Rattle.origin_model.specs.VrpSet.{has}
 -- the payloads of the source of this name, if there is one
 abbrev pub source_of : List (List ℕ × List Payload) → List ℕ → Option (List Payload)
 source_of sources name = lookup (is_at (slice_cmp nat_cmp name)) sources
+
+-- what there was, or nothing
+abbrev pub or_none : Option (List Payload) → List Payload
+or_none None = []
+or_none (Some payloads) = payloads
 
 -- the source of this name has these payloads from now on
 abbrev pub with_source : Parts → List ℕ → List Payload → Parts

@@ -86,6 +86,13 @@ impl Records {
         self.filters.hit(v)
     }
 
+    /// The filters.
+    pub fn filters(&self) -> &PrefixFilters
+        ensures { result.now ≡ self.now.filters }
+    {
+        &self.filters
+    }
+
     /// The asserted payloads.
     pub fn assertions(&self) -> &VrpSet
         ensures { result.now ≡ self.now.assertions }

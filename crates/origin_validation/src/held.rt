@@ -1,0 +1,104 @@
+//! The states that are held, one for each pair of a prefix and an origin, and which of them an event forgets.
+ghost use Rattle.std.specs.Prelude.{◌≡◌, true, IfNone, IfSome, is_some};
+ghost use Rattle.std.specs.Option.{option_copied};
+ghost use Rattle.origin_validation.specs.Held.{AllHave, HasNoneUnder, IsAmongCovering, IsApart, IsUnhitBy, IsUnhitByAll, Keeps, SameHave, at};
+ghost use Rattle.origin_validation.specs.Records.{or_none};
+
+use origin_model::{OriginState, PrefixFilter, PrefixFilters, Vrp, VrpSet, covers};
+use path_model::Prefix;
+use std::alloc::Global;
+use std::collections::BTreeMap;
+
+// The state of each pair of a prefix and an origin that was looked up, and is right still. It takes 33 bytes a pair, and its share of a node
+// of the tree.
+pub(crate) type HeldStates = BTreeMap<(Prefix, u32), OriginState>;
+
+// Forgets the states under what is among one of these alone, where a source had some, or none, and gets the others.
+pub(crate) fn forget_replaced(
+    held: &mut HeldStates,
+    alloc: Global,
+    before: Option<&VrpSet>,
+    after: &VrpSet,
+)
+    ensures { Keeps (SameHave (or_none (option_copied before.entry)) after.now)
+        held.old.entries held.new.entries }
+{
+    match before {
+        Some(before) => forget_differing(held, before, after),
+        None => forget_differing(held, &VrpSet::new(alloc), after),
+    }
+}
+
+// Forgets the states under what is in one of two sets alone. Where the sets are much larger than what is held, all is forgotten: it takes
+// less time to look up again what is asked for than to go through the sets.
+pub(crate) fn forget_differing(held: &mut HeldStates, before: &VrpSet, after: &VrpSet)
+    ensures { Keeps (SameHave before.now after.now) held.old.entries held.new.entries }
+{
+    if (before.len() + after.len()) / 4 >= held.len() {
+        held.clear();
+        return;
+    }
+    forget_unless(held, before, after);
+    forget_unless(held, after, before);
+}
+
+// Those under payloads that are among some and not among others.
+fn forget_unless(held: &mut HeldStates, some: &VrpSet, others: &VrpSet)
+    ensures { Keeps (AllHave some.now others.now) held.old.entries held.new.entries }
+{
+    for v in some.entries() {
+        forget_one(held, v, others);
+    }
+}
+
+// Those under a payload, if it isn't among others.
+fn forget_one(held: &mut HeldStates, v: &Vrp, others: &VrpSet)
+    ensures { Keeps (IsAmongCovering others.now v.now) held.old.entries held.new.entries }
+{
+    if !others.contains(v) {
+        forget_under(held, &v.prefix());
+    }
+}
+
+// Forgets the states under the prefixes of these filters, and all where a filter has no prefix: whatever one of them hits covers none of the
+// others.
+pub(crate) fn forget_hit(held: &mut HeldStates, filters: &PrefixFilters)
+    ensures { Keeps (IsUnhitByAll filters.now) held.old.entries held.new.entries }
+{
+    for f in filters.iter() {
+        forget_hit_by(held, f);
+    }
+}
+
+fn forget_hit_by(held: &mut HeldStates, f: &PrefixFilter)
+    ensures { Keeps (IsUnhitBy f.now) held.old.entries held.new.entries }
+{
+    match &f.prefix {
+        None => held.clear(),
+        Some(prefix) => forget_under(held, prefix),
+    }
+}
+
+// Forgets the states of the pairs whose prefixes this one covers. It takes the time of two look-ups for each, and of one more.
+pub(crate) fn forget_under(held: &mut HeldStates, prefix: &Prefix)
+    ensures { Keeps (IsApart prefix.now) held.old.entries held.new.entries }
+{
+    while let Some(pair) = first_under(held, prefix) {
+        held.remove(&pair);
+    }
+}
+
+// The first pair that is held and whose prefix this one covers, if there is one: what stands between a prefix and one that it covers begins
+// with it, so that no other need be looked at.
+fn first_under(held: &HeldStates, prefix: &Prefix) -> Option<(Prefix, u32)>
+    ensures some { IfSome result (λ p. is_some (at held.now.entries p) ≡ true) }
+    ensures none { IfNone result (HasNoneUnder held.now.entries prefix.now) }
+{
+    let (pair, _) = held.range((*prefix, 0)..).next()?;
+    // it comes with what each prefix is
+    let _len = pair.0.len();
+    if !covers(prefix, &pair.0) {
+        return None;
+    }
+    Some(*pair)
+}
