@@ -23,4 +23,5 @@ pub mod ShownLemmas
 pub mod StoredLemmas
 pub mod TotalsLemmas
 pub mod TouchedLemmas
+pub mod TrailLemmas
 pub mod VerdictLemmas

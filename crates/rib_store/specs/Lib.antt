@@ -17,3 +17,4 @@ pub mod State
 pub mod Steps
 pub mod Stored
 pub mod Touched
+pub mod Trails

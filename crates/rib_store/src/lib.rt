@@ -7,7 +7,7 @@
 //! Each route has the number of a case that it shares with all routes of the same peer AS and path (the crate `shared_cases`);
 //! `specs/Cased.antt` says how the routes and the marked verdicts are read through the cases, and what holds of them. `routing` changes
 //! one route, `marks` notes what was marked of the keys whose route changed since or whose case got another verdict (`specs/Marks.antt`),
-//! `rib` lists the routes, and `journal` lists what changed since verdicts were marked, from the notes. How many routes have which verdict
+//! `rib` lists the routes with their verdicts, `trails` with their paths, and `journal` lists what changed since verdicts were marked, from the notes. How many routes have which verdict
 //! (`counts`) the cases keep.
 #![tactic(auto)]
 
@@ -20,6 +20,7 @@ mod merged;
 mod rib;
 mod routing;
 mod store;
+mod trails;
 
 pub use counts::Counts;
 pub use journal::{ChangedKey, Journal};
@@ -29,3 +30,4 @@ pub use laws::{
 };
 pub use rib::{Rib, Shown};
 pub use store::RibStore;
+pub use trails::Trails;

@@ -13,6 +13,7 @@ ghost use Rattle.rib_store.specs.Rows.{rows_left};
 ghost use Rattle.rib_store.specs.Shown.{IsShown};
 ghost use Rattle.rib_store.specs.Counts.{AreCounts};
 ghost use Rattle.rib_store.specs.Touched.{announced, IsWithinTouched};
+ghost use Rattle.rib_store.specs.Trails.{trails_left};
 
 use crate::counts::Counts;
 use crate::journal::{Journal, Left};
@@ -20,6 +21,7 @@ use crate::marks::Marks;
 use crate::merged::Merged;
 use crate::rib::{Rib, Shown};
 use crate::routing::Routing;
+use crate::trails::Trails;
 use av_base::{NoMemory, Steps};
 use path_model::{Changes, Key, Role, Roles};
 use route_map::RouteMap;
@@ -247,6 +249,16 @@ impl RibStore {
         ensures few { length (rows_left result) < 2 ^ 63 }
     {
         Rib {
+            rest: self.routing.routes.iter(),
+            cases: &self.routing.cases,
+        }
+    }
+
+    /// Each route's key with its path, in key order. It takes no memory, and judges nothing.
+    pub fn trails(&self) -> Trails<'_>
+        ensures { trails_left result ≡ fin.entries self.now.state.routes }
+    {
+        Trails {
             rest: self.routing.routes.iter(),
             cases: &self.routing.cases,
         }
