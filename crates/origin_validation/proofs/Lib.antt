@@ -3,6 +3,7 @@ pub mod CoverLemmas
 pub mod FrontLemmas
 pub mod HeldLemmas
 pub mod PassLemmas
+pub mod PatchLemmas
 pub mod RowLemmas
 pub mod StateLemmas
 pub mod UnderLemmas

@@ -1,5 +1,5 @@
 -- The states that are held, one for each pair of a prefix and an origin: private contracts alone cite it.
-use Rattle.std.specs.Prelude.{◌≡◌, ℕ, true, List, []}
+use Rattle.std.specs.Prelude.{◌≡◌, ℕ, Bool, true, List, []}
 use Rattle.std.specs.BTreeMap.{is_at}
 use Rattle.std.specs.Map.{lookup}
 use Rattle.std.specs.Ordering.{nat_cmp, ordering_then}
@@ -14,6 +14,7 @@ use Rattle.origin_model.specs.Current.{Parts, IsCurrent}
 use Rattle.origin_model.specs.OriginState.{HasState}
 use Rattle.origin_model.specs.PrefixFilter.{Hits, IsHit}
 use Rattle.origin_model.specs.Vrp.{Payload}
+use Rattle.origin_model.specs.VrpChanges.{said}
 use Rattle.origin_model.specs.VrpSet.{has}
 
 -- a prefix and an AS that originates it, or 0 where none does
@@ -67,6 +68,14 @@ AllHave some others p = (v : Payload) → Covers v.prefix p.0 → has some v ≡
 pub record SameHave (one other : List Payload) (p : Pair) : Type 0 where
   pub to : AllHave one other p
   pub from : AllHave other one p
+
+-- if the payload covers the pair, it is among these exactly where it was announced
+abbrev pub IsAlready : List Payload → Payload → Bool → Pair → Type 0
+IsAlready payloads v announced p = Covers v.prefix p.0 → has payloads v ≡ announced
+
+-- what the changes say of each payload that covers the pair is so already
+abbrev pub AreAlready : List Payload → List (Payload × Bool) → Pair → Type 0
+AreAlready payloads changes p = (v : Payload) (announced : Bool) → Covers v.prefix p.0 → said changes v ≡ Some announced → has payloads v ≡ announced
 
 -- the filter hits nothing that covers the pair
 abbrev pub IsUnhitBy : PrefixFilter → Pair → Type 0

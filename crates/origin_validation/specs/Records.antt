@@ -1,5 +1,5 @@
--- What changes of the parts of which the current payloads are made; and the parts of a look-up, which private contracts alone cite.
-use Rattle.std.specs.Prelude.{◌≡◌, ◌≤◌, ℕ, true, List, []}
+-- What changes of the parts of which the current payloads are made; and parts of changes and of a look-up, which private contracts alone cite.
+use Rattle.std.specs.Prelude.{◌≡◌, ◌≤◌, ℕ, Bool, true, cond, List, []}
 use Rattle.std.specs.BTreeMap.{insert_entry, is_at}
 use Rattle.std.specs.Cmp.Lexicographic.{slice_cmp}
 use Rattle.std.specs.Map.{lookup}
@@ -10,7 +10,8 @@ use Rattle.path_model.specs.Prefix.{Subnet}
 use Rattle.origin_model.specs.declared.prefix_filter.PrefixFilter.{PrefixFilter}
 use Rattle.origin_model.specs.Current.{Parts, IsGiven}
 use Rattle.origin_model.specs.PrefixFilter.{IsHit}
-use Rattle.origin_model.specs.Vrp.{Payload}
+use Rattle.origin_model.specs.Vrp.{Payload, payload_cmp}
+use Rattle.origin_model.specs.VrpChanges.{Patches}
 use Rattle.origin_model.specs.VrpSet.{has}
 
 -- the payloads of the source of this name, if there is one
@@ -25,6 +26,18 @@ or_none (Some payloads) = payloads
 -- the source of this name has these payloads from now on
 abbrev pub with_source : Parts → List ℕ → List Payload → Parts
 with_source parts name payloads = record parts { sources = insert_entry (slice_cmp nat_cmp) parts.sources name payloads }
+
+-- the source of this name has what the changes make of the payloads that it had, or of none
+pub record PatchesSource (before : Parts) (name : List ℕ) (changes : List (Payload × Bool)) (after : Parts) : Type 0 where
+  pub payloads : List Payload
+  pub patches : Patches changes (or_none (source_of before.sources name)) payloads
+  pub puts : after ≡ with_source before name payloads
+
+-- ---- parts of changes, which private contracts alone cite
+
+-- the payload is among these where it was announced, and isn't where it was withdrawn; and each other one as before
+abbrev pub HasAsSaid : List Payload → Payload → Bool → List Payload → Type 0
+HasAsSaid before v announced after = (q : Payload) → has after q ≡ cond (is_at (payload_cmp v) q) announced (has before q)
 
 -- ---- parts of a look-up
 

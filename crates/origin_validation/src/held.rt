@@ -1,10 +1,10 @@
 //! The states that are held, one for each pair of a prefix and an origin, and which of them an event forgets.
 ghost use Rattle.std.specs.Prelude.{◌≡◌, true, IfNone, IfSome, is_some};
 ghost use Rattle.std.specs.Option.{option_copied};
-ghost use Rattle.origin_validation.specs.Held.{AllHave, HasNoneUnder, IsAmongCovering, IsApart, IsUnhitBy, IsUnhitByAll, Keeps, SameHave, at};
+ghost use Rattle.origin_validation.specs.Held.{AllHave, AreAlready, HasNoneUnder, IsAlready, IsAmongCovering, IsApart, IsUnhitBy, IsUnhitByAll, Keeps, SameHave, at};
 ghost use Rattle.origin_validation.specs.Records.{or_none};
 
-use origin_model::{OriginState, PrefixFilter, PrefixFilters, Vrp, VrpSet, covers};
+use origin_model::{OriginState, PrefixFilter, PrefixFilters, Vrp, VrpChanges, VrpSet, covers};
 use path_model::Prefix;
 use std::alloc::Global;
 use std::collections::BTreeMap;
@@ -40,6 +40,44 @@ pub(crate) fn forget_differing(held: &mut HeldStates, before: &VrpSet, after: &V
     }
     forget_unless(held, before, after);
     forget_unless(held, after, before);
+}
+
+// Forgets the states under each payload that changes don't leave as it was, where a source had some payloads, or none.
+pub(crate) fn forget_patched(
+    held: &mut HeldStates,
+    alloc: Global,
+    before: Option<&VrpSet>,
+    changes: &VrpChanges,
+)
+    ensures { Keeps (AreAlready (or_none (option_copied before.entry)) changes.now)
+        held.old.entries held.new.entries }
+{
+    match before {
+        Some(before) => forget_changed(held, before, changes),
+        None => forget_changed(held, &VrpSet::new(alloc), changes),
+    }
+}
+
+// Those under each payload that changes don't leave as it was. Where there are many more changes than states that are held, all is forgotten.
+fn forget_changed(held: &mut HeldStates, before: &VrpSet, changes: &VrpChanges)
+    ensures { Keeps (AreAlready before.now changes.now) held.old.entries held.new.entries }
+{
+    if changes.len() / 4 >= held.len() {
+        held.clear();
+        return;
+    }
+    for (v, announced) in changes.entries() {
+        forget_said(held, before, v, announced);
+    }
+}
+
+// Those under a payload that was announced and wasn't there, or withdrawn and was there.
+fn forget_said(held: &mut HeldStates, before: &VrpSet, v: &Vrp, announced: bool)
+    ensures { Keeps (IsAlready before.now v.now announced) held.old.entries held.new.entries }
+{
+    if before.contains(v) != announced {
+        forget_under(held, &v.prefix());
+    }
 }
 
 // Those under payloads that are among some and not among others.

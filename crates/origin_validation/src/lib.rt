@@ -3,10 +3,11 @@
 //! The layer above uses one contract: [`Origins::state`] answers the state that `specs/OriginState.antt` of `origin_model` defines for a prefix
 //! and an origin, by the payloads that `specs/Current.antt` there calls current. `Origins::replace`, `Origins::patch` and `Origins::slurm`
 //! change which those are. It looks up a state once, by `Records::state`, and holds it until something comes or goes that covers the prefix.
-//! Begin reading in `origins`. `held` says what an event forgets, `records` has the payloads, `covering` looks up what covers a prefix in one
+//! Begin reading in `origins`. `held` says what an event forgets, `records` has the payloads, `changes` makes changes of them, `covering` looks up what covers a prefix in one
 //! set, and `fronts` says where the next shorter covering prefix may be.
 #![tactic(auto)]
 
+mod changes;
 mod covering;
 mod fronts;
 mod held;

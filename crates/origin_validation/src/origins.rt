@@ -2,12 +2,12 @@
 ghost use Rattle.std.specs.Prelude.{◌≡◌, IfOk, OnErr, OnOk};
 ghost use Rattle.origin_model.specs.Current.{IsCurrent, no_parts};
 ghost use Rattle.origin_model.specs.OriginState.{HasState};
-ghost use Rattle.origin_validation.specs.Records.{with_source};
+ghost use Rattle.origin_validation.specs.Records.{PatchesSource, with_source};
 
-use crate::held::{HeldStates, forget_differing, forget_hit, forget_replaced};
+use crate::held::{HeldStates, forget_differing, forget_hit, forget_patched, forget_replaced};
 use crate::records::Records;
 use av_base::NoMemory;
-use origin_model::{OriginState, PrefixFilters, VrpSet};
+use origin_model::{OriginState, PrefixFilters, VrpChanges, VrpSet};
 use path_model::{Name, Prefix};
 use std::alloc::Global;
 use std::collections::BTreeMap;
@@ -70,6 +70,25 @@ impl Origins {
     {
         forget_replaced(&mut self.held, self.alloc, self.records.source(&name), &set);
         self.records.put(name, set)?;
+        Ok(())
+    }
+
+    /// The source of this name has what the changes make of the payloads that it had, or of none if there was no such source. It takes the time of
+    /// two look-ups for each change, and of one for each pair under a payload that comes or goes; what the changes leave as it was forgets nothing.
+    /// Where there is no memory, nothing is said of that source's payloads.
+    pub fn patch(&mut self, name: Name, changes: VrpChanges) -> Result<(), NoMemory>
+        ensures { OnOk result (PatchesSource self.old name changes self.new) }
+    {
+        forget_patched(
+            &mut self.held,
+            self.alloc,
+            self.records.source(&name),
+            &changes,
+        );
+        if let Err(none) = self.records.patch(name, &changes) {
+            self.held.clear();
+            return Err(none);
+        }
         Ok(())
     }
 

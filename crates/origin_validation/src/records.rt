@@ -4,11 +4,12 @@ ghost use Rattle.std.specs.Option.{option_copied};
 ghost use Rattle.origin_model.specs.Current.{IsCurrent, no_parts};
 ghost use Rattle.origin_model.specs.PrefixFilter.{IsHit};
 ghost use Rattle.origin_model.specs.OriginState.{HasState};
-ghost use Rattle.origin_validation.specs.Records.{IsGivenUnhit, source_of, with_source};
+ghost use Rattle.origin_validation.specs.Records.{IsGivenUnhit, PatchesSource, or_none, source_of, with_source};
 
+use crate::changes::apply;
 use crate::covering::state_in;
 use av_base::NoMemory;
-use origin_model::{OriginState, PrefixFilters, Vrp, VrpSet};
+use origin_model::{OriginState, PrefixFilters, Vrp, VrpChanges, VrpSet};
 use path_model::{Name, Prefix};
 use std::alloc::Global;
 use std::collections::BTreeMap;
@@ -110,6 +111,19 @@ impl Records {
         Ok(held)
     }
 
+    /// Gives the source of this name what the changes make of the payloads that it had, or of none if there was no such source. It takes the time
+    /// of a look-up for each change. Where there is no memory, nothing is said of that source's payloads.
+    pub fn patch(&mut self, name: Name, changes: &VrpChanges) -> Result<(), NoMemory>
+        ensures { OnOk result (PatchesSource self.old name changes.now self.new) }
+    {
+        let alloc = self.alloc;
+        let held = self.put(name.copy()?, VrpSet::new(alloc))?;
+        let mut set = or_empty(alloc, held);
+        apply(&mut set, changes)?;
+        self.put(name, set)?;
+        Ok(())
+    }
+
     /// Gives the SLURM file these filters and asserted payloads, and takes out those that it had.
     pub fn amend(&mut self, filters: PrefixFilters, assertions: VrpSet) -> (PrefixFilters, VrpSet)
         ensures new { self.new ≡ record self.old { filters = filters; assertions = assertions } }
@@ -119,5 +133,15 @@ impl Records {
         let before = mem::replace(&mut self.filters, filters);
         let asserted = mem::replace(&mut self.assertions, assertions);
         (before, asserted)
+    }
+}
+
+// The set, or none.
+fn or_empty(alloc: Global, set: Option<VrpSet>) -> VrpSet
+    ensures { result ≡ or_none set }
+{
+    match set {
+        Some(set) => set,
+        None => VrpSet::new(alloc),
     }
 }
