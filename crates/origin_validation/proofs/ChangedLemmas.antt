@@ -1,20 +1,16 @@
 -- What is held is right still where the payloads of a source changed, or the filters and the assertions.
-use Rattle.std.proofs.Common.{◌≡◌, ℕ, true, Bool, false, cond, List, [], ◌∷◌, Some, None, refl, sym, ap, subst, ◌∙◌, ◌⊎◌, inl, inr, true≢false}
+use Rattle.std.proofs.Common.{◌≡◌, ℕ, true, Bool, false, cond, List, [], ◌∷◌, Some, sym, ap, ◌∙◌, ◌⊎◌, inl, inr, true≢false}
 use Rattle.std.specs.declared.cmp.Ordering.{Ordering}
 use Rattle.std.specs.declared.cmp.Ordering.TheVariants.{Less, Equal, Greater}
 use Rattle.std.specs.declared.option.Option.{Option}
 use Rattle.std.specs.BTreeMap.{insert_entry, is_at}
 use Rattle.std.specs.Cmp.Lexicographic.{slice_cmp}
-use Rattle.std.specs.Map.{lookup}
 use Rattle.std.specs.Ordering.{is_eq, match_ordering, nat_cmp}
 use Rattle.origin_model.specs.declared.prefix_filter.PrefixFilter.{PrefixFilter}
-use Rattle.origin_model.specs.Covering.{Covers}
-use Rattle.origin_model.specs.Current.{Parts, IsCurrent, IsGiven}
-use Rattle.origin_model.specs.PrefixFilter.{IsHit}
+use Rattle.origin_model.specs.Current.{Parts, IsGiven}
 use Rattle.origin_model.specs.Vrp.{Payload}
 use Rattle.origin_model.specs.VrpSet.{has}
-use Rattle.origin_model.proofs.StateLemmas.{Goes}
-use Rattle.origin_validation.specs.Held.{Pair, Entries, AllHave, AreRight, IsUnhitByAll, Keeps, SameHave}
+use Rattle.origin_validation.specs.Held.{Pair, Entries, AreRight, IsUnhitByAll, Keeps, SameHave}
 use Rattle.origin_validation.specs.Records.{or_none, source_of, with_source}
 use Rattle.origin_validation.proofs.HeldLemmas.{keeps_then, kept_right}
 

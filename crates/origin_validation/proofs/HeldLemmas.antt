@@ -1,14 +1,13 @@
 -- What is held of each pair, and what an event leaves of it.
-use Rattle.std.proofs.Common.{◌≡◌, ℕ, Bool, true, false, cond, List, [], ◌∷◌, Some, None, refl, sym, ap, subst, ◌∙◌, ◌⊎◌, inl, inr, true≢false}
+use Rattle.std.proofs.Common.{◌≡◌, ℕ, Bool, true, false, cond, Some, None, refl, sym, ap, subst, ◌∙◌}
 use Rattle.std.specs.declared.cmp.Ordering.{Ordering}
 use Rattle.std.specs.declared.cmp.Ordering.TheVariants.{Less, Equal, Greater}
 use Rattle.std.specs.declared.option.Option.{Option}
 use Rattle.std.specs.BTreeMap.{is_at}
-use Rattle.std.specs.Cmp.{IsTotalOrder, Equal-is, eq_by_cmp_equiv, nat_cmp_total, on_total, then_total}
+use Rattle.std.specs.Cmp.{Equal-is}
 use Rattle.std.specs.Option.{unwrap_or}
 use Rattle.std.specs.Ordering.{nat_cmp, ordering_then}
 use Rattle.std.proofs.lemmas.Map.Lookups.{CmpEqualImpliesEq, exact_unsigned}
-use Rattle.path_model.specs.Order.{subnet_total}
 use Rattle.path_model.specs.Prefix.{Subnet, subnet_cmp}
 use Rattle.path_model.proofs.OrderLemmas.{subnet_exact}
 use Rattle.origin_model.specs.declared.origin_state.OriginState.{OriginState}
@@ -17,7 +16,7 @@ use Rattle.origin_model.specs.Current.{Parts, IsCurrent}
 use Rattle.origin_model.specs.OriginState.{Matching, HasState}
 use Rattle.origin_model.specs.Vrp.{Payload}
 use Rattle.origin_model.proofs.StateLemmas.{Goes, has_like}
-use Rattle.origin_validation.specs.Held.{Pair, Entries, pair_cmp, at, AreRight, IsKept, IsRight, Keeps}
+use Rattle.origin_validation.specs.Held.{Pair, Entries, pair_cmp, at, AreRight, IsRight, Keeps}
 
 -- ---- pairs in their order
 
@@ -25,9 +24,6 @@ both_equal : (a b : Ordering) → ordering_then a b ≡ Equal → (a ≡ Equal) 
 both_equal Less b e = absurd cc
 both_equal Equal b e = (refl, e)
 both_equal Greater b e = absurd cc
-
-pub pair_total : IsTotalOrder pair_cmp
-pair_total = then_total (on_total (λ (p : Pair). p.0) subnet_total) (on_total (λ (p : Pair). p.1) nat_cmp_total)
 
 pub pair_exact : CmpEqualImpliesEq pair_cmp
 pair_exact a b e =
@@ -59,9 +55,6 @@ origin_like Is prefix None NotFound h = h
 pub keeps_itself : (Q : Pair → Type 0) (es fs : Entries) → fs ≡ es → ((p : Pair) → Q p) → Keeps Q es fs
 keeps_itself Q es fs same q = record { each = λ p s is. record { was = ap (λ (gs : Entries). at gs p) (sym same) ∙ is; quiet = q p } }
 
-pub keeps_none : (Q : Pair → Type 0) (es fs : Entries) → fs ≡ [] → Keeps Q es fs
-keeps_none Q es fs none = record { each = λ p s is. let e : ◌≡◌ {A = Option OriginState} None (Some s) = ap (λ (gs : Entries). at gs p) (sym none) ∙ is in absurd cc }
-
 pub keeps_weaker : (Q R : Pair → Type 0) (es fs : Entries) → ((p : Pair) → Q p → R p) → Keeps Q es fs → Keeps R es fs
 keeps_weaker Q R es fs to k = record { each = λ p s is. let kept = k.each p s is in record { was = kept.was; quiet = to p kept.quiet } }
 
@@ -83,13 +76,6 @@ kept_right old new es fs Q right k same = record {
       let goes = same p kept.quiet in
       has_like p.0 (Some p.1) (IsCurrent old) (IsCurrent new) s goes.0 goes.1 (right.each p s kept.was);
 }
-
--- nothing else is held
-pub less_right : (parts : Parts) (es fs : Entries) (Q : Pair → Type 0) → AreRight parts es → Keeps Q es fs → AreRight parts fs
-less_right parts es fs Q right k = record { each = λ p s is. right.each p s (k.each p s is).was }
-
-pub none_right : (parts : Parts) (es : Entries) → es ≡ [] → AreRight parts es
-none_right parts es none = record { each = λ p s is. let e : ◌≡◌ {A = Option OriginState} None (Some s) = ap (λ (fs : Entries). at fs p) (sym none) ∙ is in absurd cc }
 
 -- one state more
 pub more_right : (parts : Parts) (es fs : Entries) (pair : Pair) (state : OriginState) → ((p : Pair) → at fs p ≡ cond (is_at (pair_cmp pair) p) (Some state) (at es p))

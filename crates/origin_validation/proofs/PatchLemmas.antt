@@ -1,5 +1,5 @@
 -- Changes of a source's payloads: what they make of a set, and what they leave of the states that are held.
-use Rattle.std.proofs.Common.{◌≡◌, ℕ, Bool, true, false, cond, List, [], ◌∷◌, Some, None, refl, sym, ap, subst, ◌∙◌, ◌⊎◌, inl, inr, true≢false}
+use Rattle.std.proofs.Common.{◌≡◌, ℕ, Bool, true, false, cond, List, [], ◌∷◌, Some, None, refl, sym, ap, subst, ◌∙◌, ◌⊎◌, inl, inr}
 use Rattle.std.specs.declared.cmp.Ordering.{Ordering}
 use Rattle.std.specs.declared.cmp.Ordering.TheVariants.{Less, Equal, Greater}
 use Rattle.std.specs.declared.option.Option.{Option}
@@ -12,17 +12,16 @@ use Rattle.std.specs.Map.{keys_of}
 use Rattle.std.specs.Option.{unwrap_or}
 use Rattle.std.specs.Ordering.{is_eq, match_ordering, nat_cmp}
 use Rattle.std.proofs.lemmas.Map.Keys.{sorted_head, sorted_tail}
-use Rattle.path_model.specs.Prefix.{Subnet}
 use Rattle.origin_model.specs.Covering.{Covers}
 use Rattle.origin_model.specs.Current.{Parts}
 use Rattle.origin_model.specs.Vrp.{Payload, payload_cmp, payload_total}
-use Rattle.origin_model.specs.VrpChanges.{Patches, said}
+use Rattle.origin_model.specs.VrpChanges.{said}
 use Rattle.origin_model.specs.VrpSet.{has}
 use Rattle.origin_model.proofs.PayloadLemmas.{same_payload}
-use Rattle.origin_validation.specs.Held.{Pair, Entries, AreAlready, AreRight, IsAlready, IsApart, Keeps, SameHave}
-use Rattle.origin_validation.specs.Records.{HasAsSaid, PatchesSource, or_none, source_of, with_source}
+use Rattle.origin_validation.specs.Held.{Pair, Entries, AreAlready, AreRight, IsAlready, Keeps, SameHave}
+use Rattle.origin_validation.specs.Records.{HasAsSaid, PatchesSource, or_none, source_of}
 use Rattle.origin_validation.proofs.ChangedLemmas.{replaced_right}
-use Rattle.origin_validation.proofs.HeldLemmas.{keeps_itself, keeps_then, keeps_weaker}
+use Rattle.origin_validation.proofs.HeldLemmas.{keeps_then, keeps_weaker}
 
 abbrev Changes : Type 0
 Changes = List (Payload × Bool)
@@ -33,12 +32,6 @@ Changes = List (Payload × Bool)
 pub record Applies (all rest : Changes) (before now : List Payload) : Type 0 where
   pub same : (q : Payload) → unwrap_or (said rest q) (has now q) ≡ unwrap_or (said all q) (has before q)
   pub rising : IsStrictlySortedBy payload_cmp (keys_of rest)
-
-pub apply_start : (all rest : Changes) (before : List Payload) → rest ≡ all → IsStrictlySortedBy payload_cmp (keys_of all) → Applies all rest before before
-apply_start all rest before is rising = record {
-  same = λ q. ap (λ (cs : Changes). unwrap_or (said cs q) (has before q)) is;
-  rising = subst (λ (cs : Changes). IsStrictlySortedBy payload_cmp (keys_of cs)) (sym is) rising;
-}
 
 -- of a payload below all that are named nothing is said
 unsaid_below : (w : Payload) (cs : Changes) → AllByRecursion (λ y. payload_cmp w y ≡ Less) (keys_of cs) → said cs w ≡ None
@@ -64,9 +57,6 @@ apply_next all rest more w a before now after is applies sets =
       rising = sorted_tail payload_cmp w (keys_of more) rising;
     }
 
-pub apply_end : (all rest : Changes) (before now : List Payload) → rest ≡ [] → Applies all rest before now → Patches all before now
-apply_end all rest before now none applies = record { members = λ q. ap (λ (cs : Changes). unwrap_or (said cs q) (has now q)) (sym none) ∙ applies.same q }
-
 -- ---- what changes leave of the states, one after another
 
 -- what all say of a payload that covers the pair is so, or it is left
@@ -77,9 +67,6 @@ some_bool : (a b : Bool) → Some a ≡ Some b → a ≡ b
 some_bool a b e = ap (λ (o : Option Bool). unwrap_or o a) e
 
 module _ (payloads : List Payload) (all : Changes) where
-  pub changes_start : (rest : Changes) (es : Entries) → rest ≡ all → Keeps (AlreadyOrLeft payloads all rest) es es
-  changes_start rest es is = keeps_itself (AlreadyOrLeft payloads all rest) es es refl (λ p v announced covers says. inr (ap (λ (cs : Changes). said cs v) is ∙ says))
-
   left_by : (w v : Payload) (a announced b : Bool) (more : Changes) (p : Pair) → is_at (payload_cmp v) w ≡ b → IsAlready payloads w a p → Covers v.prefix p.0 → cond b (Some a) (said more v) ≡ Some announced
       → (has payloads v ≡ announced) ⊎ (said more v ≡ Some announced)
   left_by w v a announced true more p at already covers says =
@@ -96,13 +83,6 @@ module _ (payloads : List Payload) (all : Changes) where
         | inr left ↦ left_by w v a announced (is_at (payload_cmp v) w) more p refl both.1 covers (ap (λ (cs : Changes). said cs v) (sym is) ∙ left)
       ])
       (keeps_then (AlreadyOrLeft payloads all rest) (IsAlready payloads w a) es fs gs f g)
-
-  pub changes_end : (rest : Changes) (es fs : Entries) → rest ≡ [] → Keeps (AlreadyOrLeft payloads all rest) es fs → Keeps (AreAlready payloads all) es fs
-  changes_end rest es fs none f = keeps_weaker (AlreadyOrLeft payloads all rest) (AreAlready payloads all) es fs
-      (λ p left v announced covers says. elim (left v announced covers says) [
-        | inl already ↦ already
-        | inr later ↦ let e : ◌≡◌ {A = Option Bool} None (Some announced) = ap (λ (cs : Changes). said cs v) (sym none) ∙ later in absurd cc
-      ]) f
 
 -- ---- what is held is right still
 

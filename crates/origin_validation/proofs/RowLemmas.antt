@@ -1,7 +1,6 @@
 -- The rows that list the state of each route, one after another; and that there is one list.
-use Rattle.std.proofs.Common.{◌≡◌, List, [], ◌∷◌, ◌++◌, refl, sym, ap, subst, ◌∙◌}
+use Rattle.std.proofs.Common.{◌≡◌, List, [], ◌∷◌, ◌++◌, refl, sym, ◌∙◌}
 use Rattle.std.specs.FinMap as fin
-use Rattle.av_base.specs.One.{HasOne}
 use Rattle.path_model.specs.declared.key.Key.{Key}
 use Rattle.path_model.specs.Trail.{Path}
 use Rattle.origin_model.specs.declared.origin_state.OriginState.{OriginState}
@@ -9,7 +8,7 @@ use Rattle.origin_model.specs.Current.{Parts}
 use Rattle.origin_model.specs.OriginState.{IsStateOf}
 use Rattle.origin_model.proofs.LawLemmas.{one_for_each_route}
 use Rattle.origin_validation.specs.Laws.{RoutesHaveOneListOfStates}
-use Rattle.origin_validation.specs.Rows.{AreRowsOf, IsRow}
+use Rattle.origin_validation.specs.Rows.{AreRowsOf}
 
 module _ (parts : Parts) where
   -- one route more

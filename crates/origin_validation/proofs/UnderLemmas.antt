@@ -1,5 +1,5 @@
 -- The pairs under a prefix are forgotten one after another, from the first on.
-use Rattle.std.proofs.Common.{◌≡◌, ℕ, ◌+◌, ◌<◌, ◌≤◌, Bool, true, false, cond, List, [], Some, None, refl, sym, ap, subst, ◌∙◌, arith, ◌⊎◌, inl, inr, true≢false}
+use Rattle.std.proofs.Common.{◌≡◌, ℕ, ◌≤◌, Bool, true, false, cond, Some, None, refl, sym, ap, subst, ◌∙◌, arith, ◌⊎◌, inl, inr, true≢false}
 use Rattle.std.specs.declared.cmp.Ordering.{Ordering}
 use Rattle.std.specs.declared.cmp.Ordering.TheVariants.{Less, Equal, Greater}
 use Rattle.std.specs.Prelude.{IfNone}
@@ -8,12 +8,11 @@ use Rattle.std.specs.BTreeMap.{is_at}
 use Rattle.std.specs.Cmp.{nat_cmp_is}
 use Rattle.std.specs.Option.{IsSome}
 use Rattle.std.specs.Ordering.{nat_cmp, ordering_then, is_gt, is_le}
-use Rattle.path_model.specs.Prefix.{Subnet, IsSubnet, subnet_cmp, prefix_of}
+use Rattle.path_model.specs.Prefix.{Subnet, IsSubnet, subnet_cmp}
 use Rattle.origin_model.specs.declared.origin_state.OriginState.{OriginState}
 use Rattle.origin_model.specs.Covering.{Covers}
 use Rattle.origin_validation.specs.Held.{Pair, Entries, pair_cmp, at, HasNoneUnder, IsApart, Keeps}
 use Rattle.origin_validation.proofs.CoverLemmas.{covers_le, covers_mid, not_longer, then_le}
-use Rattle.origin_validation.proofs.HeldLemmas.{keeps_then, keeps_weaker}
 
 -- ---- the order of pairs, by their prefixes
 

@@ -29,8 +29,8 @@ pub(crate) fn forget_replaced(
     }
 }
 
-// Forgets the states under what is in one of two sets alone. Where the sets are much larger than what is held, all is forgotten: it takes
-// less time to look up again what is asked for than to go through the sets.
+// Forgets the states under what is in one of two sets alone. Where they have more than four times as many payloads as states are held, all is
+// forgotten: to look up again what is asked for takes less time than to go through the sets.
 pub(crate) fn forget_differing(held: &mut HeldStates, before: &VrpSet, after: &VrpSet)
     ensures { Keeps (SameHave before.now after.now) held.old.entries held.new.entries }
 {
@@ -58,7 +58,7 @@ pub(crate) fn forget_patched(
     }
 }
 
-// Those under each payload that changes don't leave as it was. Where there are many more changes than states that are held, all is forgotten.
+// Those under each payload that changes don't leave as it was. Where there are more than four times as many as states are held, all is forgotten.
 fn forget_changed(held: &mut HeldStates, before: &VrpSet, changes: &VrpChanges)
     ensures { Keeps (AreAlready before.now changes.now) held.old.entries held.new.entries }
 {
@@ -98,8 +98,8 @@ fn forget_one(held: &mut HeldStates, v: &Vrp, others: &VrpSet)
     }
 }
 
-// Forgets the states under the prefixes of these filters, and all where a filter has no prefix: whatever one of them hits covers none of the
-// others.
+// Forgets the states under the prefixes of these filters, and all where a filter has no prefix: what one of them hits covers no pair that
+// stays.
 pub(crate) fn forget_hit(held: &mut HeldStates, filters: &PrefixFilters)
     ensures { Keeps (IsUnhitByAll filters.now) held.old.entries held.new.entries }
 {

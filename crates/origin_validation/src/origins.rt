@@ -13,9 +13,12 @@ use std::alloc::Global;
 use std::collections::BTreeMap;
 use std::marker::Model;
 
+// So many pairs may be held, however few routes are listed.
+const SPARE: u64 = 1000;
+
 /// What says which payloads are current, and the states that were looked up by them: one for each pair of a prefix and an origin, which all
-/// routes with this pair share. An event forgets the states of exactly the pairs that it may concern, and they are looked up again when
-/// they are asked for next. A contract sees what says which payloads are current, and nothing of the states that are held.
+/// routes with this pair share. An event forgets the states of the pairs that it may concern, or all where that takes less time, and they are
+/// looked up again when they are asked for next. A contract sees what says which payloads are current, and nothing of what is held.
 #[derive(Drop)]
 pub struct Origins {
     alloc: Global,
@@ -62,8 +65,9 @@ impl Origins {
         Ok(state)
     }
 
-    /// The source of this name has these payloads from now on. It takes the time of a look-up for each payload that the source had or gets, and
-    /// for each pair under one of those that come or go; or, where the sets are much larger than what is held, that of giving back what is held.
+    /// The source of this name has these payloads from now on. It takes the time of two look-ups for each payload that the source had or gets,
+    /// and for each pair under one of those that come or go; or, where there are more than four times as many payloads as pairs are held, that of
+    /// giving these back.
     pub fn replace(&mut self, name: Name, set: VrpSet) -> Result<(), NoMemory>
         ensures ok { OnOk result (self.new ≡ with_source self.old name set) }
         ensures err { OnErr result (self.new ≡ self.old) }
@@ -74,8 +78,8 @@ impl Origins {
     }
 
     /// The source of this name has what the changes make of the payloads that it had, or of none if there was no such source. It takes the time of
-    /// two look-ups for each change, and of one for each pair under a payload that comes or goes; what the changes leave as it was forgets nothing.
-    /// Where there is no memory, nothing is said of that source's payloads.
+    /// three look-ups for each change, and of two for each pair under a payload that comes or goes; a payload that the changes leave as it was
+    /// forgets nothing. Where there is no memory, nothing is said of that source's payloads.
     pub fn patch(&mut self, name: Name, changes: VrpChanges) -> Result<(), NoMemory>
         ensures { OnOk result (PatchesSource self.old name changes self.new) }
     {
@@ -86,6 +90,7 @@ impl Origins {
             &changes,
         );
         if let Err(none) = self.records.patch(name, &changes) {
+            // some of the changes may have been made
             self.held.clear();
             return Err(none);
         }
@@ -93,8 +98,8 @@ impl Origins {
     }
 
     /// The SLURM file has these filters and asserted payloads from now on (RFC 8416, sections 3.3.1 and 3.4.1). It takes no memory, and the time of
-    /// a look-up for each pair under the prefix of a filter that it had or gets, and under each assertion that comes or goes. A filter with no
-    /// prefix may concern any pair: then all are forgotten.
+    /// two look-ups for each assertion, and for each pair under the prefix of a filter that it had or gets or under an assertion that comes or goes.
+    /// A filter with no prefix may concern any pair: then all are forgotten.
     pub fn slurm(&mut self, filters: PrefixFilters, assertions: VrpSet)
         ensures { self.new ≡ record self.old { filters = filters; assertions = assertions } }
     {
@@ -114,6 +119,3 @@ impl Origins {
         }
     }
 }
-
-// So many pairs may be held whatever is listed.
-const SPARE: u64 = 1000;

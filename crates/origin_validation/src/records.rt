@@ -1,15 +1,14 @@
 //! The payloads of each source, and those and the filters of a SLURM file.
-ghost use Rattle.std.specs.Prelude.{◌≡◌, ◌↔◌, IfOk, IsTrue, OnErr, OnOk};
+ghost use Rattle.std.specs.Prelude.{◌≡◌, IfOk, OnErr, OnOk};
 ghost use Rattle.std.specs.Option.{option_copied};
 ghost use Rattle.origin_model.specs.Current.{IsCurrent, no_parts};
-ghost use Rattle.origin_model.specs.PrefixFilter.{IsHit};
 ghost use Rattle.origin_model.specs.OriginState.{HasState};
 ghost use Rattle.origin_validation.specs.Records.{IsGivenUnhit, PatchesSource, or_none, source_of, with_source};
 
 use crate::changes::apply;
 use crate::covering::state_in;
 use av_base::NoMemory;
-use origin_model::{OriginState, PrefixFilters, Vrp, VrpChanges, VrpSet};
+use origin_model::{OriginState, PrefixFilters, VrpChanges, VrpSet};
 use path_model::{Name, Prefix};
 use std::alloc::Global;
 use std::collections::BTreeMap;
@@ -78,13 +77,6 @@ impl Records {
         ensures { option_copied result ≡ source_of self.now.sources name.now }
     {
         self.sources.get(name)
-    }
-
-    /// Whether a filter hits a payload.
-    pub fn hit(&self, v: &Vrp) -> bool
-        ensures { IsTrue result ↔ IsHit self.now.filters v.now }
-    {
-        self.filters.hit(v)
     }
 
     /// The filters.

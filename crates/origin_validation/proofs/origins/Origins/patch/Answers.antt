@@ -1,5 +1,4 @@
 use Rattle.std.proofs.Common.{List, ap, subst}
-use Rattle.std.specs.Option.{option_copied}
 use Rattle.origin_model.specs.Vrp.{Payload}
 use Rattle.origin_validation.specs.Held.{AreAlready, Keeps}
 use Rattle.origin_validation.specs.Records.{or_none}

@@ -1,8 +1,6 @@
-use Rattle.std.proofs.Common.{ℕ, Some, ap, sym, subst, ◌∙◌}
-use Rattle.origin_model.specs.declared.origin_state.OriginState.{OriginState}
+use Rattle.std.proofs.Common.{ℕ, Some, sym, subst, ◌∙◌}
 use Rattle.origin_model.specs.Current.{Parts, IsCurrent}
 use Rattle.origin_model.specs.OriginState.{HasState}
-use Rattle.origin_validation.specs.Held.{Pair, IsRight}
 use Rattle.origin_validation.proofs.HeldLemmas.{more_right, origin_like}
 use Rattle.origin_validation.proofs.origins.Origins.state.Goals as goal
 
