@@ -13,6 +13,8 @@ pub(crate) fn apply(set: &mut VrpSet, changes: &VrpChanges) -> Result<(), NoMemo
     for (v, announced) in changes.entries() {
         apply_one(set, v, announced)?;
     }
+    // it comes with the order of the set
+    let _members = set.entries();
     Ok(())
 }
 
