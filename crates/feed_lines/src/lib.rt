@@ -9,8 +9,8 @@
 //! thing that is reported is one line of text, and a feed is lost only where its connection broke or nothing more is to come (`laws`).
 //!
 //! `connection_calls` below asks a connection for PDUs and sends on it. `spelling` spells queries, `taking` takes PDUs one after another,
-//! `changing` makes what they change of the analysis and of the origin records, `working` performs what a line asks of a feed that goes on, `named` finds it by its name, `connecting` starts one, and `lines` writes
-//! what is reported. Lemmas for the proofs above are in `proofs/`: `LawLemmas` and `LostLemmas` for the laws.
+//! `changing` makes what they change of the analysis and of the origin records, `working` performs what a line asks of a feed that goes on,
+//! `named` finds it by its name, `connecting` starts one, and `lines` writes what is reported. Lemmas for the proofs above are in `proofs/`: `LawLemmas` and `LostLemmas` for the laws.
 #![tactic(auto)]
 
 mod changing;

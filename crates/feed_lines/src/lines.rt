@@ -48,8 +48,8 @@ pub fn connect<K: Links>(
     requires few_refused { progress.refused < 2 ^ 62 }
 
     // What it did, where the connections are told, whatever the origin records are.
-    ensures goes { IfOk result (λ next. (parts : Parts) → Goes (K.attempts links.old) (K.attempts links.new)
-        (K.wire links.old) (K.wire links.new)
+    ensures goes { IfOk result (λ next. (parts : Parts) → Goes
+        (K.attempts links.old) (K.attempts links.new) (K.wire links.old) (K.wire links.new)
         (Holds (K.attempts links.old) (K.wire links.old) feeds.old progress parts)
         (λ old new. Holds (K.attempts links.new) (K.wire links.new) feeds.new next parts new
         × (new.judgements ≡ old.judgements))
@@ -58,8 +58,8 @@ pub fn connect<K: Links>(
         place.now old added new)) }
 
     // Where memory ran out: all of its moves, but for the text, or none.
-    ensures part { OnErr result ((parts : Parts) → Goes (K.attempts links.old) (K.attempts links.new)
-        (K.wire links.old) (K.wire links.new)
+    ensures part { OnErr result ((parts : Parts) → Goes
+        (K.attempts links.old) (K.attempts links.new) (K.wire links.old) (K.wire links.new)
         (Holds (K.attempts links.old) (K.wire links.old) feeds.old progress parts)
         (λ old new. HasMoved (K.attempts links.new) (K.wire links.new) new
         × (new.judgements ≡ old.judgements))
@@ -88,8 +88,8 @@ pub fn connect<K: Links>(
     Ok(next)
 }
 
-/// Performs `ask NAME`, `take NAME N` or `sync NAME N`, the second on a feed. An End of Data is one event, and then the origin records of the
-/// feed's name are replaced or patched. It takes a step for each judgement. The text is held.
+/// Performs `ask NAME`, `take NAME N` or `sync NAME N`, the second on a feed. An End of Data is one event, and then the origin records of
+/// the feed's name are replaced or patched. It takes a step for each judgement. The text is held.
 pub fn work<K: Links, L: Ledger>(
     alloc: Global,
     line: u64,

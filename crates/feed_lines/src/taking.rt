@@ -49,12 +49,14 @@ pub(crate) fn take_pdus<K: Links, L: Ledger>(
     ensures took { IfOk result (λ r. (state : Feed) (judgements : ℕ)
         → StandsFor (K.wire links.old) feed state
         → TookAs (K.wire links.new) feed.link (AreWithin steps.old steps.new judgements)
-        (λ t. TakesPdus t until_ready name.now count (going state (made analyser origins.old) judgements))
+        (λ t. TakesPdus t until_ready name.now count
+        (going state (made analyser origins.old) judgements))
         r.0 (made r.1 origins.new)) }
     ensures halts { OnErr result ((state : Feed) (judgements : ℕ)
         → StandsFor (K.wire links.old) feed state
         → Halted (K.wire links.new) feed.link (AreWithin steps.old steps.new judgements)
-        (λ t. TakesSome t until_ready name.now count (going state (made analyser origins.old) judgements))) }
+        (λ t. TakesSome t until_ready name.now count
+        (going state (made analyser origins.old) judgements))) }
     ensures only { Only feed.link (K.wire links.old) (K.wire links.new)
         (K.standings links.old) (K.standings links.new) }
     ensures fits { IfOk result (λ r.
@@ -112,7 +114,8 @@ fn take_pdu<K: Links, L: Ledger>(
     ensures halts { OnErr result ((state : Feed) (judgements : ℕ)
         → StandsFor (K.wire links.old) feed state
         → Halted (K.wire links.new) feed.link (AreWithin steps.old steps.new judgements)
-        (λ t. MayDo (TakesNext t name.now state (going state (made analyser origins.old) judgements))
+        (λ t. MayDo (TakesNext t name.now state
+        (going state (made analyser origins.old) judgements))
         (going state (made analyser origins.old) judgements))) }
     ensures only { Only feed.link (K.wire links.old) (K.wire links.new)
         (K.standings links.old) (K.standings links.new) }

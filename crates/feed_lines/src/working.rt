@@ -149,12 +149,14 @@ fn take_some<K: Links, L: Ledger>(
     ensures works { IfOk result (λ r. (state : Feed) (judgements : ℕ)
         → StandsFor (K.wire links.old) feed state
         → WorkedAs (K.wire links.new) feed.link (AreWithin steps.old steps.new judgements)
-        (λ t. Does t name.now (TakeWork count) state (going state (made analyser origins.old) judgements))
+        (λ t. Does t name.now (TakeWork count) state
+        (going state (made analyser origins.old) judgements))
         r.slot r.told (made r.analyser origins.new)) }
     ensures halts { OnErr result ((state : Feed) (judgements : ℕ)
         → StandsFor (K.wire links.old) feed state
         → Halted (K.wire links.new) feed.link (AreWithin steps.old steps.new judgements)
-        (λ t. Begins t name.now (TakeWork count) (going state (made analyser origins.old) judgements))) }
+        (λ t. Begins t name.now (TakeWork count)
+        (going state (made analyser origins.old) judgements))) }
     ensures only { Only feed.link (K.wire links.old) (K.wire links.new)
         (K.standings links.old) (K.standings links.new) }
     ensures fits { IfOk result (λ r.
@@ -189,12 +191,14 @@ fn sync_some<K: Links, L: Ledger>(
     ensures works { IfOk result (λ r. (state : Feed) (judgements : ℕ)
         → StandsFor (K.wire links.old) feed state
         → WorkedAs (K.wire links.new) feed.link (AreWithin steps.old steps.new judgements)
-        (λ t. Does t name.now (SyncWork count) state (going state (made analyser origins.old) judgements))
+        (λ t. Does t name.now (SyncWork count) state
+        (going state (made analyser origins.old) judgements))
         r.slot r.told (made r.analyser origins.new)) }
     ensures halts { OnErr result ((state : Feed) (judgements : ℕ)
         → StandsFor (K.wire links.old) feed state
         → Halted (K.wire links.new) feed.link (AreWithin steps.old steps.new judgements)
-        (λ t. Begins t name.now (SyncWork count) (going state (made analyser origins.old) judgements))) }
+        (λ t. Begins t name.now (SyncWork count)
+        (going state (made analyser origins.old) judgements))) }
     ensures only { Only feed.link (K.wire links.old) (K.wire links.new)
         (K.standings links.old) (K.standings links.new) }
     ensures fits { IfOk result (λ r.

@@ -3,8 +3,8 @@
 //!
 //! The crate keeps no routes. The layers above use its definitions: which payloads are current (`specs/Current.antt`) and which state a
 //! route has by them (`specs/OriginState.antt`); and their laws, each the contract of a function of `laws`. It also has what those layers
-//! hold: [`VrpSet`], a set of payloads in their order, in which those of one prefix are found by a look-up; [`VrpChanges`], what was said of
-//! payloads since some moment; and [`PrefixFilters`].
+//! hold: [`VrpSet`], a set of payloads in their order, in which those of one prefix are found by a look-up; [`VrpChanges`], what was said
+//! of payloads since some moment; and [`PrefixFilters`].
 //! Begin reading in `specs/OriginState.antt`.
 #![tactic(auto)]
 

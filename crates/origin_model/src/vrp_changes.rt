@@ -14,8 +14,8 @@ use std::alloc::Global;
 use std::collections::{BTreeMap, btree_map};
 use std::marker::Model;
 
-/// What was said last of each payload that was named: that it was announced, or that it was withdrawn. Contracts see it as the list of pairs
-/// in the payloads' order, each payload once. A payload takes some 40 bytes, and its share of a node of the tree.
+/// What was said last of each payload that was named: that it was announced, or that it was withdrawn. Contracts see it as the list of
+/// pairs in the payloads' order, each payload once. A payload takes some 40 bytes, and its share of a node of the tree.
 #[derive(Debug, Drop)]
 pub struct VrpChanges {
     // whether the payload was announced
@@ -41,8 +41,8 @@ impl VrpChanges {
         }
     }
 
-    /// Says that a payload was announced, or that it was withdrawn, in place of what was said of it before. It takes a time by the logarithm
-    /// of their number.
+    /// Says that a payload was announced, or that it was withdrawn, in place of what was said of it before. It takes a time by the
+    /// logarithm of their number.
     pub fn note(&mut self, v: Vrp, announced: bool) -> Result<(), NoMemory>
         ensures ok { OnOk result (self.new ≡ insert_entry payload_cmp self.old v announced) }
         ensures says { OnOk result (Says self.old v announced self.new) }
@@ -104,7 +104,7 @@ impl<'a> Model for VrpChangeEntries<'a> {
 impl<'a> Iterator for VrpChangeEntries<'a> {
     type Item = (&'a Vrp, bool);
 
-    ghost next_gives = { YieldsFirstBy (λ (i : Bor Payload × Bool). (i.0.now, i.1)) (λ left. left) };
+    ghost next_gives = { YieldsFirstBy (λ (e : Bor Payload × Bool). (e.0.now, e.1)) (λ r. r) };
 
     ghost remaining = { item_count (λ left. left) };
 

@@ -12,8 +12,8 @@ pub fn each_feed_end_is_one_line()
     ensures { EachFeedEndIsOneLine }
 {}
 
-/// Each answer is one line, and none begins with `! `: a row, the state of a route's origin, a change, how many changed, a summary, what came
-/// of serving routers, and why a path has its verdict.
+/// Each answer is one line, and none begins with `! `: a row, the state of a route's origin, a change, how many changed, a summary, what
+/// came of serving routers, and why a path has its verdict.
 pub fn no_answer_reads_as_a_refusal()
     ensures rows { EachRowIsOneLine }
     ensures origins { EachOriginIsOneLine }

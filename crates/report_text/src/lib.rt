@@ -1,14 +1,15 @@
 //! The lines that the program reports with.
 //!
 //! The layer above uses one contract: **each `put_` call appends the one line that it names, whole, or leaves the text as it was.**
-//! [`put_refusal`] reports a refusal, [`put_feed`] a feed's end or a router's, [`put_row`] a route's verdict, [`put_origin`] the state of its
-//! origin, [`put_change`] a route whose verdict changed, [`put_changed`] how many changed, [`put_why`] why a path has its verdict,
+//! [`put_refusal`] reports a refusal, [`put_feed`] a feed's end or a router's, [`put_row`] a route's verdict, [`put_origin`] the state of
+//! its origin, [`put_change`] a route whose verdict changed, [`put_changed`] how many changed, [`put_why`] why a path has its verdict,
 //! [`put_summary`] how many there are of each, and [`put_served`] what came of serving routers. `refusal_text` of `specs/Refusals.antt` and
 //! the `.._text` of `Feeds`, `Rows`, `Origins`, `Change`, `Why`, `Summary` and `Served` are those lines: begin there, and at
-//! `specs/Causes.antt`, the table of causes with their numbers and words. Rows, origins and changes begin with the route's key (`specs/Keys.antt`), its path identifier included; [`PeerLines`] writes them one
-//! after another, and a peer's text once for all of its lines that follow one another (`line` and `digits` write into its room). Whatever
-//! is refused and however a feed or a router ends, the line is one line that begins with `! `, and no other line begins so (`laws`): who
-//! reads the program's output finds each of them by its first two bytes.
+//! `specs/Causes.antt`, the table of causes with their numbers and words. Rows, origins and changes begin with the route's key
+//! (`specs/Keys.antt`), its path identifier included; [`PeerLines`] writes rows and changes one after another, and a peer's text once for
+//! all of its lines that follow one another (`line` and `digits` write into its room). Whatever is refused and however a feed or a router
+//! ends, the line is one line that begins with `! `, and no other line begins so (`laws`): who reads the program's output finds each of them
+//! by its first two bytes.
 #![tactic(auto)]
 
 mod cause;

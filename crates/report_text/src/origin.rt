@@ -9,8 +9,8 @@ use origin_model::OriginState;
 use path_model::Key;
 
 /// Appends `ADDRESS AS PREFIX STATE`, the peer's address first, whole or not at all. Where the route has a path identifier, ` path ID`
-/// stands behind PREFIX. STATE is `valid`, `invalid` or `not-found` (RFC 6811, section 2). A line has 26 to 121 bytes with its line feed, and
-/// what it takes is that room in `out` alone.
+/// stands behind PREFIX. STATE is `valid`, `invalid` or `not-found` (RFC 6811, section 2). A line has 26 to 121 bytes with its line feed,
+/// and what it takes is that room in `out` alone.
 pub fn put_origin(out: &mut Vec<u8>, key: &Key, state: OriginState) -> Result<(), NoMemory>
     ensures ok { OnOk result (out.new.items ≡ out.old.items ++ origin_text key.now state) }
     ensures err { OnErr result (out.new.items ≡ out.old.items) }

@@ -28,8 +28,8 @@ pub fn payloads_are_what_was_announced()
     ensures { PayloadsAreWhatWasAnnounced }
 {}
 
-/// An answer with changes hands out exactly the payloads that it named, each as announced or withdrawn by the last PDU that names it; and what
-/// that makes of the payloads kept before are the payloads kept then.
+/// An answer with changes hands out exactly the payloads that it named, each as announced or withdrawn by the last PDU that names it; and
+/// what that makes of the payloads kept before are the payloads kept then.
 pub fn payload_changes_are_what_was_named()
     ensures { PayloadChangesAreWhatWasNamed }
 {}

@@ -155,8 +155,8 @@ fn said(act: &Act, max: u8, asn: u32) -> Option<(usize, Option<bool>)> {
     Some((changes.len(), None))
 }
 
-// A payload takes effect at the End of Data; one that is announced twice is there once; a withdrawn one is gone. Changes name what the answer
-// named alone, as it was named last.
+// A payload takes effect at the End of Data; one that is announced twice is there once; a withdrawn one is gone. Changes name what the
+// answer named alone, as it was named last.
 #[test]
 fn answers_give_payloads(rt: HostRuntime) -> Result<(), Fail> {
     let alloc = rt.alloc();

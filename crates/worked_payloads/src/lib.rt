@@ -2,7 +2,8 @@
 //!
 //! Each table has its expected values worked out by hand. `payloads`, `payload_lines` and `slurm_files` read attestations as the RPKI and an
 //! operator give them; `scale` reads large ones. `held_terms` holds attestations by customer; `tables` changes a table, and counts who gives a
-//! customer its providers. `origin_states` asks validated ROA payloads for the states of routes, and `changes` says of them what comes and goes.
+//! customer its providers. `origin_states` asks validated ROA payloads for the states of routes, and `changes` says of payloads what comes and
+//! goes.
 #![tactic(auto)]
 
 #[cfg(test)]

@@ -2,7 +2,8 @@
 //!
 //! Each table has its expected values worked out by hand. `outside` calls the forms in memory, `texts` spells and writes,
 //! `peer_lines` writes rows and changes behind the text of their peers, `origins` writes the states of origins, `connections` what comes of
-//! feeds and routers, `places` reads hosts with ports, `any_prefixes` reads prefixes as others write them, and `readings` reads lines of scripts by themselves.
+//! feeds and routers, `places` reads hosts with ports, `any_prefixes` reads prefixes as others write them, and `readings` reads lines of
+//! scripts by themselves.
 #![tactic(auto)]
 
 #[cfg(test)]

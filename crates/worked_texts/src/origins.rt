@@ -44,7 +44,10 @@ fn puts_refusals_of_prefixes(rt: HostRuntime) -> Result<(), NoMemory> {
     put_refusal(&mut out, 4, second, Cause::PrefixRecord)?;
     assert_eq!(rt;
         out.as_slice(),
-        b"! line 4 slurm unit 1 cause 42 PrefixText\n! line 4 c unit 2 cause 43 PrefixRecord\n".as_slice()
+        b"! line 4 slurm unit 1 cause 42 PrefixText
+! line 4 c unit 2 cause 43 PrefixRecord
+"
+            .as_slice()
     );
     Ok(())
 }
