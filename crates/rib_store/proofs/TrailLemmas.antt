@@ -1,11 +1,10 @@
 -- The routes with their paths, through their cases.
 use Rattle.std.proofs.Common.{◌≡◌, ℕ, ◌<◌, List, [], ◌∷◌, None, Some, refl, ap, sym, ◌∙◌, arith}
 use Rattle.std.specs.declared.option.Option.{Option}
-use Rattle.std.specs.BTreeMap.{is_at}
 use Rattle.std.specs.FinMap as fin
 use Rattle.std.specs.List.{cons_option, filter_map}
 use Rattle.std.specs.List.Sorted.{IsStrictlySortedBy}
-use Rattle.std.specs.Map.{lookup, keys_of}
+use Rattle.std.specs.Map.{keys_of}
 use Rattle.std.specs.Option.{option_map}
 use Rattle.path_model.specs.declared.key.Key.{Key}
 use Rattle.path_model.specs.Key.{key_cmp}
