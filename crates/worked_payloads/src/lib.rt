@@ -2,12 +2,14 @@
 //!
 //! Each table has its expected values worked out by hand. `payloads`, `payload_lines` and `slurm_files` read attestations as the RPKI and an
 //! operator give them; `scale` reads large ones. `held_terms` holds attestations by customer; `tables` changes a table, and counts who gives a
-//! customer its providers. `origin_states` asks validated ROA payloads for the states of routes, and `changes` says of payloads what comes and
-//! goes.
+//! customer its providers. `origin_states` asks validated ROA payloads for the states of routes, `changes` says of payloads what comes and
+//! goes, and `held_states` asks for states again behind that.
 #![tactic(auto)]
 
 #[cfg(test)]
 mod changes;
+#[cfg(test)]
+mod held_states;
 #[cfg(test)]
 mod held_terms;
 #[cfg(test)]

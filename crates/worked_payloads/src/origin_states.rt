@@ -5,12 +5,12 @@ use path_model::{Addr, Name, Prefix};
 use std::alloc::Global;
 
 // The prefix of an IPv4 address.
-fn four(bits: u32, len: u8) -> Option<Prefix> {
+pub(crate) fn four(bits: u32, len: u8) -> Option<Prefix> {
     Prefix::new(Addr::V4(bits), len)
 }
 
 // The payloads of these: the address and the length of the prefix, the maximum length, and the AS.
-fn payloads(alloc: Global, table: &[(u32, u8, u8, u32)]) -> Option<VrpSet> {
+pub(crate) fn payloads(alloc: Global, table: &[(u32, u8, u8, u32)]) -> Option<VrpSet> {
     let mut set = VrpSet::new(alloc);
     for (bits, len, max, asn) in table {
         set.add(Vrp::new(four(*bits, *len)?, *max, *asn)?).ok()?;
