@@ -18,8 +18,10 @@ use Rattle.origin_model.specs.Vrp.{Payload, payload_cmp, payload_total}
 use Rattle.origin_model.specs.VrpChanges.{said}
 use Rattle.origin_model.specs.VrpSet.{has}
 use Rattle.origin_model.proofs.PayloadLemmas.{same_payload}
+use Rattle.origin_model.proofs.SaidLemmas.{one_set}
 use Rattle.origin_validation.specs.Held.{Pair, Entries, AreAlready, AreRight, IsAlready, Keeps, SameHave}
-use Rattle.origin_validation.specs.Records.{HasAsSaid, PatchesSource, or_none, source_of}
+use Rattle.origin_validation.specs.Laws.{EachPatchHasOneResult}
+use Rattle.origin_validation.specs.Records.{HasAsSaid, PatchesSource, or_none, source_of, with_source}
 use Rattle.origin_validation.proofs.ChangedLemmas.{replaced_right}
 use Rattle.origin_validation.proofs.HeldLemmas.{keeps_then, keeps_weaker}
 
@@ -128,3 +130,14 @@ module _ (name : List ℕ) (one other : List Payload) where
   pub put_twice : (sources : Named) → insert_entry name_cmp (insert_entry name_cmp sources name one) name other ≡ insert_entry name_cmp sources name other
   put_twice [] = ap (λ (o : Ordering). match_ordering o ((name, other) ∷ (name, one) ∷ []) ((name, other) ∷ []) ((name, one) ∷ (name, other) ∷ [])) (name_itself name)
   put_twice (s ∷ ss) = twice_by (name_cmp name s.0) s ss refl (put_twice ss)
+
+-- ---- one result
+
+pub patch_has_one_result : EachPatchHasOneResult
+patch_has_one_result before name changes =
+    let set = one_set changes (or_none (source_of before.sources name)) in
+    record {
+      one = with_source before name set.one;
+      is = record { payloads = set.one; patches = set.is; puts = refl };
+      only = λ other patch. patch.puts ∙ ap (with_source before name) (set.only patch.payloads patch.patches);
+    }

@@ -17,8 +17,8 @@ use std::marker::Model;
 const SPARE: u64 = 1000;
 
 /// What says which payloads are current, and the states that were looked up by them: one for each pair of a prefix and an origin, which all
-/// routes with this pair share. An event forgets the states of the pairs that it may concern, or all where that takes less time, and they are
-/// looked up again when they are asked for next. A contract sees what says which payloads are current, and nothing of what is held.
+/// routes with this pair share. An event forgets the states of the pairs that it may concern, or all where that takes less time, and they
+/// are looked up again when they are asked for next. A contract sees what says which payloads are current, and nothing of what is held.
 #[derive(Drop)]
 pub struct Origins {
     alloc: Global,
@@ -50,8 +50,8 @@ impl Origins {
         }
     }
 
-    /// The state of a route by its prefix and its origin, which is `None` where its path has an AS_SET or no AS (RFC 6811, section 2). It takes
-    /// a look-up where the state of this pair is held, and else the time of [`Records::state`], once; then it is held.
+    /// The state of a route by its prefix and its origin, which is `None` where its path has an AS_SET or no AS (RFC 6811, section 2). It
+    /// takes a look-up where the state of this pair is held, and else the time of [`Records::state`], once; then it is held.
     pub fn state(&mut self, prefix: &Prefix, origin: Option<u32>) -> Result<OriginState, NoMemory>
         ensures state { IfOk result (HasState (IsCurrent self.old) prefix.now origin) }
         ensures same { self.new ≡ self.old }
@@ -65,9 +65,9 @@ impl Origins {
         Ok(state)
     }
 
-    /// The source of this name has these payloads from now on. It takes the time of two look-ups for each payload that the source had or gets,
-    /// and for each pair under one of those that come or go; or, where there are more than four times as many payloads as pairs are held, that of
-    /// giving these back.
+    /// The source of this name has these payloads from now on. It takes the time of two look-ups for each payload that the source had or
+    /// gets, and for each pair under one of those that come or go; or, where there are more than four times as many payloads as pairs are
+    /// held, that of giving these back.
     pub fn replace(&mut self, name: Name, set: VrpSet) -> Result<(), NoMemory>
         ensures ok { OnOk result (self.new ≡ with_source self.old name set) }
         ensures err { OnErr result (self.new ≡ self.old) }
@@ -77,9 +77,9 @@ impl Origins {
         Ok(())
     }
 
-    /// The source of this name has what the changes make of the payloads that it had, or of none if there was no such source. It takes the time of
-    /// three look-ups for each change, and of two for each pair under a payload that comes or goes; a payload that the changes leave as it was
-    /// forgets nothing. Where there is no memory, nothing is said of that source's payloads.
+    /// The source of this name has what the changes make of the payloads that it had, or of none if there was no such source. It takes the
+    /// time of three look-ups for each change, and of two for each pair under a payload that comes or goes; a payload that the changes
+    /// leave as it was forgets nothing. Where there is no memory, nothing is said of that source's payloads.
     pub fn patch(&mut self, name: Name, changes: VrpChanges) -> Result<(), NoMemory>
         ensures { OnOk result (PatchesSource self.old name changes self.new) }
     {
@@ -97,9 +97,9 @@ impl Origins {
         Ok(())
     }
 
-    /// The SLURM file has these filters and asserted payloads from now on (RFC 8416, sections 3.3.1 and 3.4.1). It takes no memory, and the time of
-    /// two look-ups for each assertion, and for each pair under the prefix of a filter that it had or gets or under an assertion that comes or goes.
-    /// A filter with no prefix may concern any pair: then all are forgotten.
+    /// The SLURM file has these filters and asserted payloads from now on (RFC 8416, sections 3.3.1 and 3.4.1). It takes no memory, and the
+    /// time of two look-ups for each assertion, and for each pair under the prefix of a filter that it had or gets or under an assertion
+    /// that comes or goes. A filter with no prefix may concern any pair: then all are forgotten.
     pub fn slurm(&mut self, filters: PrefixFilters, assertions: VrpSet)
         ensures { self.new ≡ record self.old { filters = filters; assertions = assertions } }
     {
@@ -109,8 +109,8 @@ impl Origins {
         self.records.amend(filters, assertions);
     }
 
-    /// Forgets all that is held where it is more than twice as much as a list of so many routes can ask for, and some more, so that what is held
-    /// doesn't grow with the pairs that were listed before. It takes no memory.
+    /// Forgets all that is held where it is more than twice as much as a list of so many routes can ask for, and some more, so that what is
+    /// held doesn't grow with the pairs that were listed before. It takes no memory.
     pub fn make_room(&mut self, routes: u64)
         ensures { self.new ≡ self.old }
     {

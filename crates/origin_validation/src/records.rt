@@ -47,9 +47,9 @@ impl Records {
         }
     }
 
-    /// The state of a route by its prefix and its origin, which is `None` where its path has an AS_SET or no AS. It takes no memory. In each
-    /// source, and among the assertions, it goes from the prefix to the next shorter one that covers it and may be a payload's, with two
-    /// look-ups for each, at most one more than the prefix has bits; a set without payloads costs nothing.
+    /// The state of a route by its prefix and its origin, which is `None` where its path has an AS_SET or no AS. It takes no memory. In
+    /// each source, and among the assertions, it goes from the prefix to the next shorter one that covers it and may be a payload's, with
+    /// two look-ups for each, at most one more than the prefix has bits; a set without payloads costs nothing.
     pub fn state(&self, prefix: &Prefix, origin: Option<u32>) -> OriginState
         ensures { HasState (IsCurrent self.now) prefix.now origin result }
     {
@@ -103,8 +103,8 @@ impl Records {
         Ok(held)
     }
 
-    /// Gives the source of this name what the changes make of the payloads that it had, or of none if there was no such source. It takes the time
-    /// of a look-up for each change. Where there is no memory, nothing is said of that source's payloads.
+    /// Gives the source of this name what the changes make of the payloads that it had, or of none if there was no such source. It takes
+    /// the time of a look-up for each change. Where there is no memory, nothing is said of that source's payloads.
     pub fn patch(&mut self, name: Name, changes: &VrpChanges) -> Result<(), NoMemory>
         ensures { OnOk result (PatchesSource self.old name changes.now self.new) }
     {

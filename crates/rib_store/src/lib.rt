@@ -5,10 +5,10 @@
 //! more judgements than `specs/Touched.antt` says. Begin reading in `specs/State.antt`, and then in `store`.
 //!
 //! Each route has the number of a case that it shares with all routes of the same peer AS and path (the crate `shared_cases`);
-//! `specs/Cased.antt` says how the routes and the marked verdicts are read through the cases, and what holds of them. `routing` changes
-//! one route, `marks` notes what was marked of the keys whose route changed since or whose case got another verdict (`specs/Marks.antt`),
-//! `rib` lists the routes with their verdicts, `trails` with their paths, and `journal` lists what changed since verdicts were marked, from the notes. How many routes have which verdict
-//! (`counts`) the cases keep.
+//! `specs/Cased.antt` says how the routes and the marked verdicts are read through the cases, and what holds of them. `routing` changes one
+//! route, `marks` notes what was marked of the keys whose route changed since or whose case got another verdict (`specs/Marks.antt`), `rib`
+//! lists the routes with their verdicts, `trails` with their paths, and `journal` lists what changed since verdicts were marked, from the
+//! notes. How many routes have which verdict (`counts`) the cases keep.
 #![tactic(auto)]
 
 mod cases;
