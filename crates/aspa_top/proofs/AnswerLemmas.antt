@@ -9,6 +9,10 @@ use Rattle.path_model.specs.declared.key.Key.{Key}
 use Rattle.path_model.specs.declared.verdict.Verdict.{Verdict}
 use Rattle.path_model.specs.declared.witness.Witness.{Witness}
 use Rattle.path_model.specs.Trail.{Path}
+use Rattle.origin_model.specs.declared.origin_state.OriginState.{OriginState}
+use Rattle.origin_model.specs.Current.{Parts as Origins}
+use Rattle.origin_validation.specs.Rows.{AreOriginRows}
+use Rattle.origin_lines.specs.Rows.{origins_text}
 use Rattle.report_text.specs.declared.cause.Cause.{Cause}
 use Rattle.report_text.specs.declared.cause.Cause.TheVariants.{NoRoute}
 use Rattle.report_text.specs.declared.summary.Summary.{Summary}
@@ -18,7 +22,7 @@ use Rattle.report_text.specs.Refusals.{of_line, refusal_text}
 use Rattle.report_text.proofs.ReportedLemmas.{adds_answers, adds_answers_front}
 use Rattle.rib_store.specs.Shown.{IsExplained}
 use Rattle.rib_store.specs.State.{State as Analysis, AreRows}
-use Rattle.script_lines.specs.declared.command.Show.TheVariants.{Report, Summary as SumUp}
+use Rattle.script_lines.specs.declared.command.Show.TheVariants.{Report, Origins as ListOrigins, Summary as SumUp}
 use Rattle.stream_lines.specs.Rows.{rows_text}
 use Rattle.stream_lines.specs.Summary.{IsSummary}
 use Rattle.stream_lines.specs.declared.stop.Stop.{Stop}
@@ -41,6 +45,7 @@ use Rattle.aspa_top.proofs.ReadyLemmas.{kept_all, ready_streams}
 -- what the working state says of an evaluation that it stands for, as far as questions are asked of it
 pub record Reads (working : Working) (state : State) : Type 0 where
   pub analysis : working.analyser ≡ state.analysis
+  pub origins : working.origins ≡ state.origins
   pub passed : working.passed ≡ state.passed
   pub refused : working.refused ≡ state.refused
 
@@ -48,6 +53,7 @@ pub record Reads (working : Working) (state : State) : Type 0 where
 read_state : Working → State
 read_state working = record {
   analysis = working.analyser;
+  origins = working.origins;
   sources = λ name. false;
   dumps = λ name. None;
   feeds = λ name. None;
@@ -62,7 +68,7 @@ read_state working = record {
 
 reads_state : (working : Working) → Reads working (read_state working)
 unfolding read_state
-reads_state working = record { analysis = refl; passed = refl; refused = refl }
+reads_state working = record { analysis = refl; origins = refl; passed = refl; refused = refl }
 
 -- this text answers it, in whatever evaluation the working state stands for
 pub record IsAnswered (state : State) (question : Question) (text : List ℕ) : Type 0 where
@@ -79,7 +85,7 @@ module _ (working : Working) (question : Question) (old : Outside) (written : Op
       let are = answer_lines (read_state working) question text (answers (read_state working) (reads_state working)).answers in
       record {
         goes = λ world tells state stands.
-            let is = answers state (record { analysis = stands.analysis; passed = stands.passed; refused = stands.refused }) in
+            let is = answers state (record { analysis = stands.analysis; origins = stands.origins; passed = stands.passed; refused = stands.refused }) in
             record {
               text = text;
               after = state;
@@ -102,7 +108,7 @@ module _ (working : Working) (question : Question) (old : Outside) (written : Op
       let are = answer_lines (read_state working) question text (answers (read_state working) (reads_state working)).answers in
       some_done working (Ok (Answer question)) old new stop refl
       (λ world tells state stands.
-      let is = answers state (record { analysis = stands.analysis; passed = stands.passed; refused = stands.refused }) in
+      let is = answers state (record { analysis = stands.analysis; origins = stands.origins; passed = stands.passed; refused = stands.refused }) in
       record {
         part = front.before.front;
         rest = front.rest;
@@ -123,6 +129,16 @@ module _ (working : Working) (held : Analysis) (is : held ≡ working.analyser) 
   report_answers rows are = λ state reads. record {
     there = refl;
     answers = record { rows = rows; are = subst (λ (a : Analysis). AreRows a rows) (is ∙ reads.analysis) are; text_is = refl };
+  }
+
+  pub origins_answer : (rows : List (Key × OriginState)) → AreOriginRows held.routes working.origins rows → (state : State) → Reads working state → IsAnswered state (Show ListOrigins) (origins_text rows)
+  origins_answer rows are = λ state reads. record {
+    there = refl;
+    answers = record {
+      rows = rows;
+      are = subst (λ (o : Origins). AreOriginRows state.analysis.routes o rows) reads.origins (subst (λ (a : Analysis). AreOriginRows a.routes working.origins rows) (is ∙ reads.analysis) are);
+      text_is = refl;
+    };
   }
 
   pub summary_answers : (summary : Summary) → IsSummary held working.passed working.refused summary → (state : State) → Reads working state
@@ -161,4 +177,4 @@ not_answered working next question cause old held begun refuses added is =
     refl refl refl (omega arith) refl refl added is begun
     (λ world tells state stands.
     subst (λ (c : Option Cause). AnswersUnless c state question (refusal_text state.lines of_line cause) (record state { refused = state.refused + 1 }))
-    (sym (refuses state (record { analysis = stands.analysis; passed = stands.passed; refused = stands.refused }))) (refl, refl))
+    (sym (refuses state (record { analysis = stands.analysis; origins = stands.origins; passed = stands.passed; refused = stands.refused }))) (refl, refl))

@@ -102,6 +102,7 @@ module _ (working next : Working) (kind : DumpKind) (name file : List ℕ) (old 
                 added = ap (append_known old.written) silent ∙ sym (append_known-nil (all_of old));
                 stands = record {
                   analysis = ap (λ (w : Working). w.analyser) is ∙ stands.analysis;
+                  origins = ap (λ (w : Working). w.origins) is ∙ stands.origins;
                   sources = λ q. ap (λ (w : Working). has_source w q) is ∙ stands.sources q;
                   dumps = λ q. rw (names.dumps q) (HoldsOr-put (same_name name q) files kept (new_dump kind opens.bytes) (dump_in working q) (state.dumps q)
                       (rw is_new (record { over = refl; taken = refl; left = λ yet. ap (prepend_known []) (left ∙ bytes); known = λ yet. refl })) (λ other. stayed.dumps q));
@@ -211,6 +212,7 @@ module _ (working : Working) (name : List ℕ) (count : ℕ) (before after : Hel
               added = done.2.added;
               stands = record {
                 analysis = ap (λ (w : Working). w.analyser) is ∙ done.1.state;
+                origins = ap (λ (w : Working). w.origins) is ∙ stands.origins;
                 sources = λ q. ap (λ (w : Working). has_source w q) is ∙ stands.sources q;
                 dumps = λ q. rw (dumps q) (HoldsOr-put (same_name name q) files after done.0.dump (dump_in working q) (state.dumps q) done.1.holds
                     (λ other. HoldsOr-leaves old.files files (dump_in working q) (state.dumps q) (λ d e. leaves.files d.file (λ equal. begun.sound.apart name q before d (differ name q other) here e (sym equal))) (stands.dumps q)));

@@ -17,6 +17,7 @@ use Rattle.feed_lines.specs.Holding.{Goes as FeedsGo, IsSound as FeedsAreSound}
 use Rattle.feed_lines.specs.Lines.{ConnectLine, ConnectPart, WorkLine, WorkPart}
 use Rattle.feed_lines.specs.Lines.{State as FeedState}
 use Rattle.feed_lines.specs.Tellings.{Asking as FeedAsking}
+use Rattle.origin_model.specs.Current.{Parts as Origins}
 use Rattle.report_text.specs.declared.cause.Cause.TheVariants as causes
 use Rattle.report_text.specs.Refusals.{of_line, refusal_text}
 use Rattle.stream_lines.specs.declared.stop.Stop.{Stop}
@@ -54,19 +55,21 @@ no_router wire old state stands = subst (λ (b : Begun). HasSentAll wire b) (sym
 module _ (working : Working) (name : List ℕ) (old : Outside) (links : Links) (standings : List Standing) (faults : ℕ) (held : List ℕ) (ticks : ℕ) (progress : Progress) (asking : FeedAsking)
     (begun : IsBegun old working) (starts : progress ≡ record { analyser = working.analyser; refused = working.refused }) (asks : asking ≡ record { line = working.lines; name = name }) where
   -- what is held of the feeds stands for those of the evaluation
-  feeds_held : (state : State) → StandsFor old.files old.links working state → Holds old.links.attempts old.links.wire working.feeds progress (feeds_of state)
+  feeds_held : (state : State) → StandsFor old.files old.links working state → Holds old.links.attempts old.links.wire working.feeds progress working.origins (feeds_of state)
   feeds_held state stands = rw starts (record {
     held = record { made = stands.made; each = stands.feeds };
     analysis = stands.analysis;
+    parts_are = stands.origins;
     refused = stands.refused;
   })
 
   -- the working state goes on with the feeds
-  stands_after : (state : State) (next : Working) (feeds : Feeds) (last : Progress) (after : FeedState)
-      → next ≡ record working { analyser = last.analyser; feeds = feeds; refused = last.refused } → StandsFor old.files old.links working state
-      → Holds links.attempts links.wire feeds last after → StandsFor old.files links next (with_feeds state after)
-  stands_after state next feeds last after is stands holds = rw is (record {
+  stands_after : (state : State) (next : Working) (feeds : Feeds) (origins : Origins) (last : Progress) (after : FeedState)
+      → next ≡ record working { analyser = last.analyser; origins = origins; feeds = feeds; refused = last.refused } → StandsFor old.files old.links working state
+      → Holds links.attempts links.wire feeds last origins after → StandsFor old.files links next (with_feeds state after)
+  stands_after state next feeds origins last after is stands holds = rw is (record {
     analysis = holds.analysis;
+    origins = holds.parts_are;
     sources = stands.sources;
     dumps = stands.dumps;
     feeds = holds.held.each;
@@ -79,9 +82,9 @@ module _ (working : Working) (name : List ℕ) (old : Outside) (links : Links) (
   })
 
   -- it moves no dump, and its feeds stay sound
-  ready_after : (next : Working) (feeds : Feeds) (last : Progress) → next ≡ record working { analyser = last.analyser; feeds = feeds; refused = last.refused } → last.refused ≤ progress.refused + 1
+  ready_after : (next : Working) (feeds : Feeds) (origins : Origins) (last : Progress) → next ≡ record working { analyser = last.analyser; origins = origins; feeds = feeds; refused = last.refused } → last.refused ≤ progress.refused + 1
       → FeedsAreSound standings (next.lines * most) feeds → IsReady (record old { links = links; standings = standings; link_faults = faults; held = held; ticks = ticks }) next
-  ready_after next feeds last is few sound =
+  ready_after next feeds origins last is few sound =
       let lines : next.lines ≡ working.lines = ap (λ (w : Working). w.lines) is in
       let passed : next.passed ≡ working.passed = ap (λ (w : Working). w.passed) is in
       let refused : next.refused ≡ last.refused = ap (λ (w : Working). w.refused) is in
@@ -100,14 +103,14 @@ module _ (working : Working) (name : List ℕ) (old : Outside) (links : Links) (
     free_in state stands =
         (λ i. sym (stands.sources name) i || sym (HoldsOr-is_some old.files (dump_in working name) (state.dumps name) (stands.dumps name)) i) ∙ free
 
-    pub connected : (next : Working) (feeds : Feeds) (last : Progress)
-        → FeedsGo old.links.attempts links.attempts old.links.wire links.wire (Holds old.links.attempts old.links.wire working.feeds progress)
-        (λ before now. Holds links.attempts links.wire feeds last now × (now.judgements ≡ before.judgements)) old.held held
+    pub connected : (next : Working) (feeds : Feeds) (origins : Origins) (last : Progress)
+        → FeedsGo old.links.attempts links.attempts old.links.wire links.wire (Holds old.links.attempts old.links.wire working.feeds progress working.origins)
+        (λ before now. Holds links.attempts links.wire feeds last origins now × (now.judgements ≡ before.judgements)) old.held held
         (λ world before added now. ConnectLine world asking place before added now)
-        → next ≡ record working { analyser = last.analyser; feeds = feeds; refused = last.refused } → last.refused ≤ progress.refused + 1
+        → next ≡ record working { analyser = last.analyser; origins = origins; feeds = feeds; refused = last.refused } → last.refused ≤ progress.refused + 1
         → FeedsAreSound standings (next.lines * most) feeds → AddsEnds old.held held old.link_faults faults → ticks ≡ old.ticks
         → Done working (Ok (Connect name place)) old (record old { links = links; standings = standings; link_faults = faults; held = held; ticks = ticks }) next
-    connected next feeds last goes is few sound adds unticked = record {
+    connected next feeds origins last goes is few sound adds unticked = record {
       goes = λ world tells state stands.
           let did = goes.goes (feeds_of state) (feeds_held state stands) in
           let asks_same = asks_for old.files old.links working state name asking asks stands in
@@ -118,15 +121,15 @@ module _ (working : Working) (name : List ℕ) (old : Outside) (links : Links) (
                 (sym (free_in state stands))
                 (record { after = did.0; does = subst (λ (a : FeedAsking). ConnectLine ends a place (feeds_of state) goes.text did.0) asks_same (did.2 ends comes); left = refl });
             added = added_text old.written old.held held goes.text goes.added;
-            stands = stands_after state next feeds last did.0 is stands did.1.0;
+            stands = stands_after state next feeds origins last did.0 is stands did.1.0;
             ticked = omega (arith, did.1.1, unticked);
           };
-      ready = ready_after next feeds last is few sound;
+      ready = ready_after next feeds origins last is few sound;
       lines = ap (λ (w : Working). w.lines) is;
       adds = adds old.written;
     }
 
-    pub connect_stopped : FeedsGo old.links.attempts links.attempts old.links.wire links.wire (Holds old.links.attempts old.links.wire working.feeds progress)
+    pub connect_stopped : FeedsGo old.links.attempts links.attempts old.links.wire links.wire (Holds old.links.attempts old.links.wire working.feeds progress working.origins)
         (λ before now. HasMoved links.attempts links.wire now × (now.judgements ≡ before.judgements)) old.held held
         (λ world before added now. ConnectPart world asking place before now) → held ≡ old.held → ticks ≡ old.ticks → old.link_faults ≤ faults
         → EndedEarly working (Ok (Connect name place)) old (record old { links = links; standings = standings; link_faults = faults; held = held; ticks = ticks }) stops.NoMemory
@@ -153,14 +156,14 @@ module _ (working : Working) (name : List ℕ) (old : Outside) (links : Links) (
   -- ---- `ask`, `take`, `sync`
 
   module _ (work : Work) where
-    pub worked : (next : Working) (feeds : Feeds) (last : Progress)
-        → FeedsGo old.links.attempts links.attempts old.links.wire links.wire (Holds old.links.attempts old.links.wire working.feeds progress)
-        (λ before now. Holds links.attempts links.wire feeds last now × AreWithin old.ticks ticks before.judgements now.judgements) old.held held
+    pub worked : (next : Working) (feeds : Feeds) (origins : Origins) (last : Progress)
+        → FeedsGo old.links.attempts links.attempts old.links.wire links.wire (Holds old.links.attempts old.links.wire working.feeds progress working.origins)
+        (λ before now. Holds links.attempts links.wire feeds last origins now × AreWithin old.ticks ticks before.judgements now.judgements) old.held held
         (λ world before added now. WorkLine world asking work before added now)
-        → next ≡ record working { analyser = last.analyser; feeds = feeds; refused = last.refused } → last.refused ≤ progress.refused + 1
+        → next ≡ record working { analyser = last.analyser; origins = origins; feeds = feeds; refused = last.refused } → last.refused ≤ progress.refused + 1
         → FeedsAreSound standings (next.lines * most) feeds → AddsEnds old.held held old.link_faults faults
         → Done working (Ok (OnFeed name work)) old (record old { links = links; standings = standings; link_faults = faults; held = held; ticks = ticks }) next
-    worked next feeds last goes is few sound adds = record {
+    worked next feeds origins last goes is few sound adds = record {
       goes = λ world tells state stands.
           let did = goes.goes (feeds_of state) (feeds_held state stands) in
           let asks_same = asks_for old.files old.links working state name asking asks stands in
@@ -169,15 +172,15 @@ module _ (working : Working) (name : List ℕ) (old : Outside) (links : Links) (
             after = with_feeds state did.0;
             does = λ ends comes. record { after = did.0; does = subst (λ (a : FeedAsking). WorkLine ends a work (feeds_of state) goes.text did.0) asks_same (did.2 ends comes); left = refl };
             added = added_text old.written old.held held goes.text goes.added;
-            stands = stands_after state next feeds last did.0 is stands did.1.0;
+            stands = stands_after state next feeds origins last did.0 is stands did.1.0;
             ticked = did.1.1;
           };
-      ready = ready_after next feeds last is few sound;
+      ready = ready_after next feeds origins last is few sound;
       lines = ap (λ (w : Working). w.lines) is;
       adds = adds old.written;
     }
 
-    pub work_stopped : FeedsGo old.links.attempts links.attempts old.links.wire links.wire (Holds old.links.attempts old.links.wire working.feeds progress)
+    pub work_stopped : FeedsGo old.links.attempts links.attempts old.links.wire links.wire (Holds old.links.attempts old.links.wire working.feeds progress working.origins)
         (λ before now. HasMoved links.attempts links.wire now × AreWithin old.ticks ticks before.judgements now.judgements) old.held held
         (λ world before added now. WorkPart world asking work before now) → held ≡ old.held → old.link_faults ≤ faults
         → EndedEarly working (Ok (OnFeed name work)) old (record old { links = links; standings = standings; link_faults = faults; held = held; ticks = ticks }) stops.NoMemory

@@ -8,7 +8,6 @@ use Rattle.av_base.specs.Files.{Files, Opens, left_of}
 use Rattle.av_base.proofs.FilesLemmas.{left_of-opens}
 use Rattle.path_model.specs.Rows.{RowMap}
 use Rattle.attestations.specs.Terms.{TermMap, terms_of}
-use Rattle.vap_table.specs.declared.change.TableChange.TheVariants.{Replace}
 use Rattle.aspa_payload.specs.File.{FileAnswers, IsFileReading}
 use Rattle.aspa_payload.specs.Lines.{IsLinesReading}
 use Rattle.aspa_payload.specs.declared.file.FileFault.{FileFault}
@@ -17,13 +16,13 @@ use Rattle.aspa_payload.specs.declared.fault.PayloadFault.{PayloadFault}
 use Rattle.slurm_rules.specs.Reading.{IsRefused}
 use Rattle.slurm_rules.specs.Answers.{MemoryOr}
 use Rattle.slurm_rules.specs.declared.fault.SlurmFault.{SlurmFault}
-use Rattle.slurm_rules.specs.declared.fault.SlurmFault.TheVariants.{Json, Version, Member, Number, NoMemory as SlurmNoMemory}
+use Rattle.slurm_rules.specs.declared.fault.SlurmFault.TheVariants.{Json, Version, Member, Number, PrefixText, NoMemory as SlurmNoMemory}
 use Rattle.report_text.specs.declared.cause.Cause.{Cause}
 use Rattle.aspa_top.specs.declared.loading.FileKind.{FileKind}
 use Rattle.aspa_top.specs.declared.loading.FileKind.TheVariants.{Payloads, PayloadLines, Slurm}
 use Rattle.aspa_top.specs.declared.loading.Outcome.{Outcome}
 use Rattle.aspa_top.specs.declared.loading.Outcome.TheVariants.{NoFile, Long, Flawed, Good}
-use Rattle.aspa_top.specs.Loading.{Makes, Fails, IsWithin, IsBeyond, payload_cause, slurm_cause}
+use Rattle.aspa_top.specs.Loading.{Makes, Fails, IsWithin, IsBeyond, of_source, payload_cause, slurm_cause}
 use Rattle.aspa_top.specs.LoadingSteps.{ComesTold, IsRefusedFor, IsRowsOutcome, IsTermsOutcome, Understands}
 
 -- ---- a file that was read whole
@@ -68,7 +67,7 @@ module _ (old mid new : Option Files) (before after : ℕ) (name : List ℕ) (fi
   file_within kind NoFile short at_end none = absurd none
   file_within kind Long short at_end none = absurd none
   file_within kind (Flawed flaw) short at_end fails = within (λ b. Fails kind b flaw) short at_end fails
-  file_within kind (Good change) short at_end makes = within (λ b. Makes kind b change) short at_end makes
+  file_within kind (Good made) short at_end makes = within (λ b. Makes kind b made) short at_end makes
 
   -- it is over its limit
   pub file_beyond : (kind : FileKind) → 67108864 < length bytes → ComesTold old kind name Long
@@ -79,9 +78,9 @@ module _ (old mid new : Option Files) (before after : ℕ) (name : List ℕ) (fi
 -- of a file that reads to terms, or to rows that never end
 module _ {A : Type 0} (terms : A → TermMap) (Comes : Result A FileFault → Outcome → Type 0) where
   understood : (kind : FileKind) (name bytes : List ℕ) (Due : Result A FileFault → Type 0)
-      → ((read : A) (outcome : Outcome) → Comes (Ok read) outcome → outcome ≡ Good (Replace name (terms read)))
+      → ((read : A) (outcome : Outcome) → Comes (Ok read) outcome → outcome ≡ Good (of_source name (terms read)))
       → ((fault : FileFault) (outcome : Outcome) → Comes (Err fault) outcome → IsRefusedFor fault outcome)
-      → ((read : A) → Due (Ok read) → Makes kind bytes (Replace name (terms read)))
+      → ((read : A) → Due (Ok read) → Makes kind bytes (of_source name (terms read)))
       → ((unit : ℕ) (fault : PayloadFault) (cause : Cause) → Due (Err (Bad unit fault)) → payload_cause fault ≡ Some cause → Fails kind bytes (record { unit = unit; cause = cause }))
       → (reading : Result A FileFault) (outcome : Outcome) → FileAnswers Due reading → Comes reading outcome
       → Understands kind bytes outcome
@@ -111,4 +110,5 @@ slurm_fails bytes Json cause due is = (Json, due, refl, is)
 slurm_fails bytes Version cause due is = (Version, due, refl, is)
 slurm_fails bytes Member cause due is = (Member, due, refl, is)
 slurm_fails bytes Number cause due is = (Number, due, refl, is)
+slurm_fails bytes PrefixText cause due is = (PrefixText, due, refl, is)
 slurm_fails bytes SlurmNoMemory cause due is = let none : ⊥ = cc in absurd none

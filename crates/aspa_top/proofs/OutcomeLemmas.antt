@@ -6,8 +6,6 @@ use Rattle.std.proofs.lemmas.Bool.Decides.{nat_tests}
 use Rattle.av_base.specs.One.{HasOne}
 use Rattle.attestations.specs.Terms.{TermMap, terms_of}
 use Rattle.report_text.specs.declared.cause.Cause.{Cause}
-use Rattle.vap_table.specs.declared.change.TableChange.{TableChange}
-use Rattle.vap_table.specs.declared.change.TableChange.TheVariants.{Replace, Slurm as BySlurm}
 use Rattle.aspa_payload.specs.File.{IsFileReading, RefusedAt}
 use Rattle.aspa_payload.specs.Line.{HasBadText}
 use Rattle.aspa_payload.specs.Lines.{IsLinesReading, LineRefusedAt}
@@ -20,14 +18,15 @@ use Rattle.aspa_payload.proofs.LinesLawLemmas.{each_file_of_lines}
 use Rattle.slurm_rules.specs.Reading.{IsReading as IsSlurmReading}
 use Rattle.slurm_rules.specs.declared.slurm.Slurm.{Slurm as SlurmContent}
 use Rattle.slurm_rules.specs.declared.fault.SlurmFault.{SlurmFault}
-use Rattle.slurm_rules.specs.declared.fault.SlurmFault.TheVariants.{Json, Version as SlurmVersion, Member, Number, NoMemory as SlurmMemory}
+use Rattle.slurm_rules.specs.declared.fault.SlurmFault.TheVariants.{Json, Version as SlurmVersion, Member, Number, PrefixText, NoMemory as SlurmMemory}
 use Rattle.slurm_rules.proofs.LawLemmas.{each_file as each_slurm_file}
 use Rattle.aspa_top.specs.declared.loading.FileKind.{FileKind}
 use Rattle.aspa_top.specs.declared.loading.FileKind.TheVariants.{Payloads, PayloadLines, Slurm}
 use Rattle.aspa_top.specs.declared.loading.Flaw.{Flaw}
+use Rattle.aspa_top.specs.declared.loading.Made.{Made}
 use Rattle.aspa_top.specs.declared.loading.Outcome.{Outcome}
 use Rattle.aspa_top.specs.declared.loading.Outcome.TheVariants.{NoFile, Long, Flawed, Good}
-use Rattle.aspa_top.specs.Loading.{Makes, Fails, IsWithin, IsBeyond, ComesOf, payload_cause, slurm_cause}
+use Rattle.aspa_top.specs.Loading.{Makes, Fails, IsWithin, IsBeyond, ComesOf, of_slurm, of_source, payload_cause, slurm_cause}
 
 -- ---- what is inside two answers that are equal
 
@@ -43,12 +42,12 @@ no_both {T} {E} value fault the a b = let same = a ∙ sym b in cc
 -- ---- files of payloads; `Due` says how the file reads, and `terms` what it attests then
 
 module _ {A : Type 0} (terms : A → TermMap) (Due : Result A FileFault → Type 0) (the : HasOne Due) where
-  one_change : (name : List ℕ) (one other : TableChange)
-      → (read : A) × Due (Ok read) × (one ≡ Replace name (terms read)) → (read : A) × Due (Ok read) × (other ≡ Replace name (terms read))
+  one_change : (name : List ℕ) (one other : Made)
+      → (read : A) × Due (Ok read) × (one ≡ of_source name (terms read)) → (read : A) × Due (Ok read) × (other ≡ of_source name (terms read))
       → one ≡ other
   one_change name one other a b =
       let same = same_value a.0 b.0 the.one (the.only (Ok a.0) a.1) (the.only (Ok b.0) b.1) in
-      a.2 ∙ ap (λ (read : A). Replace name (terms read)) same ∙ sym b.2
+      a.2 ∙ ap (λ (read : A). of_source name (terms read)) same ∙ sym b.2
 
   one_flaw : (one other : Flaw)
       → (fault : PayloadFault) × Due (Err (Bad one.unit fault)) × (payload_cause fault ≡ Some one.cause)
@@ -66,13 +65,13 @@ module _ {A : Type 0} (terms : A → TermMap) (Due : Result A FileFault → Type
 
 -- ---- each kind of file makes one change, or fails in one way
 
-makes_one : (kind : FileKind) (bytes : List ℕ) (one other : TableChange) → Makes kind bytes one → Makes kind bytes other → one ≡ other
+makes_one : (kind : FileKind) (bytes : List ℕ) (one other : Made) → Makes kind bytes one → Makes kind bytes other → one ≡ other
 makes_one (Payloads name) bytes one other a b = one_change terms_of (IsFileReading bytes) (each_file bytes) name one other a b
 makes_one (PayloadLines name) bytes one other a b = one_change (λ terms. terms) (IsLinesReading bytes) (each_file_of_lines bytes) name one other a b
 makes_one Slurm bytes one other a b =
     let the = each_slurm_file bytes in
     let same = same_value a.0 b.0 the.one (the.only (Ok a.0) a.1) (the.only (Ok b.0) b.1) in
-    a.2 ∙ ap (λ (s : SlurmContent). BySlurm s.filters s.assertions) same ∙ sym b.2
+    a.2 ∙ ap of_slurm same ∙ sym b.2
 
 fails_one : (kind : FileKind) (bytes : List ℕ) (one other : Flaw) → Fails kind bytes one → Fails kind bytes other → one ≡ other
 fails_one (Payloads name) bytes one other a b = one_flaw terms_of (IsFileReading bytes) (each_file bytes) one other a b
@@ -85,7 +84,7 @@ fails_one Slurm bytes one other a b =
     let cause : one.cause ≡ other.cause = cc in
     λ i. record { unit = unit i; cause = cause i }
 
-makes_or_fails : (kind : FileKind) (bytes : List ℕ) (change : TableChange) (flaw : Flaw) → Makes kind bytes change → Fails kind bytes flaw → ⊥
+makes_or_fails : (kind : FileKind) (bytes : List ℕ) (change : Made) (flaw : Flaw) → Makes kind bytes change → Fails kind bytes flaw → ⊥
 makes_or_fails (Payloads name) bytes change flaw a b = no_change_and_flaw terms_of (IsFileReading bytes) (each_file bytes) a.0 flaw.unit b.0 a.1 b.1
 makes_or_fails (PayloadLines name) bytes change flaw a b = no_change_and_flaw (λ terms. terms) (IsLinesReading bytes) (each_file_of_lines bytes) a.0 flaw.unit b.0 a.1 b.1
 makes_or_fails Slurm bytes change flaw a b =
@@ -151,6 +150,7 @@ slurm_has_cause bytes Json reads = (_, refl)
 slurm_has_cause bytes SlurmVersion reads = (_, refl)
 slurm_has_cause bytes Member reads = (_, refl)
 slurm_has_cause bytes Number reads = (_, refl)
+slurm_has_cause bytes PrefixText reads = (_, refl)
 slurm_has_cause bytes SlurmMemory reads = absurd reads
 
 -- no unit is refused for want of memory
@@ -164,11 +164,11 @@ line_remembers : (bytes : List ℕ) (unit : ℕ) (fault : PayloadFault) → Line
 line_remembers bytes unit fault found is = bad_remembers _ (rw is at found.refused)
 
 read_within : {A : Type 0} (terms : A → TermMap) (kind : FileKind) (name bytes : List ℕ) (Due : Result A FileFault → Type 0) → length bytes ≤ 67108864
-    → ((read : A) → Due (Ok read) → Makes kind bytes (Replace name (terms read)))
+    → ((read : A) → Due (Ok read) → Makes kind bytes (of_source name (terms read)))
     → ((unit : ℕ) (fault : PayloadFault) (cause : Cause) → Due (Err (Bad unit fault)) → payload_cause fault ≡ Some cause → Fails kind bytes (record { unit = unit; cause = cause }))
     → ((unit : ℕ) (fault : PayloadFault) → Due (Err (Bad unit fault)) → fault ≢ PayloadMemory)
     → (Due (Err NoMemory) → ⊥) → (reading : Result A FileFault) → Due reading → (outcome : Outcome) × ComesOf kind (Some bytes) outcome
-read_within {A} terms kind name bytes Due within makes fails remembers none (Ok read) reads = (Good (Replace name (terms read)), record { bytes = bytes; is = refl; within = within; holds = makes read reads })
+read_within {A} terms kind name bytes Due within makes fails remembers none (Ok read) reads = (Good (of_source name (terms read)), record { bytes = bytes; is = refl; within = within; holds = makes read reads })
 read_within {A} terms kind name bytes Due within makes fails remembers none (Err (Bad unit fault)) reads =
     let cause = payload_has_cause fault (remembers unit fault reads) in
     (Flawed (record { unit = unit; cause = cause.0 }), record { bytes = bytes; is = refl; within = within; holds = fails unit fault cause.0 reads cause.1 })
@@ -177,7 +177,7 @@ read_within {A} terms kind name bytes Due within makes fails remembers none (Err
 slurm_within : (bytes : List ℕ) → length bytes ≤ 67108864 → (reading : Result SlurmContent SlurmFault) → IsSlurmReading bytes reading
     → (outcome : Outcome) × ComesOf Slurm (Some bytes) outcome
 slurm_within bytes within (Ok slurm) reads =
-    (Good (BySlurm slurm.filters slurm.assertions), record { bytes = bytes; is = refl; within = within; holds = (slurm, reads, refl) })
+    (Good (of_slurm slurm), record { bytes = bytes; is = refl; within = within; holds = (slurm, reads, refl) })
 slurm_within bytes within (Err fault) reads =
     let cause = slurm_has_cause bytes fault reads in
     (Flawed (record { unit = 1; cause = cause.0 }), record { bytes = bytes; is = refl; within = within; holds = (fault, reads, refl, cause.1) })

@@ -18,6 +18,9 @@ use Rattle.path_model.specs.Trail.{Path}
 use Rattle.path_model.proofs.LawLemmas.{one_printed}
 use Rattle.attestations.proofs.PartsLemmas.{table_is_current, parts_have_one_table}
 use Rattle.path_model.proofs.WitnessLemmas.{printed_facts}
+use Rattle.origin_validation.proofs.RowLemmas.{has_one_list}
+use Rattle.origin_lines.specs.Rows.{origins_text}
+use Rattle.origin_lines.proofs.RowsLemmas.{line_of as origin_line_of, rows_answer as origins_answer, rows_are_lines as origins_are_lines}
 use Rattle.report_text.specs.declared.cause.Cause.{Cause}
 use Rattle.report_text.specs.Laws.{IsAnswerLine}
 use Rattle.report_text.specs.Reported.{lines_text}
@@ -27,7 +30,7 @@ use Rattle.report_text.proofs.AnswerLemmas.{summary_is_one_line, reason_is_one_l
 use Rattle.rib_store.specs.Shown.{IsExplained}
 use Rattle.rib_store.specs.State.{State as Analysis}
 use Rattle.rib_store.proofs.ReportLemmas.{has_one_report}
-use Rattle.script_lines.specs.declared.command.Show.TheVariants.{Report, Summary as SumUp}
+use Rattle.script_lines.specs.declared.command.Show.TheVariants.{Report, Origins as ListOrigins, Summary as SumUp}
 use Rattle.stream_lines.specs.Counts.{refusals_in}
 use Rattle.stream_lines.specs.Rows.{rows_text}
 use Rattle.stream_lines.proofs.RefusalLemmas.{lacks, refusals_in-line}
@@ -81,6 +84,13 @@ one_answer state (Show Report) there =
       is = record { rows = report.one; are = report.is; text_is = refl };
       only = λ other is. is.text_is ∙ ap rows_text (report.only is.rows is.are);
     }
+one_answer state (Show ListOrigins) there =
+    let list = has_one_list state.analysis.routes state.origins in
+    record {
+      one = origins_text list.one;
+      is = record { rows = list.one; are = list.is; text_is = refl };
+      only = λ other is. is.text_is ∙ ap origins_text (list.only is.rows is.are);
+    }
 one_answer state (Show SumUp) there =
     let found = some_summary state.analysis state.passed state.refused in
     record {
@@ -113,6 +123,8 @@ one_line line text answer is = record { lines = line ∷ []; each = All-cons IsA
 pub answer_lines : (state : State) (question : Question) (text : List ℕ) → Answers state question text → AreAnswers text
 answer_lines state (Show Report) text reports =
     record { lines = map line_of reports.rows; each = rows_answer reports.rows; is = reports.text_is ∙ rows_are_lines reports.rows }
+answer_lines state (Show ListOrigins) text lists =
+    record { lines = map origin_line_of lists.rows; each = origins_answer lists.rows; is = lists.text_is ∙ origins_are_lines lists.rows }
 answer_lines state (Show SumUp) text sums = one_line (summary_line sums.summary) text (summary_is_one_line sums.summary) sums.text_is
 answer_lines state (Why key) text explains = one_line (why_line explains.verdict explains.witness) text (reason_is_one_line explains.verdict explains.witness) explains.text_is
 

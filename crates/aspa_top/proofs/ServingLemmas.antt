@@ -4,7 +4,7 @@ use Rattle.std.specs.declared.option.Option.{Option}
 use Rattle.std.specs.declared.option.Option.TheVariants.{None}
 use Rattle.attestations.specs.CurrentTable.{Parts}
 use Rattle.report_text.specs.Served.{served_text}
-use Rattle.rtr_cache.specs.Cache.{Versions}
+use Rattle.rtr_cache.specs.Cache.{AreRowsOf, Versions}
 use Rattle.av_base.specs.Connections.{Attempt}
 use Rattle.serve_lines.specs.declared.outcome.Outcome.{Outcome}
 use Rattle.serve_lines.specs.declared.routers.Served.{Served}
@@ -14,7 +14,9 @@ use Rattle.aspa_top.specs.State.{State}
 use Rattle.aspa_top.specs.Serving.{TakesTable, HasCache, ServesAll, ServesTable, ServesSome, ServesUnsummed, ServesTablePart, serving_of, with_cache}
 use Rattle.aspa_top.specs.World.{World}
 use Rattle.serve_lines.proofs.FrontLemmas.{line_one, part_first}
+use Rattle.rtr_cache.proofs.ExchangeLemmas.{gets_table}
 use Rattle.rtr_cache.proofs.VersionLemmas.{made_one, updated_one}
+use Rattle.aspa_top.specs.Laws.{ServedRoutersGetTheTable}
 
 takes_one : (held : Option Versions) (session : ℕ) (parts : Parts) (one other : Versions) → TakesTable held session parts one → TakesTable held session parts other → one ≡ other
 takes_one None session parts one other a b = made_one session parts one other a b
@@ -78,3 +80,14 @@ module _ (world : World) (attempts : List Attempt) (told : world.ends.attempts �
   table_front part text moved next a (inl refused) = absurd (refused.0 a.0)
   table_front part text moved next (fits, inl some) (inr all) = some_front part text moved next some all.1
   table_front part text moved next (fits, inr unsummed) (inr all) = unsummed_front part text moved next unsummed all.1
+
+-- ---- routers
+
+-- the cache that took a table has its rows
+takes_rows : (held : Option Versions) (session : ℕ) (parts : Parts) (cache : Versions) → TakesTable held session parts cache → AreRowsOf parts cache.current.rows
+takes_rows None session parts cache takes = takes.rows
+takes_rows (Some old) session parts cache takes = takes.rows
+
+pub routers_get_table : ServedRoutersGetTheTable
+routers_get_table world state place session count text next fits serves router done may exchanges =
+    (gets_table serves.has.cache state.analysis.parts router done (takes_rows (state.caches session) session state.analysis.parts serves.has.cache serves.has.takes) fits may exchanges).1

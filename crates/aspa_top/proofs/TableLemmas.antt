@@ -21,7 +21,6 @@ use Rattle.stream_lines.specs.Frames.{Leaves}
 use Rattle.stream_lines.specs.Held.{HeldDump}
 use Rattle.stream_lines.specs.Stops.{stop_of}
 use Rattle.rib_store.specs.State.{State as Analysis}
-use Rattle.vap_table.specs.declared.change.TableChange.{TableChange}
 use Rattle.analyser.specs.declared.event.Event.TheVariants.{Table as TableEvent}
 use Rattle.analyser.specs.Events.{Happens}
 use Rattle.analyser.specs.Touched.{Costs, TicksWithin}
@@ -29,6 +28,7 @@ use Rattle.analyser.proofs.CostLemmas.{some_cost}
 use Rattle.analyser.proofs.EventLemmas.{one_outcome_of}
 use Rattle.aspa_top.specs.declared.loading.FileKind.{FileKind}
 use Rattle.aspa_top.specs.declared.loading.FileKind.TheVariants.{Payloads, PayloadLines, Slurm as SlurmFile}
+use Rattle.aspa_top.specs.declared.loading.Made.{Made}
 use Rattle.aspa_top.specs.declared.loading.Outcome.{Outcome}
 use Rattle.aspa_top.specs.declared.loading.Outcome.TheVariants.{NoFile, Long as FileLong, Flawed, Good}
 use Rattle.aspa_top.specs.declared.task.Task.TheVariants.{Load}
@@ -38,7 +38,7 @@ use Rattle.aspa_top.specs.LoadingSteps.{ComesTold}
 use Rattle.aspa_top.specs.Outside.{Outside, all_of}
 use Rattle.aspa_top.specs.Performing.{Done, EndedEarly, GoesSome}
 use Rattle.aspa_top.specs.Standing.{HoldsOr, IsBegun, StandsFor}
-use Rattle.aspa_top.specs.Tasks.{State, Refuses, TakesFile, LoadsUnless, is_taken, same_name, with_name}
+use Rattle.aspa_top.specs.Tasks.{State, Refuses, TakesFile, LoadsUnless, amended, is_taken, same_name, with_name}
 use Rattle.aspa_top.specs.Working.{Acted, ActedWithin, Loaded, IsTakenIn, KeepsStreams, NamesBy, cache_in, dump_in, has_source}
 use Rattle.aspa_top.specs.World.{Links, World, Tells}
 use Rattle.aspa_top.proofs.DidLemmas.{done_refused, some_done}
@@ -74,10 +74,10 @@ left_after (PayloadLines name) mid next names = names.left
 left_after SlurmFile mid next names = names ∙ ap (λ (w : Working). record mid { sources = w.sources }) (sym names)
 
 -- a good file leaves the streams and the counts as they were
-Loaded-kept : (kind : FileKind) (working next : Working) (change : TableChange) → Loaded working kind change next → KeepsStreams working next
-Loaded-kept kind working next change held =
-    let is : next ≡ record held.mid { sources = next.sources } = left_after kind held.mid next held.names in
-    let mid = held.happened.left in
+Loaded-kept : (kind : FileKind) (working next : Working) (made : Made) → Loaded working kind made next → KeepsStreams working next
+Loaded-kept kind working next made held =
+    let is : next ≡ record held.after { sources = next.sources } = left_after kind held.after next held.names in
+    let mid = held.amends ∙ ap (λ (w : Working). record w { origins = amended made.amends w.origins }) held.happened.left in
     let refused : next.refused ≡ working.refused = ap (λ (w : Working). w.refused) is ∙ ap (λ (w : Working). w.refused) mid in
     record {
       feeds = ap (λ (w : Working). w.feeds) is ∙ ap (λ (w : Working). w.feeds) mid;
@@ -116,41 +116,42 @@ module _ (working : Working) (kind : FileKind) (file : List ℕ) (old : Outside)
       added unticked next_is
 
   -- the file is good, and changes the table
-  load_held : (next : Working) (told : List ℕ) (change : TableChange) → IsTakenIn working kind false → told ≡ file → ComesTold old.files kind told (Good change)
-      → Loaded working kind change next → TicksWithin working.analyser (TableEvent change) old.ticks ticks → held ≡ old.held
+  load_held : (next : Working) (told : List ℕ) (made : Made) → IsTakenIn working kind false → told ≡ file → ComesTold old.files kind told (Good made)
+      → Loaded working kind made next → TicksWithin working.analyser (TableEvent made.table) old.ticks ticks → held ≡ old.held
       → Done working (Ok (Load kind file)) old (record old { files = files; opened = opened; shelf_faults = faulted; held = held; ticks = ticks }) next
-  load_held next told change is same comes holds within kept =
+  load_held next told made is same comes holds within kept =
       let new : Outside = record old { files = files; opened = opened; shelf_faults = faulted; held = held; ticks = ticks } in
       let event = holds.happened in
-      let mid_is = event.left in
-      let next_is = left_after kind holds.mid next holds.names in
-      let cost = some_cost working.analyser (TableEvent change) event.analysis in
-      let keeps = Loaded-kept kind working next change holds in
+      let mid_is = holds.amends ∙ ap (λ (w : Working). record w { origins = amended made.amends w.origins }) event.left in
+      let next_is = left_after kind holds.after next holds.names in
+      let cost = some_cost working.analyser (TableEvent made.table) event.analysis in
+      let keeps = Loaded-kept kind working next made holds in
       record {
         goes = λ world tells state stands.
             let stayed = StandsFor-leaves old.files files old.links working state leaves given stands in
-            let after : State = record state { analysis = event.analysis; sources = with_name kind state.sources; judgements = state.judgements + cost.0 } in
+            let after : State = record state { analysis = event.analysis; origins = amended made.amends state.origins; sources = with_name kind state.sources; judgements = state.judgements + cost.0 } in
             record {
               text = [];
               after = after;
               does = λ ends comes_to. Loads-ending world ends state kind file [] after
                   (subst (λ (b : Bool). LoadsUnless b world state kind file [] after) (sym (taken_is old.files old.links working state kind false stands is))
                   (record {
-                    outcome = Good change;
-                    comes = comes_world old.files world kind told file (Good change) tells same comes;
+                    outcome = Good made;
+                    comes = comes_world old.files world kind told file (Good made) tells same comes;
                     takes = record {
                       silent = refl;
                       analysis = event.analysis;
-                      happens = subst (λ (a : Analysis). Happens a (TableEvent change) event.analysis) stands.analysis event.happens;
+                      happens = subst (λ (a : Analysis). Happens a (TableEvent made.table) event.analysis) stands.analysis event.happens;
                       cost = cost.0;
-                      costs = subst (λ (a : Analysis). Costs a (TableEvent change) event.analysis cost.0) stands.analysis cost.1;
+                      costs = subst (λ (a : Analysis). Costs a (TableEvent made.table) event.analysis cost.0) stands.analysis cost.1;
                       left = refl;
                     };
                   }));
               added = ap (append_known old.written) kept ∙ sym (append_known-nil (all_of old));
               stands = record {
                 analysis = ap (λ (w : Working). w.analyser) next_is ∙ ap (λ (w : Working). w.analyser) mid_is;
-                sources = named_after kind holds.mid next state holds.names (λ q. ap (λ (w : Working). has_source w q) mid_is ∙ stands.sources q);
+                origins = ap (λ (w : Working). w.origins) next_is ∙ ap (λ (w : Working). w.origins) mid_is ∙ ap (amended made.amends) stands.origins;
+                sources = named_after kind holds.after next state holds.names (λ q. ap (λ (w : Working). has_source w q) mid_is ∙ stands.sources q);
                 dumps = λ q. subst (λ (d : Option HeldDump). HoldsOr files d (state.dumps q)) (sym (keeps.dumps q)) (stayed.dumps q);
                 feeds = subst (λ (held : Feeds). (q : List ℕ) → HoldsFeed old.links.wire (feed_in held q) (state.feeds q)) (sym keeps.feeds) stayed.feeds;
                 caches = λ q. keeps.caches q ∙ stayed.caches q;
@@ -175,7 +176,7 @@ module _ (working : Working) (kind : FileKind) (file : List ℕ) (old : Outside)
   load_acted next FileLong told in_line is same comes acted within = load_flawed next told FileLong of_line causes.FileLong tt is same comes (λ state text after refuses. refuses) acted.0 within acted.1
   load_acted next (Flawed flaw) told in_line is same comes acted within =
       load_flawed next told (Flawed flaw) (of_unit (unit_name kind) flaw.unit) flaw.cause in_line is same comes (λ state text after refuses. refuses) acted.0 within acted.1
-  load_acted next (Good change) told in_line is same comes acted within = load_held next told change is same comes acted.1 within acted.0
+  load_acted next (Good made) told in_line is same comes acted within = load_held next told made is same comes acted.1 within acted.0
 
   -- ---- a file that isn't loaded
 
@@ -215,22 +216,22 @@ module _ (working : Working) (kind : FileKind) (file : List ℕ) (old : Outside)
       by_outcome NoFile comes within world tells state stands = unticked world state within
       by_outcome FileLong comes within world tells state stands = unticked world state within
       by_outcome (Flawed flaw) comes within world tells state stands = unticked world state within
-      by_outcome (Good change) comes within world tells state stands =
-          let one = one_outcome_of working.analyser (TableEvent change) in
-          let cost = some_cost working.analyser (TableEvent change) one.one in
-          let after : State = record state { analysis = one.one; sources = with_name kind state.sources; judgements = state.judgements + cost.0 } in (
+      by_outcome (Good made) comes within world tells state stands =
+          let one = one_outcome_of working.analyser (TableEvent made.table) in
+          let cost = some_cost working.analyser (TableEvent made.table) one.one in
+          let after : State = record state { analysis = one.one; origins = amended made.amends state.origins; sources = with_name kind state.sources; judgements = state.judgements + cost.0 } in (
             [],
             after,
             subst (λ (b : Bool). LoadsUnless b world state kind file [] after) (sym (taken_is old.files old.links working state kind false stands is))
                 (record {
-                  outcome = Good change;
-                  comes = comes_world old.files world kind told file (Good change) tells same comes;
+                  outcome = Good made;
+                  comes = comes_world old.files world kind told file (Good made) tells same comes;
                   takes = record {
                     silent = refl;
                     analysis = one.one;
-                    happens = subst (λ (a : Analysis). Happens a (TableEvent change) one.one) stands.analysis one.is;
+                    happens = subst (λ (a : Analysis). Happens a (TableEvent made.table) one.one) stands.analysis one.is;
                     cost = cost.0;
-                    costs = subst (λ (a : Analysis). Costs a (TableEvent change) one.one cost.0) stands.analysis cost.1;
+                    costs = subst (λ (a : Analysis). Costs a (TableEvent made.table) one.one cost.0) stands.analysis cost.1;
                     left = refl;
                   };
                 }),

@@ -26,13 +26,14 @@ use Rattle.stream_lines.specs.Changes.{changes_text}
 use Rattle.stream_lines.specs.Streams.{Dump}
 use Rattle.stream_lines.proofs.LawLemmas.{outcome_and_cost, some_units, units_unique}
 use Rattle.aspa_top.specs.declared.loading.FileKind.{FileKind}
+use Rattle.aspa_top.specs.declared.loading.Amendment.{Amendment}
 use Rattle.aspa_top.specs.declared.loading.Outcome.{Outcome}
 use Rattle.aspa_top.specs.declared.loading.Outcome.TheVariants.{NoFile, Long as FileLong, Flawed, Good}
 use Rattle.aspa_top.specs.declared.task.Short.{Short as ShortTask}
 use Rattle.aspa_top.specs.declared.task.Short.TheVariants.{Idle, Happen, Judge}
 use Rattle.aspa_top.specs.declared.task.Task.{Task}
 use Rattle.aspa_top.specs.declared.task.Task.TheVariants.{Short, Load, Open, Take, Connect, OnFeed, Serve, Answer, Changes}
-use Rattle.aspa_top.specs.Tasks.{State, MakesHappen, Holds, TakesFile, LoadsUnless, OpensNamed, TakesOpen, TakesNamed, Works, ConnectsUnless, ShowsChanges, DoesShort, DoesTask, is_stream, is_taken, with_name, asking_of, asking_on, feeds_of, with_feeds, taking_of, after_taking}
+use Rattle.aspa_top.specs.Tasks.{State, MakesHappen, Holds, TakesFile, LoadsUnless, OpensNamed, TakesOpen, TakesNamed, Works, ConnectsUnless, ShowsChanges, DoesShort, DoesTask, amended, is_stream, is_taken, with_name, asking_of, asking_on, feeds_of, with_feeds, taking_of, after_taking}
 use Rattle.aspa_top.specs.World.{World}
 use Rattle.aspa_top.proofs.JudgedLemmas.{IsJudged-unique}
 use Rattle.aspa_top.proofs.OutcomeLemmas.{some_outcome, outcome_unique}
@@ -54,12 +55,12 @@ some_event state event =
       record { silent = refl; analysis = one.one; happens = one.is; cost = cost.0; costs = cost.1; left = refl },
     )
 
-some_holding : (state : State) (kind : FileKind) (event : Event) → Some_that (Holds state kind event)
-some_holding state kind event =
+some_holding : (state : State) (kind : FileKind) (event : Event) (amends : Option Amendment) → Some_that (Holds state kind event amends)
+some_holding state kind event amends =
     let one = one_outcome_of state.analysis event in
     let cost = some_cost state.analysis event one.one in (
       [],
-      record state { analysis = one.one; sources = with_name kind state.sources; judgements = state.judgements + cost.0 },
+      record state { analysis = one.one; origins = amended amends state.origins; sources = with_name kind state.sources; judgements = state.judgements + cost.0 },
       record { silent = refl; analysis = one.one; happens = one.is; cost = cost.0; costs = cost.1; left = refl },
     )
 
@@ -67,7 +68,7 @@ some_taking : (state : State) (kind : FileKind) (outcome : Outcome) → Some_tha
 some_taking state kind NoFile = (_, _, (refl, refl))
 some_taking state kind FileLong = (_, _, (refl, refl))
 some_taking state kind (Flawed flaw) = (_, _, (refl, refl))
-some_taking state kind (Good change) = some_holding state kind (TableEvent change)
+some_taking state kind (Good made) = some_holding state kind (TableEvent made.table) made.amends
 
 pub some_load : (taken : Bool) (world : World) (state : State) (kind : FileKind) (file : List ℕ) → Some_that (LoadsUnless taken world state kind file)
 some_load true world state kind file = (_, _, (refl, refl))
@@ -159,12 +160,12 @@ MakesHappen-unique state event one other end last a b =
       a.left ∙ (λ i. record state { analysis = same.0 i; judgements = state.judgements + same.1 i }) ∙ sym b.left,
     )
 
-Holds-unique : (state : State) (kind : FileKind) (event : Event) (one other : List ℕ) (end last : State)
-    → Holds state kind event one end → Holds state kind event other last → (one ≡ other) × (end ≡ last)
-Holds-unique state kind event one other end last a b =
+Holds-unique : (state : State) (kind : FileKind) (event : Event) (amends : Option Amendment) (one other : List ℕ) (end last : State)
+    → Holds state kind event amends one end → Holds state kind event amends other last → (one ≡ other) × (end ≡ last)
+Holds-unique state kind event amends one other end last a b =
     let same = outcome_and_cost state.analysis event a.analysis b.analysis a.cost b.cost a.happens b.happens a.costs b.costs in (
       a.silent ∙ sym b.silent,
-      a.left ∙ (λ i. record state { analysis = same.0 i; sources = with_name kind state.sources; judgements = state.judgements + same.1 i }) ∙ sym b.left,
+      a.left ∙ (λ i. record state { analysis = same.0 i; origins = amended amends state.origins; sources = with_name kind state.sources; judgements = state.judgements + same.1 i }) ∙ sym b.left,
     )
 
 -- nor has what comes of a file
@@ -173,7 +174,7 @@ TakesFile-unique : (state : State) (kind : FileKind) (outcome : Outcome) (one ot
 TakesFile-unique state kind NoFile one other end last a b = both one other _ end last _ a b
 TakesFile-unique state kind FileLong one other end last a b = both one other _ end last _ a b
 TakesFile-unique state kind (Flawed flaw) one other end last a b = both one other _ end last _ a b
-TakesFile-unique state kind (Good change) one other end last a b = Holds-unique state kind (TableEvent change) one other end last a b
+TakesFile-unique state kind (Good made) one other end last a b = Holds-unique state kind (TableEvent made.table) made.amends one other end last a b
 
 Loads-unique : (taken : Bool) (world : World) (state : State) (kind : FileKind) (file one other : List ℕ) (end last : State)
     → LoadsUnless taken world state kind file one end → LoadsUnless taken world state kind file other last → (one ≡ other) × (end ≡ last)

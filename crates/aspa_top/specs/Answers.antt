@@ -7,6 +7,9 @@ use Rattle.path_model.specs.declared.key.Key.{Key}
 use Rattle.path_model.specs.declared.verdict.Verdict.{Verdict}
 use Rattle.path_model.specs.declared.witness.Witness.{Witness}
 use Rattle.path_model.specs.Trail.{Path}
+use Rattle.origin_model.specs.declared.origin_state.OriginState.{OriginState}
+use Rattle.origin_validation.specs.Rows.{AreOriginRows}
+use Rattle.origin_lines.specs.Rows.{origins_text}
 use Rattle.report_text.specs.declared.cause.Cause.{Cause}
 use Rattle.report_text.specs.declared.cause.Cause.TheVariants.{NoRoute}
 use Rattle.report_text.specs.declared.summary.Summary.{Summary}
@@ -15,7 +18,7 @@ use Rattle.report_text.specs.Summary.{summary_text}
 use Rattle.report_text.specs.Why.{why_text}
 use Rattle.rib_store.specs.Shown.{IsExplained}
 use Rattle.rib_store.specs.State.{AreRows}
-use Rattle.script_lines.specs.declared.command.Show.TheVariants.{Report, Summary as SumUp}
+use Rattle.script_lines.specs.declared.command.Show.TheVariants.{Report, Origins, Summary as SumUp}
 use Rattle.stream_lines.specs.Rows.{rows_text}
 use Rattle.stream_lines.specs.Summary.{IsSummary}
 use Rattle.aspa_top.specs.declared.task.Question.{Question}
@@ -27,6 +30,12 @@ pub record Reports (state : State) (text : List ℕ) : Type 0 where
   pub rows : List (Key × Verdict)
   pub are : AreRows state.analysis rows
   pub text_is : text ≡ rows_text rows
+
+-- `origins`: one line for each route in key order, with the state of its origin by the records that are current
+pub record ListsOrigins (state : State) (text : List ℕ) : Type 0 where
+  pub rows : List (Key × OriginState)
+  pub are : AreOriginRows state.analysis.routes state.origins rows
+  pub text_is : text ≡ origins_text rows
 
 -- `summary`: how many routes there are by their current verdicts, the customers of the current table, and what was passed over or refused
 pub record SumsUp (state : State) (text : List ℕ) : Type 0 where
@@ -44,6 +53,7 @@ pub record Explains (state : State) (key : Key) (text : List ℕ) : Type 0 where
 -- the text answers the question
 abbrev pub Answers : State → Question → List ℕ → Type 0
 Answers state (Show Report) text = Reports state text
+Answers state (Show Origins) text = ListsOrigins state text
 Answers state (Show SumUp) text = SumsUp state text
 Answers state (Why key) text = Explains state key text
 

@@ -17,6 +17,10 @@ use Rattle.feed_lines.specs.Laws.{AreConnectedFrom}
 use Rattle.feed_lines.specs.Lines.{Connects, Works}
 use Rattle.connection_calls.specs.World.{InEnd, World as Ends}
 use Rattle.feed_lines.specs.Lines.{State as FeedState}
+use Rattle.rtr_session.specs.State.{State as Router}
+use Rattle.rtr_cache.specs.Cache.{AreRowsOf, FitsPdus}
+use Rattle.rtr_cache.specs.Laws.{Exchanges, MayAsk}
+use Rattle.aspa_top.specs.Serving.{ServesAll}
 use Rattle.aspa_top.specs.Tasks.{State, feeds_of, start}
 use Rattle.aspa_top.specs.Evaluation.{Evaluates}
 use Rattle.aspa_top.specs.Program.{AreTold, WentThrough, WritesFront}
@@ -56,6 +60,14 @@ RunsWriteFronts = (world : World) → AreTold world → (lines : List (List ℕ)
 abbrev pub RefusalsAreCounted : Type 0
 RefusalsAreCounted = (world : World) (lines : List (List ℕ)) (text : List ℕ) (end : State)
     → Evaluates world (start world) lines text end → end.refused ≡ refusals_in text
+
+-- A router that is served by a line's cache has exactly the table of that line once it asked and took the whole reply: one that starts anew, or
+-- that holds the rows of the version that the cache keeps under its serial.
+abbrev pub ServedRoutersGetTheTable : Type 0
+ServedRoutersGetTheTable =
+    (world : World) (state : State) (place : List ℕ) (session count : ℕ) (text : List ℕ) (next : State) → FitsPdus state.analysis.parts
+    → (serves : ServesAll world state place session count text next) (router done : Router) → MayAsk serves.has.cache router
+    → Exchanges serves.has.cache router done → AreRowsOf state.analysis.parts done.rows
 
 -- each feed that lines leave is on a connection that an attempt made behind those that were made before the run
 abbrev pub FeedsWereConnected : Type 0

@@ -5,7 +5,6 @@ use Rattle.std.specs.declared.option.Option.TheVariants.{Some, None}
 use Rattle.std.specs.declared.result.Result.TheVariants.{Ok, Err}
 use Rattle.path_model.specs.Rows.{RowMap}
 use Rattle.attestations.specs.Terms.{TermMap, terms_of}
-use Rattle.vap_table.specs.declared.change.TableChange.{TableChange}
 use Rattle.vap_table.specs.declared.change.TableChange.TheVariants.{Replace, Slurm as BySlurm}
 use Rattle.report_text.specs.declared.cause.Cause.{Cause}
 use Rattle.report_text.specs.declared.cause.Cause.TheVariants as causes
@@ -17,10 +16,11 @@ use Rattle.aspa_payload.specs.declared.fault.PayloadFault.TheVariants.{NotDer, V
 use Rattle.slurm_rules.specs.Reading.{IsReading as IsSlurmReading}
 use Rattle.slurm_rules.specs.declared.slurm.Slurm.{Slurm as SlurmContent}
 use Rattle.slurm_rules.specs.declared.fault.SlurmFault.{SlurmFault}
-use Rattle.slurm_rules.specs.declared.fault.SlurmFault.TheVariants.{Json, Version as SlurmVersion, Member, Number, NoMemory as SlurmNoMemory}
+use Rattle.slurm_rules.specs.declared.fault.SlurmFault.TheVariants.{Json, Version as SlurmVersion, Member, Number, PrefixText, NoMemory as SlurmNoMemory}
 use Rattle.aspa_top.specs.declared.loading.FileKind.{FileKind}
 use Rattle.aspa_top.specs.declared.loading.FileKind.TheVariants.{Payloads, PayloadLines, Slurm}
 use Rattle.aspa_top.specs.declared.loading.Flaw.{Flaw}
+use Rattle.aspa_top.specs.declared.loading.Made.{Made}
 use Rattle.aspa_top.specs.declared.loading.Outcome.{Outcome}
 use Rattle.aspa_top.specs.declared.loading.Outcome.TheVariants.{NoFile, Long, Flawed, Good}
 
@@ -47,15 +47,26 @@ slurm_cause Json = Some causes.Json
 slurm_cause SlurmVersion = Some causes.SlurmVersion
 slurm_cause Member = Some causes.Member
 slurm_cause Number = Some causes.SlurmNumber
+slurm_cause PrefixText = Some causes.PrefixText
 slurm_cause SlurmNoMemory = None
 
+-- the change of a source's attestations alone
+abbrev pub of_source : List ℕ → TermMap → Made
+of_source name terms = record { table = Replace name terms; amends = None }
+
+-- the change by all that a SLURM file says
+abbrev pub of_slurm : SlurmContent → Made
+of_slurm slurm = record {
+  table = BySlurm slurm.filters slurm.assertions;
+  amends = Some (record { filters = slurm.prefix_filters; assertions = slurm.prefix_assertions });
+}
+
 -- The file is good, and this is the change that it makes: the source of that name has its rows, which never end, or its attestations, each with
--- its end; or the filters and assertions of a SLURM file are its own.
-abbrev pub Makes : FileKind → List ℕ → TableChange → Type 0
-Makes (Payloads name) bytes change = (rows : RowMap) × IsFileReading bytes (Ok rows) × (change ≡ Replace name (terms_of rows))
-Makes (PayloadLines name) bytes change = (terms : TermMap) × IsLinesReading bytes (Ok terms) × (change ≡ Replace name terms)
-Makes Slurm bytes change =
-    (slurm : SlurmContent) × IsSlurmReading bytes (Ok slurm) × (change ≡ BySlurm slurm.filters slurm.assertions)
+-- its end; or the filters and assertions of a SLURM file are its own, those of attestations and those of payloads.
+abbrev pub Makes : FileKind → List ℕ → Made → Type 0
+Makes (Payloads name) bytes made = (rows : RowMap) × IsFileReading bytes (Ok rows) × (made ≡ of_source name (terms_of rows))
+Makes (PayloadLines name) bytes made = (terms : TermMap) × IsLinesReading bytes (Ok terms) × (made ≡ of_source name terms)
+Makes Slurm bytes made = (slurm : SlurmContent) × IsSlurmReading bytes (Ok slurm) × (made ≡ of_slurm slurm)
 
 -- The file is refused at this unit for this cause. A SLURM file is one unit.
 abbrev pub Fails : FileKind → List ℕ → Flaw → Type 0
@@ -84,4 +95,4 @@ abbrev pub ComesOf : FileKind → Option (List ℕ) → Outcome → Type 0
 ComesOf kind named NoFile = named ≡ None
 ComesOf kind named Long = IsBeyond named
 ComesOf kind named (Flawed flaw) = IsWithin named (λ bytes. Fails kind bytes flaw)
-ComesOf kind named (Good change) = IsWithin named (λ bytes. Makes kind bytes change)
+ComesOf kind named (Good made) = IsWithin named (λ bytes. Makes kind bytes made)

@@ -8,10 +8,9 @@ use Rattle.av_base.specs.Files.{Files}
 use Rattle.path_model.specs.Rows.{RowMap}
 use Rattle.attestations.specs.Terms.{TermMap, terms_of}
 use Rattle.report_text.specs.declared.cause.Cause.{Cause}
-use Rattle.vap_table.specs.declared.change.TableChange.TheVariants.{Replace}
 use Rattle.aspa_payload.specs.declared.file.FileFault.{FileFault}
 use Rattle.aspa_payload.specs.declared.file.FileFault.TheVariants.{Bad, NoMemory}
-use Rattle.aspa_top.specs.Loading.{ComesOf, Fails, Makes, payload_cause}
+use Rattle.aspa_top.specs.Loading.{ComesOf, Fails, Makes, of_source, payload_cause}
 use Rattle.aspa_top.specs.declared.loading.FileKind.{FileKind}
 use Rattle.aspa_top.specs.declared.loading.Outcome.{Outcome}
 use Rattle.aspa_top.specs.declared.loading.Outcome.TheVariants.{NoFile, Long, Flawed, Good}
@@ -25,7 +24,7 @@ abbrev pub Understands : FileKind → List ℕ → Outcome → Type 0
 Understands kind bytes NoFile = ⊥
 Understands kind bytes Long = ⊥
 Understands kind bytes (Flawed flaw) = Fails kind bytes flaw
-Understands kind bytes (Good change) = Makes kind bytes change
+Understands kind bytes (Good made) = Makes kind bytes made
 
 -- what comes of a payload file that is refused so
 abbrev pub IsRefusedFor : FileFault → Outcome → Type 0
@@ -35,7 +34,7 @@ IsRefusedFor NoMemory outcome = ⊥
 
 -- what comes of a payload file that reads so
 abbrev pub IsTermsOutcome : List ℕ → Result TermMap FileFault → Outcome → Type 0
-IsTermsOutcome name (Ok terms) outcome = outcome ≡ Good (Replace name terms)
+IsTermsOutcome name (Ok terms) outcome = outcome ≡ Good (of_source name terms)
 IsTermsOutcome name (Err fault) outcome = IsRefusedFor fault outcome
 
 -- the same of one whose rows never end

@@ -4,6 +4,7 @@ use Rattle.std.specs.Cmp.Lexicographic.{pointwise}
 use Rattle.std.specs.declared.option.Option.{Option}
 use Rattle.std.specs.declared.option.Option.TheVariants.{None}
 use Rattle.feed_lines.specs.Feeds.{Feed}
+use Rattle.origin_model.specs.Current.{Parts as Origins, no_parts}
 use Rattle.report_text.specs.declared.cause.Cause.{Cause}
 use Rattle.report_text.specs.Refusals.{AnyPlace, refusal_text}
 use Rattle.rib_store.specs.State.{State as Analysis, no_state}
@@ -12,12 +13,13 @@ use Rattle.serve_lines.specs.Routers.{Begun, NoneMore}
 use Rattle.stream_lines.specs.Streams.{Dump}
 use Rattle.aspa_top.specs.World.{World}
 
--- What some lines have left: the analysis, which names are those of attestation sources, of dumps and of feeds (none where a session is
+-- What some lines have left: the analysis, the payloads of origin validation by source with a SLURM file's filters and assertions, which names are those of attestation sources, of dumps and of feeds (none where a session is
 -- over), the caches that were served, by session, how many attempts to connect and to accept were made, how many lines, passed units and
 -- refused lines there were, and how many judgements they may have cost; and, of a `serve` line that ended early, what its last attempt came
 -- to. A line of text that reports the end of a feed, or of a router, counts as refused.
 pub record State : Type 0 where
   pub analysis : Analysis
+  pub origins : Origins
   pub sources : List ℕ → Bool
   pub dumps : List ℕ → Option Dump
   pub feeds : List ℕ → Option (Option Feed)
@@ -33,6 +35,7 @@ pub record State : Type 0 where
 abbrev pub start : World → State
 start world = record {
   analysis = no_state;
+  origins = no_parts;
   sources = λ name. false;
   dumps = λ name. None;
   feeds = λ name. None;

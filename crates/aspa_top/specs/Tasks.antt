@@ -27,6 +27,8 @@ use Rattle.stream_lines.specs.declared.kind.DumpKind.{DumpKind}
 use Rattle.stream_lines.specs.Changes.{changes_text}
 use Rattle.stream_lines.specs.Streams.{Dump, Taking, Asking, TakesUnits}
 use Rattle.stream_lines.specs.Units.{first_known}
+use Rattle.origin_model.specs.Current.{Parts as Origins}
+use Rattle.aspa_top.specs.declared.loading.Amendment.{Amendment}
 use Rattle.aspa_top.specs.declared.loading.FileKind.{FileKind}
 use Rattle.aspa_top.specs.declared.loading.FileKind.TheVariants.{Payloads, PayloadLines, Slurm as SlurmFile}
 use Rattle.aspa_top.specs.declared.loading.Outcome.{Outcome}
@@ -64,8 +66,13 @@ with_name (Payloads name) sources other = cond (same_name name other) true (sour
 with_name (PayloadLines name) sources other = cond (same_name name other) true (sources other)
 with_name SlurmFile sources other = sources other
 
--- a good file changes the table, and its name is in use
-pub record Holds (state : State) (kind : FileKind) (event : Event) (text : List ℕ) (next : State) : Type 0 where
+-- the filters and assertions of payloads by a SLURM file stand in place of those before
+abbrev pub amended : Option Amendment → Origins → Origins
+amended None origins = origins
+amended (Some amendment) origins = record origins { filters = amendment.filters; assertions = amendment.assertions }
+
+-- a good file changes what attests, and its name is in use
+pub record Holds (state : State) (kind : FileKind) (event : Event) (amends : Option Amendment) (text : List ℕ) (next : State) : Type 0 where
   pub silent : text ≡ []
   pub analysis : Analysis
   pub happens : Happens state.analysis event analysis
@@ -73,16 +80,17 @@ pub record Holds (state : State) (kind : FileKind) (event : Event) (text : List 
   pub costs : Costs state.analysis event analysis cost
   pub left : next ≡ record state {
     analysis = analysis;
+    origins = amended amends state.origins;
     sources = with_name kind state.sources;
     judgements = state.judgements + cost;
   }
 
--- What comes of a file is taken: a good one changes the table, and by another one the line is refused.
+-- What comes of a file is taken: a good one changes what attests, and by another one the line is refused.
 abbrev pub TakesFile : State → FileKind → Outcome → List ℕ → State → Type 0
 TakesFile state kind NoFile text next = Refuses state of_line causes.NoFile text next
 TakesFile state kind FileLong text next = Refuses state of_line causes.FileLong text next
 TakesFile state kind (Flawed flaw) text next = Refuses state (of_unit (unit_name kind) flaw.unit) flaw.cause text next
-TakesFile state kind (Good change) text next = Holds state kind (TableEvent change) text next
+TakesFile state kind (Good made) text next = Holds state kind (TableEvent made.table) made.amends text next
 
 -- the file of this name is loaded
 pub record LoadsFile (world : World) (state : State) (kind : FileKind) (file text : List ℕ) (next : State) : Type 0 where
@@ -130,6 +138,7 @@ feeds_of state = record {
   feeds = state.feeds;
   made = state.made;
   analysis = state.analysis;
+  parts = state.origins;
   refused = state.refused;
   judgements = state.judgements;
 }
@@ -139,6 +148,7 @@ with_feeds state after = record state {
   feeds = after.feeds;
   made = after.made;
   analysis = after.analysis;
+  origins = after.parts;
   refused = after.refused;
   judgements = after.judgements;
 }

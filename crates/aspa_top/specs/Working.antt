@@ -9,7 +9,6 @@ use Rattle.std.specs.declared.option.Option.TheVariants.{Some}
 use Rattle.feed_lines.specs.Holding.{feed_in}
 use Rattle.path_model.specs.declared.role.Role.{Role}
 use Rattle.attestations.specs.CurrentTable.{Parts}
-use Rattle.vap_table.specs.declared.change.TableChange.{TableChange}
 use Rattle.rib_store.specs.Changes.{IsMarked}
 use Rattle.rib_store.specs.State.{State as Analysis}
 use Rattle.analyser.specs.declared.event.Event.{Event}
@@ -21,13 +20,15 @@ use Rattle.report_text.specs.declared.cause.Cause.TheVariants as causes
 use Rattle.report_text.specs.Refusals.{AnyPlace, of_line, of_unit, refusal_text}
 use Rattle.rtr_cache.specs.Cache.{Versions}
 use Rattle.stream_lines.specs.Held.{HeldDump}
+use Rattle.aspa_top.specs.declared.loading.Amendment.{Amendment}
 use Rattle.aspa_top.specs.declared.loading.FileKind.{FileKind}
+use Rattle.aspa_top.specs.declared.loading.Made.{Made}
 use Rattle.aspa_top.specs.declared.loading.FileKind.TheVariants.{Payloads, PayloadLines, Slurm as SlurmFile}
 use Rattle.aspa_top.specs.declared.loading.Outcome.{Outcome}
 use Rattle.aspa_top.specs.declared.loading.Outcome.TheVariants.{NoFile, Long, Flawed, Good}
 use Rattle.aspa_top.specs.declared.working.Working.{Working}
 use Rattle.aspa_top.specs.Loading.{unit_name}
-use Rattle.aspa_top.specs.Tasks.{IsJudged, same_name}
+use Rattle.aspa_top.specs.Tasks.{IsJudged, amended, same_name}
 
 -- the dump that is open under a name
 abbrev pub dump_in : Working → List ℕ → Option HeldDump
@@ -73,11 +74,17 @@ NamesBy (Payloads name) working next = Names working name next
 NamesBy (PayloadLines name) working next = Names working name next
 NamesBy SlurmFile working next = next ≡ working
 
+-- the filters and assertions of payloads are those of a SLURM file, and nothing else is altered
+abbrev pub Amended : Working → Option Amendment → Working → Type 0
+Amended working amends next = next ≡ record working { origins = amended amends working.origins }
+
 -- the change of a good file is made, and its name is noted
-pub record Loaded (working : Working) (kind : FileKind) (change : TableChange) (next : Working) : Type 0 where
+pub record Loaded (working : Working) (kind : FileKind) (made : Made) (next : Working) : Type 0 where
   pub mid : Working
-  pub happened : Happened working (TableEvent change) mid
-  pub names : NamesBy kind mid next
+  pub happened : Happened working (TableEvent made.table) mid
+  pub after : Working
+  pub amends : Amended mid made.amends after
+  pub names : NamesBy kind after next
 
 -- the line is refused at this place for this cause, and nothing else changes
 abbrev pub IsRefused : Working → AnyPlace → Cause → List ℕ → List ℕ → Working → Type 0
@@ -89,14 +96,14 @@ abbrev pub Acted : Working → FileKind → Outcome → List ℕ → List ℕ �
 Acted working kind NoFile text_old text_new next = IsRefused working of_line causes.NoFile text_old text_new next
 Acted working kind Long text_old text_new next = IsRefused working of_line causes.FileLong text_old text_new next
 Acted working kind (Flawed flaw) text_old text_new next = IsRefused working (of_unit (unit_name kind) flaw.unit) flaw.cause text_old text_new next
-Acted working kind (Good change) text_old text_new next = (text_new ≡ text_old) × Loaded working kind change next
+Acted working kind (Good made) text_old text_new next = (text_new ≡ text_old) × Loaded working kind made next
 
 -- the change judges no more than its event may, and without one nothing is judged
 abbrev pub ActedWithin : Working → Outcome → ℕ → ℕ → Type 0
 ActedWithin working NoFile ticks_old ticks_new = ticks_new ≡ ticks_old
 ActedWithin working Long ticks_old ticks_new = ticks_new ≡ ticks_old
 ActedWithin working (Flawed flaw) ticks_old ticks_new = ticks_new ≡ ticks_old
-ActedWithin working (Good change) ticks_old ticks_new = TicksWithin working.analyser (TableEvent change) ticks_old ticks_new
+ActedWithin working (Good made) ticks_old ticks_new = TicksWithin working.analyser (TableEvent made.table) ticks_old ticks_new
 
 -- whether the name is a dump's or a feed's
 abbrev pub has_stream : Working → List ℕ → Bool

@@ -1,4 +1,4 @@
-//! What a line only asks: `report`, `summary` and `why`.
+//! What a line only asks: `report`, `origins`, `summary` and `why`.
 ghost use Rattle.std.specs.Prelude.{Ok};
 ghost use Rattle.aspa_top.specs.declared.task.Task.TheVariants.{Answer};
 ghost use Rattle.aspa_top.specs.Outside.{Keeps, outside};
@@ -9,6 +9,7 @@ use crate::acting::refuse;
 use crate::task::Question;
 use crate::working::Working;
 use av_base::{Links, Shelf, Sink, Steps};
+use origin_lines::put_origins;
 use report_text::{Cause, Place, put_summary, put_why};
 use script_lines::Show;
 use std::sync::ledger::Ledger;
@@ -17,7 +18,7 @@ use stream_lines::{Stop, put_rows, summary_of};
 /// Adds the text that answers a question, and changes nothing; where it is refused, the line that says so.
 #[inline(never)]
 pub(crate) fn answer<F: Shelf, K: Links, W: Sink, L: Ledger>(
-    working: Working,
+    mut working: Working,
     question: Question,
     shelf: &mut F,
     links: &mut K,
@@ -38,6 +39,10 @@ pub(crate) fn answer<F: Shelf, K: Links, W: Sink, L: Ledger>(
     match question {
         Question::Show(Show::Report) => {
             put_rows(store, out, text)?;
+            Ok(working)
+        }
+        Question::Show(Show::Origins) => {
+            put_origins(store, &mut working.origins, out, text)?;
             Ok(working)
         }
         Question::Show(Show::Summary) => {

@@ -130,6 +130,7 @@ fn take_open<F: Shelf, K: Links, W: Sink, L: Ledger>(
 {
     let Working {
         analyser,
+        origins,
         sources,
         mut dumps,
         feeds,
@@ -154,6 +155,7 @@ fn take_open<F: Shelf, K: Links, W: Sink, L: Ledger>(
     let taken = take_units(alloc, dump, asked, progress, shelf, out, text, steps)?;
     Ok(Working {
         analyser: taken.analyser,
+        origins,
         sources,
         dumps,
         feeds,

@@ -47,6 +47,7 @@ pub(crate) fn connect_feed<F: Shelf, K: Links, W: Sink, L: Ledger>(
     let _name = name.text();
     let Working {
         analyser,
+        origins,
         sources,
         dumps,
         mut feeds,
@@ -68,6 +69,7 @@ pub(crate) fn connect_feed<F: Shelf, K: Links, W: Sink, L: Ledger>(
     )?;
     Ok(Working {
         analyser: next.analyser,
+        origins,
         sources,
         dumps,
         feeds,
@@ -105,6 +107,7 @@ pub(crate) fn work_on<F: Shelf, K: Links, W: Sink, L: Ledger>(
     let _name = name.text();
     let Working {
         analyser,
+        mut origins,
         sources,
         dumps,
         mut feeds,
@@ -115,10 +118,20 @@ pub(crate) fn work_on<F: Shelf, K: Links, W: Sink, L: Ledger>(
     } = working;
     let progress = Progress { analyser, refused };
     let next = work(
-        alloc, lines, name, asked, &mut feeds, progress, links, text, steps,
+        alloc,
+        lines,
+        name,
+        asked,
+        &mut feeds,
+        progress,
+        &mut origins,
+        links,
+        text,
+        steps,
     )?;
     Ok(Working {
         analyser: next.analyser,
+        origins,
         sources,
         dumps,
         feeds,

@@ -1,5 +1,5 @@
 //! Laws of the definitions: the contract of each function is the law, and its body does nothing.
-ghost use Rattle.aspa_top.specs.Laws.{EachScriptWithoutAttemptsHasAText, FeedsWereConnected, NoScriptHasTwoTexts, RefusalsAreCounted, RunsWriteFronts, UnbrokenFeedsAreLostAtEnd};
+ghost use Rattle.aspa_top.specs.Laws.{EachScriptWithoutAttemptsHasAText, FeedsWereConnected, NoScriptHasTwoTexts, RefusalsAreCounted, RunsWriteFronts, ServedRoutersGetTheTable, UnbrokenFeedsAreLostAtEnd};
 
 /// In a world whose attempts to connect are told no script has two texts.
 pub fn no_script_has_two_texts()
@@ -29,4 +29,10 @@ pub fn feeds_were_connected()
 /// Where no connection that was made in the run is broken, a feed is lost only where nothing more is to come on its connection.
 pub fn unbroken_feeds_are_lost_at_end()
     ensures { UnbrokenFeedsAreLostAtEnd }
+{}
+
+/// A router that a line serves, and that asks and takes the whole reply, holds exactly the current table of that line then, if it starts anew or
+/// holds a version that the session's cache keeps.
+pub fn served_routers_get_the_table()
+    ensures { ServedRoutersGetTheTable }
 {}

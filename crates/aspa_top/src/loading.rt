@@ -11,6 +11,7 @@ ghost use Rattle.stream_lines.specs.Frames.{Leaves};
 use aspa_payload::{FileFault, PayloadFault, read_lines, read_many};
 use attestations::Terms;
 use av_base::{NoMemory, PIECE, Shelf};
+use origin_model::{PrefixFilters, VrpSet};
 use path_model::{Name, Rows};
 use report_text::Cause;
 use slurm_rules::{Slurm, SlurmFault};
@@ -53,6 +54,22 @@ pub(crate) struct Flaw {
     pub(crate) cause: Cause,
 }
 
+/// What a SLURM file says of payloads of origin validation, in place of what one said before.
+#[derive(Debug, Drop)]
+pub(crate) struct Amendment {
+    pub(crate) filters: PrefixFilters,
+    pub(crate) assertions: VrpSet,
+}
+
+/// What a good file changes.
+#[derive(Debug, Drop)]
+pub(crate) struct Made {
+    /// What attests.
+    pub(crate) table: TableChange,
+    /// The filters and assertions of payloads, by a SLURM file.
+    pub(crate) amends: Option<Amendment>,
+}
+
 /// What comes of a file.
 #[derive(Debug, Drop)]
 pub(crate) enum Outcome {
@@ -62,8 +79,8 @@ pub(crate) enum Outcome {
     Long,
     /// One of its units is refused.
     Flawed(Flaw),
-    /// It is good, and changes the table so.
-    Good(TableChange),
+    /// It is good, and changes this.
+    Good(Made),
 }
 
 /// Opens a file, reads it whole and understands it.
@@ -154,7 +171,10 @@ fn terms_outcome(name: &Name, reading: Result<Terms, FileFault>) -> Result<Outco
     ensures comes { IfOk result (IsTermsOutcome name.now reading) }
 {
     match reading {
-        Ok(terms) => Ok(Outcome::Good(TableChange::Replace(name.copy()?, terms))),
+        Ok(terms) => Ok(Outcome::Good(Made {
+            table: TableChange::Replace(name.copy()?, terms),
+            amends: None,
+        })),
         Err(fault) => refused_for(fault),
     }
 }
@@ -181,8 +201,16 @@ fn slurm_outcome(alloc: Global, bytes: &[u8]) -> Result<Outcome, NoMemory>
             let Slurm {
                 filters,
                 assertions,
+                prefix_filters,
+                prefix_assertions,
             } = slurm;
-            Ok(Outcome::Good(TableChange::Slurm(filters, assertions)))
+            Ok(Outcome::Good(Made {
+                table: TableChange::Slurm(filters, assertions),
+                amends: Some(Amendment {
+                    filters: prefix_filters,
+                    assertions: prefix_assertions,
+                }),
+            }))
         }
         Err(fault) => Ok(Outcome::Flawed(Flaw {
             unit: 1,
@@ -216,6 +244,7 @@ fn slurm_cause(fault: SlurmFault) -> Result<Cause, NoMemory>
         SlurmFault::Version => Ok(Cause::SlurmVersion),
         SlurmFault::Member => Ok(Cause::Member),
         SlurmFault::Number => Ok(Cause::SlurmNumber),
+        SlurmFault::PrefixText => Ok(Cause::PrefixText),
         SlurmFault::NoMemory => Err(NoMemory),
     }
 }

@@ -52,6 +52,7 @@ pub(crate) fn serve_routers<F: Shelf, K: Links, W: Sink, L: Ledger>(
     }
     let Working {
         analyser,
+        origins,
         sources,
         dumps,
         feeds,
@@ -70,6 +71,7 @@ pub(crate) fn serve_routers<F: Shelf, K: Links, W: Sink, L: Ledger>(
     put_served(text, served.accepted, served.answers)?;
     Ok(Working {
         analyser,
+        origins,
         sources,
         dumps,
         feeds,

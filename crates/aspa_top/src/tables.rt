@@ -6,10 +6,10 @@ ghost use Rattle.aspa_top.specs.declared.task.Task.TheVariants.{Load};
 ghost use Rattle.aspa_top.specs.Outside.{Keeps, outside};
 ghost use Rattle.aspa_top.specs.Performing.{Did};
 ghost use Rattle.aspa_top.specs.Standing.{IsBegun};
-ghost use Rattle.aspa_top.specs.Working.{Acted, ActedWithin, Loaded, Names};
+ghost use Rattle.aspa_top.specs.Working.{Acted, ActedWithin, Amended, Loaded, Names};
 
 use crate::acting::{happen, refuse};
-use crate::loading::{FileKind, Outcome, load_file};
+use crate::loading::{Amendment, FileKind, Made, Outcome, load_file};
 use crate::working::Working;
 use analyser::Event;
 use av_base::{Links, NoMemory, Shelf, Sink, Steps};
@@ -19,9 +19,8 @@ use script_lines::Word;
 use std::alloc::Global;
 use std::sync::ledger::Ledger;
 use stream_lines::Stop;
-use vap_table::TableChange;
 
-/// Loads the file of this name: a good one changes the table, and by another one the line is refused.
+/// Loads the file of this name: a good one changes what attests, and by another one the line is refused.
 #[inline(never)]
 pub(crate) fn load<F: Shelf, K: Links, W: Sink, L: Ledger>(
     alloc: Global,
@@ -83,23 +82,42 @@ fn act_on<L: Ledger>(
 fn hold<L: Ledger>(
     working: Working,
     kind: FileKind,
-    made: TableChange,
+    made: Made,
     steps: &mut Steps<L>,
 ) -> Result<Working, NoMemory>
     ensures held { IfOk result (Loaded working kind made) }
-    ensures ticks { TicksWithin working.analyser (TableEvent made) steps.old steps.new }
+    ensures ticks { TicksWithin working.analyser (TableEvent made.table) steps.old steps.new }
 {
-    let changed = happen(working, Event::Table(made), steps)?;
+    let Made { table, amends } = made;
+    let changed = happen(working, Event::Table(table), steps)?;
+    let amended = amend(changed, amends);
     match kind {
         FileKind::Payloads(name) => {
-            let named = name_source(changed, name)?;
+            let named = name_source(amended, name)?;
             Ok(named)
         }
         FileKind::PayloadLines(name) => {
-            let named = name_source(changed, name)?;
+            let named = name_source(amended, name)?;
             Ok(named)
         }
-        FileKind::Slurm => Ok(changed),
+        FileKind::Slurm => Ok(amended),
+    }
+}
+
+// Puts the filters and assertions of payloads in place of those before, where a file has some.
+fn amend(mut working: Working, amends: Option<Amendment>) -> Working
+    ensures { Amended working amends result }
+{
+    match amends {
+        None => working,
+        Some(amendment) => {
+            let Amendment {
+                filters,
+                assertions,
+            } = amendment;
+            working.origins.slurm(filters, assertions);
+            working
+        }
     }
 }
 

@@ -6,6 +6,7 @@ use crate::loading::FileKind;
 use analyser::Analyser;
 use av_base::NoMemory;
 use feed_lines::Feeds;
+use origin_validation::Origins;
 use path_model::Name;
 use rtr_cache::Cache;
 use std::alloc::Global;
@@ -17,6 +18,8 @@ use stream_lines::OpenDump;
 pub(crate) struct Working {
     /// What attests, the roles and the routes.
     pub(crate) analyser: Analyser,
+    /// The payloads of origin validation.
+    pub(crate) origins: Origins,
     /// The names of the attestation sources.
     pub(crate) sources: BTreeSet<Name>,
     /// The dumps that were opened, by name.
@@ -69,6 +72,7 @@ impl Working {
     {
         Working {
             analyser,
+            origins: Origins::new(alloc),
             sources: BTreeSet::new(alloc),
             dumps: BTreeMap::new(alloc),
             feeds: Feeds::new(alloc),

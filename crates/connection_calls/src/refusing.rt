@@ -1,5 +1,6 @@
 //! Refused PDUs.
-ghost use Rattle.std.specs.Prelude.{IfOk};
+ghost use Rattle.std.specs.Prelude.{◌≡◌, IfOk, OnErr};
+ghost use Rattle.rtr_pdu.specs.declared.pdu.PduFault.TheVariants.{NoMemory as OutOfMemory};
 ghost use Rattle.connection_calls.specs.Refusals.{IsCauseOf};
 
 use av_base::NoMemory;
@@ -8,7 +9,8 @@ use rtr_pdu::PduFault;
 
 /// The cause of a refused PDU, 15 to 18 or 43; want of memory is none.
 pub fn refusal(fault: PduFault) -> Result<Cause, NoMemory>
-    ensures { IfOk result (λ cause. IsCauseOf fault cause) }
+    ensures cause { IfOk result (λ cause. IsCauseOf fault cause) }
+    ensures err { OnErr result (fault ≡ OutOfMemory) }
 {
     match fault {
         PduFault::PduVersion => Ok(Cause::PduVersion),

@@ -33,6 +33,19 @@ returns-in_err-put_rows-in-Show-Report g c =
           c.in_err-put_rows-in-Show-Report.field-0.0 rows.front (λ is. stopped.no_shelf (ap Err is)) (λ is. stopped.held (ap Err is)) (λ is. stopped.sink_cause (ap Err is))));
     }
 
+-- `origins`
+pub returns-in_ok-put_origins-in-Show-Origins : goal.returns-in_ok-put_origins-in-Show-Origins
+returns-in_ok-put_origins-in-Show-Origins g c =
+    let same = c.in-Show-Origins.is ∙ ap Show (rw c.in-Show-Origins.is at c.in-Show-Origins.field-0-is) in
+    let rows = c.in_ok-put_origins-in-Show-Origins.ensures.whole in
+    record {
+      keeps = keeps_sink _ _ _ _ _ c.put_origins.ensures.grows c.put_origins.ensures.sink_faults;
+      did = ?did;
+    }
+
+pub returns-in_err-put_origins-in-Show-Origins : goal.returns-in_err-put_origins-in-Show-Origins
+returns-in_err-put_origins-in-Show-Origins g c = ?err
+
 -- `summary`
 pub returns-in_ok-put_summary-in-Show-Summary : goal.returns-in_ok-put_summary-in-Show-Summary
 returns-in_ok-put_summary-in-Show-Summary g c =

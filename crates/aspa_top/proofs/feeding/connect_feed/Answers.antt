@@ -29,11 +29,11 @@ returns-in_err-refuse g c = record {
 pub returns : goal.returns
 returns g c =
     let free = sym c.is_no_feeds.ensures ∙ c.if-is_no_feeds.false in
-    let goes = c.in_ok-next.ensures.goes in
+    let goes = c.in_ok-next.ensures.goes c.args.working.origins in
     let told = c.in_ok-next.ensures.tells in
     record {
       keeps = keeps_links _ _ _ _ _ _ (record { attempts = goes.attempts; wire = goes.links }) c.connect.ensures.broke;
-      did = connected c.args.working c.args.name.now _ _ _ _ _ _ _ _ c.requires.begun refl refl c.args.place.now free _ _ _ (rw c.text.ensures.text at goes) refl c.in_ok-next.ensures.few
+      did = connected c.args.working c.args.name.now _ _ _ _ _ _ _ _ c.requires.begun refl refl c.args.place.now free _ _ _ _ (rw c.text.ensures.text at goes) refl c.in_ok-next.ensures.few
           (sound_weaker _ _ _ _ (omega arith) (c.in_ok-next.ensures.sound _ c.requires.begun.feeds))
           (told_adds _ c.args.name.now _ _ told.0 _ _ c.text-name.ensures.is_name told.2.later told.2.rose told.1) refl;
     }
@@ -41,7 +41,7 @@ returns g c =
 pub returns-in_err-next : goal.returns-in_err-next
 returns-in_err-next g c =
     let free = sym c.is_no_feeds.ensures ∙ c.if-is_no_feeds.false in
-    let goes = c.in_err-next.ensures.part in
+    let goes = c.in_err-next.ensures.part c.args.working.origins in
     record {
       keeps = keeps_links _ _ _ _ _ _ (record { attempts = goes.attempts; wire = goes.links }) c.connect.ensures.broke;
       did = did_err c.args.working _ _ _ c.from_residual-in_err-next.result stops.NoMemory c.from_residual-in_err-next.ensures.1

@@ -16,7 +16,7 @@ returns g c =
     let told = c.in_ok-next.ensures.tells in
     record {
       keeps = keeps_links _ _ _ _ _ _ (record { attempts = goes.attempts; wire = goes.links }) c.work.ensures.broke;
-      did = worked c.args.working c.args.name.now _ _ _ _ _ _ _ _ c.requires.begun refl refl c.args.asked _ _ _ goes refl c.in_ok-next.ensures.few
+      did = worked c.args.working c.args.name.now _ _ _ _ _ _ _ _ c.requires.begun refl refl c.args.asked _ _ _ _ goes refl c.in_ok-next.ensures.few
           (sound_weaker _ _ _ _ (omega (arith, c.requires.begun.counted, c.requires.within)) (c.in_ok-next.ensures.sound _ c.requires.begun.feeds))
           (told_adds _ c.args.name.now _ _ told.0 _ _ c.text-name.ensures.is_name c.work.ensures.broke.later (λ same. absurd (told.2 same)) told.1);
     }

@@ -43,7 +43,7 @@ pub returns-in-End-clause-keeps : goal.returns-in-End-clause-keeps
 returns-in-End-clause-keeps g c = KeepsSent-trans c.pieces.invariant.keeps c.receive.ensures.keeps
 
 pub returns-in-Err-clause-refused : goal.returns-in-Err-clause-refused
-returns-in-Err-clause-refused g c = (c.in-Err.fault, rw c.in-Err.ensures.next.1 c.in-Err.ensures.next.0, c.in_ok-refusal-in-Err.ensures)
+returns-in-Err-clause-refused g c = (c.in-Err.fault, rw c.in-Err.ensures.next.1 c.in-Err.ensures.next.0, c.in_ok-refusal-in-Err.ensures.cause)
 
 pub returns-in_err-more-in-Ok-None-clause-broke : goal.returns-in_err-more-in-Ok-None-clause-broke
 returns-in_err-more-in-Ok-None-clause-broke g c = BreaksByFault-trans c.pieces.invariant.broke c.receive.ensures.broke
