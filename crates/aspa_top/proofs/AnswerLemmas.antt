@@ -99,6 +99,11 @@ module _ (working : Working) (question : Question) (old : Outside) (written : Op
         adds = adds_answers (all_of old) (all_of new) are.lines are.each (added ∙ ap (append_known (all_of old)) are.is) old.link_faults;
       }
 
+  -- so it is where the working state was looked at, and stayed as it is seen
+  pub answered_same : (next : Working) → next ≡ working → append_known written held ≡ append_known (all_of old) text
+      → Done working (Ok (Answer question)) old (record old { written = written; sink_faults = faults; held = held }) next
+  answered_same next same added = subst (λ (w : Working). Done working (Ok (Answer question)) old (record old { written = written; sink_faults = faults; held = held }) w) (sym same) (answered added)
+
   -- a front of it was
   pub answer_stopped : (stop : Stop) → AppendsFront (all_of old) (append_known written held) text
       → (stop ≡ stops.Shelf → ⊥) → (stop ≡ stops.Sink → 0 < length held) → (stop ≡ stops.Sink → Rose old.sink_faults faults)

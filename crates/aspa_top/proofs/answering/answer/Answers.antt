@@ -3,9 +3,10 @@ use Rattle.std.specs.Io.KnownBytes.{append_known}
 use Rattle.report_text.specs.declared.cause.Cause.TheVariants as causes
 use Rattle.stream_lines.specs.declared.stop.Stop.TheVariants as stops
 use Rattle.stream_lines.specs.Rows.{rows_text}
+use Rattle.origin_lines.specs.Rows.{origins_text}
 use Rattle.aspa_top.specs.declared.task.Question.TheVariants.{Show, Why}
-use Rattle.script_lines.specs.declared.command.Show.TheVariants.{Report, Summary}
-use Rattle.aspa_top.proofs.AnswerLemmas.{answered, answer_stopped, not_answered, report_answers, summary_answers, why_answers, why_refused}
+use Rattle.script_lines.specs.declared.command.Show.TheVariants.{Report, Origins, Summary}
+use Rattle.aspa_top.proofs.AnswerLemmas.{answered, answered_same, answer_stopped, not_answered, origins_answer, report_answers, summary_answers, why_answers, why_refused}
 use Rattle.aspa_top.proofs.DidLemmas.{did_err, nothing}
 use Rattle.aspa_top.proofs.KeepLemmas.{keeps_all, keeps_sink}
 use Rattle.aspa_top.proofs.StandsLemmas.{added_text}
@@ -40,11 +41,21 @@ returns-in_ok-put_origins-in-Show-Origins g c =
     let rows = c.in_ok-put_origins-in-Show-Origins.ensures.whole in
     record {
       keeps = keeps_sink _ _ _ _ _ c.put_origins.ensures.grows c.put_origins.ensures.sink_faults;
-      did = ?did;
+      did = rw same (answered_same c.args.working (Show Origins) _ _ _ _ (origins_text rows.rows) c.requires.begun (origins_answer c.args.working _ c.store-store.ensures rows.rows rows.are) _
+          (λ i. record c.args.working { origins = c.in_ok-put_origins-in-Show-Origins.ensures.same i }) rows.added);
     }
 
 pub returns-in_err-put_origins-in-Show-Origins : goal.returns-in_err-put_origins-in-Show-Origins
-returns-in_err-put_origins-in-Show-Origins g c = ?err
+returns-in_err-put_origins-in-Show-Origins g c =
+    let same = c.in-Show-Origins.is ∙ ap Show (rw c.in-Show-Origins.is at c.in-Show-Origins.field-0-is) in
+    let rows = c.put_origins.ensures.front in
+    let stopped = c.in_err-put_origins-in-Show-Origins.ensures in
+    record {
+      keeps = keeps_sink _ _ _ _ _ c.put_origins.ensures.grows c.put_origins.ensures.sink_faults;
+      did = did_err c.args.working _ _ _ c.from_residual-in_err-put_origins-in-Show-Origins.result _ c.from_residual-in_err-put_origins-in-Show-Origins.ensures.1
+          (rw same (answer_stopped c.args.working (Show Origins) _ _ _ _ (origins_text rows.rows) c.requires.begun (origins_answer c.args.working _ c.store-store.ensures rows.rows rows.are)
+          c.in_err-put_origins-in-Show-Origins.field-0.0 rows.front (λ is. stopped.no_shelf (ap Err is)) (λ is. stopped.held (ap Err is)) (λ is. stopped.sink_cause (ap Err is))));
+    }
 
 -- `summary`
 pub returns-in_ok-put_summary-in-Show-Summary : goal.returns-in_ok-put_summary-in-Show-Summary
