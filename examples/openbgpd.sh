@@ -2,10 +2,14 @@
 # OpenBGPD is a router of the program: it takes the table, and says how many customers it has. Run it in the repository's folder, as root, where
 # OpenBGPD 8.8 is installed: examples/openbgpd.sh
 set -eu
+for program in bgpd bgpctl; do
+    command -v "$program" >/dev/null || { echo "$0: $program isn't there; OpenBGPD has it" >&2; exit 1; }
+done
 port=8283
 work=$(mktemp -d)
+cache=
 router=
-trap '[ -z "$router" ] || kill "$router"; rm -rf "$work"' EXIT
+trap 'kill $router $cache 2>/dev/null || true; rm -rf "$work"' EXIT
 
 # A BGP speaker without a neighbour, whose one RPKI cache is the program. It speaks version 2 of the protocol where it is told to.
 cat >"$work/bgpd.conf" <<END
@@ -45,4 +49,5 @@ kill "$router"
 wait "$router" || true
 router=
 wait "$cache"
+cache=
 cat "$work/served"

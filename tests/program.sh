@@ -194,27 +194,30 @@ check 'standard output is full' "$(lines 20000 0)" "$(unwaiting output <"$work/s
 holds() {
     [ "$(cat "$work/held")" = "$1" ]
 }
-# waits WHAT OPENING UNIT REFUSAL: a dump that comes through a pipe, which that line opens, is waited for, and so is what is behind a unit of
-# these bytes, which is refused so.
-waits() {
-    local summary='summary routes 0 valid 0 unknown 0 invalid 0 customers 0 passed 0 refused 1'
-    rm -f "$work/fifo"
-    mkfifo "$work/fifo"
-    lines 'judge customer 64501 64501' "$2" 'take d 9' 'summary' | timeout 60 "$program" run >"$work/held" &
-    check "$1 that is opened is waited for" 0 "$(within 10 holds valid; echo $?)"
-    # (opened both ways, so that this never waits for a reader)
-    exec 5<>"$work/fifo"
-    # (the format spells the bytes)
-    printf "$3" >&5
-    check "what is behind a unit of $1 is waited for" 0 "$(within 10 holds "$(lines valid "$4")"; echo $?)"
-    exec 5>&-
-    wait
-    check "the text of $1 is whole" "$(lines valid "$4" "$summary")" "$(cat "$work/held")"
-}
-waits 'a dump of MRT' "open d $work/fifo" \
-    '\0\0\0\0\0\15\0\2\0\0\0\37\0\0\0\0\30\306\63\144\0\1\0\0\0\0\0\0\0\15\100\2\12\2\2\0\0\373\365\0\0\373\364' \
-    '! line 3 d unit 1 cause 29 NoPeerTable'
-waits 'a dump of BMP' "bmp d $work/fifo pre" '\3\0\0\0\7\2\0' '! line 3 d unit 1 cause 47 BmpBody'
+mkfifo "$work/fifo"
+lines 'judge customer 64501 64501' "open d $work/fifo" 'take d 9' 'summary' |
+    timeout 60 "$program" run >"$work/held" &
+check 'a dump that is opened is waited for' 0 "$(within 10 holds valid; echo $?)"
+# (opened both ways, so that this never waits for a reader)
+exec 5<>"$work/fifo"
+printf '\0\0\0\0\0\15\0\2\0\0\0\37\0\0\0\0\30\306\63\144\0\1\0\0\0\0\0\0\0\15\100\2\12\2\2\0\0\373\365\0\0\373\364' >&5
+check 'a record is waited for' 0 "$(within 10 holds "$(lines valid '! line 3 d unit 1 cause 29 NoPeerTable')"; echo $?)"
+exec 5>&-
+wait
+check 'the text is whole' "$(lines valid '! line 3 d unit 1 cause 29 NoPeerTable' \
+    'summary routes 0 valid 0 unknown 0 invalid 0 customers 0 passed 0 refused 1')" "$(cat "$work/held")"
+
+mkfifo "$work/router"
+lines 'judge customer 64501 64501' "bmp d $work/router pre" 'take d 9' 'summary' |
+    timeout 60 "$program" run >"$work/held" &
+check 'a dump of BMP that is opened is waited for' 0 "$(within 10 holds valid; echo $?)"
+exec 5<>"$work/router"
+printf '\3\0\0\0\7\2\0' >&5
+check 'a message is waited for' 0 "$(within 10 holds "$(lines valid '! line 3 d unit 1 cause 47 BmpBody')"; echo $?)"
+exec 5>&-
+wait
+check 'the text is whole, of messages' "$(lines valid '! line 3 d unit 1 cause 47 BmpBody' \
+    'summary routes 0 valid 0 unknown 0 invalid 0 customers 0 passed 0 refused 1')" "$(cat "$work/held")"
 
 # ---- routers are served, over connections of the system's
 

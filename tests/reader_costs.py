@@ -62,7 +62,7 @@ def route(at, path):
 
 
 # How many inputs there are.
-COUNT = 19
+COUNT = 21
 
 def peers(count, apart=0):
     """A peer table of so many peers, each of the AS of the one before and so many more."""
@@ -80,7 +80,7 @@ def from_all(count):
 PEERS = record(1, struct.pack(">IHH", 1, 0, 1) + struct.pack(">BIII", 2, 1, 1, 64501))
 SLURM = (
     b'{"slurmVersion":2,"validationOutputFilters":{"prefixFilters":[%s],"bgpsecFilters":[],"aspaFilters":[]},'
-    b'"locallyAddedAssertions":{"prefixAssertions":[],"bgpsecAssertions":[],"aspaAssertions":[%s]}}'
+    b'"locallyAddedAssertions":{"prefixAssertions":[%s],"bgpsecAssertions":[],"aspaAssertions":[%s]}}'
 )
 DUMP = "open d input\ntake d 100000000\n"
 BMP = "bmp d input pre\ntake d 100000000\n"
@@ -88,6 +88,10 @@ BMP = "bmp d input pre\ntake d 100000000\n"
 
 def pdu(customer):
     return struct.pack(">BBHIII", 2, 11, 0x0100, 16, customer, 7)
+
+
+def prefix_pdu(at):
+    return struct.pack(">BBHIBBBBII", 2, 4, 0, 20, 1, 32, 32, 0, at, 7)
 
 
 def inputs(size):
@@ -100,9 +104,12 @@ def inputs(size):
     yield "base64 lines: one provider each", fill(
         size, lambda at: base64.b64encode(payload(1 + at, [4294967295])) + b"\n"
     ), "aspa64 a input\n"
-    yield "SLURM: filters that are passed over", SLURM % (b",".join([b'{"asn":1}'] * (size // 10)), b""), "slurm input\n"
+    yield "SLURM: filters of prefixes, by an AS each", SLURM % (b",".join([b'{"asn":1}'] * (size // 10)), b"", b""), "slurm input\n"
+    yield "SLURM: a prefix asserted by each element", SLURM % (
+        b"", b",".join(b'{"asn":1,"prefix":"::%x:%x/128"}' % (at >> 16, at & 65535) for at in range(size // 32)), b""
+    ), "slurm input\n"
     yield "SLURM: one assertion of many providers", SLURM % (
-        b"", b'{"customerAsn":1,"providerAsns":[%s]}' % b",".join(b"%d" % asn for asn in range(2, 2 + size // 8))
+        b"", b"", b'{"customerAsn":1,"providerAsns":[%s]}' % b",".join(b"%d" % asn for asn in range(2, 2 + size // 8))
     ), "slurm input\n"
     yield "table: a route with a path of its own each", PEERS + fill(size, lambda at: route(at, [64501, 100_000 + at])), DUMP
     yield "table: routes with one path", PEERS + fill(size, lambda at: route(at, [64501, 7])), DUMP
@@ -119,6 +126,7 @@ def inputs(size):
     yield "BMP: a route with a path of its own each", fill(size, lambda at: monitoring([64501, 100_000 + at], prefix(at))), BMP
     yield "BMP: a peer in each Peer Up, with a role and path identifiers", fill(size, peer_up), BMP
     yield "feed: a customer in each PDU", fill(size, lambda at: pdu(1 + at)), "feed"
+    yield "feed: a prefix in each PDU", fill(size, prefix_pdu), "feed"
 
 
 def withdrawals(at):

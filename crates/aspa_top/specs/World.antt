@@ -7,8 +7,8 @@ use Rattle.av_base.specs.Files.{Files}
 use Rattle.connection_calls.specs.World.{AddsAttempts, ComesTo as Comes, World as Ends}
 pub use Rattle.stream_lines.specs.Frames.{names_of}
 
--- The outside as a run's text depends on it: what each name holds, which stays while the run lasts; how many attempts to connect were
--- made before it; and the attempts and connections as they stand when it ends.
+-- The outside as a run's text depends on it: what each name holds, which stays while the run lasts; how many attempts to connect and to
+-- accept were made before it; and the attempts and connections as they stand when it ends.
 pub record World : Type 0 where
   pub named : List ℕ → Option (List ℕ)
   pub made : ℕ

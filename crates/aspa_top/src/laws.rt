@@ -1,7 +1,7 @@
 //! Laws of the definitions: the contract of each function is the law, and its body does nothing.
 ghost use Rattle.aspa_top.specs.Laws.{EachScriptWithoutAttemptsHasAText, FeedsWereConnected, NoScriptHasTwoTexts, RefusalsAreCounted, RunsWriteFronts, ServedRoutersGetTheTable, UnbrokenFeedsAreLostAtEnd};
 
-/// In a world whose attempts to connect are told no script has two texts.
+/// In a world whose attempts are told no script has two texts.
 pub fn no_script_has_two_texts()
     ensures { NoScriptHasTwoTexts }
 {}

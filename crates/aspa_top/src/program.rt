@@ -87,8 +87,8 @@ pub fn run<S: Source, F: Shelf, K: Links, W: Sink, L: Ledger>(
         (linked (K.attempts links.old) (K.wire links.old)) (linked (K.attempts links.new) (K.wire links.new))
         (W.written out.old) (W.written out.new) steps.old steps.new }
 
-    // For every script, shelf and links, where the sink tells what was written: no more feeds were `unreachable` than the links counted
-    // faults, unless that count stands at its last value.
+    // For every script, shelf and links, where the sink tells what was written: no more lines of it say `unreachable` than the links
+    // counted faults, unless that count stands at its last value.
     ensures few_unreachable { IsRun (map string_bytes words.now.items) → (before text : List ℕ)
         → W.written out.old ≡ Some before → W.written out.new ≡ Some (before ++ text)
         → IsWithinRise (unreachables_in text) (K.faults links.old) (K.faults links.new) }

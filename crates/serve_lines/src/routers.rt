@@ -34,7 +34,7 @@ pub struct Served {
 
 /// Serves so many routers at a place, one after another, from this cache, and reports refused PDUs, lost connections, routers that asked for
 /// more than 65,536 PDUs, and an attempt to accept that failed, behind which none is accepted. The text is held, and written before each
-/// wait for a router. It takes memory for one router at a time.
+/// wait for a router. It takes memory for one router at a time, beside what the links keep of each connection.
 pub fn serve<K: Links, W: Sink>(
     alloc: Global,
     line: u64,
