@@ -1,9 +1,17 @@
 -- Laws of the definitions, each the contract of a public function of the module `laws`.
 use Rattle.std.specs.List.{Contains}
-use Rattle.std.specs.Prelude.{◌≡◌, ℕ, ◌≤◌, List, [], ◌∷◌, ◌++◌, None, Some}
+use Rattle.std.specs.Prelude.{◌≡◌, ℕ, ◌≤◌, Bool, List, [], ◌∷◌, ◌++◌, None, Some}
+use Rattle.std.specs.declared.option.Option.{Option}
 use Rattle.av_base.specs.Connections.{Attempt, Made}
 use Rattle.av_base.specs.declared.standing.Break.TheVariants.{BySend}
 use Rattle.av_text.specs.Spellings.{IsInLine}
+use Rattle.origin_model.specs.Vrp.{Payload}
+use Rattle.origin_model.specs.VrpChanges.{Patches}
+use Rattle.origin_validation.specs.Records.{or_none, source_of}
+use Rattle.rtr_session.specs.declared.act.Phase.{Phase}
+use Rattle.rtr_session.specs.declared.act.Phase.TheVariants.{Fresh, AskedWhole, AskedChanges, ReceivingWhole, ReceivingChanges, Ready, Over}
+use Rattle.rtr_session.specs.Laws.{AreInOrder}
+use Rattle.rtr_session.specs.State.{State as Session}
 use Rattle.report_text.specs.Laws.{IsRefusalLine}
 use Rattle.report_text.specs.declared.feed.FeedEnd.TheVariants.{Lost}
 use Rattle.feed_lines.specs.declared.telling.Telling.{Telling}
@@ -47,3 +55,33 @@ LostFeedsBrokeOrEnded = (world : World) (old new : State) (name : List ℕ) (tel
 pub record AreConnectedFrom (world : World) (first : ℕ) (state : State) : Type 0 where
   pub later : first ≤ state.made
   pub each : (name : List ℕ) (feed : Feed) → state.feeds name ≡ Some (Some feed) → (number : ℕ) × (first ≤ number) × IsAttempt world number (Made feed.link)
+
+-- ---- the payloads of feeds
+
+-- What the source of a feed's name has, by the phase of the session. Between answers with changes it has exactly the session's payloads. While one
+-- is received those are what the answer's changes so far make of what the source has.
+abbrev pub IsSourceAt : Phase → List Payload → List (Payload × Bool) → Option (List Payload) → Type 0
+IsSourceAt Fresh payloads changes source = Unit {0}
+IsSourceAt AskedWhole payloads changes source = Unit {0}
+IsSourceAt AskedChanges payloads changes source = source ≡ Some payloads
+IsSourceAt ReceivingWhole payloads changes source = Unit {0}
+IsSourceAt ReceivingChanges payloads changes source = Patches changes (or_none source) payloads
+IsSourceAt Ready payloads changes source = source ≡ Some payloads
+IsSourceAt Over payloads changes source = Unit {0}
+
+pub record HasItsPayloads (session : Session) (source : Option (List Payload)) : Type 0 where
+  pub in_order : AreInOrder session.payloads
+  pub source_is : IsSourceAt session.phase session.payloads session.payload_changes source
+
+-- so it is of each feed that goes on
+pub record IsTied (state : State) : Type 0 where
+  pub each : (name : List ℕ) (feed : Feed) → state.feeds name ≡ Some (Some feed) → HasItsPayloads feed.session (source_of state.parts.sources name)
+
+-- So it is where there are no feeds, and it stays so. Behind an End of Data, where a session is ready, the source has exactly its payloads: what
+-- an answer with changes named replaces them by those that the session keeps.
+pub record FeedsHaveTheirPayloads : Type 0 where
+  pub none : (state : State) → ((name : List ℕ) → state.feeds name ≡ None) → IsTied state
+  pub connects : (world : World) (asking : Asking) (place text : List ℕ) (old new : State) → IsTied old → ConnectLine world asking place old text new → IsTied new
+  pub works : (world : World) (asking : Asking) (work : Work) (text : List ℕ) (old new : State) → IsTied old → WorkLine world asking work old text new → IsTied new
+  pub ready : (state : State) → IsTied state → (name : List ℕ) (feed : Feed) → state.feeds name ≡ Some (Some feed) → feed.session.phase ≡ Ready
+      → source_of state.parts.sources name ≡ Some feed.session.payloads
