@@ -82,16 +82,16 @@ pub none_in_order : AreInOrder []
 unfolding IsStrictlySortedBy
 none_in_order = tt
 
--- what is handed out makes this of a source
-abbrev pub Brings : Delta → Option (List Payload) → Option (List Payload) → Type 0
-Brings (Whole rows payloads) source after = after ≡ Some payloads
-Brings (Part patch changes) source after = (payloads : List Payload) × Patches changes (or_none source) payloads × (after ≡ Some payloads)
+-- the payloads that are handed out, or those that what is handed out makes of a source
+abbrev pub Gives : Delta → Option (List Payload) → List Payload → Type 0
+Gives (Whole rows given) source payloads = payloads ≡ given
+Gives (Part patch changes) source payloads = Patches changes (or_none source) payloads
 
 -- what holds of the session and of its source once the act is done, where the session goes on
 abbrev pub HoldsAfter : Act → Session → Option (List Payload) → Type 0
 HoldsAfter Nothing session source = HasItsPayloads session source
 HoldsAfter (Send query) session source = HasItsPayloads session source
-HoldsAfter (Apply delta) session source = (after : Option (List Payload)) → Brings delta source after → HasItsPayloads session after
+HoldsAfter (Apply delta) session source = (payloads : List Payload) → Gives delta source payloads → (payloads ≡ session.payloads) × HasItsPayloads session (Some payloads)
 HoldsAfter (End ending) session source = Unit {0}
 
 module _ (old new : Session) (act : Act) (source : Option (List Payload)) (has_its : HasItsPayloads old source) where
@@ -184,10 +184,13 @@ module _ (old new : Session) (act : Act) (source : Option (List Payload)) (has_i
   begins_changes at = subst (λ (o : Option (List Payload)). Patches [] (or_none o) old.payloads) (sym (source_at AskedChanges at)) (patches_none old.payloads has_its.in_order)
 
   -- and ends with what the session keeps
-  ends_changes : old.phase ≡ ReceivingChanges → (after : Option (List Payload)) → Brings (Part old.changes old.payload_changes) source after → after ≡ Some old.payloads
-  ends_changes at after brings =
+  ends_changes : old.phase ≡ ReceivingChanges → (payloads : List Payload) → Patches old.payload_changes (or_none source) payloads → payloads ≡ old.payloads
+  ends_changes at payloads patches =
       let one = one_set old.payload_changes (or_none source) in
-      brings.2 ∙ ap Some (one.only brings.0 brings.1 ∙ sym (one.only old.payloads (source_at ReceivingChanges at)))
+      one.only payloads patches ∙ sym (one.only old.payloads (source_at ReceivingChanges at))
+
+  ends_with : (serial : ℕ) (payloads : List Payload) → payloads ≡ old.payloads → (payloads ≡ old.payloads) × HasItsPayloads (ended old serial) (Some payloads)
+  ends_with serial payloads same = (same, record { in_order = has_its.in_order; source_is = ap Some same })
 
   -- a session takes a PDU
   pub pdu_holds : (pdu : Pdu) → Client old pdu act new → Done
@@ -210,12 +213,11 @@ module _ (old new : Session) (act : Act) (source : Option (List Payload)) (has_i
   pdu_holds (Passed kind) h = in_answer (λ p. OnPassed p old act new) h (λ g. g) (λ g. g) (λ g. g) (λ g. g) (λ g. g) (λ at g. stays g) (λ at g. stays g)
   pdu_holds (EndOfData session serial) h = in_answer (λ p. OnEnd p session serial old act new) h (λ g. g) (λ g. g) (λ g. g) (λ g. g) (λ g. g)
       (λ at g. elim g [
-        | inl same ↦ went (Apply (Whole old.rows old.payloads)) (ended old serial) (λ after brings. record { in_order = has_its.in_order; source_is = brings }) same.1
+        | inl same ↦ went (Apply (Whole old.rows old.payloads)) (ended old serial) (λ payloads gives. ends_with serial payloads gives) same.1
         | inr other ↦ ends SessionChanged other.1
       ])
       (λ at g. elim g [
-        | inl same ↦ went (Apply (Part old.changes old.payload_changes)) (ended old serial)
-            (λ after brings. record { in_order = has_its.in_order; source_is = ends_changes at after brings }) same.1
+        | inl same ↦ went (Apply (Part old.changes old.payload_changes)) (ended old serial) (λ payloads gives. ends_with serial payloads (ends_changes at payloads gives)) same.1
         | inr other ↦ ends SessionChanged other.1
       ])
   pdu_holds CacheReset h = at_each (λ p. OnReset p old act new) old.phase refl h (unexpected Fresh) (unexpected AskedWhole)

@@ -4,7 +4,8 @@ use Rattle.std.specs.declared.option.Option.{Option}
 use Rattle.av_base.specs.Connections.{Attempt, Failed, Link, Made, Unaccepted}
 use Rattle.origin_model.specs.Current.{Parts}
 use Rattle.origin_model.specs.Vrp.{Payload}
-use Rattle.origin_validation.specs.Records.{source_of}
+use Rattle.origin_validation.specs.Records.{source_of, with_source}
+use Rattle.rtr_pdu.specs.declared.pdu.Pdu.{Pdu}
 use Rattle.rtr_session.specs.declared.act.Act.{Act}
 use Rattle.rtr_session.specs.declared.act.Act.TheVariants.{Nothing, Send, Apply, End}
 use Rattle.rtr_session.specs.declared.act.Delta.{Delta}
@@ -18,12 +19,12 @@ use Rattle.feed_lines.specs.declared.changing.PayloadsChange.TheVariants.{Replac
 use Rattle.feed_lines.specs.declared.telling.Telling.{Telling}
 use Rattle.feed_lines.specs.declared.working.Work.{Work}
 use Rattle.feed_lines.specs.declared.working.Work.TheVariants.{Ask, Take, Sync}
-use Rattle.feed_lines.specs.Feeds.{AsksBy, BadPdu, ChangesPayloads, Coming, Feed, Follows, Moves, NoMore, OnePdu, Queries, Stays, TakesComing, TakesFrom, TakesPdus, Taking, after_pdu, asked_of, change_due, is_enough_at}
+use Rattle.feed_lines.specs.Feeds.{AsksBy, BadPdu, ChangesPayloads, Coming, Feed, Follows, Moves, NoMore, OnePdu, Queries, Stays, TakesComing, TakesFrom, TakesPdu, TakesPdus, Taking, after_pdu, asked_of, change_due, is_enough_at}
 use Rattle.feed_lines.specs.Laws.{FeedsHaveTheirPayloads, HasItsPayloads, IsSourceAt, IsTied}
 use Rattle.feed_lines.specs.Lines.{ConnectLine, Connects, Does, StartsBy, State, WorkLine, WorksBy, same_name, starting, taking_of, with_feed}
 use Rattle.feed_lines.specs.Tellings.{Asking}
 use Rattle.feed_lines.proofs.NamedLemmas.{is_same}
-use Rattle.feed_lines.proofs.SourceLemmas.{Brings, HoldsAfter, asks_has, none_in_order, pdu_holds, source_itself, source_other}
+use Rattle.feed_lines.proofs.SourceLemmas.{Gives, HoldsAfter, asks_has, none_in_order, pdu_holds, source_itself, source_other}
 use Rattle.connection_calls.specs.World.{World}
 
 -- ---- the origin records
@@ -58,11 +59,16 @@ follows_others name (End UnknownWithdrawal) old new stays = same_parts name old.
 follows_others name (End SessionChanged) old new changes = changes_others name (ReplacePayloads []) old.parts new.parts changes.payloads
 follows_others name (End PeerReported) old new stays = same_parts name old.parts new.parts (ap (λ (k : Taking). k.parts) stays)
 
-brings : (name : List ℕ) (delta : Delta) (old new : Taking) → Follows (change_due name (Apply delta)) old new → Brings delta (of_name name old.parts) (of_name name new.parts)
-brings name (Whole rows payloads) old new changes = ap (of_name name) changes.payloads ∙ source_itself name payloads old.parts.sources
-brings name (Part patch said) old new changes =
-    let made = changes.payloads in
-    (made.payloads, made.patches, ap (of_name name) made.puts ∙ source_itself name made.payloads old.parts.sources)
+-- the source of the name has what is handed out, or what that makes of it
+record Puts (name : List ℕ) (delta : Delta) (old new : Parts) : Type 0 where
+  payloads : List Payload
+  gives : Gives delta (of_name name old) payloads
+  puts : new ≡ with_source old name payloads
+
+puts : (name : List ℕ) (delta : Delta) (old new : Taking) → Follows (change_due name (Apply delta)) old new → Puts name delta old.parts new.parts
+puts name (Whole rows payloads) old new changes = record { payloads = payloads; gives = refl; puts = changes.payloads }
+puts name (Part patch said) old new changes =
+    record { payloads = changes.payloads.payloads; gives = changes.payloads.patches; puts = changes.payloads.puts }
 
 -- ---- one feed
 
@@ -94,7 +100,9 @@ moves_tied t name feed Nothing tells old new moves stays holds =
 moves_tied t name feed (Send query) tells old new moves stays holds =
     queries_tied t feed query tells new.feed (of_name name new.parts) (subst (HasItsPayloads feed.session) (stays_as name old new stays) holds) moves
 moves_tied t name feed (Apply delta) tells old new moves changes holds =
-    some_tied (of_name name new.parts) new.feed feed (holds (of_name name new.parts) (brings name delta old new changes)) moves.1
+    let put = puts name delta old new changes in
+    let source : of_name name new.parts ≡ Some put.payloads = ap (of_name name) put.puts ∙ source_itself name put.payloads old.parts.sources in
+    some_tied (of_name name new.parts) new.feed feed (subst (HasItsPayloads feed.session) (sym source) (holds put.payloads put.gives).1) moves.1
 moves_tied t name feed (End ending) tells old new moves follows holds = none_tied (of_name name new.parts) new.feed moves.2
 
 coming_tied : (t : Link) (name : List ℕ) (feed : Feed) (old : Taking) (coming : Coming) (tells : List Telling) (new : Taking) → HasItsPayloads feed.session (of_name name old.parts)
@@ -181,12 +189,12 @@ starts_tied world place (Made link) tells slot source starts =
 starts_tied world place (Failed at) tells slot source starts = none_tied source slot starts.2
 starts_tied world place (Unaccepted at) tells slot source starts = absurd starts
 
-pub connects_tied : (world : World) (old new : State) (name place : List ℕ) (tells : List Telling) → IsTied old → Connects world old name place tells new → IsTied new
+connects_tied : (world : World) (old new : State) (name place : List ℕ) (tells : List Telling) → IsTied old → Connects world old name place tells new → IsTied new
 connects_tied world old new name place tells tied connects =
     let here = starts_tied world place connects.attempt tells connects.slot (of_name name old.parts) connects.starts in
     subst IsTied (sym connects.left) (record { each = put_tied old name connects.slot old.parts tied here (λ other differ. refl) })
 
-pub works_tied : (world : World) (old new : State) (name : List ℕ) (work : Work) (held : Option (Option Feed)) (tells : List Telling) → old.feeds name ≡ held → IsTied old
+works_tied : (world : World) (old new : State) (name : List ℕ) (work : Work) (held : Option (Option Feed)) (tells : List Telling) → old.feeds name ≡ held → IsTied old
     → WorksBy world old name work held tells new → IsTied new
 works_tied world old new name work None tells there tied works = subst IsTied (sym works.1) tied
 works_tied world old new name work (Some None) tells there tied works = subst IsTied (sym works.1) tied
@@ -196,21 +204,30 @@ works_tied world old new name work (Some (Some feed)) tells there tied works =
 
 -- ---- lines
 
-connect_line_tied : (world : World) (asking : Asking) (place text : List ℕ) (old new : State) → IsTied old → ConnectLine world asking place old text new → IsTied new
+pub connect_line_tied : (world : World) (asking : Asking) (place text : List ℕ) (old new : State) → IsTied old → ConnectLine world asking place old text new → IsTied new
 connect_line_tied world asking place text old new tied line =
     let done = connects_tied world old line.after asking.name place line.tells tied line.done in
     subst IsTied (sym line.left) (record { each = done.each })
 
-work_line_tied : (world : World) (asking : Asking) (work : Work) (text : List ℕ) (old new : State) → IsTied old → WorkLine world asking work old text new → IsTied new
+pub work_line_tied : (world : World) (asking : Asking) (work : Work) (text : List ℕ) (old new : State) → IsTied old → WorkLine world asking work old text new → IsTied new
 work_line_tied world asking work text old new tied line =
     let done = works_tied world old line.after asking.name work (old.feeds asking.name) line.tells refl tied line.done in
     subst IsTied (sym line.left) (record { each = done.each })
+
+-- what a PDU makes of the session, and of its source
+end_replaces : (t : Link) (name : List ℕ) (feed : Feed) (old new : Taking) (bytes : List ℕ) (pdu : Pdu) (tells : List Telling) → HasItsPayloads feed.session (source_of old.parts.sources name)
+    → (takes : TakesPdu t name feed old bytes pdu tells new) (delta : Delta) → takes.act ≡ Apply delta → new.parts ≡ with_source old.parts name takes.session.payloads
+end_replaces t name feed old new bytes pdu tells has_its takes delta is =
+    let holds = subst (λ a. HoldsAfter a takes.session (of_name name old.parts)) is (pdu_holds feed.session takes.session takes.act (of_name name old.parts) has_its pdu takes.client) in
+    let put = puts name delta old new (subst (λ a. Follows (change_due name a) old new) is takes.follows) in
+    put.puts ∙ ap (with_source old.parts name) (holds put.payloads put.gives).0
 
 pub feeds_are_tied : FeedsHaveTheirPayloads
 feeds_are_tied = record {
   none = λ state none. record { each = λ name feed is. let there = none name in let no : ⊥ = cc in absurd no };
   connects = connect_line_tied;
   works = work_line_tied;
+  replaces = end_replaces;
   ready = λ state tied name feed is ready.
       subst (λ (p : Phase). IsSourceAt p feed.session.payloads feed.session.payload_changes (source_of state.parts.sources name)) ready (tied.each name feed is).source_is;
 }

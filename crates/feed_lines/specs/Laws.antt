@@ -2,12 +2,15 @@
 use Rattle.std.specs.List.{Contains}
 use Rattle.std.specs.Prelude.{◌≡◌, ℕ, ◌≤◌, Bool, List, [], ◌∷◌, ◌++◌, None, Some}
 use Rattle.std.specs.declared.option.Option.{Option}
-use Rattle.av_base.specs.Connections.{Attempt, Made}
+use Rattle.av_base.specs.Connections.{Attempt, Link, Made}
 use Rattle.av_base.specs.declared.standing.Break.TheVariants.{BySend}
 use Rattle.av_text.specs.Spellings.{IsInLine}
 use Rattle.origin_model.specs.Vrp.{Payload}
 use Rattle.origin_model.specs.VrpChanges.{Patches}
-use Rattle.origin_validation.specs.Records.{or_none, source_of}
+use Rattle.origin_validation.specs.Records.{or_none, source_of, with_source}
+use Rattle.rtr_pdu.specs.declared.pdu.Pdu.{Pdu}
+use Rattle.rtr_session.specs.declared.act.Act.TheVariants.{Apply}
+use Rattle.rtr_session.specs.declared.act.Delta.{Delta}
 use Rattle.rtr_session.specs.declared.act.Phase.{Phase}
 use Rattle.rtr_session.specs.declared.act.Phase.TheVariants.{Fresh, AskedWhole, AskedChanges, ReceivingWhole, ReceivingChanges, Ready, Over}
 use Rattle.rtr_session.specs.Laws.{AreInOrder}
@@ -17,7 +20,7 @@ use Rattle.report_text.specs.declared.feed.FeedEnd.TheVariants.{Lost}
 use Rattle.feed_lines.specs.declared.telling.Telling.{Telling}
 use Rattle.feed_lines.specs.declared.telling.Telling.TheVariants.{End as FeedEnds}
 use Rattle.feed_lines.specs.declared.working.Work.{Work}
-use Rattle.feed_lines.specs.Feeds.{Feed}
+use Rattle.feed_lines.specs.Feeds.{Feed, TakesPdu, Taking}
 use Rattle.feed_lines.specs.Lines.{ConnectLine, Connects, State, WorkLine, Works}
 use Rattle.connection_calls.specs.World.{InEnd, IsAttempt, World}
 use Rattle.feed_lines.specs.Tellings.{Asking, telling_text}
@@ -77,11 +80,14 @@ pub record HasItsPayloads (session : Session) (source : Option (List Payload)) :
 pub record IsTied (state : State) : Type 0 where
   pub each : (name : List ℕ) (feed : Feed) → state.feeds name ≡ Some (Some feed) → HasItsPayloads feed.session (source_of state.parts.sources name)
 
--- So it is where there are no feeds, and it stays so. Behind an End of Data, where a session is ready, the source has exactly its payloads: what
--- an answer with changes named replaces them by those that the session keeps.
+-- So it is where there are no feeds, and it stays so. An End of Data, whether of everything or of changes, replaces what the source has by what the
+-- session keeps then. So where a session is ready the source has exactly its payloads.
 pub record FeedsHaveTheirPayloads : Type 0 where
   pub none : (state : State) → ((name : List ℕ) → state.feeds name ≡ None) → IsTied state
   pub connects : (world : World) (asking : Asking) (place text : List ℕ) (old new : State) → IsTied old → ConnectLine world asking place old text new → IsTied new
   pub works : (world : World) (asking : Asking) (work : Work) (text : List ℕ) (old new : State) → IsTied old → WorkLine world asking work old text new → IsTied new
+  pub replaces : (t : Link) (name : List ℕ) (feed : Feed) (old new : Taking) (bytes : List ℕ) (pdu : Pdu) (tells : List Telling)
+      → HasItsPayloads feed.session (source_of old.parts.sources name) → (takes : TakesPdu t name feed old bytes pdu tells new) (delta : Delta) → takes.act ≡ Apply delta
+      → new.parts ≡ with_source old.parts name takes.session.payloads
   pub ready : (state : State) → IsTied state → (name : List ℕ) (feed : Feed) → state.feeds name ≡ Some (Some feed) → feed.session.phase ≡ Ready
       → source_of state.parts.sources name ≡ Some feed.session.payloads

@@ -16,8 +16,8 @@ pub fn lost_feeds_broke_or_ended()
     ensures { LostFeedsBrokeOrEnded }
 {}
 
-/// Between two answers, as behind each End of Data, the source of a feed's name has in the origin records exactly the payloads that the
-/// feed's session keeps. Lines on feeds leave it so (draft-ietf-sidrops-8210bis, section 8).
+/// Each End of Data replaces what the source of the feed's name has in the origin records by the payloads that the feed's session keeps then,
+/// and until the next answer ends they stay the same (draft-ietf-sidrops-8210bis, section 8).
 pub fn feeds_have_their_payloads()
     ensures { FeedsHaveTheirPayloads }
 {}
