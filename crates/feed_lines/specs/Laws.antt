@@ -61,8 +61,9 @@ pub record AreConnectedFrom (world : World) (first : ℕ) (state : State) : Type
 
 -- ---- the payloads of feeds
 
--- What the source of a feed's name has, by the phase of the session. Between answers with changes it has exactly the session's payloads. While one
--- is received those are what the answer's changes so far make of what the source has.
+-- What the source of a feed's name has, by the phase of the session: exactly the session's payloads, once it is ready and until an answer begins.
+-- While changes are received, the session's payloads are what these make so far of those of the source. Before the first answer, and while
+-- everything is asked for or received, the source has whatever it had.
 abbrev pub IsSourceAt : Phase → List Payload → List (Payload × Bool) → Option (List Payload) → Type 0
 IsSourceAt Fresh payloads changes source = Unit {0}
 IsSourceAt AskedWhole payloads changes source = Unit {0}

@@ -26,7 +26,10 @@ mod telling;
 mod working;
 
 pub use feed::Feeds;
-pub use laws::{each_telling_is_one_line, feed_lines_have_one_outcome, feeds_have_their_payloads, lost_feeds_broke_or_ended};
+pub use laws::{
+    each_telling_is_one_line, feed_lines_have_one_outcome, feeds_have_their_payloads,
+    lost_feeds_broke_or_ended,
+};
 pub use lines::{Progress, connect, work};
 pub use telling::Telling;
 pub use working::Work;
