@@ -5,6 +5,7 @@ pub mod DidLemmas
 pub mod DumpLemmas
 pub mod EvaluationLemmas
 pub mod FeedLemmas
+pub mod FeedStateLemmas
 pub mod JudgedLemmas
 pub mod KeepLemmas
 pub mod LawLemmas
@@ -27,4 +28,5 @@ pub mod StopLemmas
 pub mod TableLemmas
 pub mod TaskLemmas
 pub mod TextLemmas
+pub mod TiedLemmas
 pub mod WordsLemmas

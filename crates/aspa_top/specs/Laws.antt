@@ -13,7 +13,7 @@ use Rattle.feed_lines.specs.declared.telling.Telling.TheVariants.{End as FeedEnd
 use Rattle.feed_lines.specs.declared.working.Work.{Work}
 use Rattle.connection_calls.specs.Faults.{NewAreUnbroken}
 use Rattle.feed_lines.specs.Feeds.{Feed as OneFeed}
-use Rattle.feed_lines.specs.Laws.{AreConnectedFrom}
+use Rattle.feed_lines.specs.Laws.{AreConnectedFrom, IsTied}
 use Rattle.feed_lines.specs.Lines.{Connects, Works}
 use Rattle.connection_calls.specs.World.{InEnd, World as Ends}
 use Rattle.feed_lines.specs.Lines.{State as FeedState}
@@ -73,6 +73,11 @@ ServedRoutersGetTheTable =
 abbrev pub FeedsWereConnected : Type 0
 FeedsWereConnected = (world : World) (lines : List (List ℕ)) (text : List ℕ) (end : State)
     → Evaluates world (start world) lines text end → AreConnectedFrom world.ends world.made (feeds_of end)
+
+-- In what lines leave each feed that goes on is tied to its source in the origin records: where its session is ready the source of its name has
+-- exactly the session's payloads.
+abbrev pub SourcesHaveFeedsPayloads : Type 0
+SourcesHaveFeedsPayloads = (world : World) (lines : List (List ℕ)) (text : List ℕ) (end : State) → Evaluates world (start world) lines text end → IsTied (feeds_of end)
 
 -- Where a line reports a feed as lost, nothing is to come on the feed's connection; and no `feed` line does.
 pub record LosesOnlyAtEnd (ends : Ends) (state : FeedState) : Type 0 where

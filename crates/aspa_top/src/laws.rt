@@ -1,5 +1,5 @@
 //! Laws of the definitions: the contract of each function is the law, and its body does nothing.
-ghost use Rattle.aspa_top.specs.Laws.{EachScriptWithoutAttemptsHasAText, FeedsWereConnected, NoScriptHasTwoTexts, RefusalsAreCounted, RunsWriteFronts, ServedRoutersGetTheTable, UnbrokenFeedsAreLostAtEnd};
+ghost use Rattle.aspa_top.specs.Laws.{EachScriptWithoutAttemptsHasAText, FeedsWereConnected, NoScriptHasTwoTexts, RefusalsAreCounted, RunsWriteFronts, ServedRoutersGetTheTable, SourcesHaveFeedsPayloads, UnbrokenFeedsAreLostAtEnd};
 
 /// In a world whose attempts are told no script has two texts.
 pub fn no_script_has_two_texts()
@@ -24,6 +24,12 @@ pub fn refusals_are_counted()
 /// Each feed that lines leave is on a connection that one of the run's attempts made.
 pub fn feeds_were_connected()
     ensures { FeedsWereConnected }
+{}
+
+/// Between two answers, as behind each End of Data, the source of a feed's name has in the origin records exactly the payloads that the
+/// feed's session keeps, whatever lines came (draft-ietf-sidrops-8210bis, section 8).
+pub fn sources_have_feeds_payloads()
+    ensures { SourcesHaveFeedsPayloads }
 {}
 
 /// Where no connection that was made in the run is broken, a feed is lost only where nothing more is to come on its connection.

@@ -31,6 +31,6 @@ mod working;
 pub use laws::{
     each_script_without_attempts_has_a_text, feeds_were_connected, no_script_has_two_texts,
     refusals_are_counted, runs_write_fronts, served_routers_get_the_table,
-    unbroken_feeds_are_lost_at_end,
+    sources_have_feeds_payloads, unbroken_feeds_are_lost_at_end,
 };
 pub use program::{SCRIPT_LIMIT, run};

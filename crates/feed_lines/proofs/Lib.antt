@@ -6,6 +6,8 @@ pub mod LineLemmas
 pub mod LostLemmas
 pub mod NamedLemmas
 pub mod PduLemmas
+pub mod SourceLemmas
 pub mod StandingLemmas
 pub mod TakingLemmas
+pub mod TiedLemmas
 pub mod WorkingLemmas

@@ -6,11 +6,12 @@
 //! connection as it stands when the run ends, so what is proved of a line stays true whatever the later lines do; how the [`Feeds`] that
 //! are held stand for those of the definitions is said in `specs/Holding.antt`. What the events may cost in judgements is counted, and
 //! a line takes no more steps, whether it ends well or not. Two outcomes of a line on the same connections are the same one, each
-//! thing that is reported is one line of text, and a feed is lost only where its connection broke or nothing more is to come (`laws`).
+//! thing that is reported is one line of text, and a feed is lost only where its connection broke or nothing more is to come; and where a
+//! session is ready, the source of the feed's name has exactly its payloads in the origin records (`laws`).
 //!
 //! `connection_calls` below asks a connection for PDUs and sends on it. `spelling` spells queries, `taking` takes PDUs one after another,
 //! `changing` makes what they change of the analysis and of the origin records, `working` performs what a line asks of a feed that goes on,
-//! `named` finds it by its name, `connecting` starts one, and `lines` writes what is reported. Lemmas for the proofs above are in `proofs/`: `LawLemmas` and `LostLemmas` for the laws.
+//! `named` finds it by its name, `connecting` starts one, and `lines` writes what is reported. Lemmas for the proofs above are in `proofs/`: `LawLemmas`, `LostLemmas` and `TiedLemmas` for the laws.
 #![tactic(auto)]
 
 mod changing;
@@ -25,7 +26,10 @@ mod telling;
 mod working;
 
 pub use feed::Feeds;
-pub use laws::{each_telling_is_one_line, feed_lines_have_one_outcome, lost_feeds_broke_or_ended};
+pub use laws::{
+    each_telling_is_one_line, feed_lines_have_one_outcome, feeds_have_their_payloads,
+    lost_feeds_broke_or_ended,
+};
 pub use lines::{Progress, connect, work};
 pub use telling::Telling;
 pub use working::Work;

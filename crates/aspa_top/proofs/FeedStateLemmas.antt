@@ -1,0 +1,118 @@
+-- What lines leave of the feeds, and what is so behind all lines where each line on a feed leaves it so.
+use Rattle.std.proofs.Common.{◌≡◌, ℕ, ◌||◌, is_some, Bool, true, false, List, [], ◌∷◌, ◌≤◌, None, Some, Ok, Err, inl, inr, refl, sym, ap, ◌∙◌, subst, arith}
+use Rattle.std.specs.declared.option.Option.{Option}
+use Rattle.report_text.specs.declared.cause.Cause.{Cause}
+use Rattle.feed_lines.specs.declared.working.Work.{Work}
+use Rattle.feed_lines.specs.declared.working.Work.TheVariants.{Take as TakePdus}
+use Rattle.stream_lines.specs.declared.kind.DumpKind.{DumpKind}
+use Rattle.stream_lines.specs.Streams.{Dump}
+use Rattle.aspa_top.specs.declared.loading.FileKind.{FileKind}
+use Rattle.aspa_top.specs.declared.loading.Outcome.{Outcome}
+use Rattle.aspa_top.specs.declared.loading.Outcome.TheVariants.{NoFile, Long as FileLong, Flawed, Good}
+use Rattle.aspa_top.specs.declared.task.Short.{Short as ShortTask}
+use Rattle.aspa_top.specs.declared.task.Short.TheVariants.{Idle as Nothing, Happen, Judge as JudgePath}
+use Rattle.aspa_top.specs.declared.task.Question.{Question}
+use Rattle.aspa_top.specs.declared.task.Task.{Task}
+use Rattle.aspa_top.specs.declared.task.Task.TheVariants.{Short, Load, Open, Take, Connect, OnFeed, Serve, Answer, Changes}
+use Rattle.aspa_top.specs.Answers.{AnswersUnless, Replies, refused_for}
+use Rattle.aspa_top.specs.Evaluation.{Asked, DoesAsked, Evaluates, asked_of, counted}
+use Rattle.aspa_top.specs.Serving.{ServesTable}
+use Rattle.aspa_top.specs.Tasks.{ConnectsUnless, DoesShort, DoesTask, LoadsUnless, OpensNamed, State, TakesFile, TakesNamed, TakesOpen, Works, amended, is_stream, is_taken}
+use Rattle.aspa_top.specs.World.{World}
+use Rattle.origin_model.specs.Current.{Parts}
+use Rattle.aspa_top.specs.declared.loading.Amendment.{Amendment}
+
+-- the feeds and the sources of the origin records stayed, and attempts were added, if anything
+pub record KeepsFeeds (old new : State) : Type 0 where
+  pub feeds : new.feeds ≡ old.feeds
+  pub sources : new.origins.sources ≡ old.origins.sources
+  pub made : old.made ≤ new.made
+
+kept : (old next built : State) → built.feeds ≡ old.feeds → built.origins.sources ≡ old.origins.sources → built.made ≡ old.made → next ≡ built → KeepsFeeds old next
+kept old next built feeds sources made is =
+    let same : next.made ≡ old.made = ap (λ (s : State). s.made) is ∙ made in
+    record { feeds = ap (λ (s : State). s.feeds) is ∙ feeds; sources = ap (λ (s : State). s.origins.sources) is ∙ sources; made = omega (arith, same) }
+
+-- ---- lines that leave the feeds
+
+-- a SLURM file changes no source
+amended_sources : (amends : Option Amendment) (origins : Parts) → (amended amends origins).sources ≡ origins.sources
+amended_sources None origins = refl
+amended_sources (Some amendment) origins = refl
+
+TakesFile-keeps : (state : State) (kind : FileKind) (outcome : Outcome) (text : List ℕ) (next : State) → TakesFile state kind outcome text next → KeepsFeeds state next
+TakesFile-keeps state kind NoFile text next takes = kept state next _ refl refl refl takes.1
+TakesFile-keeps state kind FileLong text next takes = kept state next _ refl refl refl takes.1
+TakesFile-keeps state kind (Flawed flaw) text next takes = kept state next _ refl refl refl takes.1
+TakesFile-keeps state kind (Good change) text next takes = kept state next _ refl (amended_sources change.amends state.origins) refl takes.left
+
+Loads-keeps : (taken : Bool) (world : World) (state : State) (kind : FileKind) (file text : List ℕ) (next : State) → LoadsUnless taken world state kind file text next → KeepsFeeds state next
+Loads-keeps true world state kind file text next loads = kept state next _ refl refl refl loads.1
+Loads-keeps false world state kind file text next loads = TakesFile-keeps state kind loads.outcome text next loads.takes
+
+Opens-keeps : (used : Bool) (named : Option (List ℕ)) (state : State) (kind : DumpKind) (name text : List ℕ) (next : State) → OpensNamed used named state kind name text next → KeepsFeeds state next
+Opens-keeps true named state kind name text next opens = kept state next _ refl refl refl opens.1
+Opens-keeps false None state kind name text next opens = kept state next _ refl refl refl opens.1
+Opens-keeps false (Some bytes) state kind name text next opens = kept state next _ refl refl refl opens.1
+
+TakesOpen-keeps : (over : Bool) (state : State) (name : List ℕ) (count : ℕ) (dump : Dump) (text : List ℕ) (next : State) → TakesOpen over state name count dump text next → KeepsFeeds state next
+TakesOpen-keeps true state name count dump text next takes = kept state next _ refl refl refl takes.1
+TakesOpen-keeps false state name count dump text next takes = kept state next _ refl refl refl takes.next_is
+
+Replies-keeps : (state : State) (question : Question) (text : List ℕ) (next : State) → Replies state question text next → KeepsFeeds state next
+Replies-keeps state question text next replies = by_cause (refused_for state question) replies where
+  by_cause : (cause : Option Cause) → AnswersUnless cause state question text next → KeepsFeeds state next
+  by_cause (Some cause) refuses = kept state next _ refl refl refl refuses.1
+  by_cause None answers = kept state next state refl refl refl answers.1
+
+DoesShort-keeps : (state : State) (short : ShortTask) (text : List ℕ) (next : State) → DoesShort state short text next → KeepsFeeds state next
+DoesShort-keeps state Nothing text next does = kept state next _ refl refl refl does.1
+DoesShort-keeps state (Happen event) text next does = kept state next _ refl refl refl does.left
+DoesShort-keeps state (JudgePath role neighbour path) text next does = kept state next _ refl refl refl does.1
+
+ServesTable-keeps : (world : World) (state : State) (place : List ℕ) (session count : ℕ) (text : List ℕ) (next : State) → ServesTable world state place session count text next → KeepsFeeds state next
+ServesTable-keeps world state place session count text next (inl refuses) = kept state next _ refl refl refl refuses.1.1
+ServesTable-keeps world state place session count text next (inr serves) =
+    let made = ap (λ (s : State). s.made) serves.1.left in
+    record { feeds = ap (λ (s : State). s.feeds) serves.1.left; sources = ap (λ (s : State). s.origins.sources) serves.1.left; made = omega (arith, made) }
+
+-- ---- all lines
+
+-- what lines on feeds leave so, and what rests on the feeds, the sources and the attempts alone, is so behind all lines
+pub record IsLeft (world : World) (Is : State → Type 0) : Type 0 where
+  pub keeps : (old new : State) → KeepsFeeds old new → Is old → Is new
+  pub works : (state next : State) (name : List ℕ) (work : Work) (text : List ℕ) → Is state → Works world state name work text next → Is next
+  pub connects : (state next : State) (name place text : List ℕ) → Is state → ConnectsUnless false world state name place text next → Is next
+
+module _ (world : World) (Is : State → Type 0) (left : IsLeft world Is) where
+  Connects-left : (used : Bool) (state next : State) (name place text : List ℕ) → Is state → ConnectsUnless used world state name place text next → Is next
+  Connects-left true state next name place text is connects = left.keeps state next (kept state next _ refl refl refl connects.1) is
+  Connects-left false state next name place text is connects = left.connects state next name place text is connects
+
+  Takes-left : (dump : Option Dump) (state next : State) (name : List ℕ) (count : ℕ) (text : List ℕ) → Is state → TakesNamed dump world state name count text next → Is next
+  Takes-left None state next name count text is takes = left.works state next name (TakePdus count) text is takes
+  Takes-left (Some dump) state next name count text is takes = left.keeps state next (TakesOpen-keeps dump.over state name count dump text next takes) is
+
+  DoesTask-left : (state next : State) (task : Task) (text : List ℕ) → Is state → DoesTask world state task text next → Is next
+  DoesTask-left state next (Short short) text is does = left.keeps state next (DoesShort-keeps state short text next does) is
+  DoesTask-left state next (Load kind file) text is does = left.keeps state next (Loads-keeps (is_taken state kind) world state kind file text next does) is
+  DoesTask-left state next (Open kind name file) text is does =
+      left.keeps state next (Opens-keeps (state.sources name || is_stream state name) (world.named file) state kind name text next does) is
+  DoesTask-left state next (Take name count) text is does = Takes-left (state.dumps name) state next name count text is does
+  DoesTask-left state next (Connect name place) text is does = Connects-left (state.sources name || is_some (state.dumps name)) state next name place text is does
+  DoesTask-left state next (OnFeed name work) text is does = left.works state next name work text is does
+  DoesTask-left state next (Serve place session count) text is does = left.keeps state next (ServesTable-keeps world state place session count text next does) is
+  DoesTask-left state next (Answer question) text is does = left.keeps state next (Replies-keeps state question text next does) is
+  DoesTask-left state next Changes text is does = left.keeps state next (kept state next _ refl refl refl does.left) is
+
+  Does-left : (state next : State) (asked : Asked) (text : List ℕ) → Is state → DoesAsked world state asked text next → Is next
+  Does-left state next (Ok task) text is does = DoesTask-left state next task text is does
+  Does-left state next (Err None) text is does = absurd does
+  Does-left state next (Err (Some cause)) text is does = left.keeps state next (kept state next _ refl refl refl does.1) is
+
+  pub Evaluates-left : (before : State) (lines : List (List ℕ)) (text : List ℕ) (end : State) → Is before → Evaluates world before lines text end → Is end
+  Evaluates-left before [] text end is evaluates = subst Is (sym evaluates.1) is
+  Evaluates-left before (line ∷ more) text end is evaluates =
+      let noted = left.keeps before (counted before) (kept before (counted before) (counted before) refl refl refl refl) is in
+      Evaluates-left evaluates.next more evaluates.rest end
+      (Does-left (counted before) evaluates.next (asked_of evaluates.performs.reading) evaluates.first noted evaluates.performs.does) evaluates.goes_on
