@@ -1,5 +1,6 @@
 pub mod ChangeLemmas
 pub mod CoverLemmas
+pub mod FilterLemmas
 pub mod LawLemmas
 pub mod PayloadLemmas
 pub mod SaidLemmas

@@ -17,7 +17,7 @@ use Rattle.path_model.proofs.OrderLemmas.{subnet_exact}
 use Rattle.origin_model.specs.Vrp.{Payload, IsPayload, payload_cmp, payload_total, least_of, greatest_of}
 use Rattle.origin_model.specs.VrpSet.{ArePayloads, has, IsLastBefore}
 
-both_equal : (a b : Ordering) → ordering_then a b ≡ Equal → (a ≡ Equal) × (b ≡ Equal)
+pub both_equal : (a b : Ordering) → ordering_then a b ≡ Equal → (a ≡ Equal) × (b ≡ Equal)
 both_equal Less b e = absurd cc
 both_equal Equal b e = (refl, e)
 both_equal Greater b e = absurd cc

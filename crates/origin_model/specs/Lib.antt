@@ -1,5 +1,6 @@
 pub mod Covering
 pub mod Current
+pub mod FilterIndex
 pub mod Laws
 pub mod OriginState
 pub mod PrefixFilter

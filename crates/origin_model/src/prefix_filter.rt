@@ -1,12 +1,15 @@
 //! Prefix filters.
-ghost use Rattle.std.specs.Prelude.{◌≡◌, ◌↔◌, ◌∷◌, ◌++◌, [], IsTrue, OnOk, OnErr, IfOk};
+ghost use Rattle.std.specs.Prelude.{◌≡◌, ◌↔◌, ◌∷◌, ◌++◌, [], None, Some, IsTrue, OnOk, OnErr, IfOk};
 ghost use Rattle.std.specs.Slice.Iter.{iter_rest};
+ghost use Rattle.path_model.specs.Prefix.{prefix_of};
 ghost use Rattle.origin_model.specs.PrefixFilter.{AgreesInAsn, AgreesInPrefix, Hits, IsHit};
+ghost use Rattle.origin_model.specs.FilterIndex.{HasWithin, has_either, has_front, has_parts};
 
 use crate::{Vrp, covers};
 use av_base::NoMemory;
 use path_model::Prefix;
 use std::alloc::Global;
+use std::collections::BTreeSet;
 use std::marker::Model;
 use std::slice::Iter;
 
@@ -47,19 +50,24 @@ impl PrefixFilter {
     }
 }
 
-/// A list of prefix filters.
+/// A list of prefix filters. One takes its place in the list, and another one in the tree by which it is found.
 #[derive(Debug, Drop)]
 pub struct PrefixFilters {
     filters: Vec<PrefixFilter>,
+    // the parts of each of them
+    parts: BTreeSet<(Option<Prefix>, Option<u32>)>,
 }
 
 impl Model for PrefixFilters {
     ghost use Rattle.std.specs.Prelude.{List};
     ghost use Rattle.origin_model.specs.declared.prefix_filter.PrefixFilter.{PrefixFilter as Filter};
+    ghost use Rattle.origin_model.specs.FilterIndex.{IsIndex};
 
     ghost Value = { List Filter };
 
     ghost view = { λ f. f.filters.items };
+
+    ghost invariant = { λ f. IsIndex f.filters.items f.parts.keys };
 }
 
 impl PrefixFilters {
@@ -69,6 +77,7 @@ impl PrefixFilters {
     {
         PrefixFilters {
             filters: Vec::new(alloc),
+            parts: BTreeSet::new(alloc),
         }
     }
 
@@ -77,8 +86,14 @@ impl PrefixFilters {
         ensures ok { OnOk result (self.new ≡ self.old ++ f ∷ []) }
         ensures err { OnErr result (self.new ≡ self.old) }
     {
-        let _prefix: Option<Prefix> = f.prefix;
+        let prefix: Option<Prefix> = f.prefix;
+        let asn = f.asn;
         self.filters.push(f)?;
+        let noted = self.parts.insert((prefix, asn)).is_ok();
+        if !noted {
+            self.filters.pop();
+            return Err(NoMemory);
+        }
         Ok(())
     }
 
@@ -89,16 +104,54 @@ impl PrefixFilters {
         self.filters.iter()
     }
 
-    /// Whether one of them hits a payload. It takes the time of all of them.
+    /// Whether one of them hits a payload. It takes four look-ups, and two more for each bit of the payload's prefix, however many filters
+    /// there are; and none where there is none.
     pub fn hit(&self, v: &Vrp) -> bool
         ensures { IsTrue result ↔ IsHit self.now v.now }
     {
-        for f in &self.filters {
-            if f.hits(v) {
+        if self.filters.is_empty() {
+            return false;
+        }
+        self.has_either(&None, v.asn()) || self.has_within(v)
+    }
+
+    // Whether one of them has a prefix that covers the payload's, and its AS or none.
+    fn has_within(&self, v: &Vrp) -> bool
+        ensures { IsTrue result ↔ HasWithin self.now v.now }
+    {
+        let mut len = v.prefix().len() + 1;
+        while len > 0 {
+            len -= 1;
+            let front = Prefix::new(v.prefix().addr(), len);
+            if self.has_front(&front, v.asn()) {
                 return true;
             }
         }
         false
+    }
+
+    // Whether there is such a prefix, and one of them has it, and this AS or none.
+    fn has_front(&self, front: &Option<Prefix>, asn: u32) -> bool
+        ensures { result ≡ has_front self.now front.now asn }
+    {
+        match front {
+            None => false,
+            Some(_) => self.has_either(front, asn),
+        }
+    }
+
+    // Whether one of them has this prefix, or none, and this AS or none.
+    fn has_either(&self, prefix: &Option<Prefix>, asn: u32) -> bool
+        ensures { result ≡ has_either self.now prefix.now asn }
+    {
+        self.has(prefix, None) || self.has(prefix, Some(asn))
+    }
+
+    // Whether these are the parts of one of them.
+    fn has(&self, prefix: &Option<Prefix>, asn: Option<u32>) -> bool
+        ensures { result ≡ has_parts self.now (prefix.now, asn) }
+    {
+        self.parts.contains(&(*prefix, asn))
     }
 
     /// The same filters once more.
@@ -107,6 +160,7 @@ impl PrefixFilters {
     {
         Ok(PrefixFilters {
             filters: self.filters.clone()?,
+            parts: self.parts.clone()?,
         })
     }
 }
