@@ -1,9 +1,9 @@
 -- States by the parts of a look-up, one part after another.
-use Rattle.std.proofs.Common.{◌≡◌, ℕ, true, List, [], ◌∷◌, sym, ap, subst, ◌∙◌, ◌⊎◌, inl, inr, true≢false}
+use Rattle.std.proofs.Common.{◌≡◌, ℕ, true, List, [], ◌∷◌, refl, sym, ap, subst, ◌∙◌, ◌⊎◌, inl, inr, true≢false}
 use Rattle.std.specs.declared.option.Option.{Option}
 use Rattle.path_model.specs.Prefix.{Subnet}
 use Rattle.origin_model.specs.declared.origin_state.OriginState.{OriginState}
-use Rattle.origin_model.specs.declared.origin_state.OriginState.TheVariants.{NotFound}
+use Rattle.origin_model.specs.declared.origin_state.OriginState.TheVariants.{Valid, Invalid, NotFound}
 use Rattle.origin_model.specs.declared.prefix_filter.PrefixFilter.{PrefixFilter}
 use Rattle.origin_model.specs.Covering.{Covers}
 use Rattle.origin_model.specs.Current.{IsGiven}
@@ -16,17 +16,32 @@ use Rattle.origin_validation.specs.Records.{IsGivenUnhit, IsUnhit}
 
 -- ---- a loop that takes one part after another
 
--- with the state by what is left, the state so far makes the state by all
+-- with the state by what is left, the state so far makes the state by all; and Valid makes it alone
 pub record Folds (All Rest : Payload → Type 0) (prefix : Subnet) (origin : Option ℕ) (state : OriginState) : Type 0 where
+  pub within : Goes prefix Rest All
+  pub met : state ≡ Valid → HasState All prefix origin Valid
   pub each : (t : OriginState) → HasState Rest prefix origin t → HasState All prefix origin (better state t)
 
 module _ (prefix : Subnet) (origin : Option ℕ) (All : Payload → Type 0) where
   pub folds_start : (Rest : Payload → Type 0) → Goes prefix Rest All → Goes prefix All Rest → Folds All Rest prefix origin NotFound
-  folds_start Rest to from = record { each = λ t h. has_like prefix origin Rest All t to from h }
+  folds_start Rest to from = record { within = to; met = λ e. absurd cc; each = λ t h. has_like prefix origin Rest All t to from h }
+
+  -- what one part of them makes Valid, all do
+  met_by : (One : Payload → Type 0) (s u : OriginState) → Goes prefix One All → (s ≡ Valid → HasState All prefix origin Valid) → HasState One prefix origin u → better s u ≡ Valid
+      → HasState All prefix origin Valid
+  met_by One Valid u to met one e = met refl
+  met_by One Invalid Valid to met one e = record { payload = one.payload; is = to one.payload one.matches.covers one.is; matches = one.matches }
+  met_by One Invalid Invalid to met one e = absurd cc
+  met_by One Invalid NotFound to met one e = absurd cc
+  met_by One NotFound Valid to met one e = record { payload = one.payload; is = to one.payload one.matches.covers one.is; matches = one.matches }
+  met_by One NotFound Invalid to met one e = absurd cc
+  met_by One NotFound NotFound to met one e = absurd cc
 
   pub folds_next : (Rest One More : Payload → Type 0) (s u : OriginState) → Folds All Rest prefix origin s → HasState One prefix origin u
       → Goes prefix Rest (λ v. One v ⊎ More v) → Goes prefix (λ v. One v ⊎ More v) Rest → Folds All More prefix origin (better s u)
   folds_next Rest One More s u f one split join = record {
+    within = λ v covers a. f.within v covers (join v covers (inr a));
+    met = met_by One s u (λ v covers a. f.within v covers (join v covers (inl a))) f.met one;
     each = λ t h. subst (HasState All prefix origin) (sym (better_assoc s u t))
         (f.each (better u t) (has_like prefix origin (λ v. One v ⊎ More v) Rest (better u t) join split (has_or prefix origin One More u t one h)));
   }

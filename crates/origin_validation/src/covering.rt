@@ -37,6 +37,9 @@ fn state_up_to(
         return OriginState::NotFound;
     };
     let state = state_at(set, &front, filters, prefix, origin);
+    if let OriginState::Valid = state {
+        return state;
+    }
     match next_front(set, &front) {
         None => state,
         Some(next) => state.or(state_up_to(set, next.len(), filters, prefix, origin)),
@@ -57,6 +60,9 @@ fn state_at(
     for v in set.of_prefix(front) {
         let more = state_by(v, filters, prefix, origin);
         state = state.or(more);
+        if let OriginState::Valid = state {
+            return state;
+        }
     }
     state
 }

@@ -49,7 +49,8 @@ impl Records {
 
     /// The state of a route by its prefix and its origin, which is `None` where its path has an AS_SET or no AS. It takes no memory. In
     /// each source, and among the assertions, it goes from the prefix to the next shorter one that covers it and may be a payload's, with
-    /// two look-ups for each, at most one more than the prefix has bits; a set without payloads costs nothing.
+    /// two look-ups for each, at most one more than the prefix has bits, and through the payloads of each, each of a source's with
+    /// the look-ups of [`PrefixFilters::hit`]. It ends where one makes the route valid; a set without payloads costs nothing.
     pub fn state(&self, prefix: &Prefix, origin: Option<u32>) -> OriginState
         ensures { HasState (IsCurrent self.now) prefix.now origin result }
     {
@@ -68,6 +69,9 @@ impl Records {
         for (_, set) in &self.sources {
             let more = state_in(set, &self.filters, prefix, origin);
             state = state.or(more);
+            if let OriginState::Valid = state {
+                return state;
+            }
         }
         state
     }
