@@ -2,13 +2,12 @@
 ghost use Rattle.std.specs.Prelude.{◌≡◌, ◌<◌, ◌≤◌, length, OnOk, IsErrOf};
 ghost use Rattle.std.specs.Io.KnownBytes.{append_known};
 ghost use Rattle.av_base.specs.Told.{AppendsFront, Grows, Rose};
-ghost use Rattle.origin_model.specs.OriginState.{origin_of};
 ghost use Rattle.origin_lines.specs.Rows.{Lists, ListsFront};
 ghost use Rattle.origin_lines.specs.Each.{each_text};
 
 use av_base::{Sink, pour_piece};
+use origin_model::origin_of;
 use origin_validation::Origins;
-use path_model::Trail;
 use report_text::put_origin;
 use rib_store::{RibStore, Trails};
 use stream_lines::Stop;
@@ -65,15 +64,4 @@ fn put_each<W: Sink>(
         pour_piece(out, text)?;
     }
     Ok(())
-}
-
-// The origin of a path, if it has one.
-fn origin_of(trail: &Trail) -> Option<u32>
-    ensures { result ≡ origin_of trail.now }
-{
-    if trail.is_set() {
-        None
-    } else {
-        trail.chain().get(0)
-    }
 }
