@@ -2,6 +2,7 @@ pub mod ChangedLemmas
 pub mod CoverLemmas
 pub mod FrontLemmas
 pub mod HeldLemmas
+pub mod LengthLemmas
 pub mod PassLemmas
 pub mod PatchLemmas
 pub mod RowLemmas

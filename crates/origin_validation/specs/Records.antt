@@ -10,7 +10,7 @@ use Rattle.path_model.specs.Prefix.{Subnet}
 use Rattle.origin_model.specs.declared.prefix_filter.PrefixFilter.{PrefixFilter}
 use Rattle.origin_model.specs.Current.{Parts, IsGiven}
 use Rattle.origin_model.specs.PrefixFilter.{IsHit}
-use Rattle.origin_model.specs.Vrp.{Payload, payload_cmp}
+use Rattle.origin_model.specs.Vrp.{Payload, payload_cmp, payload_of}
 use Rattle.origin_model.specs.VrpChanges.{Patches}
 use Rattle.origin_model.specs.VrpSet.{has}
 
@@ -56,6 +56,21 @@ IsUnhitUpTo payloads filters len v = (v.prefix.len ≤ len) × IsUnhit payloads 
 -- or its prefix is this one
 abbrev pub IsUnhitIn : List Payload → List PrefixFilter → Subnet → Payload → Type 0
 IsUnhitIn payloads filters front v = (v.prefix ≡ front) × IsUnhit payloads filters v
+
+-- there is one with this prefix
+pub record HasUnhitIn (payloads : List Payload) (filters : List PrefixFilter) (front : Subnet) : Type 0 where
+  pub payload : Payload
+  pub is : IsUnhitIn payloads filters front payload
+
+-- the one of this prefix, maximum and AS is, and the maximum is at least so many bits
+pub record AllowsOf (payloads : List Payload) (filters : List PrefixFilter) (front : Subnet) (len asn max : ℕ) : Type 0 where
+  pub reaches : len ≤ max
+  pub is : IsUnhit payloads filters (payload_of front max asn)
+
+-- for some maximum
+pub record Allows (payloads : List Payload) (filters : List PrefixFilter) (front : Subnet) (len asn : ℕ) : Type 0 where
+  pub max : ℕ
+  pub of : AllowsOf payloads filters front len asn max
 
 -- it is this payload, and no filter hits it
 abbrev pub IsUnhitOne : Payload → List PrefixFilter → Payload → Type 0

@@ -1,7 +1,10 @@
 //! The state of a route by the payloads of a set that cover it, looked up from the longest covering prefix to the shortest.
-ghost use Rattle.std.specs.Prelude.{◌≤◌};
-ghost use Rattle.origin_model.specs.OriginState.{HasState};
-ghost use Rattle.origin_validation.specs.Records.{IsUnhit, IsUnhitIn, IsUnhitOne, IsUnhitUpTo};
+ghost use Rattle.std.specs.Prelude.{◌≤◌, ◌↔◌, IsTrue};
+ghost use Rattle.origin_model.specs.Covering.{Covers};
+ghost use Rattle.origin_model.specs.OriginState.{HasState, Matching};
+ghost use Rattle.origin_model.specs.Vrp.{payload_of};
+ghost use Rattle.origin_model.specs.VrpSet.{ArePayloads};
+ghost use Rattle.origin_validation.specs.Records.{Allows, HasUnhitIn, IsUnhit, IsUnhitIn, IsUnhitOne, IsUnhitUpTo};
 
 use crate::fronts::next_front;
 use origin_model::{OriginState, PrefixFilters, Vrp, VrpSet};
@@ -46,8 +49,33 @@ fn state_up_to(
     }
 }
 
-// The state by those with one prefix.
+// The state by those with one prefix, which covers the route's. A few are gone through; among many the one that matches is looked for, so
+// that it takes no longer where they are more.
 fn state_at(
+    set: &VrpSet,
+    front: &Prefix,
+    filters: &PrefixFilters,
+    prefix: &Prefix,
+    origin: Option<u32>,
+) -> OriginState
+    requires { Covers front.now prefix.now }
+    ensures { HasState (IsUnhitIn set.now filters.now front.now) prefix.now origin result }
+{
+    if is_crowded(set, front) {
+        return state_by_lengths(set, front, filters, prefix, origin);
+    }
+    state_by_each(set, front, filters, prefix, origin)
+}
+
+// Whether more than 128 payloads have this prefix.
+fn is_crowded(set: &VrpSet, front: &Prefix) -> bool
+    ensures { ArePayloads set.now }
+{
+    set.of_prefix(front).nth(128).is_some()
+}
+
+// That state, where they are gone through one after another.
+fn state_by_each(
     set: &VrpSet,
     front: &Prefix,
     filters: &PrefixFilters,
@@ -65,6 +93,86 @@ fn state_at(
         }
     }
     state
+}
+
+// That state, where the payload that matches is looked for at each maximum length, and the first that no filter hits covers.
+fn state_by_lengths(
+    set: &VrpSet,
+    front: &Prefix,
+    filters: &PrefixFilters,
+    prefix: &Prefix,
+    origin: Option<u32>,
+) -> OriginState
+    requires covers { Covers front.now prefix.now }
+    requires payloads { ArePayloads set.now }
+    ensures { HasState (IsUnhitIn set.now filters.now front.now) prefix.now origin result }
+{
+    if is_matched(set, front, filters, prefix, origin) {
+        return OriginState::Valid;
+    }
+    if has_unhit(set, front, filters) {
+        return OriginState::Invalid;
+    }
+    OriginState::NotFound
+}
+
+// Whether one of those with one prefix, which covers the route's, matches.
+fn is_matched(
+    set: &VrpSet,
+    front: &Prefix,
+    filters: &PrefixFilters,
+    prefix: &Prefix,
+    origin: Option<u32>,
+) -> bool
+    requires covers { Covers front.now prefix.now }
+    requires payloads { ArePayloads set.now }
+    ensures { IsTrue result ↔ Matching (IsUnhitIn set.now filters.now front.now) prefix.now origin }
+{
+    let Some(asn) = origin else {
+        return false;
+    };
+    if asn == 0 {
+        return false;
+    }
+    allows(set, front, filters, prefix.len(), asn)
+}
+
+// Whether one of those with one prefix has this AS, and a maximum of at least so many bits.
+fn allows(set: &VrpSet, front: &Prefix, filters: &PrefixFilters, len: u8, asn: u32) -> bool
+    requires { ArePayloads set.now }
+    ensures { IsTrue result ↔ Allows set.now filters.now front.now len asn }
+{
+    let mut max = 129;
+    while max > len {
+        max -= 1;
+        if is_unhit(set, filters, front, max, asn) {
+            return true;
+        }
+    }
+    false
+}
+
+// Whether the payload of a prefix, a maximum and an AS is there, and no filter hits it.
+fn is_unhit(set: &VrpSet, filters: &PrefixFilters, front: &Prefix, max: u8, asn: u32) -> bool
+    requires { ArePayloads set.now }
+    ensures { IsTrue result ↔ IsUnhit set.now filters.now (payload_of front.now max asn) }
+{
+    match Vrp::new(*front, max, asn) {
+        None => false,
+        Some(v) => set.contains(&v) && !filters.hit(&v),
+    }
+}
+
+// Whether there is one with one prefix that no filter hits.
+fn has_unhit(set: &VrpSet, front: &Prefix, filters: &PrefixFilters) -> bool
+    ensures { IsTrue result ↔ HasUnhitIn set.now filters.now front.now }
+{
+    for v in set.of_prefix(front) {
+        if !filters.hit(v) {
+            return true;
+        }
+    }
+    false
 }
 
 // The state by one payload, if no filter hits it.

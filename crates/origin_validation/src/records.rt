@@ -49,7 +49,8 @@ impl Records {
 
     /// The state of a route by its prefix and its origin, which is `None` where its path has an AS_SET or no AS. It takes no memory. In
     /// each source, and among the assertions, it goes from the prefix to the next shorter one that covers it and may be a payload's, with
-    /// two look-ups for each, at most one more than the prefix has bits, and through the payloads of each, each of a source's with
+    /// three look-ups for each, at most one more than the prefix has bits. Up to 128 payloads of one prefix are gone through; among more the
+    /// one that matches is looked for, once for each maximum length, and then the first that no filter hits. Each payload of a source takes
     /// the look-ups of [`PrefixFilters::hit`]. It ends where one makes the route valid; a set without payloads costs nothing.
     pub fn state(&self, prefix: &Prefix, origin: Option<u32>) -> OriginState
         ensures { HasState (IsCurrent self.now) prefix.now origin result }

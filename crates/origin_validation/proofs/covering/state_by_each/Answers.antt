@@ -5,7 +5,7 @@ use Rattle.origin_model.specs.VrpSet.{has}
 use Rattle.origin_model.specs.declared.origin_state.OriginState.{OriginState}
 use Rattle.origin_validation.specs.Records.{IsUnhitIn}
 use Rattle.origin_validation.proofs.StateLemmas.{Folds, Among, folds_start, among_next, among_end}
-use Rattle.origin_validation.proofs.covering.state_at.Goals as goal
+use Rattle.origin_validation.proofs.covering.state_by_each.Goals as goal
 
 pub loop-v-init : goal.loop-v-init
 loop-v-init c =
