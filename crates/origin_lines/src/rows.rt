@@ -8,7 +8,7 @@ ghost use Rattle.origin_lines.specs.Each.{each_text};
 use av_base::{Sink, pour_piece};
 use origin_model::origin_of;
 use origin_validation::Origins;
-use report_text::put_origin;
+use report_text::PeerLines;
 use rib_store::{RibStore, Trails};
 use stream_lines::Stop;
 
@@ -58,9 +58,10 @@ fn put_each<W: Sink>(
     ensures grows { Grows (W.written out.old) (W.written out.new) }
     ensures no_shelf { IsErrOf result Stop.Shelf → ⊥ }
 {
+    let mut lines = PeerLines::new();
     for (key, trail) in trails {
         let state = origins.state(&key.prefix, origin_of(trail))?;
-        put_origin(text, &key, state)?;
+        lines.put_origin(text, &key, state)?;
         pour_piece(out, text)?;
     }
     Ok(())
