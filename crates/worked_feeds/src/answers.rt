@@ -7,7 +7,7 @@ use av_base::NoMemory;
 use origin_model::Vrp;
 use path_model::{Addr, AsList, Patch, Prefix, Rows};
 use rtr_pdu::Framer;
-use rtr_session::{Act, Delta, Phase};
+use rtr_session::{Act, Delta, Phase, Session};
 use std::alloc::Global;
 use std::test::Fail;
 
@@ -155,40 +155,68 @@ fn said(act: &Act, max: u8, asn: u32) -> Option<(usize, Option<bool>)> {
     Some((changes.len(), None))
 }
 
-// A payload takes effect at the End of Data; one that is announced twice is there once; a withdrawn one is gone. Changes name what the
-// answer named alone, as it was named last.
-#[test]
-fn answers_give_payloads(rt: HostRuntime) -> Result<(), Fail> {
-    let alloc = rt.alloc();
-    let mut session = in_phase(alloc, Phase::ReceivingWhole)?;
-    for pdu in [
-        prefix(true, 24, 64_500),
-        prefix(true, 24, 64_500),
-        prefix(true, 25, 64_500),
-        prefix(false, 25, 64_500),
-        prefix(true, 32, 0),
-    ] {
-        let (next, act) = take(session, pdu)?;
-        assert_eq!(rt; done_by(&act), Did::Nothing);
-        session = next;
+// The session behind PDUs of payloads of 198.51.100.0/24, each announced or withdrawn, with a maximum and an AS; none hands anything out.
+fn fed(session: Session, payloads: &[(bool, u8, u32)]) -> Result<Session, NoMemory> {
+    let mut session = session;
+    for (announced, max, asn) in payloads {
+        session = take(session, prefix(*announced, *max, *asn))?.0;
     }
-    let (session, act) = take(session, pdu(alloc, Sent::End(7))?)?;
+    Ok(session)
+}
+
+// A session that was handed a whole answer with two payloads, and what the End of Data handed out.
+fn with_two(alloc: Global) -> Result<(Session, Act), NoMemory> {
+    let session = in_phase(alloc, Phase::ReceivingWhole)?;
+    let session = fed(
+        session,
+        &[
+            (true, 24, 64_500),
+            (true, 24, 64_500),
+            (true, 25, 64_500),
+            (false, 25, 64_500),
+            (true, 32, 0),
+        ],
+    )?;
+    take(session, pdu(alloc, Sent::End(7))?)
+}
+
+// A payload takes effect at the End of Data; one that is announced twice is there once; a withdrawn one is gone.
+#[test]
+fn a_whole_answer_gives_payloads(rt: HostRuntime) -> Result<(), Fail> {
+    let (_, act) = with_two(rt.alloc())?;
     assert_eq!(rt; handed(&act, 24, 64_500), Some((2, true)));
     assert_eq!(rt; handed(&act, 25, 64_500), Some((2, false)));
     assert_eq!(rt; handed(&act, 32, 0), Some((2, true)));
-    let mut session = after(alloc, asked(session), Sent::Response(7))?;
-    for pdu in [
-        prefix(false, 32, 0),
-        prefix(true, 25, 64_500),
-        prefix(false, 25, 64_500),
-        prefix(true, 25, 64_500),
-    ] {
-        session = take(session, pdu)?.0;
-    }
-    let (session, act) = take(session, pdu(alloc, Sent::End(7))?)?;
+    Ok(())
+}
+
+// Changes name what the answer named alone, as it was named last.
+#[test]
+fn an_answer_with_changes_names_payloads(rt: HostRuntime) -> Result<(), Fail> {
+    let alloc = rt.alloc();
+    let (session, _) = with_two(alloc)?;
+    let session = after(alloc, asked(session), Sent::Response(7))?;
+    let session = fed(
+        session,
+        &[
+            (false, 32, 0),
+            (true, 25, 64_500),
+            (false, 25, 64_500),
+            (true, 25, 64_500),
+        ],
+    )?;
+    let (_, act) = take(session, pdu(alloc, Sent::End(7))?)?;
     assert_eq!(rt; said(&act, 32, 0), Some((2, Some(false))));
     assert_eq!(rt; said(&act, 25, 64_500), Some((2, Some(true))));
     assert_eq!(rt; said(&act, 24, 64_500), Some((2, None)));
+    Ok(())
+}
+
+// An answer that names none hands out no change of payloads.
+#[test]
+fn an_answer_that_names_nothing(rt: HostRuntime) -> Result<(), Fail> {
+    let alloc = rt.alloc();
+    let (session, _) = with_two(alloc)?;
     let session = after(alloc, asked(session), Sent::Response(7))?;
     let (_, act) = take(session, pdu(alloc, Sent::End(7))?)?;
     assert_eq!(rt; said(&act, 25, 64_500), Some((0, None)));
