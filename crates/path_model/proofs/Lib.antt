@@ -7,6 +7,7 @@ pub mod LawLemmas
 pub mod MapLemmas
 pub mod MemberLemmas
 pub mod NameLemmas
+pub mod NotesLemmas
 pub mod OrderLemmas
 pub mod PackedLemmas
 pub mod PrintedLemmas

@@ -9,6 +9,7 @@ pub mod Key
 pub mod Labelling
 pub mod Laws
 pub mod Name
+pub mod Notes
 pub mod Order
 pub mod Packed
 pub mod Prefix
