@@ -10,7 +10,7 @@ use Rattle.bgp_attrs.specs.declared.form.Form.TheVariants.{Table, Message}
 use Rattle.bgp_attrs.specs.Attributes.{Field, IsField, contents_of, first_content}
 use Rattle.bgp_attrs.specs.Joined.{IsJoined, IsReader, items_of}
 use Rattle.bgp_attrs.specs.Prefixes.{IsNlri}
-use Rattle.bgp_attrs.specs.Reading.{Reading, Reads, Allows, IsPath, IsPath4, aggregator_of, has_length, family_of, IsReachOf, IsReach, IsUnreachOf, IsUnreach, IsOnly, IsRead}
+use Rattle.bgp_attrs.specs.Reading.{Reading, Reads, Allows, IsPath, IsPath4, aggregator_of, has_length, otc_of, family_of, IsReachOf, IsReach, IsUnreachOf, IsUnreach, IsOnly, IsRead}
 use Rattle.bgp_attrs.specs.Segments.{Segment}
 use Rattle.bgp_attrs.proofs.FieldLemmas.{field_reader}
 use Rattle.bgp_attrs.proofs.JoinedLemmas.{joined_from, joined_none, joined_same}
@@ -115,8 +115,8 @@ with_parts : (wide : Bool) (form : Form) (paths : Bool) (bytes : List ℕ) (fiel
 with_parts wide form paths bytes fields spelled (inl path) (inl announced) (inl withdrawn) =
     let path4 = path4_some wide (first_content 17 fields) in
     inl (
-      record { path = path.0; path4 = path4.0; aggregator = aggregator_of wide (first_content 7 fields); aggregator4 = has_length 8 (first_content 18 fields); announced = announced.0; withdrawn = withdrawn.0 },
-      record { fields = fields; spelled = spelled; path = path.1; path4 = path4.1; aggregator = refl; aggregator4 = refl; announced = announced.1; withdrawn = withdrawn.1 },
+      record { path = path.0; path4 = path4.0; aggregator = aggregator_of wide (first_content 7 fields); aggregator4 = has_length 8 (first_content 18 fields); otc = otc_of (first_content 35 fields); announced = announced.0; withdrawn = withdrawn.0 },
+      record { fields = fields; spelled = spelled; path = path.1; path4 = path4.1; aggregator = refl; aggregator4 = refl; otc = refl; announced = announced.1; withdrawn = withdrawn.1 },
     )
 with_parts wide form paths bytes fields spelled (inr none) announced withdrawn = inr (λ (value : Reading) is.
     none value.path (subst (λ (fs : List Field). Reads (IsPath wide) (first_content 2 fs) value.path) (joined_same field_reader bytes is.fields fields is.spelled spelled) is.path))

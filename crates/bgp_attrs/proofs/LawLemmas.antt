@@ -11,7 +11,7 @@ use Rattle.bgp_attrs.proofs.NlriLemmas.{nlri_reader}
 use Rattle.bgp_attrs.specs.declared.form.Form.{Form}
 use Rattle.bgp_attrs.specs.declared.form.Form.TheVariants.{Table, Message}
 use Rattle.bgp_attrs.specs.Attributes.{contents_of, first_of}
-use Rattle.bgp_attrs.specs.Reading.{Reading, Reads, Allows, IsPath, IsPath4, aggregator_of, has_length, family_of, IsReachOf, IsReach, IsUnreachOf, IsUnreach, IsOnly, IsRead}
+use Rattle.bgp_attrs.specs.Reading.{Reading, Reads, Allows, IsPath, IsPath4, aggregator_of, has_length, otc_of, family_of, IsReachOf, IsReach, IsUnreachOf, IsUnreach, IsOnly, IsRead}
 use Rattle.bgp_attrs.proofs.FieldLemmas.{field_reader}
 use Rattle.bgp_attrs.proofs.SegmentLemmas.{segment_reader}
 
@@ -78,9 +78,10 @@ reading_same wide form paths bytes x y p q =
     let path4 = path4_same wide (first_of (contents_of 17 q.fields)) x.path4 y.path4 (subst (λ (cs : List (List ℕ)). IsPath4 wide (first_of cs) x.path4) (of 17) p.path4) q.path4 in
     let aggregator : x.aggregator ≡ y.aggregator = p.aggregator ∙ ap (λ (cs : List (List ℕ)). aggregator_of wide (first_of cs)) (of 7) ∙ sym q.aggregator in
     let aggregator4 : x.aggregator4 ≡ y.aggregator4 = p.aggregator4 ∙ ap (λ (cs : List (List ℕ)). has_length 8 (first_of cs)) (of 18) ∙ sym q.aggregator4 in
+    let otc : x.otc ≡ y.otc = p.otc ∙ ap (λ (cs : List (List ℕ)). otc_of (first_of cs)) (of 35) ∙ sym q.otc in
     let announced = only_same (IsReach paths) (reach_same paths) form (contents_of 14 q.fields) x.announced y.announced (subst (λ (cs : List (List ℕ)). IsOnly (IsReach paths) form cs x.announced) (of 14) p.announced) q.announced in
     let withdrawn = only_same (IsUnreach paths) (unreach_same paths) form (contents_of 15 q.fields) x.withdrawn y.withdrawn (subst (λ (cs : List (List ℕ)). IsOnly (IsUnreach paths) form cs x.withdrawn) (of 15) p.withdrawn) q.withdrawn in
-    λ i. record { path = path i; path4 = path4 i; aggregator = aggregator i; aggregator4 = aggregator4 i; announced = announced i; withdrawn = withdrawn i }
+    λ i. record { path = path i; path4 = path4 i; aggregator = aggregator i; aggregator4 = aggregator4 i; otc = otc i; announced = announced i; withdrawn = withdrawn i }
 
 pub no_prefix_begins_another : (paths six : Bool) (bytes : List ℕ) (one other : Nlri) (rest more : List ℕ) → Begins (IsNlri paths six) bytes one rest → Begins (IsNlri paths six) bytes other more → (one ≡ other) × (rest ≡ more)
 no_prefix_begins_another paths six bytes one other rest more p q =

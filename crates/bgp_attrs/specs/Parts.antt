@@ -27,6 +27,7 @@ pub record HaveFirsts (firsts : Firsts) (fields : List Field) : Type 0 where
   pub path4 : option_copied firsts.path4 ≡ first_content 17 fields
   pub aggregator : option_copied firsts.aggregator ≡ first_content 7 fields
   pub aggregator4 : option_copied firsts.aggregator4 ≡ first_content 18 fields
+  pub otc : option_copied firsts.otc ≡ first_content 35 fields
   pub short : ForSome (option_copied firsts.path) (λ content. length content ≤ 65535)
 
 -- a path of at most so many bytes as an attribute has

@@ -1,8 +1,10 @@
--- What path attributes say (RFC 4271, section 4.3; RFC 4760, sections 3 and 4; RFC 6793, section 3; repeated ones: RFC 7606, section 3, item g).
+-- What path attributes say (RFC 4271, section 4.3; RFC 4760, sections 3 and 4; RFC 6793, section 3; RFC 9234, section 5; repeated ones: RFC 7606, section 3, item g).
 use Rattle.std.specs.Prelude.{◌≡◌, ℕ, slice_get, ◌==◌, ◌+◌, ◌≤◌, Bool, true, false, ◌&&◌, if◌then◌else◌, List, [], ◌∷◌, length, take, drop, Some, None}
 use Rattle.std.specs.declared.option.Option.{Option}
-use Rattle.std.specs.Int.{w16, from_be_bytes}
+use Rattle.std.specs.Int.{w16, w32, from_be_bytes}
 use Rattle.path_model.specs.declared.nlri.Nlri.{Nlri}
+use Rattle.path_model.specs.declared.otc.Otc.{Otc}
+use Rattle.path_model.specs.declared.otc.Otc.TheVariants.{Absent, As, Malformed}
 use Rattle.bgp_attrs.specs.declared.form.Form.{Form}
 use Rattle.bgp_attrs.specs.declared.form.Form.TheVariants.{Table, Message}
 use Rattle.bgp_attrs.specs.Attributes.{Field, IsField, contents_of, first_content}
@@ -16,6 +18,7 @@ pub record Reading : Type 0 where
   pub path4 : Option (List Segment)
   pub aggregator : Option ℕ
   pub aggregator4 : Bool
+  pub otc : Otc
   pub announced : Option (List Nlri)
   pub withdrawn : Option (List Nlri)
 
@@ -49,6 +52,11 @@ aggregator_of wide (Some content) = if length content == as_width wide + 4 then 
 abbrev pub has_length : ℕ → Option (List ℕ) → Bool
 has_length n None = false
 has_length n (Some content) = length content == n
+
+-- what an Only-to-Customer says: the AS of its four bytes; of another length it is malformed (RFC 9234, section 5), which refuses nothing
+abbrev pub otc_of : Option (List ℕ) → Otc
+otc_of None = Absent
+otc_of (Some content) = if length content == 4 then As (from_be_bytes w32 content) else Malformed
 
 -- IPv6 unicast, IPv4 unicast, or another family
 abbrev pub family_of : ℕ → ℕ → Option Bool
@@ -97,6 +105,7 @@ pub record IsRead (wide : Bool) (form : Form) (paths : Bool) (bytes : List ℕ) 
   pub path4 : IsPath4 wide (first_content 17 fields) value.path4
   pub aggregator : value.aggregator ≡ aggregator_of wide (first_content 7 fields)
   pub aggregator4 : value.aggregator4 ≡ has_length 8 (first_content 18 fields)
+  pub otc : value.otc ≡ otc_of (first_content 35 fields)
   pub announced : IsOnly (IsReach paths) form (contents_of 14 fields) value.announced
   pub withdrawn : IsOnly (IsUnreach paths) form (contents_of 15 fields) value.withdrawn
 

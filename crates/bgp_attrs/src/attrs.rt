@@ -2,7 +2,7 @@
 use crate::merging::trail_along;
 use crate::pieces::{Prefixes, Segments};
 use av_base::NoMemory;
-use path_model::Trail;
+use path_model::{Otc, Trail};
 use std::alloc::Global;
 use std::marker::Model;
 
@@ -18,6 +18,7 @@ pub struct Attrs<'a> {
     pub(crate) aggregator: Option<u32>,
     // whether AS4_AGGREGATOR is there
     pub(crate) aggregator4: bool,
+    pub(crate) otc: Otc,
     pub(crate) announced: Option<Prefixes<'a>>,
     pub(crate) withdrawn: Option<Prefixes<'a>>,
 }
@@ -35,6 +36,7 @@ impl<'a> Model for Attrs<'a> {
       path4 = option_map segments_left a.path4;
       aggregator = a.aggregator;
       aggregator4 = a.aggregator4;
+      otc = a.otc;
       announced = option_map prefixes_left a.announced;
       withdrawn = option_map prefixes_left a.withdrawn;
     } };
@@ -67,6 +69,14 @@ impl<'a> Attrs<'a> {
         ensures { option_map prefixes_left result ≡ self.now.withdrawn }
     {
         self.withdrawn
+    }
+
+    /// What the first Only-to-Customer says (RFC 9234, section 5): `Absent` exactly where there is none, `Malformed` exactly where
+    /// its length isn't 4.
+    pub fn otc(&self) -> Otc
+        ensures { result ≡ self.now.otc }
+    {
+        self.otc
     }
 
     /// The path as it is judged: that of AS_PATH, with AS4_PATH merged in where it is used. `None` exactly where there is no

@@ -18,16 +18,20 @@ const AS4_PATH: u8 = 17;
 
 const AS4_AGGREGATOR: u8 = 18;
 
-// The contents of the first attributes of four types, as far as attributes were gone through. Later ones are dropped unread.
+// Only-to-Customer (RFC 9234, section 5).
+const OTC: u8 = 35;
+
+// The contents of the first attributes of five types, as far as attributes were gone through. Later ones are dropped unread.
 #[derive(Clone, Copy, Debug)]
 pub(crate) struct Firsts<'a> {
     pub(crate) path: Option<&'a [u8]>,
     pub(crate) path4: Option<&'a [u8]>,
     pub(crate) aggregator: Option<&'a [u8]>,
     pub(crate) aggregator4: Option<&'a [u8]>,
+    pub(crate) otc: Option<&'a [u8]>,
 }
 
-// The attributes of a field, and the contents of the first ones of the four types.
+// The attributes of a field, and the contents of the first ones of the five types.
 #[derive(Clone, Copy, Debug)]
 pub(crate) struct Found<'a> {
     pub(crate) list: AttributeList<'a>,
@@ -47,6 +51,7 @@ impl<'a> Firsts<'a> {
             AGGREGATOR => keep(&mut self.aggregator, attribute.content),
             AS4_PATH => keep(&mut self.path4, attribute.content),
             AS4_AGGREGATOR => keep(&mut self.aggregator4, attribute.content),
+            OTC => keep(&mut self.otc, attribute.content),
             _ => {}
         }
     }
@@ -62,7 +67,7 @@ fn keep<'a>(first: &mut Option<&'a [u8]>, content: &'a [u8])
     }
 }
 
-// The attributes that the bytes spell, with the first contents of four types, in one pass.
+// The attributes that the bytes spell, with the first contents of five types, in one pass.
 #[inline(always)]
 pub(crate) fn attributes(bytes: &[u8]) -> Option<Found<'_>>
     ensures some { IfSome result (λ found. IsJoined IsField bytes.now (fields_left found.list)) }
@@ -73,6 +78,7 @@ pub(crate) fn attributes(bytes: &[u8]) -> Option<Found<'_>>
         path4: None,
         aggregator: None,
         aggregator4: None,
+        otc: None,
     };
     let mut rest = bytes;
     while !rest.is_empty() {

@@ -1,9 +1,9 @@
 //! Path attributes of BGP, read from slices without memory, and the path that they give.
 //!
-//! The layers above use three contracts. [`read`] answers what counts of an attribute field, exactly where the field has a reading
+//! The layers above use four contracts. [`read`] answers what counts of an attribute field, exactly where the field has a reading
 //! (`specs/Reading.antt`: `IsRead`). [`Attrs::trail`] gives the path as it is judged, AS4_PATH merged in (`specs/Merging.antt`:
-//! `trail_in`). [`prefixes`] answers the prefixes that bytes spell, with or without path identifiers, exactly where they spell some
-//! (`specs/Prefixes.antt`: `IsNlri`).
+//! `trail_in`), and [`Attrs::otc`] what the field says of Only-to-Customer (`specs/Reading.antt`: `otc_of`). [`prefixes`] answers the
+//! prefixes that bytes spell, with or without path identifiers, exactly where they spell some (`specs/Prefixes.antt`: `IsNlri`).
 //!
 //! Begin reading at `specs/Reading.antt`. All lists in these formats are *joined spellings* (`specs/Joined.antt`): a relation says
 //! which bytes spell one item, and a function that reads the first item is proved to be that relation, so that no spelling begins

@@ -1,8 +1,8 @@
 //! A whole attribute field.
-ghost use Rattle.std.specs.Prelude.{◌≡◌, option_map, IfOk, IsOk, OnErr};
+ghost use Rattle.std.specs.Prelude.{◌≡◌, Some, option_map, IfOk, IsOk, OnErr};
 ghost use Rattle.bgp_attrs.specs.Left.{segments_left, prefixes_left};
 ghost use Rattle.bgp_attrs.specs.Parts.{first_in, IsShort, IsPathIn, HasBadPath, IsAnnouncedIn, HasBadReach, IsWithdrawnIn, HasBadUnreach};
-ghost use Rattle.bgp_attrs.specs.Reading.{Reading, IsPath4, aggregator_of, has_length, IsRead};
+ghost use Rattle.bgp_attrs.specs.Reading.{Reading, IsPath4, aggregator_of, has_length, otc_of, IsRead};
 
 use crate::attrs::Attrs;
 use crate::fault::Attributes;
@@ -12,6 +12,7 @@ use crate::pieces::{Ases, AttributeList, Prefixes, Segments};
 use crate::reaching::{reach, unreach};
 use crate::splitting::as_size;
 use crate::whole::segments;
+use path_model::Otc;
 
 const MP_REACH_NLRI: u8 = 14;
 
@@ -21,8 +22,9 @@ const MP_UNREACH_NLRI: u8 = 15;
 ///
 /// `wide` says that ASes have four bytes (RFC 6793), as in a table's records and between speakers that agreed on it; else they have
 /// two, and AS4_PATH and AS4_AGGREGATOR count. `paths` says that each prefix of MP_REACH_NLRI and MP_UNREACH_NLRI has a path identifier
-/// before it (RFC 7911, section 3); in a table both are unread. A refusal comes exactly where the bytes have no reading: an attribute's
-/// header or content is cut, the first AS_PATH is malformed, or in a message MP_REACH_NLRI or MP_UNREACH_NLRI is repeated or malformed.
+/// before it (RFC 7911, section 3); in a table both are unread. A malformed Only-to-Customer refuses nothing (RFC 9234, section 5). A
+/// refusal comes exactly where the bytes have no reading: an attribute's header or content is cut, the first AS_PATH is malformed, or in
+/// a message MP_REACH_NLRI or MP_UNREACH_NLRI is repeated or malformed.
 #[inline(always)]
 pub fn read(bytes: &[u8], wide: bool, form: Form, paths: bool) -> Result<Attrs<'_>, Attributes>
     ensures ok { IfOk result (λ attrs. IsRead wide form paths bytes.now attrs) }
@@ -37,6 +39,7 @@ pub fn read(bytes: &[u8], wide: bool, form: Form, paths: bool) -> Result<Attrs<'
         path4: path4_in(&found, wide),
         aggregator: aggregator_in(&found, wide),
         aggregator4: has_aggregator4(&found),
+        otc: otc_in(&found),
         announced,
         withdrawn,
     })
@@ -95,6 +98,26 @@ fn has_aggregator4(found: &Found<'_>) -> bool
     match found.firsts.aggregator4 {
         Some(content) => content.len() == 8,
         None => false,
+    }
+}
+
+#[inline(always)]
+fn otc_in(found: &Found<'_>) -> Otc
+    ensures { result ≡ otc_of (first_in 35 found.now.list) }
+{
+    match found.firsts.otc {
+        Some(content) => otc_by(content),
+        None => Otc::Absent,
+    }
+}
+
+// What the content of an Only-to-Customer says.
+fn otc_by(content: &[u8]) -> Otc
+    ensures { result ≡ otc_of (Some content.now) }
+{
+    match content {
+        [a, b, c, d] => Otc::As(u32::from_be_bytes([*a, *b, *c, *d])),
+        _ => Otc::Malformed,
     }
 }
 

@@ -7,8 +7,8 @@ use Rattle.std.proofs.lemmas.Bool.Decides.{nat_tests}
 use Rattle.std.proofs.lemmas.List.{take_at, length-append}
 use Rattle.std.proofs.lemmas.Option.{same_Some}
 use Rattle.av_base.specs.One.{HasOne}
-use Rattle.path_model.specs.declared.change.Change.{Change}
 use Rattle.path_model.specs.declared.nlri.Nlri.{Nlri}
+use Rattle.path_model.specs.declared.noted.Noted.{Noted}
 use Rattle.path_model.specs.declared.peer.Peer.{Peer}
 use Rattle.bgp_attrs.specs.declared.form.Form.TheVariants.{Message}
 use Rattle.bgp_attrs.specs.Blocks.{block_at}
@@ -22,7 +22,7 @@ use Rattle.bgp_attrs.proofs.NlriLemmas.{nlri_reader}
 use Rattle.bgp_update.specs.declared.fault.UpdateFault.{UpdateFault}
 use Rattle.bgp_update.specs.declared.fault.UpdateFault.TheVariants as faults
 use Rattle.bgp_update.specs.Frames.{marker, IsFramed}
-use Rattle.bgp_update.specs.Updates.{Update, IsUpdate, IsMessage, IsMessageReading, MakesChanges, AnnouncesWithoutPath, HasPathIfAnnounced, announced_in, changes_of}
+use Rattle.bgp_update.specs.Updates.{Update, IsUpdate, IsMessage, IsMessageReading, MakesChanges, AnnouncesWithoutPath, HasPathIfAnnounced, announced_in, noted_of, without_notes}
 use Rattle.bgp_update.proofs.FrameLemmas.{frame_rest, no_first, no_second, no_withdrawn, no_announced, update_made, no_message, no_frame, message_same}
 
 -- ---- no two readings
@@ -49,46 +49,46 @@ lacks_has wide paths message one other x y p read lacks q read_other has =
     let here : HasPathIfAnnounced one x = subst (λ (u : Update). HasPathIfAnnounced u x) (sym updates) (subst (HasPathIfAnnounced other) (sym readings) has) in
     lacks.1 (here lacks.0)
 
-makes_same : (wide paths : Bool) (peer : Peer) (message : List ℕ) (changes others : List Change) → MakesChanges wide paths peer message changes → MakesChanges wide paths peer message others → changes ≡ others
-makes_same wide paths peer message changes others p q =
+makes_same : (wide paths : Bool) (peer : Peer) (message : List ℕ) (noted others : Noted) → MakesChanges wide paths peer message noted → MakesChanges wide paths peer message others → noted ≡ others
+makes_same wide paths peer message noted others p q =
     let updates = updates_same paths message p.0 q.0 p.1 q.1 in
     let readings = readings_same wide paths message p.0 q.0 p.2 q.2 p.1 p.3 q.1 q.3 in
-    p.5 ∙ (λ i. changes_of peer (updates i) (readings i)) ∙ sym q.5
+    p.5 ∙ (λ i. noted_of peer (updates i) (readings i)) ∙ sym q.5
 
-changes_same : (wide paths : Bool) (peer : Peer) (message : List ℕ) (changes others : List Change) → IsMessageReading wide paths peer message (Ok changes) → IsMessageReading wide paths peer message (Ok others) → changes ≡ others
-changes_same wide paths peer message changes others (inl p) (inl q) = p.1 ∙ sym q.1
-changes_same wide paths peer message changes others (inl p) (inr q) = absurd (not_both paths message q.0 p.0 q.1)
-changes_same wide paths peer message changes others (inr p) (inl q) = absurd (not_both paths message p.0 q.0 p.1)
-changes_same wide paths peer message changes others (inr p) (inr q) = makes_same wide paths peer message changes others p q
+noted_same : (wide paths : Bool) (peer : Peer) (message : List ℕ) (noted others : Noted) → IsMessageReading wide paths peer message (Ok noted) → IsMessageReading wide paths peer message (Ok others) → noted ≡ others
+noted_same wide paths peer message noted others (inl p) (inl q) = p.1 ∙ sym q.1
+noted_same wide paths peer message noted others (inl p) (inr q) = absurd (not_both paths message q.0 p.0 q.1)
+noted_same wide paths peer message noted others (inr p) (inl q) = absurd (not_both paths message p.0 q.0 p.1)
+noted_same wide paths peer message noted others (inr p) (inr q) = makes_same wide paths peer message noted others p q
 
-pub reading_same : (wide paths : Bool) (peer : Peer) (message : List ℕ) (one other : Result (List Change) UpdateFault) → IsMessageReading wide paths peer message one → IsMessageReading wide paths peer message other → one ≡ other
+pub reading_same : (wide paths : Bool) (peer : Peer) (message : List ℕ) (one other : Result Noted UpdateFault) → IsMessageReading wide paths peer message one → IsMessageReading wide paths peer message other → one ≡ other
 reading_same wide paths peer message (Err faults.NoMemory) other p q = absurd p
 reading_same wide paths peer message (Err faults.Message) (Err faults.NoMemory) p q = absurd q
 reading_same wide paths peer message (Err faults.Message) (Err faults.Message) p q = refl
 reading_same wide paths peer message (Err faults.Message) (Err faults.Attributes) p q = absurd (p (Some q.0) q.1)
 reading_same wide paths peer message (Err faults.Message) (Err faults.NoPath) p q = absurd (p (Some q.0) q.1)
-reading_same wide paths peer message (Err faults.Message) (Ok changes) p (inl q) = absurd (p None q.0)
-reading_same wide paths peer message (Err faults.Message) (Ok changes) p (inr q) = absurd (p (Some q.0) q.1)
+reading_same wide paths peer message (Err faults.Message) (Ok noted) p (inl q) = absurd (p None q.0)
+reading_same wide paths peer message (Err faults.Message) (Ok noted) p (inr q) = absurd (p (Some q.0) q.1)
 reading_same wide paths peer message (Err faults.Attributes) (Err faults.NoMemory) p q = absurd q
 reading_same wide paths peer message (Err faults.Attributes) (Err faults.Message) p q = absurd (q (Some p.0) p.1)
 reading_same wide paths peer message (Err faults.Attributes) (Err faults.Attributes) p q = refl
 reading_same wide paths peer message (Err faults.Attributes) (Err faults.NoPath) p q = absurd (unreadable_read wide paths message p.0 q.0 q.2 p.1 p.2 q.1 q.3)
-reading_same wide paths peer message (Err faults.Attributes) (Ok changes) p (inl q) = absurd (not_both paths message p.0 q.0 p.1)
-reading_same wide paths peer message (Err faults.Attributes) (Ok changes) p (inr q) = absurd (unreadable_read wide paths message p.0 q.0 q.2 p.1 p.2 q.1 q.3)
+reading_same wide paths peer message (Err faults.Attributes) (Ok noted) p (inl q) = absurd (not_both paths message p.0 q.0 p.1)
+reading_same wide paths peer message (Err faults.Attributes) (Ok noted) p (inr q) = absurd (unreadable_read wide paths message p.0 q.0 q.2 p.1 p.2 q.1 q.3)
 reading_same wide paths peer message (Err faults.NoPath) (Err faults.NoMemory) p q = absurd q
 reading_same wide paths peer message (Err faults.NoPath) (Err faults.Message) p q = absurd (q (Some p.0) p.1)
 reading_same wide paths peer message (Err faults.NoPath) (Err faults.Attributes) p q = absurd (unreadable_read wide paths message q.0 p.0 p.2 q.1 q.2 p.1 p.3)
 reading_same wide paths peer message (Err faults.NoPath) (Err faults.NoPath) p q = refl
-reading_same wide paths peer message (Err faults.NoPath) (Ok changes) p (inl q) = absurd (not_both paths message p.0 q.0 p.1)
-reading_same wide paths peer message (Err faults.NoPath) (Ok changes) p (inr q) = absurd (lacks_has wide paths message p.0 q.0 p.2 q.2 p.1 p.3 p.4 q.1 q.3 q.4)
-reading_same wide paths peer message (Ok changes) (Err faults.NoMemory) p q = absurd q
-reading_same wide paths peer message (Ok changes) (Err faults.Message) (inl p) q = absurd (q None p.0)
-reading_same wide paths peer message (Ok changes) (Err faults.Message) (inr p) q = absurd (q (Some p.0) p.1)
-reading_same wide paths peer message (Ok changes) (Err faults.Attributes) (inl p) q = absurd (not_both paths message q.0 p.0 q.1)
-reading_same wide paths peer message (Ok changes) (Err faults.Attributes) (inr p) q = absurd (unreadable_read wide paths message q.0 p.0 p.2 q.1 q.2 p.1 p.3)
-reading_same wide paths peer message (Ok changes) (Err faults.NoPath) (inl p) q = absurd (not_both paths message q.0 p.0 q.1)
-reading_same wide paths peer message (Ok changes) (Err faults.NoPath) (inr p) q = absurd (lacks_has wide paths message q.0 p.0 q.2 p.2 q.1 q.3 q.4 p.1 p.3 p.4)
-reading_same wide paths peer message (Ok changes) (Ok others) p q = ap Ok (changes_same wide paths peer message changes others p q)
+reading_same wide paths peer message (Err faults.NoPath) (Ok noted) p (inl q) = absurd (not_both paths message p.0 q.0 p.1)
+reading_same wide paths peer message (Err faults.NoPath) (Ok noted) p (inr q) = absurd (lacks_has wide paths message p.0 q.0 p.2 q.2 p.1 p.3 p.4 q.1 q.3 q.4)
+reading_same wide paths peer message (Ok noted) (Err faults.NoMemory) p q = absurd q
+reading_same wide paths peer message (Ok noted) (Err faults.Message) (inl p) q = absurd (q None p.0)
+reading_same wide paths peer message (Ok noted) (Err faults.Message) (inr p) q = absurd (q (Some p.0) p.1)
+reading_same wide paths peer message (Ok noted) (Err faults.Attributes) (inl p) q = absurd (not_both paths message q.0 p.0 q.1)
+reading_same wide paths peer message (Ok noted) (Err faults.Attributes) (inr p) q = absurd (unreadable_read wide paths message q.0 p.0 p.2 q.1 q.2 p.1 p.3)
+reading_same wide paths peer message (Ok noted) (Err faults.NoPath) (inl p) q = absurd (not_both paths message q.0 p.0 q.1)
+reading_same wide paths peer message (Ok noted) (Err faults.NoPath) (inr p) q = absurd (lacks_has wide paths message q.0 p.0 q.2 p.2 q.1 q.3 q.4 p.1 p.3 p.4)
+reading_same wide paths peer message (Ok noted) (Ok others) p q = ap Ok (noted_same wide paths peer message noted others p q)
 
 -- ---- some reading
 
@@ -162,12 +162,12 @@ message_decided paths message = by_frame paths message (frame_from message (star
 -- ---- the changes
 
 abbrev HasReading : Bool → Bool → Peer → List ℕ → Type 0
-HasReading wide paths peer message = (result : Result (List Change) UpdateFault) × IsMessageReading wide paths peer message result
+HasReading wide paths peer message = (result : Result Noted UpdateFault) × IsMessageReading wide paths peer message result
 
 by_path : (wide paths : Bool) (peer : Peer) (message : List ℕ) (update : Update) → IsMessage paths message (Some update) → (reading : Reading) → IsRead wide Message paths update.attributes reading
     → (path : Option (List Segment)) → reading.path ≡ path → (announced : List Nlri) → announced_in update reading ≡ announced → HasReading wide paths peer message
-by_path wide paths peer message update is reading read (Some path) p announced a = (Ok (changes_of peer update reading), inr (update, is, reading, read, (λ none. absurd (let both : Some path ≡ None = sym p ∙ none in cc)), refl))
-by_path wide paths peer message update is reading read None p [] a = (Ok (changes_of peer update reading), inr (update, is, reading, read, (λ none. a), refl))
+by_path wide paths peer message update is reading read (Some path) p announced a = (Ok (noted_of peer update reading), inr (update, is, reading, read, (λ none. absurd (let both : Some path ≡ None = sym p ∙ none in cc)), refl))
+by_path wide paths peer message update is reading read None p [] a = (Ok (noted_of peer update reading), inr (update, is, reading, read, (λ none. a), refl))
 by_path wide paths peer message update is reading read None p (prefix ∷ prefixes) a = (Err faults.NoPath, (update, is, reading, read, (p, λ none. (let both : prefix ∷ prefixes ≡ [] = sym a ∙ none in cc))))
 
 by_attributes : (wide paths : Bool) (peer : Peer) (message : List ℕ) (update : Update) → IsMessage paths message (Some update) → SomeOrNone (IsRead wide Message paths update.attributes) → HasReading wide paths peer message
@@ -175,11 +175,11 @@ by_attributes wide paths peer message update is (inl x) = by_path wide paths pee
 by_attributes wide paths peer message update is (inr none) = (Err faults.Attributes, (update, is, none))
 
 by_message : (wide paths : Bool) (peer : Peer) (message : List ℕ) → SomeOrNone (IsMessage paths message) → HasReading wide paths peer message
-by_message wide paths peer message (inl (None, is)) = (Ok [], inl (is, refl))
+by_message wide paths peer message (inl (None, is)) = (Ok (without_notes []), inl (is, refl))
 by_message wide paths peer message (inl (Some update, is)) = by_attributes wide paths peer message update is (reading_decided wide Message paths update.attributes)
 by_message wide paths peer message (inr none) = (Err faults.Message, none)
 
-pub reading_some : (wide paths : Bool) (peer : Peer) (message : List ℕ) → (result : Result (List Change) UpdateFault) × IsMessageReading wide paths peer message result
+pub reading_some : (wide paths : Bool) (peer : Peer) (message : List ℕ) → (result : Result Noted UpdateFault) × IsMessageReading wide paths peer message result
 reading_some wide paths peer message = by_message wide paths peer message (message_decided paths message)
 
 pub one_reading : (wide paths : Bool) (peer : Peer) (message : List ℕ) → HasOne (IsMessageReading wide paths peer message)

@@ -1,9 +1,15 @@
--- The law of readings, the contract of a public function of the module `laws`.
-use Rattle.std.specs.Prelude.{ℕ, Bool, List}
+-- The laws of readings, each the contract of a public function of the module `laws`.
+use Rattle.std.specs.Prelude.{ℕ, Bool, List, Ok}
 use Rattle.av_base.specs.One.{HasOne}
+use Rattle.path_model.specs.declared.noted.Noted.{Noted}
 use Rattle.path_model.specs.declared.peer.Peer.{Peer}
+use Rattle.path_model.specs.Notes.{HasNotes}
 use Rattle.bgp_update.specs.Updates.{IsMessageReading}
 
 -- each message has exactly one reading
 abbrev pub EachMessageHasOneReading : Type 0
 EachMessageHasOneReading = (wide paths : Bool) (peer : Peer) (message : List ℕ) → HasOne (IsMessageReading wide paths peer message)
+
+-- each announcement of a message has its note
+abbrev pub EachAnnouncementHasItsNote : Type 0
+EachAnnouncementHasItsNote = (wide paths : Bool) (peer : Peer) (message : List ℕ) (noted : Noted) → IsMessageReading wide paths peer message (Ok noted) → HasNotes noted

@@ -2,8 +2,8 @@
 use Rattle.std.specs.Prelude.{◌≡◌, Bool, List, [], option_map, unwrap_or, Ok, Err}
 use Rattle.std.specs.declared.option.Option.{Option}
 use Rattle.std.specs.declared.result.Result.{Result}
-use Rattle.path_model.specs.declared.change.Change.{Change}
 use Rattle.path_model.specs.declared.nlri.Nlri.{Nlri}
+use Rattle.path_model.specs.declared.noted.Noted.{Noted}
 use Rattle.path_model.specs.declared.peer.Peer.{Peer}
 use Rattle.bgp_attrs.specs.declared.form.Form.TheVariants.{Message}
 use Rattle.bgp_attrs.specs.declared.pieces.Prefixes.{Prefixes}
@@ -11,24 +11,24 @@ use Rattle.bgp_attrs.specs.Left.{prefixes_left}
 use Rattle.bgp_attrs.specs.Reading.{Reading, IsRead, IsUnreadable}
 use Rattle.bgp_update.specs.declared.fault.UpdateFault.{UpdateFault}
 use Rattle.bgp_update.specs.declared.fault.UpdateFault.TheVariants as faults
-use Rattle.bgp_update.specs.Updates.{Update, changes_of, AnnouncesWithoutPath, HasPathIfAnnounced}
+use Rattle.bgp_update.specs.Updates.{Update, noted_of, AnnouncesWithoutPath, HasPathIfAnnounced}
 
 -- the prefixes, where there are some
 abbrev pub some_left : Option Prefixes → List Nlri
 some_left prefixes = unwrap_or (option_map prefixes_left prefixes) []
 
 -- by the attributes' reading
-abbrev pub IsOutcomeBy : Peer → Update → Reading → Result (List Change) UpdateFault → Type 0
-IsOutcomeBy peer update reading (Ok changes) = HasPathIfAnnounced update reading × (changes ≡ changes_of peer update reading)
+abbrev pub IsOutcomeBy : Peer → Update → Reading → Result Noted UpdateFault → Type 0
+IsOutcomeBy peer update reading (Ok noted) = HasPathIfAnnounced update reading × (noted ≡ noted_of peer update reading)
 IsOutcomeBy peer update reading (Err faults.NoMemory) = Unit {0}
 IsOutcomeBy peer update reading (Err faults.Message) = ⊥
 IsOutcomeBy peer update reading (Err faults.Attributes) = ⊥
 IsOutcomeBy peer update reading (Err faults.NoPath) = AnnouncesWithoutPath update reading
 
 -- by the parts
-abbrev pub IsOutcomeOf : Bool → Bool → Peer → Update → Result (List Change) UpdateFault → Type 0
+abbrev pub IsOutcomeOf : Bool → Bool → Peer → Update → Result Noted UpdateFault → Type 0
 IsOutcomeOf wide paths peer update (Err faults.NoMemory) = Unit {0}
 IsOutcomeOf wide paths peer update (Err faults.Message) = ⊥
 IsOutcomeOf wide paths peer update (Err faults.Attributes) = IsUnreadable wide Message paths update.attributes
 IsOutcomeOf wide paths peer update (Err faults.NoPath) = (reading : Reading) × IsRead wide Message paths update.attributes reading × AnnouncesWithoutPath update reading
-IsOutcomeOf wide paths peer update (Ok changes) = (reading : Reading) × IsRead wide Message paths update.attributes reading × HasPathIfAnnounced update reading × (changes ≡ changes_of peer update reading)
+IsOutcomeOf wide paths peer update (Ok noted) = (reading : Reading) × IsRead wide Message paths update.attributes reading × HasPathIfAnnounced update reading × (noted ≡ noted_of peer update reading)

@@ -1,9 +1,12 @@
--- UPDATE messages (RFC 4271, section 4.3), and the changes that they make.
-use Rattle.std.specs.Prelude.{◌≡◌, ◌≢◌, ℕ, Bool, false, List, [], ◌++◌, unwrap_or, ◌⊎◌, Some, None, Ok, Err}
+-- UPDATE messages (RFC 4271, section 4.3), and the changes that they make, with what their announcements say of Only-to-Customer (RFC 9234,
+-- section 5).
+use Rattle.std.specs.Prelude.{◌≡◌, ◌≢◌, ℕ, Bool, false, List, [], ◌++◌, length, replicate, unwrap_or, ◌⊎◌, Some, None, Ok, Err}
 use Rattle.std.specs.declared.option.Option.{Option}
 use Rattle.std.specs.declared.result.Result.{Result}
 use Rattle.path_model.specs.declared.change.Change.{Change}
 use Rattle.path_model.specs.declared.nlri.Nlri.{Nlri}
+use Rattle.path_model.specs.declared.noted.Noted.{Noted}
+use Rattle.path_model.specs.declared.otc.Otc.{Otc}
 use Rattle.path_model.specs.declared.peer.Peer.{Peer}
 use Rattle.path_model.specs.Batches.{removals, announcements}
 use Rattle.path_model.specs.Trail.{Path}
@@ -57,6 +60,18 @@ all_announcements peer (Some trail) prefixes = announcements peer trail prefixes
 abbrev pub changes_of : Peer → Update → Reading → List Change
 changes_of peer update reading = removals peer (withdrawn_in update reading) ++ all_announcements peer (trail_in reading) (announced_in update reading)
 
+-- the notes of the announcements: each has what the attributes say of Only-to-Customer
+abbrev pub notes_of : Update → Reading → List Otc
+notes_of update reading = replicate (length (announced_in update reading)) reading.otc
+
+-- the changes with the notes of their announcements
+abbrev pub noted_of : Peer → Update → Reading → Noted
+noted_of peer update reading = record { changes = changes_of peer update reading; notes = notes_of update reading }
+
+-- changes of which none is an announcement
+abbrev pub without_notes : List Change → Noted
+without_notes changes = record { changes = changes; notes = [] }
+
 -- a prefix is announced, and there is no AS_PATH
 abbrev pub AnnouncesWithoutPath : Update → Reading → Type 0
 AnnouncesWithoutPath update reading = (reading.path ≡ None) × (announced_in update reading ≢ [])
@@ -66,23 +81,23 @@ abbrev pub HasPathIfAnnounced : Update → Reading → Type 0
 HasPathIfAnnounced update reading = (reading.path ≡ None) → announced_in update reading ≡ []
 
 -- the message is an UPDATE that makes these changes
-abbrev pub MakesChanges : Bool → Bool → Peer → List ℕ → List Change → Type 0
-MakesChanges wide paths peer message changes =
-    (update : Update) × IsMessage paths message (Some update) × (reading : Reading) × IsRead wide Message paths update.attributes reading × HasPathIfAnnounced update reading × (changes ≡ changes_of peer update reading)
+abbrev pub MakesChanges : Bool → Bool → Peer → List ℕ → Noted → Type 0
+MakesChanges wide paths peer message noted =
+    (update : Update) × IsMessage paths message (Some update) × (reading : Reading) × IsRead wide Message paths update.attributes reading × HasPathIfAnnounced update reading × (noted ≡ noted_of peer update reading)
 
--- What the message says: its changes, or the first fault, by the order of the cases. A case has the readings that the ones before it
--- deny, so that no two hold at once.
-abbrev pub IsMessageReading : Bool → Bool → Peer → List ℕ → Result (List Change) UpdateFault → Type 0
+-- What the message says: its changes with their notes, or the first fault, by the order of the cases. A case has the readings that the
+-- ones before it deny, so that no two hold at once.
+abbrev pub IsMessageReading : Bool → Bool → Peer → List ℕ → Result Noted UpdateFault → Type 0
 IsMessageReading wide paths peer message (Err faults.Message) = (shape : Option Update) → IsMessage paths message shape → ⊥
 IsMessageReading wide paths peer message (Err faults.Attributes) = (update : Update) × IsMessage paths message (Some update) × IsUnreadable wide Message paths update.attributes
 IsMessageReading wide paths peer message (Err faults.NoPath) = (update : Update) × IsMessage paths message (Some update) × (reading : Reading) × IsRead wide Message paths update.attributes reading × AnnouncesWithoutPath update reading
 IsMessageReading wide paths peer message (Err faults.NoMemory) = ⊥
-IsMessageReading wide paths peer message (Ok changes) = (IsMessage paths message None × (changes ≡ [])) ⊎ MakesChanges wide paths peer message changes
+IsMessageReading wide paths peer message (Ok noted) = (IsMessage paths message None × (noted ≡ without_notes [])) ⊎ MakesChanges wide paths peer message noted
 
 -- the answer is what the message says, or want of memory
-abbrev pub IsMessageOutcome : Bool → Bool → Peer → List ℕ → Result (List Change) UpdateFault → Type 0
+abbrev pub IsMessageOutcome : Bool → Bool → Peer → List ℕ → Result Noted UpdateFault → Type 0
 IsMessageOutcome wide paths peer message (Err faults.Message) = IsMessageReading wide paths peer message (Err faults.Message)
 IsMessageOutcome wide paths peer message (Err faults.Attributes) = IsMessageReading wide paths peer message (Err faults.Attributes)
 IsMessageOutcome wide paths peer message (Err faults.NoPath) = IsMessageReading wide paths peer message (Err faults.NoPath)
 IsMessageOutcome wide paths peer message (Err faults.NoMemory) = Unit {0}
-IsMessageOutcome wide paths peer message (Ok changes) = IsMessageReading wide paths peer message (Ok changes)
+IsMessageOutcome wide paths peer message (Ok noted) = IsMessageReading wide paths peer message (Ok noted)

@@ -10,13 +10,14 @@ use crate::parting::Parts;
 use crate::shaping::message_parts;
 use av_base::NoMemory;
 use bgp_attrs::{Attrs, Form, Prefixes};
-use path_model::{Changes, NlriList, Peer};
+use path_model::{Changes, NlriList, Noted, Notes, Peer};
 use std::alloc::Global;
 
-/// The changes that a message from a peer makes: its removals, and then its announcements. A message that is no UPDATE makes none.
+/// The changes that a message from a peer makes: its removals, and then its announcements, and beside them a note for each
+/// announcement: what the attributes say of Only-to-Customer (RFC 9234, section 5). A message that is no UPDATE makes none.
 ///
 /// All announcements share one path, so it takes the memory of the path once, and some 11 bytes for each prefix, 8 more where it has a
-/// path identifier.
+/// path identifier, and 8 more where the attribute is there.
 ///
 /// `wide` says that ASes have four bytes; `paths` that each prefix, withdrawn or announced, has a path identifier before it (RFC 7911,
 /// section 3). The refusals are tested over the whole message in this order: 24 Message, 23 Attributes,
@@ -27,24 +28,27 @@ pub fn read(
     wide: bool,
     paths: bool,
     peer: Peer,
-) -> Result<Changes, UpdateFault>
+) -> Result<Noted, UpdateFault>
     ensures { IsMessageOutcome wide paths peer message.now result }
 {
     match message_parts(message, paths) {
         Ok(Some(parts)) => changes_of(alloc, parts, wide, paths, peer),
-        Ok(None) => Ok(Changes::new(alloc)),
+        Ok(None) => Ok(Noted {
+            changes: Changes::new(alloc),
+            notes: Notes::new(alloc),
+        }),
         Err(_) => Err(UpdateFault::Message),
     }
 }
 
-// The changes of an UPDATE.
+// The changes of an UPDATE, with their notes.
 fn changes_of(
     alloc: Global,
     parts: Parts<'_>,
     wide: bool,
     paths: bool,
     peer: Peer,
-) -> Result<Changes, UpdateFault>
+) -> Result<Noted, UpdateFault>
     ensures { IsOutcomeOf wide paths peer (update_of parts.entry) result }
 {
     match bgp_attrs::read(parts.attributes, wide, Form::Message, paths) {
@@ -53,27 +57,29 @@ fn changes_of(
     }
 }
 
-// The changes of an UPDATE with its attributes read.
+// The changes of an UPDATE with its attributes read, and their notes.
 fn changes_by(
     alloc: Global,
     parts: Parts<'_>,
     attrs: &Attrs<'_>,
     peer: Peer,
-) -> Result<Changes, UpdateFault>
+) -> Result<Noted, UpdateFault>
     ensures { IsOutcomeBy peer (update_of parts.entry) attrs.now result }
 {
     let mut changes = Changes::new(alloc);
     let withdrawn = all_of(alloc, parts.withdrawn, attrs.withdrawn())?;
     changes.remove_all(peer, withdrawn)?;
     let announced = all_of(alloc, parts.announced, attrs.announced())?;
+    let mut notes = Notes::new(alloc);
+    notes.note_all(attrs.otc(), announced.len())?;
     match attrs.trail(alloc)? {
         Some(trail) => {
             changes.announce_all(peer, trail, announced)?;
-            Ok(changes)
+            Ok(Noted { changes, notes })
         }
         None => {
             if announced.is_empty() {
-                Ok(changes)
+                Ok(Noted { changes, notes })
             } else {
                 Err(UpdateFault::NoPath)
             }

@@ -4,6 +4,7 @@ pub mod FormLemmas
 pub mod HeaderLemmas
 pub mod LawLemmas
 pub mod MessageLemmas
+pub mod NoteLemmas
 pub mod OpenLemmas
 pub mod PeerLemmas
 pub mod ReadingLemmas

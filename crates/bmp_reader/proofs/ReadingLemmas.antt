@@ -1,11 +1,11 @@
 -- Each message has exactly one reading, and want of memory is none.
-use Rattle.std.proofs.Common.{◌≡◌, inl, inr, ℕ, Bool, true, false, List, [], ◌∷◌, Some, None, Ok, Err, refl, sym, ap, subst, ◌∙◌, true≢false}
+use Rattle.std.proofs.Common.{◌≡◌, ℕ, Bool, true, false, List, [], ◌∷◌, Ok, Err, refl, sym, ap, subst, ◌∙◌, true≢false}
 use Rattle.std.specs.Prelude.{◌↔◌, ◌&&◌, IsTrue}
 use Rattle.std.specs.declared.option.Option.{Option}
 use Rattle.std.specs.declared.result.Result.{Result}
 use Rattle.av_base.specs.One.{HasOne}
-use Rattle.path_model.specs.declared.change.Change.{Change}
 use Rattle.path_model.specs.declared.change.Change.TheVariants.{RemovePeer}
+use Rattle.path_model.specs.declared.noted.Noted.{Noted}
 use Rattle.path_model.specs.declared.peer.Peer.{Peer}
 use Rattle.path_model.specs.declared.role.Role.{Role}
 use Rattle.bgp_update.specs.declared.fault.UpdateFault.{UpdateFault}
@@ -27,12 +27,12 @@ use Rattle.bmp_reader.specs.Headers.{is_wide}
 use Rattle.bmp_reader.specs.Kinds.{kind_of}
 use Rattle.bmp_reader.specs.Learning.{TellsRole, HasPaths}
 use Rattle.bmp_reader.specs.Messages.{Sent}
-use Rattle.bmp_reader.specs.Opens.{Open, Triple, HasCapabilities}
+use Rattle.bmp_reader.specs.Opens.{Triple}
 use Rattle.bmp_reader.specs.Readers.{header_at, down_at, up_at, capabilities_of}
 use Rattle.bmp_reader.specs.Seen.{unseen, see_all, role_told}
 use Rattle.bmp_reader.proofs.CapabilityLemmas.{has_found, found_only}
 use Rattle.bmp_reader.proofs.FormLemmas.{Says, monitoring_reads, down_reads, up_reads, form_same, form_some, form_reads}
-use Rattle.bmp_reader.proofs.SeenLemmas.{IsSeen, all_seen, role_seen, role_same, truth_same}
+use Rattle.bmp_reader.proofs.SeenLemmas.{all_seen, role_seen, role_same, truth_same}
 
 -- ---- unless it is passed over
 
@@ -119,7 +119,7 @@ kind_same kinds.RouteMonitoring view peers body one other p q =
     form_same (λ (it : PeerHeader × List ℕ). IsRouteMonitoring body it.0 it.1) (RoutesSay view peers) (header_at body) one other (monitoring_reads body) (λ it a b. routes_same view peers it one other a b) p q
 kind_same kinds.PeerDown view peers body one other p q =
     form_same (IsPeerDown body) DownSays (down_at body) one other (down_reads body)
-    (λ header a b. unless_same (is_elsewhere header) (λ r. r ≡ Ok (bodies.Routes (RemovePeer header.peer ∷ []))) one other (λ x y. x ∙ sym y) a b) p q
+    (λ header a b. unless_same (is_elsewhere header) (λ r. r ≡ Ok (bodies.Routes (updates.without_notes (RemovePeer header.peer ∷ [])))) one other (λ x y. x ∙ sym y) a b) p q
 kind_same kinds.PeerUp view peers body one other p q =
     form_same (IsPeerUp body) UpSays (up_at body) one other (up_reads body) (λ up a b. unless_same (is_elsewhere up.header) (OpensSay up) one other (opens_same up one other) a b) p q
 kind_same kinds.Other view peers body one other p q = p ∙ sym q
@@ -128,7 +128,7 @@ kind_some : (kind : Kind) (view : View) (peers : Identifying) (body : List ℕ) 
 kind_some kinds.RouteMonitoring view peers body = form_some (λ (it : PeerHeader × List ℕ). IsRouteMonitoring body it.0 it.1) (RoutesSay view peers) (header_at body) (monitoring_reads body) (routes_some view peers)
 kind_some kinds.PeerDown view peers body =
     form_some (IsPeerDown body) DownSays (down_at body) (down_reads body)
-    (λ header. unless_some (is_elsewhere header) (λ r. r ≡ Ok (bodies.Routes (RemovePeer header.peer ∷ []))) (Ok (bodies.Routes (RemovePeer header.peer ∷ [])), refl))
+    (λ header. unless_some (is_elsewhere header) (λ r. r ≡ Ok (bodies.Routes (updates.without_notes (RemovePeer header.peer ∷ [])))) (Ok (bodies.Routes (updates.without_notes (RemovePeer header.peer ∷ []))), refl))
 kind_some kinds.PeerUp view peers body = form_some (IsPeerUp body) UpSays (up_at body) (up_reads body) (λ up. unless_some (is_elsewhere up.header) (OpensSay up) (opens_some up))
 kind_some kinds.Other view peers body = (Ok bodies.Passed, refl)
 
@@ -142,8 +142,8 @@ one_reading it view peers =
 
 -- ---- want of memory
 
-raised_reads : (wide : Bool) (peer : Peer) (message : List ℕ) (inner : Result (List Change) UpdateFault) → updates.IsMessageReading wide false peer message inner → Err faults.NoMemory ≡ raised inner → ⊥
-raised_reads wide peer message (Ok changes) reads is = cc
+raised_reads : (wide : Bool) (peer : Peer) (message : List ℕ) (inner : Result Noted UpdateFault) → updates.IsMessageReading wide false peer message inner → Err faults.NoMemory ≡ raised inner → ⊥
+raised_reads wide peer message (Ok noted) reads is = cc
 raised_reads wide peer message (Err update_faults.Message) reads is = cc
 raised_reads wide peer message (Err update_faults.Attributes) reads is = cc
 raised_reads wide peer message (Err update_faults.NoPath) reads is = cc
@@ -156,7 +156,7 @@ routes_reads view peers (header, message) says =
 kind_reads : (kind : Kind) (view : View) (peers : Identifying) (body : List ℕ) → KindSays kind view peers body (Err faults.NoMemory) → ⊥
 kind_reads kinds.RouteMonitoring view peers body says = form_reads (λ (it : PeerHeader × List ℕ). IsRouteMonitoring body it.0 it.1) (RoutesSay view peers) (routes_reads view peers) says
 kind_reads kinds.PeerDown view peers body says =
-    form_reads (IsPeerDown body) DownSays (λ header s. unless_reads (is_elsewhere header) (λ r. r ≡ Ok (bodies.Routes (RemovePeer header.peer ∷ []))) (λ e. cc) s) says
+    form_reads (IsPeerDown body) DownSays (λ header s. unless_reads (is_elsewhere header) (λ r. r ≡ Ok (bodies.Routes (updates.without_notes (RemovePeer header.peer ∷ [])))) (λ e. cc) s) says
 kind_reads kinds.PeerUp view peers body says = form_reads (IsPeerUp body) UpSays (λ up s. unless_reads (is_elsewhere up.header) (OpensSay up) (λ o. (let e = o.3 in cc)) s) says
 kind_reads kinds.Other view peers body says = cc
 

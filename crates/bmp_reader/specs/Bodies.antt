@@ -3,8 +3,8 @@ use Rattle.std.specs.Prelude.{◌≡◌, ℕ, ◌==◌, ◌⊎◌, ◌↔◌, Bo
 use Rattle.std.specs.FinSet as set
 use Rattle.std.specs.declared.option.Option.{Option}
 use Rattle.std.specs.declared.result.Result.{Result}
-use Rattle.path_model.specs.declared.change.Change.{Change}
 use Rattle.path_model.specs.declared.change.Change.TheVariants.{RemovePeer}
+use Rattle.path_model.specs.declared.noted.Noted.{Noted}
 use Rattle.path_model.specs.declared.peer.Peer.{Peer}
 use Rattle.path_model.specs.declared.role.Role.{Role}
 use Rattle.path_model.specs.Key.{peer_cmp}
@@ -57,13 +57,13 @@ fault_of update_faults.NoPath = faults.NoPath
 fault_of update_faults.NoMemory = faults.NoMemory
 
 -- what a BGP message says as what a body says
-abbrev pub raised : Result (List Change) UpdateFault → Result Body BmpFault
-raised (Ok changes) = Ok (bodies.Routes changes)
+abbrev pub raised : Result Noted UpdateFault → Result Body BmpFault
+raised (Ok noted) = Ok (bodies.Routes noted)
 raised (Err fault) = Err (fault_of fault)
 
 -- a BGP message from a peer, with ASes of so many bytes: what it says, without path identifiers
 abbrev pub MessageSays : Bool → Peer → List ℕ → Result Body BmpFault → Type 0
-MessageSays wide peer message reading = (inner : Result (List Change) UpdateFault) × updates.IsMessageReading wide false peer message inner × (reading ≡ raised inner)
+MessageSays wide peer message reading = (inner : Result Noted UpdateFault) × updates.IsMessageReading wide false peer message inner × (reading ≡ raised inner)
 
 -- a Route Monitoring is passed over: it is of a peer elsewhere, of the other view, or of a peer that identifies paths
 abbrev pub is_passed : View → Identifying → PeerHeader → Bool
@@ -75,7 +75,7 @@ RoutesSay view peers (header, message) reading = Unless (is_passed view peers he
 
 -- a Peer Down: all routes of the peer are gone, unless it is elsewhere
 abbrev pub DownSays : PeerHeader → Result Body BmpFault → Type 0
-DownSays header reading = Unless (is_elsewhere header) (λ r. r ≡ Ok (bodies.Routes (RemovePeer header.peer ∷ []))) reading
+DownSays header reading = Unless (is_elsewhere header) (λ r. r ≡ Ok (bodies.Routes (updates.without_notes (RemovePeer header.peer ∷ [])))) reading
 
 -- The OPENs tell the peer's role, or none, and whether both have the capability ADD-PATH.
 pub record Tells (up : Up) (role : Option Role) (paths : Bool) : Type 0 where

@@ -1,8 +1,11 @@
 -- Laws of messages, each the contract of a public function of the module `laws`.
-use Rattle.std.specs.Prelude.{ℕ, List, ◌++◌}
+use Rattle.std.specs.Prelude.{ℕ, List, ◌++◌, Ok}
 use Rattle.av_base.specs.One.{HasOne, HasOnePair}
 use Rattle.held_bytes.specs.Divided.{NoneBeginsAnother}
 use Rattle.held_bytes.specs.Units.{AreUnits}
+use Rattle.path_model.specs.declared.noted.Noted.{Noted}
+use Rattle.path_model.specs.Notes.{HasNotes}
+use Rattle.bmp_reader.specs.declared.body.Body.TheVariants.{Routes}
 use Rattle.bmp_reader.specs.declared.view.View.{View}
 use Rattle.bmp_reader.specs.Bodies.{Identifying, IsReading}
 use Rattle.bmp_reader.specs.Coming.{IsComing, IsOtherVersion, IsBadLength}
@@ -32,6 +35,10 @@ BadLengthStays = (bytes more : List ℕ) → IsBadLength bytes → IsBadLength (
 -- each message has exactly one reading, in either view and by whatever peers identify paths
 abbrev pub EachMessageHasOneReading : Type 0
 EachMessageHasOneReading = (it : Sent) (view : View) (peers : Identifying) → HasOne (IsReading it view peers)
+
+-- each announcement of a message has its note
+abbrev pub EachAnnouncementHasItsNote : Type 0
+EachAnnouncementHasItsNote = (it : Sent) (view : View) (peers : Identifying) (noted : Noted) → IsReading it view peers (Ok (Routes noted)) → HasNotes noted
 
 -- each OPEN has exactly one list of capabilities
 abbrev pub EachOpenHasItsCapabilities : Type 0

@@ -1,11 +1,12 @@
 //! What a message says.
-use path_model::{Changes, Peer, Role};
+use path_model::{Noted, Peer, Role};
 
 /// What a message says.
 #[derive(Debug, Drop)]
 pub enum Body {
-    /// The changes that it makes; none for a BGP message that changes no route.
-    Routes(Changes),
+    /// The changes that it makes, with a note of Only-to-Customer for each announcement (RFC 9234, section 5); none for a BGP message that
+    /// changes no route.
+    Routes(Noted),
     /// The session with a peer came up.
     Up {
         /// The peer.

@@ -1,5 +1,5 @@
 //! Laws of messages: the contract of each function is the law, and its body does nothing.
-ghost use Rattle.bmp_reader.specs.Laws.{NoMessageBeginsAnother, OneThingComesNext, EachStreamHasItsUnits, OtherVersionStays, BadLengthStays, EachMessageHasOneReading, EachOpenHasItsCapabilities};
+ghost use Rattle.bmp_reader.specs.Laws.{NoMessageBeginsAnother, OneThingComesNext, EachStreamHasItsUnits, OtherVersionStays, BadLengthStays, EachMessageHasOneReading, EachAnnouncementHasItsNote, EachOpenHasItsCapabilities};
 
 /// No message begins another one, so the messages of a stream are determined by it.
 pub fn no_message_begins_another()
@@ -29,6 +29,11 @@ pub fn bad_length_stays()
 /// Each message has exactly one reading, in either view and by whatever peers have path identifiers.
 pub fn each_message_has_one_reading()
     ensures { EachMessageHasOneReading }
+{}
+
+/// What a message says has one note for each announcement, in order.
+pub fn each_announcement_has_its_note()
+    ensures { EachAnnouncementHasItsNote }
 {}
 
 /// Each OPEN has exactly one list of capabilities.

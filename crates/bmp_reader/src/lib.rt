@@ -4,7 +4,8 @@
 //! body, or says why there is none (`specs/Coming.antt`: `Answers`). [`read_message`] answers what a message says in a view, by the
 //! peers whose prefixes have path identifiers (`specs/Bodies.antt`: `IsReading`), or want of memory. [`PathPeers`] is the set of these
 //! peers. By the laws in `laws` no message begins another one, in a stream exactly one thing comes next, a stream has exactly one list of
-//! messages, and each message has exactly one reading; the proofs above take them from `LawLemmas` and `ReadingLemmas`.
+//! messages, and each message has exactly one reading, in which each announcement has its note of Only-to-Customer; the proofs above take
+//! them from `LawLemmas`, `ReadingLemmas` and `NoteLemmas`.
 //!
 //! Begin reading at `specs/Messages.antt` and `specs/Bodies.antt`. `heading` and `framer` cut messages; `kind` tells the bodies apart;
 //! `header` has the per-peer header, `opening` OPENs, `seen` what their capabilities tell, `up` the parts of a Peer Up; `fields` has the
@@ -30,9 +31,9 @@ pub use body::Body;
 pub use fault::{BmpFault, BmpFrameFault};
 pub use framer::{Framer, Message};
 pub use laws::{
-    bad_length_stays, each_message_has_one_reading, each_open_has_its_capabilities,
-    each_stream_has_its_units, no_message_begins_another, one_thing_comes_next,
-    other_version_stays,
+    bad_length_stays, each_announcement_has_its_note, each_message_has_one_reading,
+    each_open_has_its_capabilities, each_stream_has_its_units, no_message_begins_another,
+    one_thing_comes_next, other_version_stays,
 };
 pub use peers::PathPeers;
 pub use reading::read_message;

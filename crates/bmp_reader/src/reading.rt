@@ -16,15 +16,15 @@ use crate::seen::seen_in;
 use crate::up::{UpParts, up_parts};
 use crate::view::View;
 use bgp_update::UpdateFault;
-use path_model::{Changes, Peer};
+use path_model::{Changes, Noted, Notes, Peer};
 use std::alloc::Global;
 
 /// Reads the body of a message (RFC 7854, section 4), in a view, by the peers whose prefixes have path identifiers.
 ///
-/// A Route Monitoring says the changes of its BGP message, a Peer Down the end of all routes of its peer, and a Peer Up the peer, with
-/// its role and whether both OPENs have the capability ADD-PATH. Passed over are: messages of other types; those of these three whose
-/// peer type isn't 0; a Route Monitoring of the other view, or of one of `peers`, since its prefixes have path identifiers (RFC 7911,
-/// section 3), which aren't read.
+/// A Route Monitoring says the changes of its BGP message with their notes, a Peer Down the end of all routes of its peer, and a Peer Up
+/// the peer, with its role and whether both OPENs have the capability ADD-PATH. Passed over are: messages of other types; those of these
+/// three whose peer type isn't 0; a Route Monitoring of the other view, or of one of `peers`, since its prefixes have path identifiers
+/// (RFC 7911, section 3), which aren't read.
 ///
 /// The refusals are tested over the whole message in this order: 47 Body, 24 Message, 23 Attributes, 25 NoPath. A message that is passed
 /// over is tested for 47 alone, and not for that where its type is another one than these three. A refused message changes nothing.
@@ -72,7 +72,7 @@ fn changes_of(alloc: Global, message: &[u8], wide: bool, peer: Peer) -> Result<B
     ensures { OrNoMemory (MessageSays wide peer message.now) result }
 {
     match bgp_update::read(alloc, message, wide, false, peer) {
-        Ok(changes) => Ok(Body::Routes(changes)),
+        Ok(noted) => Ok(Body::Routes(noted)),
         Err(UpdateFault::Message) => Err(BmpFault::Message),
         Err(UpdateFault::Attributes) => Err(BmpFault::Attributes),
         Err(UpdateFault::NoPath) => Err(BmpFault::NoPath),
@@ -91,7 +91,10 @@ fn read_down(alloc: Global, body: &[u8]) -> Result<Body, BmpFault>
             }
             let mut changes = Changes::new(alloc);
             changes.remove_peer(header.peer)?;
-            Ok(Body::Routes(changes))
+            Ok(Body::Routes(Noted {
+                changes,
+                notes: Notes::new(alloc),
+            }))
         }
         None => Err(BmpFault::Body),
     }

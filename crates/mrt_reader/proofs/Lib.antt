@@ -4,6 +4,7 @@ pub mod FieldLemmas
 pub mod FormLemmas
 pub mod LawLemmas
 pub mod MemoryLemmas
+pub mod NoteLemmas
 pub mod PeerLemmas
 pub mod RecordLemmas
 pub mod RouteLemmas

@@ -2,7 +2,7 @@
 use Rattle.std.proofs.Common.{◌≡◌, ℕ, Bool, List, Ok, Err}
 use Rattle.std.specs.declared.option.Option.{Option}
 use Rattle.std.specs.declared.result.Result.{Result}
-use Rattle.path_model.specs.declared.change.Change.{Change}
+use Rattle.path_model.specs.declared.noted.Noted.{Noted}
 use Rattle.path_model.specs.declared.peer.Peer.{Peer}
 use Rattle.bgp_update.specs.declared.fault.UpdateFault.{UpdateFault}
 use Rattle.bgp_update.specs.declared.fault.UpdateFault.TheVariants as update_faults
@@ -19,8 +19,8 @@ use Rattle.mrt_reader.specs.Routes.{DumpSays}
 use Rattle.mrt_reader.specs.Sessions.{IsRecordedMessage, IsStateChange}
 use Rattle.mrt_reader.proofs.FormLemmas.{form_reads}
 
-raised_reads : (as4 paths : Bool) (peer : Peer) (message : List ℕ) (inner : Result (List Change) UpdateFault) → messages.IsMessageReading as4 paths peer message inner → Err NoMemory ≡ raised inner → ⊥
-raised_reads as4 paths peer message (Ok changes) reads is = cc
+raised_reads : (as4 paths : Bool) (peer : Peer) (message : List ℕ) (inner : Result Noted UpdateFault) → messages.IsMessageReading as4 paths peer message inner → Err NoMemory ≡ raised inner → ⊥
+raised_reads as4 paths peer message (Ok noted) reads is = cc
 raised_reads as4 paths peer message (Err update_faults.Message) reads is = cc
 raised_reads as4 paths peer message (Err update_faults.Attributes) reads is = cc
 raised_reads as4 paths peer message (Err update_faults.NoPath) reads is = cc

@@ -7,9 +7,12 @@ use Rattle.std.specs.declared.result.Result.{Result}
 use Rattle.path_model.specs.declared.change.Change.{Change}
 use Rattle.path_model.specs.declared.change.Change.TheVariants.{Announce}
 use Rattle.path_model.specs.declared.key.Key.{Key}
+use Rattle.path_model.specs.declared.noted.Noted.{Noted}
+use Rattle.path_model.specs.declared.otc.Otc.{Otc}
 use Rattle.path_model.specs.declared.peer.Peer.{Peer}
 use Rattle.path_model.specs.Key.{key_of}
 use Rattle.path_model.specs.Prefix.{Subnet}
+use Rattle.bgp_update.specs.Updates.{without_notes}
 use Rattle.mrt_reader.specs.declared.body.Body.{Body}
 use Rattle.mrt_reader.specs.declared.body.Body.TheVariants as bodies
 use Rattle.mrt_reader.specs.declared.fault.BodyFault.{BodyFault}
@@ -17,7 +20,7 @@ use Rattle.mrt_reader.specs.declared.fault.BodyFault.TheVariants as faults
 use Rattle.mrt_reader.specs.Bodies.{OrNoMemory, RibSays}
 use Rattle.mrt_reader.specs.Ribs.{Entry, Rib, IsRib}
 use Rattle.mrt_reader.specs.Routes.{AnyOf, IsWithin, IsBeyond, EntryReadable, EntryUnreadable, EntryLacksPath, nlri_in, IsRoute, AreRoutes, EntriesSay}
-use Rattle.mrt_reader.specs.Routing.{IsPut, Going}
+use Rattle.mrt_reader.specs.Routing.{IsPut, Going, with_last}
 
 any_behind : {A : Type 0} (P : A → Type 0) (front left : List A) → AnyOf P left → AnyOf P (front ++ left)
 any_behind P [] left any = any
@@ -32,31 +35,31 @@ all_push : {A : Type 0} (P : A → Type 0) (front : List A) (x : A) → AllByRec
 all_push P [] x each p = (p, tt)
 all_push P (y ∷ front) x each p = (each.0, all_push P front x each.1 p)
 
-routes_push : (peers : List Peer) (prefix : Subnet) (front : List Entry) (entry : Entry) (changes : List Change) (change : Change) → AreRoutes peers prefix front changes → IsRoute peers prefix entry change
-    → AreRoutes peers prefix (front ++ entry ∷ []) (changes ++ change ∷ [])
-routes_push peers prefix [] entry changes change are is = (change, [], ap (λ (cs : List Change). cs ++ change ∷ []) are, is, refl)
-routes_push peers prefix (e ∷ front) entry changes change are is =
-    (are.0, are.1 ++ change ∷ [], ap (λ (cs : List Change). cs ++ change ∷ []) are.2, are.3, routes_push peers prefix front entry are.1 change are.4 is)
+routes_push : (peers : List Peer) (prefix : Subnet) (front : List Entry) (entry : Entry) (noted : Noted) (change : Change) (otc : Otc) → AreRoutes peers prefix front noted → IsRoute peers prefix entry change otc
+    → AreRoutes peers prefix (front ++ entry ∷ []) (with_last noted change otc)
+routes_push peers prefix [] entry noted change otc are is = (change, otc, without_notes [], ap (λ (n : Noted). with_last n change otc) are, is, refl)
+routes_push peers prefix (e ∷ front) entry noted change otc are is =
+    (are.0, are.1, with_last are.2 change otc, ap (λ (n : Noted). with_last n change otc) are.3, are.4, routes_push peers prefix front entry are.2 change otc are.5 is)
 
 regrouped : {A : Type 0} (all front left : List A) (x : A) → all ≡ front ++ x ∷ left → all ≡ (front ++ x ∷ []) ++ left
 regrouped all front left x e = e ∙ sym (append_assoc front (x ∷ []) left)
 
-pub Going-start : (peers : List Peer) (prefix : Subnet) (all : List Entry) → Going peers prefix all all [] false
+pub Going-start : (peers : List Peer) (prefix : Subnet) (all : List Entry) → Going peers prefix all all (without_notes []) false
 Going-start peers prefix all = record { front = []; whole = refl; readable = tt; routes = λ e. refl; none = λ e. absurd cc }
 
-pub Going-route : (peers : List Peer) (prefix : Subnet) (all left : List Entry) (entry : Entry) (changes : List Change) (change : Change) (no_path : Bool)
-    → Going peers prefix all (entry ∷ left) changes no_path → IsRoute peers prefix entry change → Going peers prefix all left (changes ++ change ∷ []) no_path
-Going-route peers prefix all left entry changes change no_path g is = record {
+pub Going-route : (peers : List Peer) (prefix : Subnet) (all left : List Entry) (entry : Entry) (noted : Noted) (change : Change) (otc : Otc) (no_path : Bool)
+    → Going peers prefix all (entry ∷ left) noted no_path → IsRoute peers prefix entry change otc → Going peers prefix all left (with_last noted change otc) no_path
+Going-route peers prefix all left entry noted change otc no_path g is = record {
   front = g.front ++ entry ∷ [];
   whole = regrouped all g.front left entry g.whole;
   readable = all_push EntryReadable g.front entry g.readable (is.gives.0, is.gives.1);
-  routes = λ e. routes_push peers prefix g.front entry changes change (g.routes e) is;
+  routes = λ e. routes_push peers prefix g.front entry noted change otc (g.routes e) is;
   none = λ e. any_before EntryLacksPath g.front (entry ∷ []) (g.none e);
 }
 
-pub Going-no_path : (peers : List Peer) (prefix : Subnet) (all left : List Entry) (entry : Entry) (changes : List Change) (no_path : Bool)
-    → Going peers prefix all (entry ∷ left) changes no_path → EntryLacksPath entry → Going peers prefix all left changes true
-Going-no_path peers prefix all left entry changes no_path g is = record {
+pub Going-no_path : (peers : List Peer) (prefix : Subnet) (all left : List Entry) (entry : Entry) (noted : Noted) (no_path : Bool)
+    → Going peers prefix all (entry ∷ left) noted no_path → EntryLacksPath entry → Going peers prefix all left noted true
+Going-no_path peers prefix all left entry noted no_path g is = record {
   front = g.front ++ entry ∷ [];
   whole = regrouped all g.front left entry g.whole;
   readable = all_push EntryReadable g.front entry g.readable (is.0, is.1);
@@ -64,66 +67,66 @@ Going-no_path peers prefix all left entry changes no_path g is = record {
   none = λ e. any_behind EntryLacksPath g.front (entry ∷ []) (inl is);
 }
 
-pub Going-any : (P : Entry → Type 0) (peers : List Peer) (prefix : Subnet) (all left : List Entry) (entry : Entry) (changes : List Change) (no_path : Bool)
-    → Going peers prefix all (entry ∷ left) changes no_path → P entry → AnyOf P all
-Going-any P peers prefix all left entry changes no_path g is = subst (AnyOf P) (sym g.whole) (any_behind P g.front (entry ∷ left) (inl is))
+pub Going-any : (P : Entry → Type 0) (peers : List Peer) (prefix : Subnet) (all left : List Entry) (entry : Entry) (noted : Noted) (no_path : Bool)
+    → Going peers prefix all (entry ∷ left) noted no_path → P entry → AnyOf P all
+Going-any P peers prefix all left entry noted no_path g is = subst (AnyOf P) (sym g.whole) (any_behind P g.front (entry ∷ left) (inl is))
 
-all_of : (peers : List Peer) (prefix : Subnet) (all : List Entry) (changes : List Change) (no_path : Bool) (g : Going peers prefix all [] changes no_path) → g.front ≡ all
-all_of peers prefix all changes no_path g = sym (g.whole ∙ append-nil g.front)
+all_of : (peers : List Peer) (prefix : Subnet) (all : List Entry) (noted : Noted) (no_path : Bool) (g : Going peers prefix all [] noted no_path) → g.front ≡ all
+all_of peers prefix all noted no_path g = sym (g.whole ∙ append-nil g.front)
 
-pub Going-end : (peers : List Peer) (prefix : Subnet) (all left : List Entry) (changes : List Change) → Going peers prefix all left changes false → left ≡ [] → AreRoutes peers prefix all changes
-Going-end peers prefix all left changes g e =
-    let h : Going peers prefix all [] changes false = subst (λ (l : List Entry). Going peers prefix all l changes false) e g in
-    subst (λ (es : List Entry). AreRoutes peers prefix es changes) (all_of peers prefix all changes false h) (h.routes refl)
+pub Going-end : (peers : List Peer) (prefix : Subnet) (all left : List Entry) (noted : Noted) → Going peers prefix all left noted false → left ≡ [] → AreRoutes peers prefix all noted
+Going-end peers prefix all left noted g e =
+    let h : Going peers prefix all [] noted false = subst (λ (l : List Entry). Going peers prefix all l noted false) e g in
+    subst (λ (es : List Entry). AreRoutes peers prefix es noted) (all_of peers prefix all noted false h) (h.routes refl)
 
-pub Going-none : (peers : List Peer) (prefix : Subnet) (all left : List Entry) (changes : List Change) → Going peers prefix all left changes true → left ≡ [] → AllByRecursion EntryReadable all × AnyOf EntryLacksPath all
-Going-none peers prefix all left changes g e =
-    let h : Going peers prefix all [] changes true = subst (λ (l : List Entry). Going peers prefix all l changes true) e g in
-    subst (λ (es : List Entry). AllByRecursion EntryReadable es × AnyOf EntryLacksPath es) (all_of peers prefix all changes true h) (h.readable, h.none refl)
+pub Going-none : (peers : List Peer) (prefix : Subnet) (all left : List Entry) (noted : Noted) → Going peers prefix all left noted true → left ≡ [] → AllByRecursion EntryReadable all × AnyOf EntryLacksPath all
+Going-none peers prefix all left noted g e =
+    let h : Going peers prefix all [] noted true = subst (λ (l : List Entry). Going peers prefix all l noted true) e g in
+    subst (λ (es : List Entry). AllByRecursion EntryReadable es × AnyOf EntryLacksPath es) (all_of peers prefix all noted true h) (h.readable, h.none refl)
 
 -- ---- the same, where what is left begins with the entry
 
-pub next_route : (peers : List Peer) (prefix : Subnet) (all before left : List Entry) (entry : Entry) (changes new : List Change) (no_path : Bool) (peer : Peer)
-    → Going peers prefix all before changes no_path → before ≡ entry ∷ left → slice_get peers entry.index ≡ Some peer → IsPut true (key_of peer (nlri_in prefix entry)) entry.attributes changes new (Ok true) → Going peers prefix all left new no_path
-next_route peers prefix all before left entry changes new no_path peer g e is_peer put =
-    let h : Going peers prefix all (entry ∷ left) changes no_path = subst (λ (l : List Entry). Going peers prefix all l changes no_path) e g in
+pub next_route : (peers : List Peer) (prefix : Subnet) (all before left : List Entry) (entry : Entry) (noted new : Noted) (no_path : Bool) (peer : Peer)
+    → Going peers prefix all before noted no_path → before ≡ entry ∷ left → slice_get peers entry.index ≡ Some peer → IsPut true (key_of peer (nlri_in prefix entry)) entry.attributes noted new (Ok true) → Going peers prefix all left new no_path
+next_route peers prefix all before left entry noted new no_path peer g e is_peer put =
+    let h : Going peers prefix all (entry ∷ left) noted no_path = subst (λ (l : List Entry). Going peers prefix all l noted no_path) e g in
     let change = Announce (key_of peer (nlri_in prefix entry)) put.0 in
-    let made = Going-route peers prefix all left entry changes change no_path h (record { peer = peer; trail = put.0; is_peer = is_peer; gives = put.1; is_change = refl }) in
-    subst (λ (cs : List Change). Going peers prefix all left cs no_path) (sym put.2) made
+    let made = Going-route peers prefix all left entry noted change put.1 no_path h (record { peer = peer; trail = put.0; is_peer = is_peer; gives = put.2; is_change = refl }) in
+    subst (λ (n : Noted). Going peers prefix all left n no_path) (sym put.3) made
 
-pub next_no_path : (peers : List Peer) (prefix : Subnet) (all before left : List Entry) (entry : Entry) (changes new : List Change) (no_path : Bool) (key : Key)
-    → Going peers prefix all before changes no_path → before ≡ entry ∷ left → IsPut true key entry.attributes changes new (Ok false) → Going peers prefix all left new true
-next_no_path peers prefix all before left entry changes new no_path key g e put =
-    let h : Going peers prefix all (entry ∷ left) changes no_path = subst (λ (l : List Entry). Going peers prefix all l changes no_path) e g in
-    subst (λ (cs : List Change). Going peers prefix all left cs true) (sym put.1) (Going-no_path peers prefix all left entry changes no_path h put.0)
+pub next_no_path : (peers : List Peer) (prefix : Subnet) (all before left : List Entry) (entry : Entry) (noted new : Noted) (no_path : Bool) (key : Key)
+    → Going peers prefix all before noted no_path → before ≡ entry ∷ left → IsPut true key entry.attributes noted new (Ok false) → Going peers prefix all left new true
+next_no_path peers prefix all before left entry noted new no_path key g e put =
+    let h : Going peers prefix all (entry ∷ left) noted no_path = subst (λ (l : List Entry). Going peers prefix all l noted no_path) e g in
+    subst (λ (n : Noted). Going peers prefix all left n true) (sym put.1) (Going-no_path peers prefix all left entry noted no_path h put.0)
 
-pub stops : (peers : List Peer) (prefix : Subnet) (all before left : List Entry) (entry : Entry) (changes new : List Change) (no_path : Bool) (key : Key) (fault : BodyFault)
-    → Going peers prefix all before changes no_path → before ≡ entry ∷ left → AllByRecursion (IsWithin peers) all → IsPut true key entry.attributes changes new (Err fault) → OrNoMemory (EntriesSay peers prefix all) (Err fault)
-stops peers prefix all before left entry changes new no_path key faults.NoMemory g e within put = tt
-stops peers prefix all before left entry changes new no_path key faults.Attributes g e within put =
-    let h : Going peers prefix all (entry ∷ left) changes no_path = subst (λ (l : List Entry). Going peers prefix all l changes no_path) e g in
-    (within, Going-any EntryUnreadable peers prefix all left entry changes no_path h put)
-stops peers prefix all before left entry changes new no_path key faults.NoPath g e within put = absurd put
-stops peers prefix all before left entry changes new no_path key faults.PeerIndex g e within put = absurd put
-stops peers prefix all before left entry changes new no_path key faults.Body g e within put = absurd put
-stops peers prefix all before left entry changes new no_path key faults.NoPeerTable g e within put = absurd put
-stops peers prefix all before left entry changes new no_path key faults.Message g e within put = absurd put
+pub stops : (peers : List Peer) (prefix : Subnet) (all before left : List Entry) (entry : Entry) (noted new : Noted) (no_path : Bool) (key : Key) (fault : BodyFault)
+    → Going peers prefix all before noted no_path → before ≡ entry ∷ left → AllByRecursion (IsWithin peers) all → IsPut true key entry.attributes noted new (Err fault) → OrNoMemory (EntriesSay peers prefix all) (Err fault)
+stops peers prefix all before left entry noted new no_path key faults.NoMemory g e within put = tt
+stops peers prefix all before left entry noted new no_path key faults.Attributes g e within put =
+    let h : Going peers prefix all (entry ∷ left) noted no_path = subst (λ (l : List Entry). Going peers prefix all l noted no_path) e g in
+    (within, Going-any EntryUnreadable peers prefix all left entry noted no_path h put)
+stops peers prefix all before left entry noted new no_path key faults.NoPath g e within put = absurd put
+stops peers prefix all before left entry noted new no_path key faults.PeerIndex g e within put = absurd put
+stops peers prefix all before left entry noted new no_path key faults.Body g e within put = absurd put
+stops peers prefix all before left entry noted new no_path key faults.NoPeerTable g e within put = absurd put
+stops peers prefix all before left entry noted new no_path key faults.Message g e within put = absurd put
 
 get_none : {A : Type 0} (xs : List A) (i : ℕ) → slice_get xs i ≡ None → length xs ≤ i
 get_none [] i e = omega arith
 get_none (x ∷ xs) zero e = absurd cc
 get_none (x ∷ xs) (suc i) e = let before = get_none xs i e in omega arith
 
-pub stops_beyond : (peers : List Peer) (prefix : Subnet) (all before left : List Entry) (entry : Entry) (changes : List Change) (no_path : Bool)
-    → Going peers prefix all before changes no_path → before ≡ entry ∷ left → slice_get peers entry.index ≡ None → AnyOf (IsBeyond peers) all
-stops_beyond peers prefix all before left entry changes no_path g e none =
-    let h : Going peers prefix all (entry ∷ left) changes no_path = subst (λ (l : List Entry). Going peers prefix all l changes no_path) e g in
-    Going-any (IsBeyond peers) peers prefix all left entry changes no_path h (get_none peers entry.index none)
+pub stops_beyond : (peers : List Peer) (prefix : Subnet) (all before left : List Entry) (entry : Entry) (noted : Noted) (no_path : Bool)
+    → Going peers prefix all before noted no_path → before ≡ entry ∷ left → slice_get peers entry.index ≡ None → AnyOf (IsBeyond peers) all
+stops_beyond peers prefix all before left entry noted no_path g e none =
+    let h : Going peers prefix all (entry ∷ left) noted no_path = subst (λ (l : List Entry). Going peers prefix all l noted no_path) e g in
+    Going-any (IsBeyond peers) peers prefix all left entry noted no_path h (get_none peers entry.index none)
 
 -- a whole record says what its entries say
 pub rib_from : (paths six : Bool) (peers : Option (List Peer)) (body : List ℕ) (table : List Peer) (rib : Rib) (result : Result Body BodyFault) → IsRib paths six body rib → peers ≡ Some table
     → EntriesSay table rib.prefix rib.entries result → RibSays paths six peers body result
-rib_from paths six peers body table rib (Ok (bodies.Routes changes)) is e say = (rib, table, is, e, say)
+rib_from paths six peers body table rib (Ok (bodies.Routes noted)) is e say = (rib, table, is, e, say)
 rib_from paths six peers body table rib (Ok (bodies.Peers others)) is e say = absurd say
 rib_from paths six peers body table rib (Ok bodies.Passed) is e say = absurd say
 rib_from paths six peers body table rib (Err faults.Body) is e say = absurd say

@@ -7,16 +7,19 @@ use Rattle.std.specs.declared.option.Option.{Option}
 use Rattle.std.specs.declared.result.Result.{Result}
 use Rattle.path_model.specs.declared.change.Change.{Change}
 use Rattle.path_model.specs.declared.change.Change.TheVariants.{Announce}
+use Rattle.path_model.specs.declared.noted.Noted.{Noted}
+use Rattle.path_model.specs.declared.otc.Otc.{Otc}
 use Rattle.path_model.specs.declared.peer.Peer.{Peer}
 use Rattle.path_model.specs.Key.{key_of}
 use Rattle.path_model.specs.Prefix.{Subnet}
 use Rattle.path_model.specs.Trail.{Path}
 use Rattle.bgp_attrs.specs.declared.form.Form.TheVariants.{Table}
 use Rattle.bgp_attrs.specs.Merging.{trail_in, path_of_items, merged_with, used_in}
-use Rattle.bgp_attrs.specs.Reading.{IsUnreadable}
+use Rattle.bgp_attrs.specs.Reading.{Reading, IsUnreadable}
 use Rattle.bgp_attrs.specs.Segments.{Segment}
 use Rattle.bgp_attrs.proofs.JoinedLemmas.{joined_same}
 use Rattle.bgp_attrs.proofs.LawLemmas as attrs
+use Rattle.bgp_update.specs.Updates.{without_notes}
 use Rattle.bgp_update.proofs.MessageLemmas as messages
 use Rattle.mrt_reader.specs.declared.body.Body.{Body}
 use Rattle.mrt_reader.specs.declared.body.Body.TheVariants as bodies
@@ -31,7 +34,7 @@ use Rattle.mrt_reader.specs.Peers.{IsPeerTable}
 use Rattle.mrt_reader.specs.Readers.{dump_at, message_at, state_at, table_at}
 use Rattle.mrt_reader.specs.Records.{Recorded}
 use Rattle.mrt_reader.specs.Ribs.{Entry, Rib, IsCounted, IsRib}
-use Rattle.mrt_reader.specs.Routes.{AnyOf, LacksPath, GivesPath, IsWithin, IsBeyond, EntryReadable, EntryUnreadable, EntryLacksPath, nlri_in, IsRoute, AreRoutes, EntriesSay, dumped_nlri, DumpSays}
+use Rattle.mrt_reader.specs.Routes.{AnyOf, LacksPath, GivesRoute, with_first, IsWithin, IsBeyond, EntryReadable, EntryUnreadable, EntryLacksPath, nlri_in, IsRoute, AreRoutes, EntriesSay, dumped_nlri, DumpSays}
 use Rattle.mrt_reader.specs.Sessions.{IsRecordedMessage, IsStateChange}
 use Rattle.mrt_reader.proofs.DumpLemmas.{dump_reads}
 use Rattle.mrt_reader.proofs.EntryLemmas.{entry_reader}
@@ -42,12 +45,13 @@ use Rattle.mrt_reader.proofs.ShapeLemmas.{read_prefix, counted_of, counted_long}
 
 -- ---- attributes
 
-gives_same : (wide : Bool) (attributes : List ℕ) (one other : Path) → GivesPath wide attributes one → GivesPath wide attributes other → one ≡ other
-gives_same wide attributes one other p q =
-    same_Some one other (sym p.2 ∙ ap trail_in (attrs.reading_same wide Table false attributes p.0 q.0 p.1 q.1) ∙ q.2)
+gives_same : (wide : Bool) (attributes : List ℕ) (one other : Path) (x y : Otc) → GivesRoute wide attributes one x → GivesRoute wide attributes other y → (one ≡ other) × (x ≡ y)
+gives_same wide attributes one other x y p q =
+    let same = attrs.reading_same wide Table false attributes p.0 q.0 p.1 q.1 in
+    (same_Some one other (sym p.2 ∙ ap trail_in same ∙ q.2), sym p.3 ∙ ap (λ (r : Reading). r.otc) same ∙ q.3)
 
-gives_lacks : (wide : Bool) (attributes : List ℕ) (trail : Path) → GivesPath wide attributes trail → LacksPath wide attributes → ⊥
-gives_lacks wide attributes trail p q =
+gives_lacks : (wide : Bool) (attributes : List ℕ) (trail : Path) (otc : Otc) → GivesRoute wide attributes trail otc → LacksPath wide attributes → ⊥
+gives_lacks wide attributes trail otc p q =
     let same = attrs.reading_same wide Table false attributes p.0 q.0 p.1 q.1 in
     let none : trail_in p.0 ≡ None = ap trail_in same ∙ ap (option_map (λ (path : List Segment). path_of_items (merged_with path (used_in q.0)))) q.2 in
     let both : Some trail ≡ None = sym p.2 ∙ none in
@@ -69,13 +73,14 @@ get_within (y ∷ xs) (suc i) x e = let before = get_within xs i x e in omega ar
 record IsRouted (peers : List Peer) (entry : Entry) : Type 0 where
   within : entry.index < length peers
   trail : Path
-  gives : GivesPath true entry.attributes trail
+  otc : Otc
+  gives : GivesRoute true entry.attributes trail otc
 
-routes_routed : (peers : List Peer) (prefix : Subnet) (entries : List Entry) (changes : List Change) → AreRoutes peers prefix entries changes → AllByRecursion (IsRouted peers) entries
-routes_routed peers prefix [] changes are = tt
-routes_routed peers prefix (entry ∷ entries) changes are =
-    let is = are.3 in
-    (record { within = get_within peers entry.index is.peer is.is_peer; trail = is.trail; gives = is.gives }, routes_routed peers prefix entries are.1 are.4)
+routes_routed : (peers : List Peer) (prefix : Subnet) (entries : List Entry) (noted : Noted) → AreRoutes peers prefix entries noted → AllByRecursion (IsRouted peers) entries
+routes_routed peers prefix [] noted are = tt
+routes_routed peers prefix (entry ∷ entries) noted are =
+    let is = are.4 in
+    (record { within = get_within peers entry.index is.peer is.is_peer; trail = is.trail; otc = are.1; gives = is.gives }, routes_routed peers prefix entries are.2 are.5)
 
 routed_beyond : (peers : List Peer) (entry : Entry) → IsRouted peers entry → IsBeyond peers entry → ⊥
 routed_beyond peers entry routed beyond = let within = routed.within in omega arith
@@ -90,31 +95,31 @@ readable_unreadable : (entry : Entry) → EntryReadable entry → EntryUnreadabl
 readable_unreadable entry read unread = unread read.0 read.1
 
 routed_lacks : (peers : List Peer) (entry : Entry) → IsRouted peers entry → EntryLacksPath entry → ⊥
-routed_lacks peers entry routed lacks = gives_lacks true entry.attributes routed.trail routed.gives lacks
+routed_lacks peers entry routed lacks = gives_lacks true entry.attributes routed.trail routed.otc routed.gives lacks
 
-route_same : (peers : List Peer) (prefix : Subnet) (entry : Entry) (one other : Change) → IsRoute peers prefix entry one → IsRoute peers prefix entry other → one ≡ other
-route_same peers prefix entry one other p q =
+route_same : (peers : List Peer) (prefix : Subnet) (entry : Entry) (one other : Change) (x y : Otc) → IsRoute peers prefix entry one x → IsRoute peers prefix entry other y → (one ≡ other) × (x ≡ y)
+route_same peers prefix entry one other x y p q =
     let peer = same_Some p.peer q.peer (sym p.is_peer ∙ q.is_peer) in
-    let trail = gives_same true entry.attributes p.trail q.trail p.gives q.gives in
-    p.is_change ∙ (λ i. Announce (key_of (peer i) (nlri_in prefix entry)) (trail i)) ∙ sym q.is_change
+    let gives = gives_same true entry.attributes p.trail q.trail x y p.gives q.gives in
+    (p.is_change ∙ (λ i. Announce (key_of (peer i) (nlri_in prefix entry)) (gives.0 i)) ∙ sym q.is_change, gives.1)
 
-routes_same : (peers : List Peer) (prefix : Subnet) (entries : List Entry) (changes others : List Change) → AreRoutes peers prefix entries changes → AreRoutes peers prefix entries others → changes ≡ others
-routes_same peers prefix [] changes others p q = p ∙ sym q
-routes_same peers prefix (entry ∷ entries) changes others p q =
-    let first = route_same peers prefix entry p.0 q.0 p.3 q.3 in
-    let behind = routes_same peers prefix entries p.1 q.1 p.4 q.4 in
-    p.2 ∙ (λ i. first i ∷ behind i) ∙ sym q.2
+routes_same : (peers : List Peer) (prefix : Subnet) (entries : List Entry) (noted others : Noted) → AreRoutes peers prefix entries noted → AreRoutes peers prefix entries others → noted ≡ others
+routes_same peers prefix [] noted others p q = p ∙ sym q
+routes_same peers prefix (entry ∷ entries) noted others p q =
+    let first = route_same peers prefix entry p.0 q.0 p.1 q.1 p.4 q.4 in
+    let behind = routes_same peers prefix entries p.2 q.2 p.5 q.5 in
+    p.3 ∙ (λ i. with_first (first.0 i) (first.1 i) (behind i)) ∙ sym q.3
 
 -- the four things that entries say
 abbrev EntriesCase : List Peer → Subnet → List Entry → Result Body BodyFault → Type 0
 EntriesCase peers prefix entries reading =
-    ((changes : List Change) × AreRoutes peers prefix entries changes × (reading ≡ Ok (bodies.Routes changes)))
+    ((noted : Noted) × AreRoutes peers prefix entries noted × (reading ≡ Ok (bodies.Routes noted)))
     ⊎ (AnyOf (IsBeyond peers) entries × (reading ≡ Err faults.PeerIndex))
     ⊎ (AllByRecursion (IsWithin peers) entries × AnyOf EntryUnreadable entries × (reading ≡ Err faults.Attributes))
     ⊎ (AllByRecursion (IsWithin peers) entries × AllByRecursion EntryReadable entries × AnyOf EntryLacksPath entries × (reading ≡ Err faults.NoPath))
 
 entries_case : (peers : List Peer) (prefix : Subnet) (entries : List Entry) (reading : Result Body BodyFault) → EntriesSay peers prefix entries reading → EntriesCase peers prefix entries reading
-entries_case peers prefix entries (Ok (bodies.Routes changes)) say = inl (changes, say, refl)
+entries_case peers prefix entries (Ok (bodies.Routes noted)) say = inl (noted, say, refl)
 entries_case peers prefix entries (Ok (bodies.Peers table)) say = absurd say
 entries_case peers prefix entries (Ok bodies.Passed) say = absurd say
 entries_case peers prefix entries (Err faults.Body) say = absurd say
@@ -126,7 +131,7 @@ entries_case peers prefix entries (Err faults.NoPath) say = inr (inr (inr (say.0
 entries_case peers prefix entries (Err faults.NoMemory) say = absurd say
 
 cases_same : (peers : List Peer) (prefix : Subnet) (entries : List Entry) (one other : Result Body BodyFault) → EntriesCase peers prefix entries one → EntriesCase peers prefix entries other → one ≡ other
-cases_same peers prefix entries one other (inl p) (inl q) = p.2 ∙ ap (λ (changes : List Change). Ok (bodies.Routes changes)) (routes_same peers prefix entries p.0 q.0 p.1 q.1) ∙ sym q.2
+cases_same peers prefix entries one other (inl p) (inl q) = p.2 ∙ ap (λ (noted : Noted). Ok (bodies.Routes noted)) (routes_same peers prefix entries p.0 q.0 p.1 q.1) ∙ sym q.2
 cases_same peers prefix entries one other (inl p) (inr (inl q)) = absurd (all_any (IsRouted peers) (IsBeyond peers) (routed_beyond peers) entries (routes_routed peers prefix entries p.0 p.1) q.0)
 cases_same peers prefix entries one other (inl p) (inr (inr (inl q))) = absurd (all_any (IsRouted peers) EntryUnreadable (routed_unreadable peers) entries (routes_routed peers prefix entries p.0 p.1) q.1)
 cases_same peers prefix entries one other (inl p) (inr (inr (inr q))) = absurd (all_any (IsRouted peers) EntryLacksPath (routed_lacks peers) entries (routes_routed peers prefix entries p.0 p.1) q.2)
@@ -171,7 +176,7 @@ rib_case paths six peers body (Err faults.Message) say = absurd say
 rib_case paths six peers body (Err faults.Attributes) say = inr (inr say)
 rib_case paths six peers body (Err faults.NoPath) say = inr (inr say)
 rib_case paths six peers body (Err faults.NoMemory) say = absurd say
-rib_case paths six peers body (Ok (bodies.Routes changes)) say = inr (inr say)
+rib_case paths six peers body (Ok (bodies.Routes noted)) say = inr (inr say)
 rib_case paths six peers body (Ok (bodies.Peers table)) say = absurd say
 rib_case paths six peers body (Ok bodies.Passed) say = absurd say
 
@@ -198,15 +203,19 @@ ribs_say_same paths six peers body one other (inr (inr p)) (inr (inr q)) = entri
 
 -- ---- TABLE_DUMP records
 
+-- the announcement of the route and its note
+abbrev dumped_route : Dumped → Path → Otc → Noted
+dumped_route dumped trail otc = with_first (Announce (key_of dumped.peer (dumped_nlri dumped)) trail) otc (without_notes [])
+
 -- the three things that a route says
 abbrev DumpCase : Dumped → Result Body BodyFault → Type 0
 DumpCase dumped reading =
-    ((trail : Path) × GivesPath false dumped.attributes trail × (reading ≡ Ok (bodies.Routes (Announce (key_of dumped.peer (dumped_nlri dumped)) trail ∷ []))))
+    ((trail : Path) × (otc : Otc) × GivesRoute false dumped.attributes trail otc × (reading ≡ Ok (bodies.Routes (dumped_route dumped trail otc))))
     ⊎ (IsUnreadable false Table false dumped.attributes × (reading ≡ Err faults.Attributes))
     ⊎ (LacksPath false dumped.attributes × (reading ≡ Err faults.NoPath))
 
 dump_case : (dumped : Dumped) (reading : Result Body BodyFault) → DumpSays dumped reading → DumpCase dumped reading
-dump_case dumped (Ok (bodies.Routes changes)) say = inl (say.0, say.1, ap (λ (cs : List Change). Ok (bodies.Routes cs)) say.2)
+dump_case dumped (Ok (bodies.Routes noted)) say = inl (say.0, say.1, say.2, ap (λ (n : Noted). Ok (bodies.Routes n)) say.3)
 dump_case dumped (Ok (bodies.Peers table)) say = absurd say
 dump_case dumped (Ok bodies.Passed) say = absurd say
 dump_case dumped (Err faults.Body) say = absurd say
@@ -219,13 +228,14 @@ dump_case dumped (Err faults.NoMemory) say = absurd say
 
 dumps_say_same : (dumped : Dumped) (one other : Result Body BodyFault) → DumpCase dumped one → DumpCase dumped other → one ≡ other
 dumps_say_same dumped one other (inl p) (inl q) =
-    p.2 ∙ ap (λ (trail : Path). Ok (bodies.Routes (Announce (key_of dumped.peer (dumped_nlri dumped)) trail ∷ []))) (gives_same false dumped.attributes p.0 q.0 p.1 q.1) ∙ sym q.2
-dumps_say_same dumped one other (inl p) (inr (inl q)) = absurd (q.0 p.1.0 p.1.1)
-dumps_say_same dumped one other (inl p) (inr (inr q)) = absurd (gives_lacks false dumped.attributes p.0 p.1 q.0)
-dumps_say_same dumped one other (inr (inl p)) (inl q) = absurd (p.0 q.1.0 q.1.1)
+    let gives = gives_same false dumped.attributes p.0 q.0 p.1 q.1 p.2 q.2 in
+    p.3 ∙ (λ i. Ok (bodies.Routes (dumped_route dumped (gives.0 i) (gives.1 i)))) ∙ sym q.3
+dumps_say_same dumped one other (inl p) (inr (inl q)) = absurd (q.0 p.2.0 p.2.1)
+dumps_say_same dumped one other (inl p) (inr (inr q)) = absurd (gives_lacks false dumped.attributes p.0 p.1 p.2 q.0)
+dumps_say_same dumped one other (inr (inl p)) (inl q) = absurd (p.0 q.2.0 q.2.1)
 dumps_say_same dumped one other (inr (inl p)) (inr (inl q)) = p.1 ∙ sym q.1
 dumps_say_same dumped one other (inr (inl p)) (inr (inr q)) = absurd (p.0 q.0.0 q.0.1)
-dumps_say_same dumped one other (inr (inr p)) (inl q) = absurd (gives_lacks false dumped.attributes q.0 q.1 p.0)
+dumps_say_same dumped one other (inr (inr p)) (inl q) = absurd (gives_lacks false dumped.attributes q.0 q.1 q.2 p.0)
 dumps_say_same dumped one other (inr (inr p)) (inr (inl q)) = absurd (q.0 p.0.0 p.0.1)
 dumps_say_same dumped one other (inr (inr p)) (inr (inr q)) = p.1 ∙ sym q.1
 

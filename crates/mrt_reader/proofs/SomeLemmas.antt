@@ -6,7 +6,8 @@ use Rattle.std.specs.List.{AllByRecursion}
 use Rattle.std.proofs.lemmas.Bool.Decides.{nat_tests}
 use Rattle.std.specs.declared.option.Option.{Option}
 use Rattle.av_base.specs.One.{HasOne}
-use Rattle.path_model.specs.declared.change.Change.{Change}
+use Rattle.path_model.specs.declared.noted.Noted.{Noted}
+use Rattle.path_model.specs.declared.otc.Otc.{Otc}
 use Rattle.path_model.specs.declared.change.Change.TheVariants.{Announce}
 use Rattle.path_model.specs.declared.peer.Peer.{Peer}
 use Rattle.path_model.specs.Key.{key_of}
@@ -20,6 +21,7 @@ use Rattle.bgp_attrs.specs.Reading.{Reading, IsRead}
 use Rattle.bgp_attrs.specs.Segments.{Segment}
 use Rattle.bgp_attrs.proofs.DecideLemmas.{SomeOrNone, joined_decided, reading_decided}
 use Rattle.bgp_attrs.proofs.JoinedLemmas.{joined_same}
+use Rattle.bgp_update.specs.Updates.{without_notes}
 use Rattle.bgp_update.proofs.MessageLemmas as messages
 use Rattle.mrt_reader.specs.declared.body.Body.TheVariants as bodies
 use Rattle.mrt_reader.specs.declared.fault.BodyFault.TheVariants as faults
@@ -32,7 +34,7 @@ use Rattle.mrt_reader.specs.Peers.{IsPeerTable}
 use Rattle.mrt_reader.specs.Readers.{dump_at, message_at, state_at, table_at}
 use Rattle.mrt_reader.specs.Records.{Recorded}
 use Rattle.mrt_reader.specs.Ribs.{Entry, IsEntry, IsCounted, IsRib}
-use Rattle.mrt_reader.specs.Routes.{AnyOf, LacksPath, GivesPath, IsWithin, IsBeyond, EntryReadable, EntryUnreadable, EntryLacksPath, nlri_in, AreRoutes, EntriesSay, dumped_nlri, DumpSays}
+use Rattle.mrt_reader.specs.Routes.{AnyOf, LacksPath, GivesRoute, with_first, IsWithin, IsBeyond, EntryReadable, EntryUnreadable, EntryLacksPath, nlri_in, AreRoutes, EntriesSay, dumped_nlri, DumpSays}
 use Rattle.mrt_reader.specs.Sessions.{IsRecordedMessage, IsStateChange}
 use Rattle.mrt_reader.proofs.DumpLemmas.{dump_reads}
 use Rattle.mrt_reader.proofs.EntryLemmas.{entry_reader}
@@ -96,20 +98,20 @@ within_or_beyond peers entry = by_test (nat_lt entry.index (length peers)) refl
     by_test false e = inr (grind (arith, nat_tests))
 
 path_or_none : (wide : Bool) (attributes : List ℕ) (reading : Reading) → IsRead wide Table false attributes reading → (path : Option (List Segment)) → reading.path ≡ path
-    → ((trail : Path) × GivesPath wide attributes trail) ⊎ LacksPath wide attributes
+    → ((trail : Path) × (otc : Otc) × GivesRoute wide attributes trail otc) ⊎ LacksPath wide attributes
 path_or_none wide attributes reading is (Some path) e =
-    inl (path_of_items (merged_with path (used_in reading)), (reading, is, ap (option_map (λ (p : List Segment). path_of_items (merged_with p (used_in reading)))) e))
+    inl (path_of_items (merged_with path (used_in reading)), reading.otc, (reading, is, ap (option_map (λ (p : List Segment). path_of_items (merged_with p (used_in reading)))) e, refl))
 path_or_none wide attributes reading is None e = inr (reading, is, e)
 
-abbrev EntryGivesPath : Entry → Type 0
-EntryGivesPath entry = (trail : Path) × GivesPath true entry.attributes trail
+abbrev EntryGivesRoute : Entry → Type 0
+EntryGivesRoute entry = (trail : Path) × (otc : Otc) × GivesRoute true entry.attributes trail otc
 
-paths_or_none : (entries : List Entry) → AllByRecursion EntryReadable entries → AllByRecursion EntryGivesPath entries ⊎ AnyOf EntryLacksPath entries
+paths_or_none : (entries : List Entry) → AllByRecursion EntryReadable entries → AllByRecursion EntryGivesRoute entries ⊎ AnyOf EntryLacksPath entries
 paths_or_none [] all = inl tt
 paths_or_none (entry ∷ entries) all = with_first (path_or_none true entry.attributes all.0.0 all.0.1 all.0.0.path refl) (paths_or_none entries all.1)
   where
-    with_first : EntryGivesPath entry ⊎ EntryLacksPath entry → AllByRecursion EntryGivesPath entries ⊎ AnyOf EntryLacksPath entries
-        → AllByRecursion EntryGivesPath (entry ∷ entries) ⊎ AnyOf EntryLacksPath (entry ∷ entries)
+    with_first : EntryGivesRoute entry ⊎ EntryLacksPath entry → AllByRecursion EntryGivesRoute entries ⊎ AnyOf EntryLacksPath entries
+        → AllByRecursion EntryGivesRoute (entry ∷ entries) ⊎ AnyOf EntryLacksPath (entry ∷ entries)
     with_first (inl p) (inl each) = inl (p, each)
     with_first (inl p) (inr any) = inr (inr any)
     with_first (inr q) rest = inr (inl q)
@@ -119,19 +121,19 @@ get_some [] i less = absurd (omega arith)
 get_some (x ∷ xs) zero less = (x, refl)
 get_some (x ∷ xs) (suc i) less = get_some xs i (omega arith)
 
-routes_some : (peers : List Peer) (prefix : Subnet) (entries : List Entry) → AllByRecursion (IsWithin peers) entries → AllByRecursion EntryGivesPath entries → (changes : List Change) × AreRoutes peers prefix entries changes
-routes_some peers prefix [] within give = ([], refl)
+routes_some : (peers : List Peer) (prefix : Subnet) (entries : List Entry) → AllByRecursion (IsWithin peers) entries → AllByRecursion EntryGivesRoute entries → (noted : Noted) × AreRoutes peers prefix entries noted
+routes_some peers prefix [] within give = (without_notes [], refl)
 routes_some peers prefix (entry ∷ entries) within give =
     let peer = get_some peers entry.index within.0 in
     let others = routes_some peers prefix entries within.1 give.1 in
     let change = Announce (key_of peer.0 (nlri_in prefix entry)) give.0.0 in
-    (change ∷ others.0, (change, others.0, refl, record { peer = peer.0; trail = give.0.0; is_peer = peer.1; gives = give.0.1; is_change = refl }, others.1))
+    (with_first change give.0.1 others.0, (change, give.0.1, others.0, refl, record { peer = peer.0; trail = give.0.0; is_peer = peer.1; gives = give.0.2; is_change = refl }, others.1))
 
 entries_by : (peers : List Peer) (prefix : Subnet) (entries : List Entry) → AllByRecursion (IsWithin peers) entries → AllByRecursion EntryReadable entries ⊎ AnyOf EntryUnreadable entries → Says (EntriesSay peers prefix entries)
 entries_by peers prefix entries within (inr any) = (Err faults.Attributes, (within, any))
 entries_by peers prefix entries within (inl read) = with_paths (paths_or_none entries read)
   where
-    with_paths : AllByRecursion EntryGivesPath entries ⊎ AnyOf EntryLacksPath entries → Says (EntriesSay peers prefix entries)
+    with_paths : AllByRecursion EntryGivesRoute entries ⊎ AnyOf EntryLacksPath entries → Says (EntriesSay peers prefix entries)
     with_paths (inl give) = (let routes = routes_some peers prefix entries within give in (Ok (bodies.Routes routes.0), routes.1))
     with_paths (inr any) = (Err faults.NoPath, (within, read, any))
 
@@ -152,15 +154,15 @@ dump_by : (dumped : Dumped) → SomeOrNone (IsRead false Table false dumped.attr
 dump_by dumped (inr none) = (Err faults.Attributes, none)
 dump_by dumped (inl x) = with_path (path_or_none false dumped.attributes x.0 x.1 x.0.path refl)
   where
-    with_path : ((trail : Path) × GivesPath false dumped.attributes trail) ⊎ LacksPath false dumped.attributes → Says (DumpSays dumped)
-    with_path (inl give) = (Ok (bodies.Routes (Announce (key_of dumped.peer (dumped_nlri dumped)) give.0 ∷ [])), (give.0, give.1, refl))
+    with_path : ((trail : Path) × (otc : Otc) × GivesRoute false dumped.attributes trail otc) ⊎ LacksPath false dumped.attributes → Says (DumpSays dumped)
+    with_path (inl give) = (Ok (bodies.Routes (with_first (Announce (key_of dumped.peer (dumped_nlri dumped)) give.0) give.1 (without_notes []))), (give.0, give.1, give.2, refl))
     with_path (inr lacks) = (Err faults.NoPath, lacks)
 
 message_some : (as4 paths : Bool) (it : Peer × List ℕ) → Says (MessageSays as4 paths it)
 message_some as4 paths (peer, message) = let inner = messages.reading_some as4 paths peer message in (raised inner.0, (inner.0, inner.1, refl))
 
 state_some : (it : Peer × ℕ) → Says (StateSays it)
-state_some (peer, state) = (Ok (bodies.Routes (changes_at peer state)), refl)
+state_some (peer, state) = (Ok (bodies.Routes (without_notes (changes_at peer state))), refl)
 
 layout_some : (layout : Layout) (peers : Option (List Peer)) (body : List ℕ) → Says (LayoutSays layout peers body)
 layout_some layouts.PeerIndex peers body = form_some (IsPeerTable body) TableSays (table_at body) (table_reads body) (λ table. (Ok (bodies.Peers table), refl))

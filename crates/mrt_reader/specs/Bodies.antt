@@ -4,6 +4,7 @@ use Rattle.std.specs.declared.option.Option.{Option}
 use Rattle.std.specs.declared.result.Result.{Result}
 use Rattle.path_model.specs.declared.change.Change.{Change}
 use Rattle.path_model.specs.declared.change.Change.TheVariants.{RemovePeer}
+use Rattle.path_model.specs.declared.noted.Noted.{Noted}
 use Rattle.path_model.specs.declared.peer.Peer.{Peer}
 use Rattle.bgp_update.specs.declared.fault.UpdateFault.{UpdateFault}
 use Rattle.bgp_update.specs.declared.fault.UpdateFault.TheVariants as update_faults
@@ -43,7 +44,7 @@ RibSays paths six peers body (Err faults.Message) = ⊥
 RibSays paths six peers body (Err faults.Attributes) = HasEntries paths six peers body (Err faults.Attributes)
 RibSays paths six peers body (Err faults.NoPath) = HasEntries paths six peers body (Err faults.NoPath)
 RibSays paths six peers body (Err faults.NoMemory) = ⊥
-RibSays paths six peers body (Ok (bodies.Routes changes)) = HasEntries paths six peers body (Ok (bodies.Routes changes))
+RibSays paths six peers body (Ok (bodies.Routes noted)) = HasEntries paths six peers body (Ok (bodies.Routes noted))
 RibSays paths six peers body (Ok (bodies.Peers table)) = ⊥
 RibSays paths six peers body (Ok bodies.Passed) = ⊥
 
@@ -55,13 +56,13 @@ fault_of update_faults.NoPath = faults.NoPath
 fault_of update_faults.NoMemory = faults.NoMemory
 
 -- what a message says as what a record says
-abbrev pub raised : Result (List Change) UpdateFault → Result Body BodyFault
-raised (Ok changes) = Ok (bodies.Routes changes)
+abbrev pub raised : Result Noted UpdateFault → Result Body BodyFault
+raised (Ok noted) = Ok (bodies.Routes noted)
 raised (Err fault) = Err (fault_of fault)
 
 -- a recorded message with a peer: what the message says, where `paths` with path identifiers
 abbrev pub MessageSays : Bool → Bool → Peer × List ℕ → Result Body BodyFault → Type 0
-MessageSays as4 paths (peer, message) reading = (inner : Result (List Change) UpdateFault) × updates.IsMessageReading as4 paths peer message inner × (reading ≡ raised inner)
+MessageSays as4 paths (peer, message) reading = (inner : Result Noted UpdateFault) × updates.IsMessageReading as4 paths peer message inner × (reading ≡ raised inner)
 
 -- the session of the peer is up (6 Established), or the peer's routes are gone
 abbrev pub changes_at : Peer → ℕ → List Change
@@ -69,7 +70,7 @@ changes_at peer state = if state == 6 then [] else RemovePeer peer ∷ []
 
 -- a state change of a peer: what the new state does
 abbrev pub StateSays : Peer × ℕ → Result Body BodyFault → Type 0
-StateSays (peer, state) reading = reading ≡ Ok (bodies.Routes (changes_at peer state))
+StateSays (peer, state) reading = reading ≡ Ok (bodies.Routes (updates.without_notes (changes_at peer state)))
 
 -- the body of each layout; the bodies of all other types and subtypes are passed over unread
 abbrev pub LayoutSays : Layout → Option (List Peer) → List ℕ → Result Body BodyFault → Type 0

@@ -1,10 +1,12 @@
--- The routes that the entries of a RIB record, or the one of a TABLE_DUMP record, announce.
+-- The routes that the entries of a RIB record, or the one of a TABLE_DUMP record, announce, and what each says of Only-to-Customer.
 use Rattle.std.specs.Prelude.{◌≡◌, ℕ, ◌<◌, ◌≤◌, Bool, true, false, List, [], ◌∷◌, length, slice_get, ◌⊎◌, Some, None, Ok, Err}
 use Rattle.std.specs.declared.result.Result.{Result}
 use Rattle.std.specs.List.{AllByRecursion}
 use Rattle.path_model.specs.declared.change.Change.{Change}
 use Rattle.path_model.specs.declared.change.Change.TheVariants.{Announce}
 use Rattle.path_model.specs.declared.nlri.Nlri.{Nlri}
+use Rattle.path_model.specs.declared.noted.Noted.{Noted}
+use Rattle.path_model.specs.declared.otc.Otc.{Otc}
 use Rattle.path_model.specs.declared.peer.Peer.{Peer}
 use Rattle.path_model.specs.Key.{key_of}
 use Rattle.path_model.specs.Prefix.{Subnet}
@@ -12,6 +14,7 @@ use Rattle.path_model.specs.Trail.{Path}
 use Rattle.bgp_attrs.specs.declared.form.Form.TheVariants.{Table}
 use Rattle.bgp_attrs.specs.Merging.{trail_in}
 use Rattle.bgp_attrs.specs.Reading.{Reading, IsRead, IsUnreadable}
+use Rattle.bgp_update.specs.Updates.{without_notes}
 use Rattle.mrt_reader.specs.declared.body.Body.{Body}
 use Rattle.mrt_reader.specs.declared.body.Body.TheVariants as bodies
 use Rattle.mrt_reader.specs.declared.fault.BodyFault.{BodyFault}
@@ -32,9 +35,13 @@ IsReadable wide attributes = (reading : Reading) × IsRead wide Table false attr
 abbrev pub LacksPath : Bool → List ℕ → Type 0
 LacksPath wide attributes = (reading : Reading) × IsRead wide Table false attributes reading × (reading.path ≡ None)
 
--- they give this path
-abbrev pub GivesPath : Bool → List ℕ → Path → Type 0
-GivesPath wide attributes trail = (reading : Reading) × IsRead wide Table false attributes reading × (trail_in reading ≡ Some trail)
+-- they give this path, and say this of Only-to-Customer (RFC 9234, section 5)
+abbrev pub GivesRoute : Bool → List ℕ → Path → Otc → Type 0
+GivesRoute wide attributes trail otc = (reading : Reading) × IsRead wide Table false attributes reading × (trail_in reading ≡ Some trail) × (reading.otc ≡ otc)
+
+-- an announcement and its note, before others
+abbrev pub with_first : Change → Otc → Noted → Noted
+with_first change otc others = record { changes = change ∷ others.changes; notes = otc ∷ others.notes }
 
 -- ---- the entries of a RIB record, by the peer table before it
 
@@ -60,23 +67,24 @@ EntryLacksPath entry = LacksPath true entry.attributes
 abbrev pub nlri_in : Subnet → Entry → Nlri
 nlri_in prefix entry = record { prefix = prefix; path = entry.path }
 
--- the entry's peer announces the prefix, under the entry's path identifier, with the entry's path
-pub record IsRoute (peers : List Peer) (prefix : Subnet) (entry : Entry) (change : Change) : Type 0 where
+-- the entry's peer announces the prefix, under the entry's path identifier, with the entry's path; the note is what the entry says
+pub record IsRoute (peers : List Peer) (prefix : Subnet) (entry : Entry) (change : Change) (otc : Otc) : Type 0 where
   pub peer : Peer
   pub trail : Path
   pub is_peer : slice_get peers entry.index ≡ Some peer
-  pub gives : GivesPath true entry.attributes trail
+  pub gives : GivesRoute true entry.attributes trail otc
   pub is_change : change ≡ Announce (key_of peer (nlri_in prefix entry)) trail
 
--- one announcement for each entry, in order
-abbrev pub AreRoutes : List Peer → Subnet → List Entry → List Change → Type 0
-AreRoutes peers prefix [] changes = changes ≡ []
-AreRoutes peers prefix (entry ∷ entries) changes = (change : Change) × (others : List Change) × (changes ≡ change ∷ others) × IsRoute peers prefix entry change × AreRoutes peers prefix entries others
+-- one announcement for each entry, in order, with its note
+abbrev pub AreRoutes : List Peer → Subnet → List Entry → Noted → Type 0
+AreRoutes peers prefix [] noted = noted ≡ without_notes []
+AreRoutes peers prefix (entry ∷ entries) noted =
+    (change : Change) × (otc : Otc) × (others : Noted) × (noted ≡ with_first change otc others) × IsRoute peers prefix entry change otc × AreRoutes peers prefix entries others
 
 -- What the entries say: all their routes; or an index is beyond the table; or none is, and some attributes have no reading; or all
 -- have one, and some have no path.
 abbrev pub EntriesSay : List Peer → Subnet → List Entry → Result Body BodyFault → Type 0
-EntriesSay peers prefix entries (Ok (bodies.Routes changes)) = AreRoutes peers prefix entries changes
+EntriesSay peers prefix entries (Ok (bodies.Routes noted)) = AreRoutes peers prefix entries noted
 EntriesSay peers prefix entries (Ok (bodies.Peers table)) = ⊥
 EntriesSay peers prefix entries (Ok bodies.Passed) = ⊥
 EntriesSay peers prefix entries (Err faults.Body) = ⊥
@@ -93,9 +101,10 @@ EntriesSay peers prefix entries (Err faults.NoMemory) = ⊥
 abbrev pub dumped_nlri : Dumped → Nlri
 dumped_nlri dumped = record { prefix = dumped.prefix; path = None }
 
--- What it says: its announcement; or its attributes have no reading; or they have one without a path.
+-- What it says: its announcement, with its note; or its attributes have no reading; or they have one without a path.
 abbrev pub DumpSays : Dumped → Result Body BodyFault → Type 0
-DumpSays dumped (Ok (bodies.Routes changes)) = (trail : Path) × GivesPath false dumped.attributes trail × (changes ≡ Announce (key_of dumped.peer (dumped_nlri dumped)) trail ∷ [])
+DumpSays dumped (Ok (bodies.Routes noted)) =
+    (trail : Path) × (otc : Otc) × GivesRoute false dumped.attributes trail otc × (noted ≡ with_first (Announce (key_of dumped.peer (dumped_nlri dumped)) trail) otc (without_notes []))
 DumpSays dumped (Ok (bodies.Peers table)) = ⊥
 DumpSays dumped (Ok bodies.Passed) = ⊥
 DumpSays dumped (Err faults.Body) = ⊥

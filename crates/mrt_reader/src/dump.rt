@@ -10,9 +10,9 @@ use crate::body::Body;
 use crate::fault::BodyFault;
 use crate::fields::{take, take_addr, take_asn, take_byte};
 use crate::parts::DumpParts;
-use crate::routing::put_route;
+use crate::routing::{no_changes, put_route};
 use bgp_attrs::take_block;
-use path_model::{Changes, Key, Peer, Prefix};
+use path_model::{Key, Peer, Prefix};
 use std::alloc::Global;
 
 // The route of a whole body.
@@ -70,14 +70,14 @@ fn last_block(bytes: &[u8]) -> Option<&[u8]>
 fn route_of(alloc: Global, parts: DumpParts<'_>) -> Result<Body, BodyFault>
     ensures { OrNoMemory (DumpSays (dumped_of parts.entry)) result }
 {
-    let mut changes = Changes::new(alloc);
+    let mut noted = no_changes(alloc);
     let key = Key {
         peer: parts.peer,
         prefix: parts.prefix,
         path: None,
     };
-    match put_route(alloc, &mut changes, key, parts.attributes, false) {
-        Ok(true) => Ok(Body::Routes(changes)),
+    match put_route(alloc, &mut noted, key, parts.attributes, false) {
+        Ok(true) => Ok(Body::Routes(noted)),
         Ok(false) => Err(BodyFault::NoPath),
         Err(fault) => Err(fault),
     }

@@ -1,5 +1,5 @@
 //! Laws of records: the contract of each function is the law, and its body does nothing.
-ghost use Rattle.mrt_reader.specs.Laws.{NoRecordBeginsAnother, OneThingComesNext, EachStreamHasItsUnits, TooLongStays, EachRecordHasOneReading};
+ghost use Rattle.mrt_reader.specs.Laws.{NoRecordBeginsAnother, OneThingComesNext, EachStreamHasItsUnits, TooLongStays, EachRecordHasOneReading, EachAnnouncementHasItsNote};
 
 /// No record begins another one, so the records of a stream are determined by it.
 pub fn no_record_begins_another()
@@ -24,4 +24,9 @@ pub fn too_long_stays()
 /// Each record has exactly one reading, by whatever table is before it.
 pub fn each_record_has_one_reading()
     ensures { EachRecordHasOneReading }
+{}
+
+/// What a record says has one note for each announcement, in order.
+pub fn each_announcement_has_its_note()
+    ensures { EachAnnouncementHasItsNote }
 {}

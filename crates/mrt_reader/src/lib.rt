@@ -3,7 +3,8 @@
 //! The layer above uses two contracts. [`Framer`] holds what is left of a stream; its `next` takes the first record off and lends
 //! its body, or says why there is none (`specs/Coming.antt`: `Answers`). [`read_body`] answers what a record says by the peer table
 //! before it (`specs/Bodies.antt`: `IsReading`), or want of memory. By the laws in `laws` no record begins another one, in a stream
-//! exactly one thing comes next, a stream has exactly one list of records, and each record has exactly one reading.
+//! exactly one thing comes next, a stream has exactly one list of records, and each record has exactly one reading, in which each
+//! announcement has its note of Only-to-Customer.
 //!
 //! Begin reading at `specs/Records.antt` and `specs/Bodies.antt`. `heading` and `framer` cut records; `layout` tells the bodies
 //! apart. Each body has its modules: `table` peer tables; `entries`, `splitting`, `shaping`, `routing` and `rib` RIB records; `dump`
@@ -33,8 +34,8 @@ pub use body::Body;
 pub use fault::{BodyFault, FrameFault};
 pub use framer::{Framer, Record};
 pub use laws::{
-    each_record_has_one_reading, each_stream_has_its_units, no_record_begins_another,
-    one_thing_comes_next, too_long_stays,
+    each_announcement_has_its_note, each_record_has_one_reading, each_stream_has_its_units,
+    no_record_begins_another, one_thing_comes_next, too_long_stays,
 };
 pub use peers::PeerTable;
 pub use reading::read_body;

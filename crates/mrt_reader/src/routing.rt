@@ -1,6 +1,7 @@
 //! The routes of table records.
-ghost use Rattle.std.specs.Prelude.{◌≡◌, MatchBool};
+ghost use Rattle.std.specs.Prelude.{◌≡◌, [], MatchBool};
 ghost use Rattle.std.specs.List.{AllByRecursion};
+ghost use Rattle.bgp_update.specs.Updates.{without_notes};
 ghost use Rattle.mrt_reader.specs.Bodies.{OrNoMemory};
 ghost use Rattle.mrt_reader.specs.Left.{entries_left};
 ghost use Rattle.mrt_reader.specs.Routes.{EntriesSay, AnyOf, IsWithin, IsBeyond};
@@ -11,10 +12,10 @@ use crate::entries::Entries;
 use crate::fault::BodyFault;
 use crate::peers::PeerTable;
 use bgp_attrs::Form;
-use path_model::{Changes, Key, Prefix};
+use path_model::{Changes, Key, Noted, Notes, Prefix};
 use std::alloc::Global;
 
-// The routes of all entries. First the indexes are tested, then each entry is read; an entry without a path is reported at the end,
+// The routes of all entries, with their notes. First the indexes are tested, then each entry is read; an entry without a path is reported at the end,
 // since attributes out of form behind it come first.
 pub(crate) fn routes_of_entries(
     alloc: Global,
@@ -27,7 +28,7 @@ pub(crate) fn routes_of_entries(
     if !are_within(peers, entries) {
         return Err(BodyFault::PeerIndex);
     }
-    let mut changes = Changes::new(alloc);
+    let mut noted = no_changes(alloc);
     let mut no_path = false;
     for entry in entries {
         match peers.get(entry.index) {
@@ -37,7 +38,7 @@ pub(crate) fn routes_of_entries(
                     prefix: *prefix,
                     path: entry.path,
                 };
-                if !put_route(alloc, &mut changes, key, entry.attributes, true)? {
+                if !put_route(alloc, &mut noted, key, entry.attributes, true)? {
                     no_path = true;
                 }
             }
@@ -47,7 +48,17 @@ pub(crate) fn routes_of_entries(
     if no_path {
         return Err(BodyFault::NoPath);
     }
-    Ok(Body::Routes(changes))
+    Ok(Body::Routes(noted))
+}
+
+// No changes, and so no notes.
+pub(crate) fn no_changes(alloc: Global) -> Noted
+    ensures { result ≡ without_notes [] }
+{
+    Noted {
+        changes: Changes::new(alloc),
+        notes: Notes::new(alloc),
+    }
 }
 
 // Whether all indexes are those of peers.
@@ -64,22 +75,23 @@ fn are_within(peers: &PeerTable, entries: Entries<'_>) -> bool
     true
 }
 
-// Announces the key, if the attributes have a path. `wide` says that their ASes have four bytes. A table's attributes are read without
+// Announces the key, if the attributes have a path, and notes what they say of Only-to-Customer. `wide` says that their ASes have four bytes. A table's attributes are read without
 // path identifiers, since the prefixes in them are unread.
 #[inline(always)]
 pub(crate) fn put_route(
     alloc: Global,
-    changes: &mut Changes,
+    noted: &mut Noted,
     key: Key,
     attributes: &[u8],
     wide: bool,
 ) -> Result<bool, BodyFault>
-    ensures { IsPut wide key attributes.now changes.old changes.new result }
+    ensures { IsPut wide key attributes.now noted.old noted.new result }
 {
     match bgp_attrs::read(attributes, wide, Form::Table, false) {
         Ok(attrs) => match attrs.trail(alloc)? {
             Some(trail) => {
-                changes.announce(key, trail)?;
+                noted.changes.announce(key, trail)?;
+                noted.notes.note(attrs.otc())?;
                 Ok(true)
             }
             None => Ok(false),

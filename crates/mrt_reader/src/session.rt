@@ -7,8 +7,9 @@ ghost use Rattle.mrt_reader.specs.Readers.{six_of, behind_time, session_at, mess
 use crate::body::Body;
 use crate::fault::BodyFault;
 use crate::fields::{take, take_addr, take_asn, take_two};
+use crate::routing::no_changes;
 use bgp_update::UpdateFault;
-use path_model::{Changes, Peer};
+use path_model::Peer;
 use std::alloc::Global;
 
 const ESTABLISHED: u16 = 6;
@@ -39,7 +40,7 @@ fn changes_of(
     ensures { OrNoMemory (MessageSays as4 paths (peer, message.now)) result }
 {
     match bgp_update::read(alloc, message, as4, paths, peer) {
-        Ok(changes) => Ok(Body::Routes(changes)),
+        Ok(noted) => Ok(Body::Routes(noted)),
         Err(UpdateFault::Message) => Err(BodyFault::Message),
         Err(UpdateFault::Attributes) => Err(BodyFault::Attributes),
         Err(UpdateFault::NoPath) => Err(BodyFault::NoPath),
@@ -66,11 +67,11 @@ pub(crate) fn read_state(
 fn change_at(alloc: Global, peer: Peer, state: u16) -> Result<Body, BodyFault>
     ensures { OrNoMemory (StateSays (peer, state)) result }
 {
-    let mut changes = Changes::new(alloc);
+    let mut noted = no_changes(alloc);
     if state != ESTABLISHED {
-        changes.remove_peer(peer)?;
+        noted.changes.remove_peer(peer)?;
     }
-    Ok(Body::Routes(changes))
+    Ok(Body::Routes(noted))
 }
 
 // The peer and the new state.

@@ -1,11 +1,32 @@
-//! The changes of a record beside those that are wanted.
+//! The changes and the notes of a record beside those that are wanted.
 use crate::records::Wanted;
-use path_model::{Addr, Batch, Change, Changes, Key, Peer, Trail};
+use path_model::{Addr, Batch, Change, Changes, Key, Noted, Notes, Otc, Peer, Trail};
 use std::process::Abort;
 use std::slice::Iter;
 
-/// Compares all changes, one by one.
-pub(crate) fn compare_changes(rt: &impl Abort, changes: &Changes, wants: &[Wanted]) {
+/// Compares all changes, one by one. None of the announcements has an Only-to-Customer.
+pub(crate) fn compare_noted(rt: &impl Abort, noted: &Noted, wants: &[Wanted]) {
+    compare_changes(rt, &noted.changes, wants);
+    assert!(rt; noted.notes.are_absent());
+    let mut notes = 0usize;
+    for want in wants {
+        if let Wanted::Announce(..) | Wanted::AnnouncePath(..) = want {
+            assert_eq!(rt; noted.notes.get(notes), Some(Otc::Absent));
+            notes = notes.wrapping_add(1);
+        }
+    }
+    assert_eq!(rt; noted.notes.get(notes), None);
+}
+
+/// Compares all notes, one by one.
+pub(crate) fn compare_notes(rt: &impl Abort, notes: &Notes, wants: &[Otc]) {
+    for (place, want) in wants.iter().enumerate() {
+        assert_eq!(rt; notes.get(place), Some(*want));
+    }
+    assert_eq!(rt; notes.get(wants.len()), None);
+}
+
+fn compare_changes(rt: &impl Abort, changes: &Changes, wants: &[Wanted]) {
     assert_eq!(rt; changes.len(), wants.len());
     let mut wants = wants.iter();
     for batch in changes.batches() {

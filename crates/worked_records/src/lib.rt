@@ -2,7 +2,8 @@
 //!
 //! Each table has its expected values worked out by hand, or, for the dumps that routing daemons wrote, by `bgpdump`. `attributes` reads
 //! attribute fields and `lists` prefixes in them, `records` single records and streams in any pieces (`comparing`), `identifiers` records
-//! with path identifiers, and `daemons` whole dumps of two daemons. `monitoring` reads the messages of BMP streams.
+//! with path identifiers, and `daemons` whole dumps of two daemons. `monitoring` reads the messages of BMP streams, and `notes` what
+//! attribute fields, records and messages say of Only-to-Customer.
 #![tactic(auto)]
 
 #[cfg(test)]
@@ -19,5 +20,7 @@ mod identifiers;
 mod lists;
 #[cfg(test)]
 mod monitoring;
+#[cfg(test)]
+mod notes;
 #[cfg(test)]
 mod records;

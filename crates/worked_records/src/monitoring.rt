@@ -1,5 +1,5 @@
 //! Messages of BMP streams: what each says, in a view and behind what was said before, and how a stream ends.
-use crate::comparing::compare_changes;
+use crate::comparing::compare_noted;
 use crate::hex::hex;
 use crate::records::{NET, ONE, ROUTE, Wanted, joined};
 use Said::{Ends, Passed, Refused, Routes, Up};
@@ -40,7 +40,7 @@ const NARROW: &str =
     FFFFFFFFFFFFFFFFFFFFFFFFFFFFFFFF 0024 02 0000 0009 400206 0202 FBF5 FBF4 18C63364";
 
 // The session goes down, for the reason 4.
-const DOWN: &str =
+pub(crate) const DOWN: &str =
     "03 00000031 02  0000 0000000000000000 000000000000000000000000C0000201 0000FBF5 C0000201 0000000000000000 04";
 
 // The session comes up with two capabilities of a role in the OPEN that came: customer and peer;
@@ -431,7 +431,7 @@ fn compare(
         (Err(BmpFault::NoMemory), _) => return Err(NoMemory),
         (Err(fault), Some(Refused(wanted))) => assert_eq!(rt; fault, *wanted),
         (Ok(Body::Passed), Some(Passed)) => {}
-        (Ok(Body::Routes(changes)), Some(Routes(list))) => compare_changes(rt, &changes, list),
+        (Ok(Body::Routes(noted)), Some(Routes(list))) => compare_noted(rt, &noted, list),
         (Ok(Body::Up { peer, role, paths }), Some(Up(one, its, identified))) => {
             assert!(rt; peer == *one);
             assert_eq!(rt; role, *its);

@@ -1,5 +1,5 @@
 //! Records of dumps: what each says, by itself and in a stream that is cut in any pieces.
-use crate::comparing::compare_changes;
+use crate::comparing::compare_noted;
 use crate::hex::hex;
 use av_base::NoMemory;
 use mrt_reader::{Body, BodyFault, FrameFault, Framer, PeerTable, read_body};
@@ -286,7 +286,7 @@ fn compare(
         (Err(BodyFault::NoMemory), _) => return Err(NoMemory),
         (Err(fault), Some(Refused(wanted))) => assert_eq!(rt; fault, *wanted),
         (Ok(Body::Passed), Some(Passed)) => {}
-        (Ok(Body::Routes(changes)), Some(Routes(list))) => compare_changes(rt, &changes, list),
+        (Ok(Body::Routes(noted)), Some(Routes(list))) => compare_noted(rt, &noted, list),
         (Ok(Body::Peers(table)), Some(Peers(len, first))) => {
             assert_eq!(rt; table.len(), *len);
             assert_eq!(rt; table.get(0), Some(*first));

@@ -5,7 +5,7 @@ use Rattle.bgp_attrs.proofs.FirstLemmas.{walked_none, walked_more, walked_out, w
 use Rattle.bgp_attrs.proofs.finding.attributes.Goals as goal
 
 pub loop-rest-init : goal.loop-rest-init
-loop-rest-init c = walked_none c.args.bytes.now _ (record { path = refl; path4 = refl; aggregator = refl; aggregator4 = refl; short = λ x e. absurd cc })
+loop-rest-init c = walked_none c.args.bytes.now _ (record { path = refl; path4 = refl; aggregator = refl; aggregator4 = refl; otc = refl; short = λ x e. absurd cc })
 
 pub returns-in_err-attribute-clause-none : goal.returns-in_err-attribute-clause-none
 returns-in_err-attribute-clause-none c = rw c.from_residual.ensures (walked_out c.args.bytes.now c.loop-rest.rest.now c.loop-rest.firsts (search rules) (sym c.in_err-attribute.ensures) c.loop-rest.invariant)

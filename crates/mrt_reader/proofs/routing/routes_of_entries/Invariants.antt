@@ -3,4 +3,4 @@ use Rattle.mrt_reader.specs.Routing.{Going}
 use Rattle.mrt_reader.proofs.routing.routes_of_entries.Given as goal
 
 abbrev pub invariant-loop-entry : goal.invariant-loop-entry
-invariant-loop-entry l = Going l.peers l.prefix (entries_left l.entries) (entries_left l.entry-iterator) l.changes l.no_path
+invariant-loop-entry l = Going l.peers l.prefix (entries_left l.entries) (entries_left l.entry-iterator) l.noted l.no_path
