@@ -17,6 +17,8 @@ use Rattle.path_model.specs.declared.witness.Witness.{Witness}
 use Rattle.path_model.specs.declared.witness.Witness.TheVariants.{Valid as ByLabelling, Empty, Set, Neighbour, Blocked, Unsettled}
 use Rattle.origin_model.specs.declared.origin_state.OriginState.{OriginState}
 use Rattle.origin_model.specs.declared.origin_state.OriginState.TheVariants.{Valid as OriginValid, Invalid as OriginInvalid, NotFound}
+use Rattle.otc_check.specs.declared.leaks.Leak.{Leak}
+use Rattle.otc_check.specs.declared.leaks.Leak.TheVariants.{Clean, Customer, RsClient, Peer as FromPeer, Malformed}
 use Rattle.av_text.specs.AddressText.{addr_text, hex4, octets_text, groups_text, parts_text}
 use Rattle.av_text.specs.Marks.{Lacks}
 use Rattle.av_text.specs.VerdictText.{verdict_text}
@@ -29,6 +31,7 @@ use Rattle.report_text.specs.declared.summary.Summary.{Summary}
 use Rattle.report_text.specs.Change.{mark_text, marks_text, change_line, changed_line}
 use Rattle.report_text.specs.Keys.{identifier_text, key_text}
 use Rattle.report_text.specs.Laws.{IsAnswerLine}
+use Rattle.report_text.specs.Leaks.{leak_line, shown_text}
 use Rattle.report_text.specs.Origins.{origin_line, state_text}
 use Rattle.report_text.specs.Rows.{row_line}
 use Rattle.report_text.specs.Served.{served_line}
@@ -134,7 +137,7 @@ of_key key words in_line = record {
   unmarked = begins_other (key_text key ++ 32 ∷ words) (key_start key (32 ∷ words));
 }
 
--- ---- rows, origins and changes
+-- ---- rows, origins, leaks and changes
 
 pub row_is_one_line : (key : Key) (verdict : Verdict) → IsAnswerLine (row_line key verdict)
 row_is_one_line key verdict = of_key key (verdict_text verdict) (verdicts_in_line verdict)
@@ -146,6 +149,16 @@ state_in_line NotFound = clean (codes "not-found") refl
 
 pub origin_is_one_line : (key : Key) (state : OriginState) → IsAnswerLine (origin_line key state)
 origin_is_one_line key state = of_key key (state_text state) (state_in_line state)
+
+shown_in_line : (leak : Leak) → IsInLine (shown_text leak)
+shown_in_line Clean = clean [] refl
+shown_in_line (Customer asn) = both (codes "customer ") (decimal asn) (clean (codes "customer ") refl) (number asn)
+shown_in_line (RsClient asn) = both (codes "rs-client ") (decimal asn) (clean (codes "rs-client ") refl) (number asn)
+shown_in_line (FromPeer asn) = both (codes "peer ") (decimal asn) (clean (codes "peer ") refl) (number asn)
+shown_in_line Malformed = clean (codes "malformed") refl
+
+pub leak_is_one_line : (key : Key) (leak : Leak) → IsAnswerLine (leak_line key leak)
+leak_is_one_line key leak = of_key key (shown_text leak) (shown_in_line leak)
 
 mark_in_line : (mark : Option Verdict) → IsInLine (mark_text mark)
 mark_in_line None = clean (codes "none") refl

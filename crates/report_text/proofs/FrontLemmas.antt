@@ -12,11 +12,9 @@ use Rattle.path_model.specs.declared.peer.Peer.{Peer}
 use Rattle.path_model.specs.declared.verdict.Verdict.{Verdict}
 use Rattle.av_text.specs.PeerText.{peer_text}
 use Rattle.av_text.specs.PrefixText.{prefix_text}
-use Rattle.av_text.specs.VerdictText.{verdict_text}
 use Rattle.report_text.specs.Change.{mark_text, change_text}
-use Rattle.report_text.specs.Fronts.{IsFront, row_rest, change_rest}
-use Rattle.report_text.specs.Keys.{identifier_text}
-use Rattle.report_text.specs.Rows.{row_text}
+use Rattle.report_text.specs.Fronts.{IsFront, nlri_text, change_rest}
+use Rattle.report_text.specs.Keys.{identifier_text, key_text}
 use Rattle.report_text.specs.Writes.{Writes}
 
 -- peers that their order doesn't tell apart are the same
@@ -33,19 +31,19 @@ pub front_kept : {t a b : List ℕ} {i j : ℕ} (held : Option Peer) → IsFront
 front_kept None is written long later = is
 front_kept (Some peer) is written long later = let short = is.0 in (is.0, front_stays written (omega arith) later ∙ is.1)
 
-row_parts : (p n i v : List ℕ) → (p ++ 32 ∷ []) ++ ((n ++ (i ++ 32 ∷ [])) ++ (v ++ 10 ∷ [])) ≡ (((p ++ 32 ∷ n) ++ i) ++ 32 ∷ v) ++ 10 ∷ []
-row_parts p n i v = simp append_assoc refl
+line_parts : (p n i v : List ℕ) → (p ++ 32 ∷ []) ++ ((n ++ (i ++ 32 ∷ [])) ++ (v ++ 10 ∷ [])) ≡ (((p ++ 32 ∷ n) ++ i) ++ 32 ∷ v) ++ 10 ∷ []
+line_parts p n i v = simp append_assoc refl
 
 change_parts : (p n i v w : List ℕ) → (p ++ 32 ∷ []) ++ ((n ++ (i ++ 32 ∷ [])) ++ (v ++ 32 ∷ (w ++ 10 ∷ []))) ≡ (((p ++ 32 ∷ n) ++ i) ++ 32 ∷ (v ++ 32 ∷ w)) ++ 10 ∷ []
 change_parts p n i v w = simp append_assoc refl
 
--- the front and the rest are the row
-pub row_of : {a b : List ℕ} {i j : ℕ} (held : Option Peer) (key : Key) (verdict : Verdict) → held ≡ Some key.peer → IsFront held i a
-    → Writes (row_rest key verdict) a i b j → take j b ≡ row_text key verdict
-row_of {a} {b} {i} {j} held key verdict is front written =
+-- the front and the rest are the line: a row, or one of an origin or a leak,
+pub line_of : {a b : List ℕ} {i j : ℕ} (held : Option Peer) (key : Key) (words : List ℕ) → held ≡ Some key.peer → IsFront held i a
+    → Writes (nlri_text key ++ (words ++ 10 ∷ [])) a i b j → take j b ≡ (key_text key ++ 32 ∷ words) ++ 10 ∷ []
+line_of {a} {b} {i} {j} held key words is front written =
     let own : IsFront (Some key.peer) i a = subst (λ (h : Option Peer). IsFront h i a) is front in
-    written.front ∙ ap (λ (l : List ℕ). l ++ row_rest key verdict) own.1
-    ∙ row_parts (peer_text key.peer) (prefix_text key.prefix) (identifier_text key.path) (verdict_text verdict)
+    written.front ∙ ap (λ (l : List ℕ). l ++ (nlri_text key ++ (words ++ 10 ∷ []))) own.1
+    ∙ line_parts (peer_text key.peer) (prefix_text key.prefix) (identifier_text key.path) words
 
 -- and the change
 pub change_of : {a b : List ℕ} {i j : ℕ} (held : Option Peer) (key : Key) (before after : Option Verdict) → held ≡ Some key.peer → IsFront held i a

@@ -5,11 +5,15 @@ use Rattle.std.specs.declared.option.Option.TheVariants.{Some, None}
 use Rattle.path_model.specs.declared.key.Key.{Key}
 use Rattle.path_model.specs.declared.peer.Peer.{Peer}
 use Rattle.path_model.specs.declared.verdict.Verdict.{Verdict}
+use Rattle.origin_model.specs.declared.origin_state.OriginState.{OriginState}
+use Rattle.otc_check.specs.declared.leaks.Leak.{Leak}
 use Rattle.av_text.specs.PeerText.{peer_text}
 use Rattle.av_text.specs.PrefixText.{prefix_text}
 use Rattle.av_text.specs.VerdictText.{verdict_text}
 use Rattle.report_text.specs.Change.{mark_text}
 use Rattle.report_text.specs.Keys.{identifier_text}
+use Rattle.report_text.specs.Leaks.{shown_text}
+use Rattle.report_text.specs.Origins.{state_text}
 
 -- so many bytes of the line are the peer's text with a space behind it, where the line has a peer
 abbrev pub IsFront : Option Peer → ℕ → List ℕ → Type 0
@@ -23,6 +27,14 @@ nlri_text key = prefix_text key.prefix ++ (identifier_text key.path ++ 32 ∷ []
 -- a row behind its front
 abbrev pub row_rest : Key → Verdict → List ℕ
 row_rest key verdict = nlri_text key ++ (verdict_text verdict ++ 10 ∷ [])
+
+-- the state of an origin behind its front
+abbrev pub origin_rest : Key → OriginState → List ℕ
+origin_rest key state = nlri_text key ++ (state_text state ++ 10 ∷ [])
+
+-- what a leak shows behind its front
+abbrev pub leak_rest : Key → Leak → List ℕ
+leak_rest key leak = nlri_text key ++ (shown_text leak ++ 10 ∷ [])
 
 -- a change behind its front
 abbrev pub change_rest : Key → Option Verdict → Option Verdict → List ℕ

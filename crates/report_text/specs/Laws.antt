@@ -6,12 +6,14 @@ use Rattle.path_model.specs.declared.key.Key.{Key}
 use Rattle.path_model.specs.declared.verdict.Verdict.{Verdict}
 use Rattle.path_model.specs.declared.witness.Witness.{Witness}
 use Rattle.origin_model.specs.declared.origin_state.OriginState.{OriginState}
+use Rattle.otc_check.specs.declared.leaks.Leak.{Leak}
 use Rattle.av_text.specs.Spellings.{IsInLine}
 use Rattle.report_text.specs.declared.summary.Summary.{Summary}
 use Rattle.report_text.specs.declared.cause.Cause.{Cause}
 use Rattle.report_text.specs.Change.{change_line, changed_line}
 use Rattle.report_text.specs.declared.feed.FeedEnd.{FeedEnd}
 use Rattle.report_text.specs.Feeds.{feed_line}
+use Rattle.report_text.specs.Leaks.{leak_line}
 use Rattle.report_text.specs.Origins.{origin_line}
 use Rattle.report_text.specs.Refusals.{AnyPlace, of_line, of_unit, refusal_line}
 use Rattle.report_text.specs.Rows.{row_line}
@@ -46,6 +48,9 @@ EachRowIsOneLine = (key : Key) (verdict : Verdict) → IsAnswerLine (row_line ke
 
 abbrev pub EachOriginIsOneLine : Type 0
 EachOriginIsOneLine = (key : Key) (state : OriginState) → IsAnswerLine (origin_line key state)
+
+abbrev pub EachLeakIsOneLine : Type 0
+EachLeakIsOneLine = (key : Key) (leak : Leak) → IsAnswerLine (leak_line key leak)
 
 abbrev pub EachChangeIsOneLine : Type 0
 EachChangeIsOneLine = (key : Key) (before after : Option Verdict) → IsAnswerLine (change_line key before after)

@@ -4,6 +4,7 @@ pub mod Feeds
 pub mod Fronts
 pub mod Keys
 pub mod Laws
+pub mod Leaks
 pub mod Origins
 pub mod Places
 pub mod Refusals

@@ -1,6 +1,6 @@
 //! Laws of the definitions: the contract of each function is the law, and its body does nothing.
-ghost use Rattle.report_text.specs.Laws.{EachChangeIsOneLine, EachCountOfChangesIsOneLine, EachFeedEndIsOneLine, EachOriginIsOneLine, EachReasonIsOneLine};
-ghost use Rattle.report_text.specs.Laws.{EachRefusalIsOneLine, EachRowIsOneLine, EachServedIsOneLine, EachSummaryIsOneLine};
+ghost use Rattle.report_text.specs.Laws.{EachChangeIsOneLine, EachCountOfChangesIsOneLine, EachFeedEndIsOneLine, EachLeakIsOneLine, EachOriginIsOneLine};
+ghost use Rattle.report_text.specs.Laws.{EachReasonIsOneLine, EachRefusalIsOneLine, EachRowIsOneLine, EachServedIsOneLine, EachSummaryIsOneLine};
 
 /// Whatever is refused, at a place whose name has no line feed, is reported by one line that begins with `! `.
 pub fn each_refusal_is_one_line()
@@ -12,11 +12,12 @@ pub fn each_feed_end_is_one_line()
     ensures { EachFeedEndIsOneLine }
 {}
 
-/// Each answer is one line, and none begins with `! `: a row, the state of a route's origin, a change, how many changed, a summary, what
-/// came of serving routers, and why a path has its verdict.
+/// Each answer is one line, and none begins with `! `: a row, the state of a route's origin, what Only-to-Customer shows of a route, a
+/// change, how many changed, a summary, what came of serving routers, and why a path has its verdict.
 pub fn no_answer_reads_as_a_refusal()
     ensures rows { EachRowIsOneLine }
     ensures origins { EachOriginIsOneLine }
+    ensures leaks { EachLeakIsOneLine }
     ensures changes { EachChangeIsOneLine }
     ensures counts { EachCountOfChangesIsOneLine }
     ensures summaries { EachSummaryIsOneLine }

@@ -1,17 +1,19 @@
-//! Addresses, prefixes and verdicts written into the room of a line.
-ghost use Rattle.std.specs.Prelude.{◌≡◌, ◌++◌, ◌∷◌, ◌+◌, ◌≤◌, ◌<◌, [], length};
+//! Addresses, prefixes, verdicts and leaks written into the room of a line.
+ghost use Rattle.std.specs.Prelude.{◌≡◌, ◌++◌, ◌∷◌, ◌+◌, ◌≤◌, ◌<◌, [], length, decimal};
 ghost use Rattle.av_text.specs.AddressText.{addr_text, groups_text, octets_text};
 ghost use Rattle.av_text.specs.PrefixText.{prefix_text};
 ghost use Rattle.av_text.specs.VerdictText.{verdict_text};
 ghost use Rattle.report_text.specs.Change.{mark_text};
 ghost use Rattle.report_text.specs.Keys.{identifier_text};
+ghost use Rattle.report_text.specs.Leaks.{shown_text};
 ghost use Rattle.report_text.specs.Writes.{Writes};
 
 use crate::digits::{write_group, write_number, write_octet};
+use otc_check::Leak;
 use path_model::{Addr, Prefix, Verdict};
 
-/// How many bytes there is room for: no row and no line of changes has more.
-pub(crate) const ROOM: usize = 128;
+/// How many bytes there is room for: no row, and no line of an origin, a leak or a change, has more.
+pub(crate) const ROOM: usize = 132;
 
 /// Writes an address behind what stands in front of `at`, and answers where it ends.
 #[inline(always)]
@@ -141,6 +143,36 @@ pub(crate) fn write_mark(line: &mut [u8; ROOM], at: usize, verdict: Option<Verdi
         None => write_bytes(line, at, b"none"),
         Some(verdict) => write_verdict(line, at, verdict),
     }
+}
+
+/// Writes the rule that a route breaks with the attribute's AS, or that the attribute is malformed.
+#[inline(always)]
+pub(crate) fn write_shown(line: &mut [u8; ROOM], at: usize, leak: Leak) -> usize
+    requires { at + 20 ≤ ROOM }
+    ensures written { Writes (shown_text leak) line.old at line.new result }
+    ensures within { at ≤ result }
+    ensures end { result ≤ at + 20 }
+{
+    match leak {
+        Leak::Clean => at,
+        Leak::Customer(asn) => write_rule(line, at, b"customer ", asn),
+        Leak::RsClient(asn) => write_rule(line, at, b"rs-client ", asn),
+        Leak::Peer(asn) => write_rule(line, at, b"peer ", asn),
+        Leak::Malformed => write_bytes(line, at, b"malformed"),
+    }
+}
+
+// Writes a rule of ten bytes at most and an AS.
+#[inline(always)]
+fn write_rule(line: &mut [u8; ROOM], at: usize, rule: &[u8], asn: u32) -> usize
+    requires room { at + 20 ≤ ROOM }
+    requires short { length rule.now ≤ 10 }
+    ensures written { Writes (rule.now ++ decimal asn) line.old at line.new result }
+    ensures within { at ≤ result }
+    ensures end { result ≤ at + 20 }
+{
+    let end = write_bytes(line, at, rule);
+    write_number(line, end, asn)
 }
 
 /// Writes these bytes.

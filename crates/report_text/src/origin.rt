@@ -1,5 +1,5 @@
 //! The line that reports the state of a route's origin.
-ghost use Rattle.std.specs.Prelude.{◌≡◌, ◌++◌, OnOk, OnErr};
+ghost use Rattle.std.specs.Prelude.{◌≡◌, ◌++◌, ◌≤◌, length, OnOk, OnErr};
 ghost use Rattle.av_text.specs.Parts.{IsGrown};
 ghost use Rattle.report_text.specs.Origins.{origin_text, state_text};
 
@@ -35,9 +35,10 @@ fn push_origin(out: &mut Vec<u8>, key: &Key, state: OriginState) -> Result<(), N
     Ok(())
 }
 
-// The word for a state.
-fn word_of(state: OriginState) -> &'static [u8]
-    ensures { result.now ≡ state_text state }
+/// The word for a state, of nine bytes at most.
+pub(crate) fn word_of(state: OriginState) -> &'static [u8]
+    ensures word { result.now ≡ state_text state }
+    ensures short { length result.now ≤ 9 }
 {
     match state {
         OriginState::Valid => b"valid",

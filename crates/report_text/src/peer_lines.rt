@@ -1,16 +1,23 @@
-//! Rows and changes one after another, each written behind the text of its peer.
-ghost use Rattle.std.specs.Prelude.{◌≡◌, ◌++◌, ◌∷◌, ◌+◌, ◌≤◌, [], None, Some, IsTrue, take, OnOk, OnErr};
+//! Rows, origins, leaks and changes one after another, each written behind the text of its peer.
+ghost use Rattle.std.specs.Prelude.{◌≡◌, ◌≢◌, ◌++◌, ◌∷◌, ◌+◌, ◌≤◌, [], None, Some, IsTrue, take, OnOk, OnErr};
+ghost use Rattle.otc_check.specs.declared.leaks.Leak.TheVariants.{Clean};
 ghost use Rattle.av_text.specs.PeerText.{peer_text};
 ghost use Rattle.report_text.specs.Change.{change_text};
-ghost use Rattle.report_text.specs.Fronts.{change_rest, nlri_text, row_rest};
+ghost use Rattle.report_text.specs.Fronts.{change_rest, leak_rest, nlri_text, origin_rest, row_rest};
+ghost use Rattle.report_text.specs.Leaks.{leak_text};
+ghost use Rattle.report_text.specs.Origins.{origin_text};
 ghost use Rattle.report_text.specs.Rows.{row_text};
 ghost use Rattle.report_text.specs.Writes.{Writes};
 
 use crate::digits::write_number;
 use crate::line::{
-    ROOM, write_addr, write_behind, write_identifier, write_mark, write_prefix, write_verdict,
+    ROOM, write_addr, write_behind, write_bytes, write_identifier, write_mark, write_prefix,
+    write_shown, write_verdict,
 };
+use crate::origin::word_of;
 use av_base::NoMemory;
+use origin_model::OriginState;
+use otc_check::Leak;
 use path_model::{Key, Peer, Verdict};
 use std::marker::Model;
 
@@ -62,6 +69,34 @@ impl PeerLines {
     {
         self.turn_to(&key.peer);
         let end = write_row(&mut self.line, self.front, key, verdict);
+        out.extend_from_slice(&self.line[..end])?;
+        Ok(())
+    }
+
+    /// Appends the line that [`put_origin`](crate::put_origin) appends, or nothing. What it takes is that room in `out` alone.
+    pub fn put_origin(
+        &mut self,
+        out: &mut Vec<u8>,
+        key: &Key,
+        state: OriginState,
+    ) -> Result<(), NoMemory>
+        ensures ok { OnOk result (out.new.items ≡ out.old.items ++ origin_text key.now state) }
+        ensures err { OnErr result (out.new.items ≡ out.old.items) }
+    {
+        self.turn_to(&key.peer);
+        let end = write_origin(&mut self.line, self.front, key, state);
+        out.extend_from_slice(&self.line[..end])?;
+        Ok(())
+    }
+
+    /// Appends the line that [`put_leak`](crate::put_leak) appends, or nothing. What it takes is that room in `out` alone.
+    pub fn put_leak(&mut self, out: &mut Vec<u8>, key: &Key, leak: Leak) -> Result<(), NoMemory>
+        requires { leak ≢ Clean }
+        ensures ok { OnOk result (out.new.items ≡ out.old.items ++ leak_text key.now leak) }
+        ensures err { OnErr result (out.new.items ≡ out.old.items) }
+    {
+        self.turn_to(&key.peer);
+        let end = write_leak(&mut self.line, self.front, key, leak);
         out.extend_from_slice(&self.line[..end])?;
         Ok(())
     }
@@ -135,6 +170,32 @@ fn write_row(line: &mut [u8; ROOM], front: usize, key: &Key, verdict: Verdict) -
 {
     let end = write_nlri(line, front, key);
     let end = write_verdict(line, end, verdict);
+    write_behind(line, end, b'\n')
+}
+
+// Writes the rest of an origin's line behind the text of its peer, and answers where it ends.
+#[inline(always)]
+fn write_origin(line: &mut [u8; ROOM], front: usize, key: &Key, state: OriginState) -> usize
+    requires { front ≤ 51 }
+    ensures written { Writes (origin_rest key.now state) line.old front line.new result }
+    ensures within { front ≤ result }
+    ensures end { result ≤ ROOM }
+{
+    let end = write_nlri(line, front, key);
+    let end = write_bytes(line, end, word_of(state));
+    write_behind(line, end, b'\n')
+}
+
+// Writes the rest of a leak's line behind the text of its peer, and answers where it ends.
+#[inline(always)]
+fn write_leak(line: &mut [u8; ROOM], front: usize, key: &Key, leak: Leak) -> usize
+    requires { front ≤ 51 }
+    ensures written { Writes (leak_rest key.now leak) line.old front line.new result }
+    ensures within { front ≤ result }
+    ensures end { result ≤ ROOM }
+{
+    let end = write_nlri(line, front, key);
+    let end = write_shown(line, end, leak);
     write_behind(line, end, b'\n')
 }
 

@@ -4,7 +4,7 @@ use Rattle.path_model.proofs.Decide.{Decided}
 use Rattle.av_text.proofs.SpellingLemmas.{value_among, found_injective, found_or_none}
 use Rattle.script_lines.specs.declared.command.CommandName.{CommandName}
 use Rattle.script_lines.specs.declared.command.CommandName.TheVariants.{Aspa as AspaName, Aspa64 as Aspa64Name, Slurm as SlurmName, Filter as FilterName, Unfilter as UnfilterName, Assert as AssertName, Unassert as UnassertName, At as AtName, Role as RoleName, Open as OpenName, Bmp as BmpName, Take as TakeName, Feed as FeedName, Ask as AskName, Sync as SyncName, Serve as ServeName, Judge as JudgeName, Changes as ChangesName, Why as WhyName, Show as ShowName}
-use Rattle.script_lines.specs.declared.command.Show.TheVariants.{Report, Origins, Summary}
+use Rattle.script_lines.specs.declared.command.Show.TheVariants.{Report, Origins, Leaks, Summary}
 use Rattle.script_lines.specs.Commands.{name_text}
 use Rattle.script_lines.specs.Grammar.{IsCommandName}
 
@@ -13,7 +13,7 @@ name_of : List ℕ → CommandName
 name_of = value_among name_text JudgeName
     (AspaName ∷ Aspa64Name ∷ SlurmName ∷ FilterName ∷ UnfilterName ∷ AssertName ∷ UnassertName
     ∷ AtName ∷ RoleName ∷ OpenName ∷ BmpName ∷ TakeName ∷ FeedName ∷ AskName ∷ SyncName ∷ ServeName ∷ ChangesName ∷ WhyName
-    ∷ ShowName Report ∷ ShowName Origins ∷ ShowName Summary ∷ [])
+    ∷ ShowName Report ∷ ShowName Origins ∷ ShowName Leaks ∷ ShowName Summary ∷ [])
 
 name_of-name_text : (name : CommandName) → name_of (name_text name) ≡ name
 unfolding name_of value_among
@@ -38,6 +38,7 @@ name_of-name_text ChangesName = refl
 name_of-name_text WhyName = refl
 name_of-name_text (ShowName Report) = refl
 name_of-name_text (ShowName Origins) = refl
+name_of-name_text (ShowName Leaks) = refl
 name_of-name_text (ShowName Summary) = refl
 
 -- two commands with one name are one

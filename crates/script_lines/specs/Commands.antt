@@ -8,7 +8,7 @@ use Rattle.script_lines.specs.declared.command.Command.TheVariants.{Aspa, Aspa64
 use Rattle.script_lines.specs.declared.command.CommandName.{CommandName}
 use Rattle.script_lines.specs.declared.command.CommandName.TheVariants.{Aspa as AspaName, Aspa64 as Aspa64Name, Slurm as SlurmName, Filter as FilterName, Unfilter as UnfilterName, Assert as AssertName, Unassert as UnassertName, At as AtName, Role as RoleName, Open as OpenName, Bmp as BmpName, Take as TakeName, Feed as FeedName, Ask as AskName, Sync as SyncName, Serve as ServeName, Judge as JudgeName, Changes as ChangesName, Why as WhyName, Show as ShowName}
 use Rattle.script_lines.specs.declared.command.Show.{Show as ShowOf}
-use Rattle.script_lines.specs.declared.command.Show.TheVariants.{Report, Origins, Summary}
+use Rattle.script_lines.specs.declared.command.Show.TheVariants.{Report, Origins, Leaks, Summary}
 use Rattle.script_lines.specs.Kinds.{WordKind, NAME, TEXT, ROLE, VIEW, ADDRESS, PREFIX, NUMBER, WHOM}
 use Rattle.script_lines.specs.Forms.{Form, end, ases, optional, ◌then◌, Builds, IsSpelled}
 
@@ -32,6 +32,7 @@ SESSION = NUMBER 0 65535
 abbrev pub show_text : ShowOf → List ℕ
 show_text Report = codes "report"
 show_text Origins = codes "origins"
+show_text Leaks = codes "leaks"
 show_text Summary = codes "summary"
 
 -- the first word of a command's lines,

@@ -66,6 +66,8 @@ pub enum Show {
     Report,
     /// `origins`: each route of the table, with the state of its origin by validated ROA payloads (RFC 6811, section 2).
     Origins,
+    /// `leaks`: each route of the table that its attribute Only-to-Customer marks as a leak (RFC 9234, section 5).
+    Leaks,
     /// `summary`: how many routes and customers there are, and how many units were passed over and lines refused.
     Summary,
 }

@@ -85,6 +85,7 @@ fn command_name(word: &[u8]) -> Option<CommandName>
         b"why" => Some(CommandName::Why),
         b"report" => Some(CommandName::Show(Show::Report)),
         b"origins" => Some(CommandName::Show(Show::Origins)),
+        b"leaks" => Some(CommandName::Show(Show::Leaks)),
         b"summary" => Some(CommandName::Show(Show::Summary)),
         _ => None,
     }

@@ -31,6 +31,7 @@ enum Reading {
     Judge(Role, u32, &'static [u32]),
     Report,
     Origins,
+    Leaks,
     // of the peer 192.0.2.1 in AS 64501 and the prefix 198.51.100.0/24, with a path identifier or without
     Why(Option<u32>),
     Refused(LineFault),
@@ -113,7 +114,7 @@ const AMENDMENTS: [Row; 20] = [
     (b"at 00", Reading::Refused(LineFault::Number)),
 ];
 
-const DUMPS: [Row; 21] = [
+const DUMPS: [Row; 22] = [
     (
         b"role 64501 customer",
         Reading::Role(64_501, Role::Customer),
@@ -140,6 +141,7 @@ const DUMPS: [Row; 21] = [
     (b"take d 100000001", Reading::Refused(LineFault::Number)),
     (b"report", Reading::Report),
     (b"origins", Reading::Origins),
+    (b"leaks", Reading::Leaks),
     (b"report now", Reading::Refused(LineFault::Words)),
 ];
 
@@ -302,6 +304,7 @@ fn is_read_so(read: &Result<Command, LineFault>, reading: Reading) -> bool {
         }
         (Ok(Command::Show(Show::Report)), Reading::Report) => true,
         (Ok(Command::Show(Show::Origins)), Reading::Origins) => true,
+        (Ok(Command::Show(Show::Leaks)), Reading::Leaks) => true,
         (Ok(Command::Judge(role, neighbour, path)), Reading::Judge(of, wanted, all)) => {
             *role == of && *neighbour == wanted && path.as_slice() == all
         }

@@ -1,4 +1,4 @@
-use Rattle.std.proofs.Common.{◌≡◌, ◌+◌, ◌%◌, sym, arith}
+use Rattle.std.proofs.Common.{◌+◌, ◌%◌, sym, arith}
 use Rattle.std.proofs.lemmas.Fmt.{decimal_digit, decimal_step}
 use Rattle.std.proofs.lemmas.Grind.{common_steps}
 use Rattle.report_text.proofs.DigitLemmas.{behind, respelled, length_one, length_more, one_more}

@@ -1,4 +1,4 @@
-use Rattle.report_text.proofs.AnswerLemmas.{row_is_one_line, origin_is_one_line, change_is_one_line, changed_is_one_line, summary_is_one_line, served_is_one_line, reason_is_one_line}
+use Rattle.report_text.proofs.AnswerLemmas.{row_is_one_line, origin_is_one_line, leak_is_one_line, change_is_one_line, changed_is_one_line, summary_is_one_line, served_is_one_line, reason_is_one_line}
 use Rattle.report_text.proofs.laws.no_answer_reads_as_a_refusal.Goals as goal
 
 pub returns-clause-rows : goal.returns-clause-rows
@@ -6,6 +6,9 @@ returns-clause-rows c = row_is_one_line
 
 pub returns-clause-origins : goal.returns-clause-origins
 returns-clause-origins c = origin_is_one_line
+
+pub returns-clause-leaks : goal.returns-clause-leaks
+returns-clause-leaks c = leak_is_one_line
 
 pub returns-clause-changes : goal.returns-clause-changes
 returns-clause-changes c = change_is_one_line

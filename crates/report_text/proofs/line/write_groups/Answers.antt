@@ -1,4 +1,4 @@
-use Rattle.std.proofs.Common.{◌≡◌, sym}
+use Rattle.std.proofs.Common.{sym}
 use Rattle.av_text.specs.AddressText.{hex4}
 use Rattle.report_text.proofs.DigitLemmas.{behind, respelled, eight_groups}
 use Rattle.report_text.proofs.line.write_groups.Goals as goal

@@ -1,4 +1,4 @@
-use Rattle.std.proofs.Common.{◌≡◌, sym, decimal}
+use Rattle.std.proofs.Common.{sym, decimal}
 use Rattle.report_text.proofs.DigitLemmas.{behind, respelled, four_octets}
 use Rattle.report_text.proofs.line.write_octets.Goals as goal
 

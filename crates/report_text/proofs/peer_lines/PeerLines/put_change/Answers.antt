@@ -1,4 +1,4 @@
-use Rattle.std.proofs.Common.{◌≡◌, ℕ, List, ◌++◌, ap, ◌∙◌, arith}
+use Rattle.std.proofs.Common.{ℕ, List, ◌++◌, ap, ◌∙◌, arith}
 use Rattle.report_text.proofs.FrontLemmas.{front_kept, change_of}
 use Rattle.report_text.proofs.peer_lines.PeerLines.put_change.Goals as goal
 

@@ -1,5 +1,6 @@
-use Rattle.std.proofs.Common.{◌≡◌, ℕ, List, ◌++◌, ap, ◌∙◌, arith}
-use Rattle.report_text.proofs.FrontLemmas.{front_kept, row_of}
+use Rattle.std.proofs.Common.{ℕ, List, ◌++◌, ap, ◌∙◌, arith}
+use Rattle.av_text.specs.VerdictText.{verdict_text}
+use Rattle.report_text.proofs.FrontLemmas.{front_kept, line_of}
 use Rattle.report_text.proofs.peer_lines.PeerLines.put_row.Goals as goal
 
 pub invariant_of-self : goal.invariant_of-self
@@ -11,4 +12,4 @@ invariant_of-self-2 c = front_kept c.self.inside.peer c.self.invariant c.write_r
 pub returns-clause-ok : goal.returns-clause-ok
 returns-clause-ok c =
     c.in_ok-extend_from_slice.ensures.items
-    ∙ ap (λ (t : List ℕ). c.args.out.now.items ++ t) (row_of c.self.inside.peer c.args.key.now c.args.verdict (c.self.view_is ∙ c.turn_to.ensures) c.self.invariant c.write_row-end.ensures.written)
+    ∙ ap (λ (t : List ℕ). c.args.out.now.items ++ t) (line_of c.self.inside.peer c.args.key.now (verdict_text c.args.verdict) (c.self.view_is ∙ c.turn_to.ensures) c.self.invariant c.write_row-end.ensures.written)
