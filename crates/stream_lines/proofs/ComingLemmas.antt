@@ -1,5 +1,5 @@
 -- In each dump exactly one thing comes next.
-use Rattle.std.proofs.Common.{◌≡◌, ◌≢◌, ℕ, List, [], ◌++◌, Option, Some, None, Ok, Err, refl, sym, ◌∙◌, ap, subst}
+use Rattle.std.proofs.Common.{◌≡◌, ◌≢◌, ℕ, List, Option, Some, None, Ok, Err, refl, sym, ◌∙◌, subst}
 use Rattle.std.specs.declared.result.Result.{Result}
 use Rattle.av_base.specs.One.{HasOne}
 use Rattle.path_model.specs.declared.peer.Peer.{Peer}
@@ -25,7 +25,7 @@ use Rattle.bmp_reader.specs.Messages.{Sent}
 use Rattle.bmp_reader.proofs.LawLemmas as message_laws
 use Rattle.bmp_reader.proofs.ReadingLemmas as message_readings
 use Rattle.report_text.specs.declared.cause.Cause.{Cause}
-use Rattle.stream_lines.specs.Units.{Known, Mrt, Bmp, Coming, comes, IsRefused, record_cause, message_cause, RecordSays, RecordComes, MessageSays, MessageComes, IsComing}
+use Rattle.stream_lines.specs.Units.{Known, Mrt, Bmp, Coming, IsRefused, record_cause, message_cause, RecordSays, RecordComes, MessageSays, MessageComes, IsComing}
 
 -- ---- one at most
 
@@ -36,7 +36,7 @@ refused_unique (Some cause) known rest one other a b = a ∙ sym b
 record_says_unique : (peers : Option (List Peer)) (reading : Result RecordBody BodyFault) (rest : List ℕ) (one other : Coming)
     → RecordSays peers reading rest one → RecordSays peers reading rest other → one ≡ other
 record_says_unique peers (Ok (bodies.Peers table)) rest one other a b = a ∙ sym b
-record_says_unique peers (Ok (bodies.Routes changes)) rest one other a b = a ∙ sym b
+record_says_unique peers (Ok (bodies.Routes noted)) rest one other a b = a ∙ sym b
 record_says_unique peers (Ok bodies.Passed) rest one other a b = a ∙ sym b
 record_says_unique peers (Err fault) rest one other a b = refused_unique (record_cause fault) (Mrt peers) rest one other a b
 
@@ -51,7 +51,7 @@ record_unique peers left records.End one other a b = a ∙ sym b
 
 message_says_unique : (view : View) (peers : bmp.Identifying) (reading : Result MessageBody BmpFault) (rest : List ℕ) (one other : Coming)
     → MessageSays view peers reading rest one → MessageSays view peers reading rest other → one ≡ other
-message_says_unique view peers (Ok (sayings.Routes changes)) rest one other a b = a ∙ sym b
+message_says_unique view peers (Ok (sayings.Routes noted)) rest one other a b = a ∙ sym b
 message_says_unique view peers (Ok (sayings.Up peer role paths)) rest one other a b = a ∙ sym b
 message_says_unique view peers (Ok sayings.Passed) rest one other a b = a ∙ sym b
 message_says_unique view peers (Err fault) rest one other a b = refused_unique (message_cause fault) (Bmp view peers) rest one other a b
@@ -93,7 +93,7 @@ record_has_cause it peers faults.NoMemory reads = absurd (record_memory.no_want_
 some_record_says : (it : Recorded) (peers : Option (List Peer)) (reading : Result RecordBody BodyFault) (rest : List ℕ) → mrt.IsReading it peers reading
     → (coming : Coming) × RecordSays peers reading rest coming
 some_record_says it peers (Ok (bodies.Peers table)) rest reads = (_, refl)
-some_record_says it peers (Ok (bodies.Routes changes)) rest reads = (_, refl)
+some_record_says it peers (Ok (bodies.Routes noted)) rest reads = (_, refl)
 some_record_says it peers (Ok bodies.Passed) rest reads = (_, refl)
 some_record_says it peers (Err fault) rest reads = some_refused (record_cause fault) (Mrt peers) rest (record_has_cause it peers fault reads)
 
@@ -115,7 +115,7 @@ message_has_cause it view peers bmp_faults.NoMemory reads = absurd (message_read
 
 some_message_says : (it : Sent) (view : View) (peers : bmp.Identifying) (reading : Result MessageBody BmpFault) (rest : List ℕ) → bmp.IsReading it view peers reading
     → (coming : Coming) × MessageSays view peers reading rest coming
-some_message_says it view peers (Ok (sayings.Routes changes)) rest reads = (_, refl)
+some_message_says it view peers (Ok (sayings.Routes noted)) rest reads = (_, refl)
 some_message_says it view peers (Ok (sayings.Up peer role paths)) rest reads = (_, refl)
 some_message_says it view peers (Ok sayings.Passed) rest reads = (_, refl)
 some_message_says it view peers (Err fault) rest reads = some_refused (message_cause fault) (Bmp view peers) rest (message_has_cause it view peers fault reads)

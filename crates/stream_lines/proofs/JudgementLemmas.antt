@@ -5,7 +5,7 @@ use Rattle.std.specs.declared.option.Option.{Option}
 use Rattle.av_base.specs.Files.{Files, left_of}
 use Rattle.rib_store.specs.State.{State}
 use Rattle.stream_lines.specs.declared.next.Effect.{Effect}
-use Rattle.stream_lines.specs.declared.next.Effect.TheVariants.{Event, Note, Pass}
+use Rattle.stream_lines.specs.declared.next.Effect.TheVariants.{Routes, Learn, Note, Pass}
 use Rattle.stream_lines.specs.declared.next.Next.{Next}
 use Rattle.stream_lines.specs.declared.next.Next.TheVariants.{Unit as AUnit, Broken, End}
 use Rattle.stream_lines.specs.declared.taking.Progress.{Progress}
@@ -52,7 +52,8 @@ no_fewer : (old new : Taking) → new.judgements ≡ old.judgements → old.judg
 no_fewer old new same = omega (arith, same)
 
 effect_grows : (old : Taking) (dump : Dump) (effect : Effect) (new : Taking) → Does old dump effect new → old.judgements ≤ new.judgements
-effect_grows old dump (Event event) new does = at_least old.judgements new.judgements does.cost (ap (λ (t : Taking). t.judgements) does.new_is)
+effect_grows old dump (Routes noted) new does = at_least old.judgements new.judgements does.cost (ap (λ (t : Taking). t.judgements) does.new_is)
+effect_grows old dump (Learn asn role) new does = at_least old.judgements new.judgements does.cost (ap (λ (t : Taking). t.judgements) does.new_is)
 effect_grows old dump Note new does = no_fewer old new (kept old new _ does refl)
 effect_grows old dump Pass new does = no_fewer old new (kept old new _ does refl)
 
@@ -75,8 +76,11 @@ units_grow asking (suc count) old text new takes =
 -- an effect costs no fewer judgements than the steps that were taken
 effect_ticks : (state : State) (old : Taking) (dump : Dump) (effect : Effect) (new : Taking) (before after : ℕ) → state ≡ old.state → TicksWithinEffect state effect before after
     → Does old dump effect new → after + old.judgements ≤ before + new.judgements
-effect_ticks state old dump (Event event) new before after same few does =
-    let within = subst (λ (s : State). TicksWithinEffect s (Event event) before after) same few in
+effect_ticks state old dump (Routes noted) new before after same few does =
+    let within = subst (λ (s : State). TicksWithinEffect s (Routes noted) before after) same few in
+    more_steps before after old.judgements new.judgements does.cost (within does.state does.cost does.happens does.costs) (ap (λ (t : Taking). t.judgements) does.new_is)
+effect_ticks state old dump (Learn asn role) new before after same few does =
+    let within = subst (λ (s : State). TicksWithinEffect s (Learn asn role) before after) same few in
     more_steps before after old.judgements new.judgements does.cost (within does.state does.cost does.happens does.costs) (ap (λ (t : Taking). t.judgements) does.new_is)
 effect_ticks state old dump Note new before after same few does = no_steps before after old.judgements new.judgements few (kept old new _ does refl)
 effect_ticks state old dump Pass new before after same few does = no_steps before after old.judgements new.judgements few (kept old new _ does refl)

@@ -3,12 +3,14 @@ use Rattle.std.proofs.Common.{◌≡◌, ℕ, zero, suc, ◌+◌, Bool, true, fa
 use Rattle.av_base.specs.One.{HasOnePair}
 use Rattle.rib_store.specs.State.{State}
 use Rattle.analyser.specs.declared.event.Event.{Event as AnEvent}
+use Rattle.analyser.specs.declared.event.Event.TheVariants as events
 use Rattle.analyser.specs.Events.{Happens}
+use Rattle.otc_check.specs.Marks.{Marked, noted_by}
 use Rattle.analyser.specs.Touched.{Costs}
 use Rattle.analyser.proofs.CostLemmas.{some_cost, Costs-unique}
 use Rattle.analyser.proofs.EventLemmas.{one_outcome_of}
 use Rattle.stream_lines.specs.declared.next.Effect.{Effect}
-use Rattle.stream_lines.specs.declared.next.Effect.TheVariants.{Event, Note, Pass}
+use Rattle.stream_lines.specs.declared.next.Effect.TheVariants.{Routes, Learn, Note, Pass}
 use Rattle.stream_lines.specs.declared.next.Next.{Next}
 use Rattle.stream_lines.specs.declared.next.Next.TheVariants.{Unit as AUnit, Broken, End}
 use Rattle.stream_lines.specs.Streams.{Asking, Dump, Taking, after_unit, LetsHappen, Does, TakesComing, TakesUnless, TakesUnits}
@@ -29,13 +31,15 @@ outcome_and_cost old event new other cost more a b x y =
     let same = outcome.only new a ∙ sym (outcome.only other b) in
     (same, Costs-unique old event other cost more (subst (λ (n : State). Costs old event n cost) same x) y)
 
-happening_unique : (old : Taking) (dump : Dump) (event : AnEvent) (end last : Taking) → LetsHappen old dump event end → LetsHappen old dump event last → end ≡ last
-happening_unique old dump event end last a b =
+happening_unique : (old : Taking) (dump : Dump) (event : AnEvent) (marks : Marked) (end last : Taking)
+    → LetsHappen old dump event marks end → LetsHappen old dump event marks last → end ≡ last
+happening_unique old dump event marks end last a b =
     let same = outcome_and_cost old.state event a.state b.state a.cost b.cost a.happens b.happens a.costs b.costs in
-    a.new_is ∙ (λ i. record old { dump = dump; state = same.0 i; judgements = old.judgements + same.1 i }) ∙ sym b.new_is
+    a.new_is ∙ (λ i. record old { dump = dump; state = same.0 i; marks = marks; judgements = old.judgements + same.1 i }) ∙ sym b.new_is
 
 effect_unique : (old : Taking) (dump : Dump) (effect : Effect) (end last : Taking) → Does old dump effect end → Does old dump effect last → end ≡ last
-effect_unique old dump (Event event) end last a b = happening_unique old dump event end last a b
+effect_unique old dump (Routes noted) end last a b = happening_unique old dump (events.Routes noted.changes) _ end last a b
+effect_unique old dump (Learn asn role) end last a b = happening_unique old dump (events.Role asn role) old.marks end last a b
 effect_unique old dump Note end last a b = a ∙ sym b
 effect_unique old dump Pass end last a b = a ∙ sym b
 
@@ -65,13 +69,17 @@ units_unique asking (suc count) old one other end last a b =
 
 -- ---- one at least
 
-some_effect : (old : Taking) (dump : Dump) (effect : Effect) → (new : Taking) × Does old dump effect new
-some_effect old dump (Event event) =
+some_happening : (old : Taking) (dump : Dump) (event : AnEvent) (marks : Marked) → (new : Taking) × LetsHappen old dump event marks new
+some_happening old dump event marks =
     let one = one_outcome_of old.state event in
     let cost = some_cost old.state event one.one in (
-      record old { dump = dump; state = one.one; judgements = old.judgements + cost.0 },
+      record old { dump = dump; state = one.one; marks = marks; judgements = old.judgements + cost.0 },
       record { state = one.one; happens = one.is; cost = cost.0; costs = cost.1; new_is = refl },
     )
+
+some_effect : (old : Taking) (dump : Dump) (effect : Effect) → (new : Taking) × Does old dump effect new
+some_effect old dump (Routes noted) = some_happening old dump (events.Routes noted.changes) (noted_by noted.changes noted.notes old.marks)
+some_effect old dump (Learn asn role) = some_happening old dump (events.Role asn role) old.marks
 some_effect old dump Note = (_, refl)
 some_effect old dump Pass = (_, refl)
 

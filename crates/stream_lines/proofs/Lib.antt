@@ -4,6 +4,7 @@ pub mod FrameLemmas
 pub mod HoldingLemmas
 pub mod JudgementLemmas
 pub mod LawLemmas
+pub mod LeaksLemmas
 pub mod NextLemmas
 pub mod RefusalLemmas
 pub mod ReportedLemmas

@@ -1,12 +1,11 @@
 -- What comes next in a dump, from what is held of it.
-use Rattle.std.proofs.Common.{◌≡◌, ◌≢◌, ℕ, List, [], ◌++◌, None, Some, Ok, Err, refl, sym, ◌∙◌, ap, subst, append_assoc, append-nil}
+use Rattle.std.proofs.Common.{◌≡◌, ℕ, List, [], ◌++◌, None, Some, Ok, Err, refl, sym, ◌∙◌, ap, subst, append_assoc, append-nil}
 use Rattle.std.specs.Io.KnownBytes.{prepend_known, IsAtEnd}
 use Rattle.std.specs.declared.option.Option.{Option}
 use Rattle.std.specs.declared.result.Result.{Result}
 use Rattle.path_model.specs.declared.peer.Peer.{Peer}
 use Rattle.held_bytes.specs.Units.{Begins}
 use Rattle.mrt_reader.specs.declared.body.Body.{Body as RecordBody}
-use Rattle.mrt_reader.specs.declared.body.Body.TheVariants as bodies
 use Rattle.mrt_reader.specs.declared.fault.BodyFault.{BodyFault}
 use Rattle.mrt_reader.specs.declared.fault.BodyFault.TheVariants as faults
 use Rattle.mrt_reader.specs.Bodies as mrt
@@ -14,7 +13,6 @@ use Rattle.mrt_reader.specs.Coming as records
 use Rattle.mrt_reader.specs.Records.{Recorded, IsRecord}
 use Rattle.mrt_reader.proofs.LawLemmas.{too_long_stays}
 use Rattle.bmp_reader.specs.declared.body.Body.{Body as MessageBody}
-use Rattle.bmp_reader.specs.declared.body.Body.TheVariants as sayings
 use Rattle.bmp_reader.specs.declared.fault.BmpFault.{BmpFault}
 use Rattle.bmp_reader.specs.declared.fault.BmpFault.TheVariants as bmp_faults
 use Rattle.bmp_reader.specs.declared.fault.BmpFrameFault.{BmpFrameFault}

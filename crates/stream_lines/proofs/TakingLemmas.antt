@@ -1,23 +1,26 @@
 -- Units taken one after another.
-use Rattle.std.proofs.Common.{◌≡◌, ℕ, ◌+◌, true, false, List, [], ◌++◌, Some, Ok, Err, refl, sym, ◌∙◌, ap, subst, append-nil}
+use Rattle.std.proofs.Common.{◌≡◌, ℕ, ◌+◌, true, false, List, [], ◌++◌, Ok, Err, refl, sym, ◌∙◌, ap, subst, append-nil}
 use Rattle.std.specs.Io.KnownBytes.{prepend_known}
 use Rattle.std.specs.declared.option.Option.{Option}
 use Rattle.av_base.specs.Files.{Files, left_of}
 use Rattle.report_text.specs.declared.cause.Cause.{Cause}
 use Rattle.report_text.specs.Refusals.{of_unit, refusal_text}
 use Rattle.rib_store.specs.State.{State}
+use Rattle.analyser.specs.declared.event.Event.{Event as AnEvent}
+use Rattle.analyser.specs.declared.event.Event.TheVariants as events
 use Rattle.analyser.specs.Events.{Happens}
+use Rattle.otc_check.specs.Marks.{Marked, noted_by}
 use Rattle.analyser.proofs.CostLemmas.{some_cost}
 use Rattle.stream_lines.specs.declared.next.Effect.{Effect}
-use Rattle.stream_lines.specs.declared.next.Effect.TheVariants.{Event, Note, Pass}
+use Rattle.stream_lines.specs.declared.next.Effect.TheVariants.{Routes, Learn, Note, Pass}
 use Rattle.stream_lines.specs.declared.next.Next.{Next}
 use Rattle.stream_lines.specs.declared.next.Next.TheVariants.{Unit as AUnit, Broken, End}
 use Rattle.stream_lines.specs.declared.taking.Progress.{Progress}
 use Rattle.stream_lines.specs.Gives.{IsNext, IsNextOf}
 use Rattle.stream_lines.specs.Held.{HeldDump, fresh_of}
-use Rattle.stream_lines.specs.Streams.{Asking, Dump, Taking, after_unit, ended, unit_refused, Does, TakesComing, TakesUnless, TakesUnit, TakesNext}
+use Rattle.stream_lines.specs.Streams.{Asking, Dump, Taking, after_unit, ended, unit_refused, LetsHappen, Does, TakesComing, TakesUnless, TakesUnit, TakesNext}
 use Rattle.stream_lines.specs.Taking.{StandsAt}
-use Rattle.stream_lines.specs.TakingSteps.{TookUnit, Did}
+use Rattle.stream_lines.specs.TakingSteps.{TookUnit, LetHappen, Did}
 use Rattle.stream_lines.specs.Units.{Known, comes}
 
 -- a dump that isn't over
@@ -34,35 +37,59 @@ record Done (old : Taking) (behind : Dump) (effect : Effect) (after : Progress) 
   pub does : Does old behind effect new
   pub dump : new.dump ≡ behind
   pub state : after.analyser ≡ new.state
+  pub marks : after.marks ≡ new.marks
   pub passed : after.passed ≡ new.passed
   pub refused : after.refused ≡ new.refused
 
-done : (effect : Effect) (progress after : Progress) (old : Taking) (behind : Dump) → progress.analyser ≡ old.state → progress.passed ≡ old.passed → progress.refused ≡ old.refused
-    → Did effect progress after → Done old behind effect after
-done (Event event) progress after old behind state passed refused did =
+-- an event, whose marks are those of what the counts stood for
+record Happened (old : Taking) (behind : Dump) (event : AnEvent) (marks : Marked) (after : Progress) : Type 0 where
+  pub new : Taking
+  pub does : LetsHappen old behind event marks new
+  pub dump : new.dump ≡ behind
+  pub state : after.analyser ≡ new.state
+  pub marks_are : after.marks ≡ new.marks
+  pub passed : after.passed ≡ new.passed
+  pub refused : after.refused ≡ new.refused
+
+happened : (event : AnEvent) (marks held : Marked) (progress after : Progress) (old : Taking) (behind : Dump) → progress.analyser ≡ old.state → held ≡ marks
+    → progress.passed ≡ old.passed → progress.refused ≡ old.refused → LetHappen event held progress after → Happened old behind event marks after
+happened event marks held progress after old behind state same passed refused did =
     let happens : Happens old.state event did.0 = subst (λ (s : State). Happens s event did.0) state did.1 in
     let cost = some_cost old.state event did.0 in
     record {
-      new = record old { dump = behind; state = did.0; judgements = old.judgements + cost.0 };
+      new = record old { dump = behind; state = did.0; marks = marks; judgements = old.judgements + cost.0 };
       does = record { state = did.0; happens = happens; cost = cost.0; costs = cost.1; new_is = refl };
       dump = refl;
       state = ap (λ (p : Progress). p.analyser) did.2;
+      marks_are = ap (λ (p : Progress). p.marks) did.2 ∙ same;
       passed = ap (λ (p : Progress). p.passed) did.2 ∙ passed;
       refused = ap (λ (p : Progress). p.refused) did.2 ∙ refused;
     }
-done Note progress after old behind state passed refused did = record {
+
+done : (effect : Effect) (progress after : Progress) (old : Taking) (behind : Dump) → progress.analyser ≡ old.state → progress.marks ≡ old.marks
+    → progress.passed ≡ old.passed → progress.refused ≡ old.refused → Did effect progress after → Done old behind effect after
+done (Routes noted) progress after old behind state marks passed refused did =
+    let all = happened (events.Routes noted.changes) (noted_by noted.changes noted.notes old.marks) (noted_by noted.changes noted.notes progress.marks) progress after old behind state
+    (ap (noted_by noted.changes noted.notes) marks) passed refused did in
+    record { new = all.new; does = all.does; dump = all.dump; state = all.state; marks = all.marks_are; passed = all.passed; refused = all.refused }
+done (Learn asn role) progress after old behind state marks passed refused did =
+    let all = happened (events.Role asn role) old.marks progress.marks progress after old behind state marks passed refused did in
+    record { new = all.new; does = all.does; dump = all.dump; state = all.state; marks = all.marks_are; passed = all.passed; refused = all.refused }
+done Note progress after old behind state marks passed refused did = record {
   new = record old { dump = behind };
   does = refl;
   dump = refl;
   state = ap (λ (p : Progress). p.analyser) did ∙ state;
+  marks = ap (λ (p : Progress). p.marks) did ∙ marks;
   passed = ap (λ (p : Progress). p.passed) did ∙ passed;
   refused = ap (λ (p : Progress). p.refused) did ∙ refused;
 }
-done Pass progress after old behind state passed refused did = record {
+done Pass progress after old behind state marks passed refused did = record {
   new = record old { dump = behind; passed = old.passed + 1 };
   does = refl;
   dump = refl;
   state = ap (λ (p : Progress). p.analyser) did ∙ state;
+  marks = ap (λ (p : Progress). p.marks) did ∙ marks;
   passed = ap (λ (p : Progress). p.passed) did ∙ ap (λ (n : ℕ). n + 1) passed;
   refused = ap (λ (p : Progress). p.refused) did ∙ refused;
 }
@@ -85,11 +112,12 @@ module _ (asking : Asking) (dump : HeldDump) (progress : Progress) (files_old fi
       let it = came old stands open_yet in
       let coming = comes next known it.rest in
       let now : new ≡ record dump { held = held; known = known; taken = dump.taken + 1 } = passed ∙ ap (λ (d : HeldDump). record d { taken = d.taken + 1 }) before in
-      let all = done effect progress after old (after_unit old.dump coming) stands.state stands.passed stands.refused did in (
+      let all = done effect progress after old (after_unit old.dump coming) stands.state stands.marks stands.passed stands.refused did in (
         all.new,
         record {
           holds = rw (now, all.dump) (record { left = λ _. it.told; taken = ap (λ (n : ℕ). n + 1) stands.holds.taken; known = λ _. refl; over = stands.holds.over });
           state = all.state;
+          marks = all.marks;
           passed = all.passed;
           refused = all.refused;
         },
@@ -116,7 +144,7 @@ module _ (asking : Asking) (dump : HeldDump) (progress : Progress) (files_old fi
       let now : new ≡ record dump { held = held; known = known; taken = dump.taken + 1 } = passed ∙ ap (λ (d : HeldDump). record d { taken = d.taken + 1 }) before in
       let unit : taken + 1 ≡ old.dump.taken + 1 = ap (λ (n : ℕ). n + 1) (at ∙ ap (λ (d : HeldDump). d.taken) before ∙ stands.holds.taken) in (
         end,
-        rw (now, counted) (record { holds = record { left = λ _. it.told; taken = ap (λ (n : ℕ). n + 1) stands.holds.taken; known = λ _. refl; over = stands.holds.over }; state = stands.state; passed = stands.passed; refused = ap (λ (n : ℕ). n + 1) stands.refused }),
+        rw (now, counted) (record { holds = record { left = λ _. it.told; taken = ap (λ (n : ℕ). n + 1) stands.holds.taken; known = λ _. refl; over = stands.holds.over }; state = stands.state; marks = stands.marks; passed = stands.passed; refused = ap (λ (n : ℕ). n + 1) stands.refused }),
         record {
           text = unit_refused asking old.dump cause;
           takes = takes_next _ _ _ _ (sym stands.holds.over ∙ open_yet) (record {
@@ -140,7 +168,7 @@ module _ (asking : Asking) (dump : HeldDump) (progress : Progress) (files_old fi
       let now : new ≡ record dump { held = []; known = fresh_of known; over = true } = over ∙ ap (λ (d : HeldDump). record d { held = []; known = fresh_of d.known; over = true }) before in
       let unit : taken + 1 ≡ old.dump.taken + 1 = ap (λ (n : ℕ). n + 1) (at ∙ ap (λ (d : HeldDump). d.taken) before ∙ stands.holds.taken) in (
         end,
-        rw (now, counted) (record { holds = record { left = λ e. no_more e; taken = stands.holds.taken; known = λ e. no_more e; over = refl }; state = stands.state; passed = stands.passed; refused = ap (λ (n : ℕ). n + 1) stands.refused }),
+        rw (now, counted) (record { holds = record { left = λ e. no_more e; taken = stands.holds.taken; known = λ e. no_more e; over = refl }; state = stands.state; marks = stands.marks; passed = stands.passed; refused = ap (λ (n : ℕ). n + 1) stands.refused }),
         record {
           text = unit_refused asking old.dump cause;
           takes = takes_next _ _ _ _ (sym stands.holds.over ∙ open_yet) (record {
@@ -161,7 +189,7 @@ module _ (asking : Asking) (dump : HeldDump) (progress : Progress) (files_old fi
       let end : Taking = record old { dump = ended old.dump } in
       let now : new ≡ record dump { held = []; known = fresh_of known; over = true } = over ∙ ap (λ (d : HeldDump). record d { held = []; known = fresh_of d.known; over = true }) before in (
         end,
-        rw now (record { holds = record { left = λ e. no_more e; taken = stands.holds.taken; known = λ e. no_more e; over = refl }; state = stands.state; passed = stands.passed; refused = stands.refused }),
+        rw now (record { holds = record { left = λ e. no_more e; taken = stands.holds.taken; known = λ e. no_more e; over = refl }; state = stands.state; marks = stands.marks; passed = stands.passed; refused = stands.refused }),
         record {
           text = [];
           takes = takes_next _ _ _ _ (sym stands.holds.over ∙ open_yet) (record {

@@ -1,5 +1,5 @@
 -- How a dump that was opened stands for a dump of the definitions, and what is let go at its end.
-use Rattle.std.specs.Prelude.{◌≡◌, ℕ, true, false, List, [], Some, IfSome}
+use Rattle.std.specs.Prelude.{◌≡◌, true, false, [], Some, IfSome}
 use Rattle.std.specs.Io.KnownBytes.{prepend_known}
 use Rattle.std.specs.declared.option.Option.{Option}
 use Rattle.av_base.specs.Files.{Files, left_of}

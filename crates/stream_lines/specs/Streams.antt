@@ -5,10 +5,12 @@ use Rattle.report_text.specs.declared.cause.Cause.{Cause}
 use Rattle.report_text.specs.Refusals.{of_unit, refusal_text}
 use Rattle.rib_store.specs.State.{State}
 use Rattle.analyser.specs.declared.event.Event.{Event as AnEvent}
+use Rattle.analyser.specs.declared.event.Event.TheVariants as events
+use Rattle.otc_check.specs.Marks.{Marked, noted_by}
 use Rattle.analyser.specs.Events.{Happens}
 use Rattle.analyser.specs.Touched.{Costs}
 use Rattle.stream_lines.specs.declared.next.Effect.{Effect}
-use Rattle.stream_lines.specs.declared.next.Effect.TheVariants.{Event, Note, Pass}
+use Rattle.stream_lines.specs.declared.next.Effect.TheVariants.{Routes, Learn, Note, Pass}
 use Rattle.stream_lines.specs.declared.next.Next.{Next}
 use Rattle.stream_lines.specs.declared.next.Next.TheVariants.{Unit as AUnit, Broken, End}
 use Rattle.stream_lines.specs.Units.{Known, Coming, IsComing}
@@ -20,11 +22,12 @@ pub record Dump : Type 0 where
   pub known : Known
   pub over : Bool
 
--- What a taken unit changes: the dump, the analysis, the counts of passed units and refused lines, and how many judgements the units so far
+-- What a taken unit changes: the dump, the analysis, what the routes say of Only-to-Customer, the counts of passed units and refused lines, and how many judgements the units so far
 -- may have cost: one for each route that was announced, and for a role that was learnt what a `role` line may cost.
 pub record Taking : Type 0 where
   pub dump : Dump
   pub state : State
+  pub marks : Marked
   pub passed : ℕ
   pub refused : ℕ
   pub judgements : ℕ
@@ -46,17 +49,18 @@ ended dump = record dump { over = true }
 abbrev pub unit_refused : Asking → Dump → Cause → List ℕ
 unit_refused asking dump cause = refusal_text asking.line (of_unit asking.name (dump.taken + 1)) cause
 
--- an event happens, its judgements are counted, and the dump stands there
-pub record LetsHappen (old : Taking) (dump : Dump) (event : AnEvent) (new : Taking) : Type 0 where
+-- an event happens, the routes have these marks then, its judgements are counted, and the dump stands there
+pub record LetsHappen (old : Taking) (dump : Dump) (event : AnEvent) (marks : Marked) (new : Taking) : Type 0 where
   pub state : State
   pub happens : Happens old.state event state
   pub cost : ℕ
   pub costs : Costs old.state event state cost
-  pub new_is : new ≡ record old { dump = dump; state = state; judgements = old.judgements + cost }
+  pub new_is : new ≡ record old { dump = dump; state = state; marks = marks; judgements = old.judgements + cost }
 
 -- what an accepted unit does, behind which the dump stands there
 abbrev pub Does : Taking → Dump → Effect → Taking → Type 0
-Does old dump (Event event) new = LetsHappen old dump event new
+Does old dump (Routes noted) new = LetsHappen old dump (events.Routes noted.changes) (noted_by noted.changes noted.notes old.marks) new
+Does old dump (Learn asn role) new = LetsHappen old dump (events.Role asn role) old.marks new
 Does old dump Note new = new ≡ record old { dump = dump }
 Does old dump Pass new = new ≡ record old { dump = dump; passed = old.passed + 1 }
 

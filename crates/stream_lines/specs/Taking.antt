@@ -17,6 +17,7 @@ asking_of asked = record { line = asked.line; name = asked.name.now }
 pub record StandsAt (files : Option Files) (dump : HeldDump) (progress : Progress) (new : Taking) : Type 0 where
   pub holds : HoldsDump files dump new.dump
   pub state : progress.analyser ≡ new.state
+  pub marks : progress.marks ≡ new.marks
   pub passed : progress.passed ≡ new.passed
   pub refused : progress.refused ≡ new.refused
 

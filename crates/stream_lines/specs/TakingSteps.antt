@@ -3,10 +3,13 @@ use Rattle.std.specs.Prelude.{◌≡◌, ◌≤◌, ℕ, ◌+◌, false, List, �
 use Rattle.std.specs.declared.option.Option.{Option}
 use Rattle.av_base.specs.Files.{Files}
 use Rattle.rib_store.specs.State.{State}
+use Rattle.analyser.specs.declared.event.Event.{Event as AnEvent}
+use Rattle.analyser.specs.declared.event.Event.TheVariants as events
 use Rattle.analyser.specs.Events.{Happens}
+use Rattle.otc_check.specs.Marks.{Marked, noted_by}
 use Rattle.analyser.specs.Touched.{TicksWithin}
 use Rattle.stream_lines.specs.declared.next.Effect.{Effect}
-use Rattle.stream_lines.specs.declared.next.Effect.TheVariants.{Event, Note, Pass}
+use Rattle.stream_lines.specs.declared.next.Effect.TheVariants.{Routes, Learn, Note, Pass}
 use Rattle.stream_lines.specs.declared.taking.Progress.{Progress}
 use Rattle.stream_lines.specs.Held.{HeldDump}
 use Rattle.stream_lines.specs.Streams.{Asking, Taking, TakesUnit}
@@ -29,14 +32,20 @@ pub record TicksWithinUnit (asking : Asking) (dump : HeldDump) (progress : Progr
   pub within : dump.over ≡ false → (old new : Taking) (text : List ℕ) → StandsAt files dump progress old → TakesUnit asking old text new
       → after + old.judgements ≤ before + new.judgements
 
--- what an accepted unit makes of the analyser and the counts
+-- an event happens, and the routes have these marks then
+abbrev pub LetHappen : AnEvent → Marked → Progress → Progress → Type 0
+LetHappen event marks progress next = (state : State) × Happens progress.analyser event state × (next ≡ record progress { analyser = state; marks = marks })
+
+-- what an accepted unit makes of the analyser, the marks and the counts
 abbrev pub Did : Effect → Progress → Progress → Type 0
-Did (Event event) progress next = (state : State) × Happens progress.analyser event state × (next ≡ record progress { analyser = state })
+Did (Routes noted) progress next = LetHappen (events.Routes noted.changes) (noted_by noted.changes noted.notes progress.marks) progress next
+Did (Learn asn role) progress next = LetHappen (events.Role asn role) progress.marks progress next
 Did Note progress next = next ≡ progress
 Did Pass progress next = next ≡ record progress { passed = progress.passed + 1 }
 
 -- no more steps were taken than the unit may cost
 abbrev pub TicksWithinEffect : State → Effect → ℕ → ℕ → Type 0
-TicksWithinEffect state (Event event) before after = TicksWithin state event before after
+TicksWithinEffect state (Routes noted) before after = TicksWithin state (events.Routes noted.changes) before after
+TicksWithinEffect state (Learn asn role) before after = TicksWithin state (events.Role asn role) before after
 TicksWithinEffect state Note before after = after ≤ before
 TicksWithinEffect state Pass before after = after ≤ before

@@ -23,11 +23,10 @@ use Rattle.bmp_reader.specs.Bodies as bmp
 use Rattle.bmp_reader.specs.Coming as messages
 use Rattle.report_text.specs.declared.cause.Cause.{Cause}
 use Rattle.report_text.specs.declared.cause.Cause.TheVariants as causes
-use Rattle.analyser.specs.declared.event.Event.TheVariants.{Routes, Role as RoleOf}
 use Rattle.stream_lines.specs.declared.kind.DumpKind.{DumpKind}
 use Rattle.stream_lines.specs.declared.kind.DumpKind.TheVariants as kinds
 use Rattle.stream_lines.specs.declared.next.Effect.{Effect}
-use Rattle.stream_lines.specs.declared.next.Effect.TheVariants.{Event, Note, Pass}
+use Rattle.stream_lines.specs.declared.next.Effect.TheVariants.{Routes, Learn, Note, Pass}
 use Rattle.stream_lines.specs.declared.next.Next.{Next}
 use Rattle.stream_lines.specs.declared.next.Next.TheVariants.{Unit as AUnit, Broken, End}
 
@@ -78,10 +77,10 @@ record_cause faults.NoPeerTable = Some causes.NoPeerTable
 record_cause faults.PeerIndex = Some causes.PeerIndex
 record_cause faults.NoMemory = None
 
--- A record that reads so: its changes happen; its peer table is that of the records behind it; or it is passed over. A refused one changes nothing.
+-- A record that reads so: its changes happen, with their notes; its peer table is that of the records behind it; or it is passed over. A refused one changes nothing.
 abbrev pub RecordSays : Option (List Peer) → Result RecordBody BodyFault → List ℕ → Coming → Type 0
 RecordSays peers (Ok (bodies.Peers table)) rest coming = coming ≡ comes (AUnit (Ok Note)) (Mrt (Some table)) rest
-RecordSays peers (Ok (bodies.Routes changes)) rest coming = coming ≡ comes (AUnit (Ok (Event (Routes changes)))) (Mrt peers) rest
+RecordSays peers (Ok (bodies.Routes noted)) rest coming = coming ≡ comes (AUnit (Ok (Routes noted))) (Mrt peers) rest
 RecordSays peers (Ok bodies.Passed) rest coming = coming ≡ comes (AUnit (Ok Pass)) (Mrt peers) rest
 RecordSays peers (Err fault) rest coming = IsRefused (record_cause fault) (Mrt peers) rest coming
 
@@ -105,13 +104,13 @@ message_cause bmp_faults.NoMemory = None
 
 -- where a Peer Up tells the peer's role, its AS has that role from now on
 abbrev pub learnt : Peer → Option Role → Effect
-learnt peer (Some role) = Event (RoleOf peer.asn role)
+learnt peer (Some role) = Learn peer.asn role
 learnt peer None = Note
 
--- A message that reads so: its changes happen; the role of a peer that came up is learnt, and whether it identifies paths; or it is passed
+-- A message that reads so: its changes happen, with their notes; the role of a peer that came up is learnt, and whether it identifies paths; or it is passed
 -- over. A refused one changes nothing.
 abbrev pub MessageSays : View → bmp.Identifying → Result MessageBody BmpFault → List ℕ → Coming → Type 0
-MessageSays view peers (Ok (sayings.Routes changes)) rest coming = coming ≡ comes (AUnit (Ok (Event (Routes changes)))) (Bmp view peers) rest
+MessageSays view peers (Ok (sayings.Routes noted)) rest coming = coming ≡ comes (AUnit (Ok (Routes noted))) (Bmp view peers) rest
 MessageSays view peers (Ok (sayings.Up peer role paths)) rest coming = coming ≡ comes (AUnit (Ok (learnt peer role))) (Bmp view (noted peers peer paths)) rest
 MessageSays view peers (Ok sayings.Passed) rest coming = coming ≡ comes (AUnit (Ok Pass)) (Bmp view peers) rest
 MessageSays view peers (Err fault) rest coming = IsRefused (message_cause fault) (Bmp view peers) rest coming

@@ -4,6 +4,7 @@ ghost use Rattle.stream_lines.specs.TakingSteps.{Did, TicksWithinEffect};
 
 use crate::next::Effect;
 use crate::taking::Progress;
+use analyser::Event;
 use av_base::{NoMemory, Steps};
 use std::sync::ledger::Ledger;
 
@@ -20,15 +21,33 @@ pub(crate) fn take_effect<L: Ledger>(
     ensures ticks { TicksWithinEffect progress.analyser effect steps.old steps.new }
 {
     match effect {
-        Effect::Event(event) => {
+        Effect::Routes(noted) => {
             let Progress {
                 analyser,
+                marks,
                 passed,
                 refused,
             } = progress;
-            let analyser = analyser.step(event, steps)?;
+            let marks = marks.apply(&noted)?;
+            let analyser = analyser.step(Event::Routes(noted.changes), steps)?;
             Ok(Progress {
                 analyser,
+                marks,
+                passed,
+                refused,
+            })
+        }
+        Effect::Learn(asn, role) => {
+            let Progress {
+                analyser,
+                marks,
+                passed,
+                refused,
+            } = progress;
+            let analyser = analyser.step(Event::Role(asn, role), steps)?;
+            Ok(Progress {
+                analyser,
+                marks,
                 passed,
                 refused,
             })

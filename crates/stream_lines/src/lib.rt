@@ -10,7 +10,7 @@
 //!
 //! `dump` reads the file piece by piece and takes off what comes next, by its `reader`: `records` has that of MRT and `messages` that of
 //! BMP, `kind` says which it is, and `next` has what both give. `taking` performs it, and `effect` what an accepted unit does.
-//! `rows` writes a report of the routes and `changes` what changed, line by line; `summary` sums up, and `stop` says why a line, or
+//! `rows` writes a report of the routes, `leaks` those that Only-to-Customer marks and `changes` what changed, line by line; `summary` sums up, and `stop` says why a line, or
 //! the reading of a file, ends early. Lemmas for the proofs above are in `proofs/`: `FrameLemmas` for the files that a call leaves as
 //! they were, `LawLemmas` and `UnitsLemmas` for units, `JudgementLemmas` for what units may cost, and `RefusalLemmas` for the refusals
 //! in a text.
@@ -21,6 +21,7 @@ mod dump;
 mod effect;
 mod kind;
 mod laws;
+mod leaks;
 mod messages;
 mod next;
 mod reader;
@@ -34,6 +35,7 @@ pub use changes::put_changes;
 pub use dump::OpenDump;
 pub use kind::DumpKind;
 pub use laws::{each_state_has_one_summary, refused_units_are_counted, units_have_one_outcome};
+pub use leaks::put_leaks;
 pub use rows::put_rows;
 pub use stop::{ReadFault, Stop};
 pub use summary::summary_of;

@@ -5,7 +5,6 @@ ghost use Rattle.stream_lines.specs.Gives.{Gives, IsBreak, Says};
 ghost use Rattle.stream_lines.specs.Units.{Bmp, MessageSays, learnt as learnt_of, message_cause as cause_of_fault, noted};
 
 use crate::next::{Effect, Next};
-use analyser::Event;
 use av_base::NoMemory;
 use bmp_reader::{BmpFault, BmpFrameFault, Body, Framer, PathPeers, View, read_message};
 use path_model::{Peer, Role};
@@ -61,7 +60,7 @@ impl Messages {
             (Bmp self.new.view self.new.peers)) }
     {
         match reading {
-            Ok(Body::Routes(changes)) => Ok(Ok(Effect::Event(Event::Routes(changes)))),
+            Ok(Body::Routes(noted)) => Ok(Ok(Effect::Routes(noted))),
             Ok(Body::Up { peer, role, paths }) => {
                 self.note(alloc, peer, paths)?;
                 Ok(Ok(learnt(peer, role)))
@@ -101,7 +100,7 @@ fn learnt(peer: Peer, role: Option<Role>) -> Effect
     ensures { result ≡ learnt_of peer role }
 {
     match role {
-        Some(role) => Effect::Event(Event::Role(peer.asn, role)),
+        Some(role) => Effect::Learn(peer.asn, role),
         None => Effect::Note,
     }
 }

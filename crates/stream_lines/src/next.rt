@@ -1,12 +1,14 @@
 //! What comes next in a dump.
-use analyser::Event;
+use path_model::{Noted, Role};
 use report_text::Cause;
 
 /// What an accepted unit does.
 #[derive(Debug, Drop)]
 pub(crate) enum Effect {
-    /// An event happens.
-    Event(Event),
+    /// Routes are announced and withdrawn, and peers go.
+    Routes(Noted),
+    /// It is learnt that this AS has this role.
+    Learn(u32, Role),
     /// It says how units behind it are read, and nothing happens.
     Note,
     /// It is passed over.

@@ -4,7 +4,6 @@ ghost use Rattle.stream_lines.specs.Gives.{Gives, Says};
 ghost use Rattle.stream_lines.specs.Units.{Mrt, RecordSays, record_cause as cause_of_fault};
 
 use crate::next::{Effect, Next};
-use analyser::Event;
 use av_base::NoMemory;
 use mrt_reader::{Body, BodyFault, Framer, PeerTable, read_body};
 use report_text::Cause;
@@ -56,7 +55,7 @@ impl Records {
                 self.peers = Some(table);
                 Ok(Ok(Effect::Note))
             }
-            Ok(Body::Routes(changes)) => Ok(Ok(Effect::Event(Event::Routes(changes)))),
+            Ok(Body::Routes(noted)) => Ok(Ok(Effect::Routes(noted))),
             Ok(Body::Passed) => Ok(Ok(Effect::Pass)),
             Err(fault) => {
                 let cause = record_cause(fault)?;

@@ -17,6 +17,7 @@ use crate::next::Next;
 use crate::stop::{ReadFault, Stop};
 use analyser::Analyser;
 use av_base::{Fault, NoMemory, Shelf, Sink, Steps, pour, pour_piece};
+use otc_check::Marks;
 use report_text::{Cause, Place, put_refusal};
 use std::alloc::Global;
 use std::sync::ledger::Ledger;
@@ -37,6 +38,8 @@ pub struct Asked<'a> {
 pub struct Progress {
     /// The analysis.
     pub analyser: Analyser,
+    /// What the routes say of Only-to-Customer (RFC 9234, section 5).
+    pub marks: Marks,
     /// How many units were passed over.
     pub passed: u64,
     /// How many units and lines were refused.

@@ -1,0 +1,25 @@
+-- The leaks of the marks that are left to list; private contracts alone cite it.
+use Rattle.std.specs.Prelude.{ℕ, not, if◌then◌else◌, List, [], map, filter}
+use Rattle.path_model.specs.declared.key.Key.{Key}
+use Rattle.path_model.specs.declared.otc.Otc.{Otc}
+use Rattle.path_model.specs.Roles.{Relations, role_of}
+use Rattle.otc_check.specs.declared.leaks.Leak.{Leak}
+use Rattle.otc_check.specs.LeakBy.{leak_of}
+use Rattle.report_text.specs.Leaks.{leak_text}
+use Rattle.stream_lines.specs.Leaks.{is_clean, leaks_text}
+
+-- the leak of a mark, by the present roles
+abbrev pub found_by : Relations → Key × Otc → Key × Leak
+found_by relations mark = (mark.0, leak_of (role_of relations mark.0.peer.asn) mark.0.peer.asn mark.1)
+
+-- those of some marks that aren't clean
+abbrev pub leaks_of : Relations → List (Key × Otc) → List (Key × Leak)
+leaks_of relations marks = filter (λ row. not (is_clean row.1)) (map (found_by relations) marks)
+
+-- their lines
+abbrev pub each_leak_text : Relations → List (Key × Otc) → List ℕ
+each_leak_text relations marks = leaks_text (leaks_of relations marks)
+
+-- the line of one, or nothing
+abbrev pub leak_or_nothing : Key → Leak → List ℕ
+leak_or_nothing key leak = if is_clean leak then [] else leak_text key leak
