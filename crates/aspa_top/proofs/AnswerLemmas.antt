@@ -22,7 +22,11 @@ use Rattle.report_text.specs.Refusals.{of_line, refusal_text}
 use Rattle.report_text.proofs.ReportedLemmas.{adds_answers, adds_answers_front}
 use Rattle.rib_store.specs.Shown.{IsExplained}
 use Rattle.rib_store.specs.State.{State as Analysis, AreRows}
-use Rattle.script_lines.specs.declared.command.Show.TheVariants.{Report, Origins as ListOrigins, Summary as SumUp}
+use Rattle.script_lines.specs.declared.command.Show.TheVariants.{Report, Origins as ListOrigins, Leaks as ListLeaks, Summary as SumUp}
+use Rattle.otc_check.specs.declared.leaks.Leak.{Leak}
+use Rattle.otc_check.specs.Marks.{Marked}
+use Rattle.path_model.specs.Roles.{Relations}
+use Rattle.stream_lines.specs.Leaks.{AreLeaks, leaks_text}
 use Rattle.stream_lines.specs.Rows.{rows_text}
 use Rattle.stream_lines.specs.Summary.{IsSummary}
 use Rattle.stream_lines.specs.declared.stop.Stop.{Stop}
@@ -45,6 +49,7 @@ use Rattle.aspa_top.proofs.ReadyLemmas.{kept_all, ready_streams}
 -- what the working state says of an evaluation that it stands for, as far as questions are asked of it
 pub record Reads (working : Working) (state : State) : Type 0 where
   pub analysis : working.analyser ≡ state.analysis
+  pub marks : working.marks ≡ state.marks
   pub origins : working.origins ≡ state.origins
   pub passed : working.passed ≡ state.passed
   pub refused : working.refused ≡ state.refused
@@ -53,6 +58,7 @@ pub record Reads (working : Working) (state : State) : Type 0 where
 read_state : Working → State
 read_state working = record {
   analysis = working.analyser;
+  marks = working.marks;
   origins = working.origins;
   sources = λ name. false;
   dumps = λ name. None;
@@ -68,7 +74,7 @@ read_state working = record {
 
 reads_state : (working : Working) → Reads working (read_state working)
 unfolding read_state
-reads_state working = record { analysis = refl; origins = refl; passed = refl; refused = refl }
+reads_state working = record { analysis = refl; marks = refl; origins = refl; passed = refl; refused = refl }
 
 -- this text answers it, in whatever evaluation the working state stands for
 pub record IsAnswered (state : State) (question : Question) (text : List ℕ) : Type 0 where
@@ -85,7 +91,7 @@ module _ (working : Working) (question : Question) (old : Outside) (written : Op
       let are = answer_lines (read_state working) question text (answers (read_state working) (reads_state working)).answers in
       record {
         goes = λ world tells state stands.
-            let is = answers state (record { analysis = stands.analysis; origins = stands.origins; passed = stands.passed; refused = stands.refused }) in
+            let is = answers state (record { analysis = stands.analysis; marks = stands.marks; origins = stands.origins; passed = stands.passed; refused = stands.refused }) in
             record {
               text = text;
               after = state;
@@ -113,7 +119,7 @@ module _ (working : Working) (question : Question) (old : Outside) (written : Op
       let are = answer_lines (read_state working) question text (answers (read_state working) (reads_state working)).answers in
       some_done working (Ok (Answer question)) old new stop refl
       (λ world tells state stands.
-      let is = answers state (record { analysis = stands.analysis; origins = stands.origins; passed = stands.passed; refused = stands.refused }) in
+      let is = answers state (record { analysis = stands.analysis; marks = stands.marks; origins = stands.origins; passed = stands.passed; refused = stands.refused }) in
       record {
         part = front.before.front;
         rest = front.rest;
@@ -142,6 +148,18 @@ module _ (working : Working) (held : Analysis) (is : held ≡ working.analyser) 
     answers = record {
       rows = rows;
       are = subst (λ (o : Origins). AreOriginRows state.analysis.routes o rows) reads.origins (subst (λ (a : Analysis). AreOriginRows a.routes working.origins rows) (is ∙ reads.analysis) are);
+      text_is = refl;
+    };
+  }
+
+  pub leaks_answer : (roles : Relations) (rows : List (Key × Leak)) → roles ≡ held.roles → AreLeaks roles working.marks rows → (state : State) → Reads working state
+      → IsAnswered state (Show ListLeaks) (leaks_text rows)
+  leaks_answer roles rows are_its are = λ state reads. record {
+    there = refl;
+    answers = record {
+      rows = rows;
+      are = subst (λ (m : Marked). AreLeaks state.analysis.roles m rows) reads.marks
+          (subst (λ (r : Relations). AreLeaks r working.marks rows) (are_its ∙ ap (λ (a : Analysis). a.roles) (is ∙ reads.analysis)) are);
       text_is = refl;
     };
   }
@@ -182,4 +200,4 @@ not_answered working next question cause old held begun refuses added is =
     refl refl refl (omega arith) refl refl added is begun
     (λ world tells state stands.
     subst (λ (c : Option Cause). AnswersUnless c state question (refusal_text state.lines of_line cause) (record state { refused = state.refused + 1 }))
-    (sym (refuses state (record { analysis = stands.analysis; origins = stands.origins; passed = stands.passed; refused = stands.refused }))) (refl, refl))
+    (sym (refuses state (record { analysis = stands.analysis; marks = stands.marks; origins = stands.origins; passed = stands.passed; refused = stands.refused }))) (refl, refl))

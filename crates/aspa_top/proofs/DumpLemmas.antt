@@ -102,6 +102,7 @@ module _ (working next : Working) (kind : DumpKind) (name file : List ℕ) (old 
                 added = ap (append_known old.written) silent ∙ sym (append_known-nil (all_of old));
                 stands = record {
                   analysis = ap (λ (w : Working). w.analyser) is ∙ stands.analysis;
+                  marks = ap (λ (w : Working). w.marks) is ∙ stands.marks;
                   origins = ap (λ (w : Working). w.origins) is ∙ stands.origins;
                   sources = λ q. ap (λ (w : Working). has_source w q) is ∙ stands.sources q;
                   dumps = λ q. rw (names.dumps q) (HoldsOr-put (same_name name q) files kept (new_dump kind opens.bytes) (dump_in working q) (state.dumps q)
@@ -163,7 +164,7 @@ module _ (working : Working) (name : List ℕ) (count : ℕ) (before after : Hel
     (begun : IsBegun old working) (few : count ≤ most) (here : dump_in working name ≡ Some before)
     (leaves : Leaves (λ other. other ≢ before.file) old.files files) (open_yet : before.over ≡ false)
     (asks : asking ≡ record { line = working.lines; name = name })
-    (starts : first ≡ record { analyser = working.analyser; passed = working.passed; refused = working.refused })
+    (starts : first ≡ record { analyser = working.analyser; marks = working.marks; passed = working.passed; refused = working.refused })
     (ticks : TicksWithinUnits asking count before first old.files old.ticks now)
     (quiet : AddsQuiet (all_of old) (append_known written held)) where
   -- what is taken begins at the state that the working state stands for
@@ -171,6 +172,7 @@ module _ (working : Working) (name : List ℕ) (count : ℕ) (before after : Hel
   begins_at state dump stands holds = record {
     holds = holds;
     state = ap (λ (p : Progress). p.analyser) starts ∙ stands.analysis;
+    marks = ap (λ (p : Progress). p.marks) starts ∙ stands.marks;
     passed = ap (λ (p : Progress). p.passed) starts ∙ stands.passed;
     refused = ap (λ (p : Progress). p.refused) starts ∙ stands.refused;
   }
@@ -189,7 +191,7 @@ module _ (working : Working) (name : List ℕ) (count : ℕ) (before after : Hel
   -- the units were taken
   pub take_done : (next : Working) (last : Progress) → TookUnits asking count before after first old.files files (all_of old) (append_known written held) last
       → ((q : List ℕ) → dump_in next q ≡ cond (same_name name q) (Some after) (dump_in working q))
-      → next ≡ record working { analyser = last.analyser; dumps = next.dumps; passed = last.passed; refused = last.refused }
+      → next ≡ record working { analyser = last.analyser; marks = last.marks; dumps = next.dumps; passed = last.passed; refused = last.refused }
       → opened ≡ old.opened → after.file ≡ before.file → GrewBy count before after first last
       → Done working (Ok (Take name count)) old
       (record old { files = files; opened = opened; shelf_faults = shelf_faults; written = written; sink_faults = sink_faults; held = held; ticks = now }) next
@@ -212,6 +214,7 @@ module _ (working : Working) (name : List ℕ) (count : ℕ) (before after : Hel
               added = done.2.added;
               stands = record {
                 analysis = ap (λ (w : Working). w.analyser) is ∙ done.1.state;
+                marks = ap (λ (w : Working). w.marks) is ∙ done.1.marks;
                 origins = ap (λ (w : Working). w.origins) is ∙ stands.origins;
                 sources = λ q. ap (λ (w : Working). has_source w q) is ∙ stands.sources q;
                 dumps = λ q. rw (dumps q) (HoldsOr-put (same_name name q) files after done.0.dump (dump_in working q) (state.dumps q) done.1.holds

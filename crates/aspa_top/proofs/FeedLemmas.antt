@@ -69,6 +69,7 @@ module _ (working : Working) (name : List ℕ) (old : Outside) (links : Links) (
       → Holds links.attempts links.wire feeds last origins after → StandsFor old.files links next (with_feeds state after)
   stands_after state next feeds origins last after is stands holds = rw is (record {
     analysis = holds.analysis;
+    marks = stands.marks;
     origins = holds.parts_are;
     sources = stands.sources;
     dumps = stands.dumps;

@@ -30,9 +30,11 @@ use Rattle.report_text.proofs.AnswerLemmas.{summary_is_one_line, reason_is_one_l
 use Rattle.rib_store.specs.Shown.{IsExplained}
 use Rattle.rib_store.specs.State.{State as Analysis}
 use Rattle.rib_store.proofs.ReportLemmas.{has_one_report}
-use Rattle.script_lines.specs.declared.command.Show.TheVariants.{Report, Origins as ListOrigins, Summary as SumUp}
+use Rattle.script_lines.specs.declared.command.Show.TheVariants.{Report, Origins as ListOrigins, Leaks as ListLeaks, Summary as SumUp}
 use Rattle.stream_lines.specs.Counts.{refusals_in}
+use Rattle.stream_lines.specs.Leaks.{leaks_text}
 use Rattle.stream_lines.specs.Rows.{rows_text}
+use Rattle.stream_lines.proofs.LeaksLemmas.{leak_line_of, leaks_answer, leaks_are_lines, one_list_of_leaks}
 use Rattle.stream_lines.proofs.RefusalLemmas.{lacks, refusals_in-line}
 use Rattle.stream_lines.proofs.ReportedLemmas.{line_of, rows_answer, rows_are_lines}
 use Rattle.stream_lines.proofs.SummaryLemmas.{some_summary, one_summary}
@@ -91,6 +93,13 @@ one_answer state (Show ListOrigins) there =
       is = record { rows = list.one; are = list.is; text_is = refl };
       only = λ other is. is.text_is ∙ ap origins_text (list.only is.rows is.are);
     }
+one_answer state (Show ListLeaks) there =
+    let list = one_list_of_leaks state.analysis.roles state.marks in
+    record {
+      one = leaks_text list.one;
+      is = record { rows = list.one; are = list.is; text_is = refl };
+      only = λ other is. is.text_is ∙ ap leaks_text (list.only is.rows is.are);
+    }
 one_answer state (Show SumUp) there =
     let found = some_summary state.analysis state.passed state.refused in
     record {
@@ -125,6 +134,8 @@ answer_lines state (Show Report) text reports =
     record { lines = map line_of reports.rows; each = rows_answer reports.rows; is = reports.text_is ∙ rows_are_lines reports.rows }
 answer_lines state (Show ListOrigins) text lists =
     record { lines = map origin_line_of lists.rows; each = origins_answer lists.rows; is = lists.text_is ∙ origins_are_lines lists.rows }
+answer_lines state (Show ListLeaks) text lists =
+    record { lines = map leak_line_of lists.rows; each = leaks_answer lists.rows; is = lists.text_is ∙ leaks_are_lines lists.rows }
 answer_lines state (Show SumUp) text sums = one_line (summary_line sums.summary) text (summary_is_one_line sums.summary) sums.text_is
 answer_lines state (Why key) text explains = one_line (why_line explains.verdict explains.witness) text (reason_is_one_line explains.verdict explains.witness) explains.text_is
 

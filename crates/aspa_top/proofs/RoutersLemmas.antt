@@ -162,6 +162,7 @@ module _ (working : Working) (place : List ℕ) (session count : ℕ) (cache : V
               added = whole ∙ ap (λ (m : Option (List ℕ)). append_known m last) there.added ∙ append_known-append (all_of old) there.text last;
               stands = record {
                 analysis = ap (λ (w : Working). w.analyser) is ∙ stands.analysis;
+                marks = ap (λ (w : Working). w.marks) is ∙ stands.marks;
                 origins = ap (λ (w : Working). w.origins) is ∙ stands.origins;
                 sources = λ q. ap (λ (w : Working). has_source w q) is ∙ stands.sources q;
                 dumps = λ q. subst (λ d. HoldsOr old.files d (state.dumps q)) (sym (ap (λ (w : Working). dump_in w q) is)) (stands.dumps q);

@@ -100,6 +100,7 @@ module _ (working : Working) (old : Outside) (begun : IsBegun old working) where
           added = added_text old.written old.held held line.0 line.2;
           stands = record {
             analysis = stands.analysis;
+            marks = stands.marks;
             origins = stands.origins;
             sources = stands.sources;
             dumps = stands.dumps;

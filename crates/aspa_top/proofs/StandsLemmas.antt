@@ -91,6 +91,7 @@ pub StandsFor-leaves : {P : ℕ → Type 0} (old new : Option Files) (links : Li
     → ((name : List ℕ) (kept : HeldDump) → dump_in working name ≡ Some kept → P kept.file) → StandsFor old links working state → StandsFor new links working state
 StandsFor-leaves {P} old new links working state leaves given stands = record {
   analysis = stands.analysis;
+  marks = stands.marks;
   origins = stands.origins;
   sources = stands.sources;
   dumps = λ name. HoldsOr-leaves old new (dump_in working name) (state.dumps name) (λ kept is. leaves.files kept.file (given name kept is)) (stands.dumps name);
@@ -114,6 +115,7 @@ pub counted_stands : (files : Option Files) (links : Links) (working : Working) 
     → StandsFor files links (counted_in working) (counted state)
 counted_stands files links working state stands = record {
   analysis = stands.analysis;
+  marks = stands.marks;
   origins = stands.origins;
   sources = stands.sources;
   dumps = stands.dumps;
@@ -152,6 +154,7 @@ pub stands_refused : (files : Option Files) (links : Links) (working next : Work
     → StandsFor files links working state → StandsFor files links next (record state { refused = state.refused + 1 })
 stands_refused files links working next state is stands = rw is (record {
   analysis = stands.analysis;
+  marks = stands.marks;
   origins = stands.origins;
   sources = stands.sources;
   dumps = stands.dumps;
@@ -170,6 +173,7 @@ pub stands_analysed : (files : Option Files) (links : Links) (working next : Wor
     → StandsFor files links next (record state { analysis = analysis; judgements = judgements })
 stands_analysed files links working next state analysis judgements is stands = rw is (record {
   analysis = refl;
+  marks = stands.marks;
   origins = stands.origins;
   sources = stands.sources;
   dumps = stands.dumps;

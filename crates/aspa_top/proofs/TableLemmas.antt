@@ -150,6 +150,7 @@ module _ (working : Working) (kind : FileKind) (file : List ℕ) (old : Outside)
               added = ap (append_known old.written) kept ∙ sym (append_known-nil (all_of old));
               stands = record {
                 analysis = ap (λ (w : Working). w.analyser) next_is ∙ ap (λ (w : Working). w.analyser) mid_is;
+                marks = ap (λ (w : Working). w.marks) next_is ∙ ap (λ (w : Working). w.marks) mid_is ∙ stands.marks;
                 origins = ap (λ (w : Working). w.origins) next_is ∙ ap (λ (w : Working). w.origins) mid_is ∙ ap (amended made.amends) stands.origins;
                 sources = named_after kind holds.after next state holds.names (λ q. ap (λ (w : Working). has_source w q) mid_is ∙ stands.sources q);
                 dumps = λ q. subst (λ (d : Option HeldDump). HoldsOr files d (state.dumps q)) (sym (keeps.dumps q)) (stayed.dumps q);

@@ -10,6 +10,7 @@ use Rattle.path_model.specs.Trail.{Path}
 use Rattle.origin_model.specs.declared.origin_state.OriginState.{OriginState}
 use Rattle.origin_validation.specs.Rows.{AreOriginRows}
 use Rattle.origin_lines.specs.Rows.{origins_text}
+use Rattle.otc_check.specs.declared.leaks.Leak.{Leak}
 use Rattle.report_text.specs.declared.cause.Cause.{Cause}
 use Rattle.report_text.specs.declared.cause.Cause.TheVariants.{NoRoute}
 use Rattle.report_text.specs.declared.summary.Summary.{Summary}
@@ -18,7 +19,8 @@ use Rattle.report_text.specs.Summary.{summary_text}
 use Rattle.report_text.specs.Why.{why_text}
 use Rattle.rib_store.specs.Shown.{IsExplained}
 use Rattle.rib_store.specs.State.{AreRows}
-use Rattle.script_lines.specs.declared.command.Show.TheVariants.{Report, Origins, Summary as SumUp}
+use Rattle.script_lines.specs.declared.command.Show.TheVariants.{Report, Origins, Leaks, Summary as SumUp}
+use Rattle.stream_lines.specs.Leaks.{AreLeaks, leaks_text}
 use Rattle.stream_lines.specs.Rows.{rows_text}
 use Rattle.stream_lines.specs.Summary.{IsSummary}
 use Rattle.aspa_top.specs.declared.task.Question.{Question}
@@ -37,6 +39,12 @@ pub record ListsOrigins (state : State) (text : List ℕ) : Type 0 where
   pub are : AreOriginRows state.analysis.routes state.origins rows
   pub text_is : text ≡ origins_text rows
 
+-- `leaks`: one line for each route whose attribute Only-to-Customer makes it a leak, in key order, by the present roles
+pub record ListsLeaks (state : State) (text : List ℕ) : Type 0 where
+  pub rows : List (Key × Leak)
+  pub are : AreLeaks state.analysis.roles state.marks rows
+  pub text_is : text ≡ leaks_text rows
+
 -- `summary`: how many routes there are by their current verdicts, the customers of the current table, and what was passed over or refused
 pub record SumsUp (state : State) (text : List ℕ) : Type 0 where
   pub summary : Summary
@@ -54,6 +62,7 @@ pub record Explains (state : State) (key : Key) (text : List ℕ) : Type 0 where
 abbrev pub Answers : State → Question → List ℕ → Type 0
 Answers state (Show Report) text = Reports state text
 Answers state (Show Origins) text = ListsOrigins state text
+Answers state (Show Leaks) text = ListsLeaks state text
 Answers state (Show SumUp) text = SumsUp state text
 Answers state (Why key) text = Explains state key text
 

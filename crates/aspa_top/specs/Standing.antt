@@ -28,6 +28,7 @@ HoldsOr files (Some kept) (Some dump) = HoldsDump files kept dump
 -- the working state keeps what the evaluation has left
 pub record StandsFor (files : Option Files) (links : Links) (working : Working) (state : State) : Type 0 where
   pub analysis : working.analyser ≡ state.analysis
+  pub marks : working.marks ≡ state.marks
   pub origins : working.origins ≡ state.origins
   pub sources : (name : List ℕ) → has_source working name ≡ state.sources name
   pub dumps : (name : List ℕ) → HoldsOr files (dump_in working name) (state.dumps name)

@@ -1,10 +1,12 @@
 -- What the lines before have left, and what any line may do to it: refuse.
 use Rattle.std.specs.Prelude.{◌≡◌, ℕ, ◌+◌, nat_eq, Bool, false, ◌||◌, is_some, List}
 use Rattle.std.specs.Cmp.Lexicographic.{pointwise}
+use Rattle.std.specs.FinMap as fin
 use Rattle.std.specs.declared.option.Option.{Option}
 use Rattle.std.specs.declared.option.Option.TheVariants.{None}
 use Rattle.feed_lines.specs.Feeds.{Feed}
 use Rattle.origin_model.specs.Current.{Parts as Origins, no_parts}
+use Rattle.otc_check.specs.Marks.{Marked}
 use Rattle.report_text.specs.declared.cause.Cause.{Cause}
 use Rattle.report_text.specs.Refusals.{AnyPlace, refusal_text}
 use Rattle.rib_store.specs.State.{State as Analysis, no_state}
@@ -13,12 +15,14 @@ use Rattle.serve_lines.specs.Routers.{Begun, NoneMore}
 use Rattle.stream_lines.specs.Streams.{Dump}
 use Rattle.aspa_top.specs.World.{World}
 
--- What some lines have left: the analysis, the payloads of origin validation by source with a SLURM file's filters and assertions, which names are those of attestation sources, of dumps and of feeds (none where a session is
+-- What some lines have left: the analysis, what the routes say of Only-to-Customer, the payloads of origin validation by source with a
+-- SLURM file's filters and assertions, which names are those of attestation sources, of dumps and of feeds (none where a session is
 -- over), the caches that were served, by session, how many attempts to connect and to accept were made, how many lines, passed units and
 -- refused lines there were, and how many judgements they may have cost; and, of a `serve` line that ended early, what its last attempt came
 -- to. A line of text that reports the end of a feed, or of a router, counts as refused.
 pub record State : Type 0 where
   pub analysis : Analysis
+  pub marks : Marked
   pub origins : Origins
   pub sources : List ℕ → Bool
   pub dumps : List ℕ → Option Dump
@@ -35,6 +39,7 @@ pub record State : Type 0 where
 abbrev pub start : World → State
 start world = record {
   analysis = no_state;
+  marks = fin.empty;
   origins = no_parts;
   sources = λ name. false;
   dumps = λ name. None;

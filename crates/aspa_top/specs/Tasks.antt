@@ -183,6 +183,7 @@ abbrev pub taking_of : State → Dump → Taking
 taking_of state dump = record {
   dump = dump;
   state = state.analysis;
+  marks = state.marks;
   passed = state.passed;
   refused = state.refused;
   judgements = state.judgements;
@@ -191,6 +192,7 @@ taking_of state dump = record {
 abbrev pub after_taking : State → List ℕ → Taking → State
 after_taking state name end = record state {
   analysis = end.state;
+  marks = end.marks;
   dumps = with_dump name end.dump state.dumps;
   passed = end.passed;
   refused = end.refused;

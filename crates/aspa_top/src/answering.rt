@@ -1,4 +1,4 @@
-//! What a line only asks: `report`, `origins`, `summary` and `why`.
+//! What a line only asks: `report`, `origins`, `leaks`, `summary` and `why`.
 ghost use Rattle.std.specs.Prelude.{Ok};
 ghost use Rattle.aspa_top.specs.declared.task.Task.TheVariants.{Answer};
 ghost use Rattle.aspa_top.specs.Outside.{Keeps, outside};
@@ -13,7 +13,7 @@ use origin_lines::put_origins;
 use report_text::{Cause, Place, put_summary, put_why};
 use script_lines::Show;
 use std::sync::ledger::Ledger;
-use stream_lines::{Stop, put_rows, summary_of};
+use stream_lines::{Stop, put_leaks, put_rows, summary_of};
 
 /// Adds the text that answers a question, and changes nothing; where it is refused, the line that says so.
 #[inline(never)]
@@ -43,6 +43,10 @@ pub(crate) fn answer<F: Shelf, K: Links, W: Sink, L: Ledger>(
         }
         Question::Show(Show::Origins) => {
             put_origins(store, &mut working.origins, out, text)?;
+            Ok(working)
+        }
+        Question::Show(Show::Leaks) => {
+            put_leaks(&working.marks, store.roles(), out, text)?;
             Ok(working)
         }
         Question::Show(Show::Summary) => {

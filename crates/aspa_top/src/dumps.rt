@@ -130,6 +130,7 @@ fn take_open<F: Shelf, K: Links, W: Sink, L: Ledger>(
 {
     let Working {
         analyser,
+        marks,
         origins,
         sources,
         mut dumps,
@@ -146,6 +147,7 @@ fn take_open<F: Shelf, K: Links, W: Sink, L: Ledger>(
     };
     let progress = Progress {
         analyser,
+        marks,
         passed,
         refused,
     };
@@ -155,6 +157,7 @@ fn take_open<F: Shelf, K: Links, W: Sink, L: Ledger>(
     let taken = take_units(alloc, dump, asked, progress, shelf, out, text, steps)?;
     Ok(Working {
         analyser: taken.analyser,
+        marks: taken.marks,
         origins,
         sources,
         dumps,

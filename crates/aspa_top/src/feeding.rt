@@ -47,6 +47,7 @@ pub(crate) fn connect_feed<F: Shelf, K: Links, W: Sink, L: Ledger>(
     let _name = name.text();
     let Working {
         analyser,
+        marks,
         origins,
         sources,
         dumps,
@@ -69,6 +70,7 @@ pub(crate) fn connect_feed<F: Shelf, K: Links, W: Sink, L: Ledger>(
     )?;
     Ok(Working {
         analyser: next.analyser,
+        marks,
         origins,
         sources,
         dumps,
@@ -107,6 +109,7 @@ pub(crate) fn work_on<F: Shelf, K: Links, W: Sink, L: Ledger>(
     let _name = name.text();
     let Working {
         analyser,
+        marks,
         mut origins,
         sources,
         dumps,
@@ -131,6 +134,7 @@ pub(crate) fn work_on<F: Shelf, K: Links, W: Sink, L: Ledger>(
     )?;
     Ok(Working {
         analyser: next.analyser,
+        marks,
         origins,
         sources,
         dumps,

@@ -52,6 +52,7 @@ pub(crate) fn serve_routers<F: Shelf, K: Links, W: Sink, L: Ledger>(
     }
     let Working {
         analyser,
+        marks,
         origins,
         sources,
         dumps,
@@ -71,6 +72,7 @@ pub(crate) fn serve_routers<F: Shelf, K: Links, W: Sink, L: Ledger>(
     put_served(text, served.accepted, served.answers)?;
     Ok(Working {
         analyser,
+        marks,
         origins,
         sources,
         dumps,

@@ -7,6 +7,7 @@ use analyser::Analyser;
 use av_base::NoMemory;
 use feed_lines::Feeds;
 use origin_validation::Origins;
+use otc_check::Marks;
 use path_model::Name;
 use rtr_cache::Cache;
 use std::alloc::Global;
@@ -18,6 +19,8 @@ use stream_lines::OpenDump;
 pub(crate) struct Working {
     /// What attests, the roles and the routes.
     pub(crate) analyser: Analyser,
+    /// What the routes say of Only-to-Customer.
+    pub(crate) marks: Marks,
     /// The payloads of origin validation.
     pub(crate) origins: Origins,
     /// The names of the attestation sources.
@@ -72,6 +75,7 @@ impl Working {
     {
         Working {
             analyser,
+            marks: Marks::new(alloc),
             origins: Origins::new(alloc),
             sources: BTreeSet::new(alloc),
             dumps: BTreeMap::new(alloc),

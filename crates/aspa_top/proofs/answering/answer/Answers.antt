@@ -2,11 +2,12 @@ use Rattle.std.proofs.Common.{Err, refl, ap, ◌∙◌, arith}
 use Rattle.std.specs.Io.KnownBytes.{append_known}
 use Rattle.report_text.specs.declared.cause.Cause.TheVariants as causes
 use Rattle.stream_lines.specs.declared.stop.Stop.TheVariants as stops
+use Rattle.stream_lines.specs.Leaks.{leaks_text}
 use Rattle.stream_lines.specs.Rows.{rows_text}
 use Rattle.origin_lines.specs.Rows.{origins_text}
 use Rattle.aspa_top.specs.declared.task.Question.TheVariants.{Show, Why}
-use Rattle.script_lines.specs.declared.command.Show.TheVariants.{Report, Origins, Summary}
-use Rattle.aspa_top.proofs.AnswerLemmas.{answered, answered_same, answer_stopped, not_answered, origins_answer, report_answers, summary_answers, why_answers, why_refused}
+use Rattle.script_lines.specs.declared.command.Show.TheVariants.{Report, Origins, Leaks, Summary}
+use Rattle.aspa_top.proofs.AnswerLemmas.{answered, answered_same, answer_stopped, leaks_answer, not_answered, origins_answer, report_answers, summary_answers, why_answers, why_refused}
 use Rattle.aspa_top.proofs.DidLemmas.{did_err, nothing}
 use Rattle.aspa_top.proofs.KeepLemmas.{keeps_all, keeps_sink}
 use Rattle.aspa_top.proofs.StandsLemmas.{added_text}
@@ -55,6 +56,28 @@ returns-in_err-put_origins-in-Show-Origins g c =
       did = did_err c.args.working _ _ _ c.from_residual-in_err-put_origins-in-Show-Origins.result _ c.from_residual-in_err-put_origins-in-Show-Origins.ensures.1
           (rw same (answer_stopped c.args.working (Show Origins) _ _ _ _ (origins_text rows.rows) c.requires.begun (origins_answer c.args.working _ c.store-store.ensures rows.rows rows.are)
           c.in_err-put_origins-in-Show-Origins.field-0.0 rows.front (λ is. stopped.no_shelf (ap Err is)) (λ is. stopped.held (ap Err is)) (λ is. stopped.sink_cause (ap Err is))));
+    }
+
+-- `leaks`
+pub returns-in_ok-put_leaks-in-Show-Leaks : goal.returns-in_ok-put_leaks-in-Show-Leaks
+returns-in_ok-put_leaks-in-Show-Leaks g c =
+    let same = c.in-Show-Leaks.is ∙ ap Show (rw c.in-Show-Leaks.is at c.in-Show-Leaks.field-0-is) in
+    let rows = c.in_ok-put_leaks-in-Show-Leaks.ensures.whole in
+    record {
+      keeps = keeps_sink _ _ _ _ _ c.put_leaks.ensures.grows c.put_leaks.ensures.sink_faults;
+      did = rw same (answered c.args.working (Show Leaks) _ _ _ _ (leaks_text rows.rows) c.requires.begun (leaks_answer c.args.working _ c.store-store.ensures _ rows.rows c.roles.ensures rows.are) rows.added);
+    }
+
+pub returns-in_err-put_leaks-in-Show-Leaks : goal.returns-in_err-put_leaks-in-Show-Leaks
+returns-in_err-put_leaks-in-Show-Leaks g c =
+    let same = c.in-Show-Leaks.is ∙ ap Show (rw c.in-Show-Leaks.is at c.in-Show-Leaks.field-0-is) in
+    let rows = c.put_leaks.ensures.front in
+    let stopped = c.in_err-put_leaks-in-Show-Leaks.ensures in
+    record {
+      keeps = keeps_sink _ _ _ _ _ c.put_leaks.ensures.grows c.put_leaks.ensures.sink_faults;
+      did = did_err c.args.working _ _ _ c.from_residual-in_err-put_leaks-in-Show-Leaks.result _ c.from_residual-in_err-put_leaks-in-Show-Leaks.ensures.1
+          (rw same (answer_stopped c.args.working (Show Leaks) _ _ _ _ (leaks_text rows.rows) c.requires.begun (leaks_answer c.args.working _ c.store-store.ensures _ rows.rows c.roles.ensures rows.are)
+          c.in_err-put_leaks-in-Show-Leaks.field-0.0 rows.front (λ is. stopped.no_shelf (ap Err is)) (λ is. stopped.held (ap Err is)) (λ is. stopped.sink_cause (ap Err is))));
     }
 
 -- `summary`
