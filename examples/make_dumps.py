@@ -1,9 +1,10 @@
 #!/usr/bin/env python3
-"""Writes the example dumps and their attestations: neighbours.base64, table.mrt, updates.mrt, own.mrt and paths.mrt, beside this file.
+"""Writes the example dumps and their attestations: neighbours.base64, table.mrt, updates.mrt, own.mrt, paths.mrt and otc.mrt, beside this file.
 
 We are AS 64500. Our customer is 64501, our peer 64502, our provider 64503; each has one router that speaks with our collector. own.mrt is a
 table of our own router 192.0.2.254, which speaks with 64501 and, inside our AS, with our router 192.0.2.9. paths.mrt is a table with path
-identifiers (RFC 8050), and one update behind it: 64503 sends us all paths that it has to a prefix (RFC 7911).
+identifiers (RFC 8050), and one update behind it: 64503 sends us all paths that it has to a prefix (RFC 7911). otc.mrt is a table of routes
+with the attribute Only-to-Customer (RFC 9234).
 The numbers and addresses are those that are kept for documentation (RFC 5398, RFC 5737, RFC 3849)."""
 import base64
 import ipaddress
@@ -40,6 +41,15 @@ OWN_TABLE = [
 # the same, with a path identifier behind each path
 PATHS = [("203.0.113.0/24", [(0, [64501, 64503, 64530], 1), (2, [64503, 64530], 1), (2, [64503, 64502, 64530], 2)])]
 
+# the same, without one, and with the content of Only-to-Customer: an AS, or bytes that are none
+OTC_TABLE = [
+    ("198.51.100.0/24", [(0, [64501, 64510], None, 64510), (2, [64503, 64501, 64510], None, 64503)]),
+    ("203.0.113.0/24", [(0, [64501, 64503, 64530], None, 64503), (1, [64502, 64503, 64530])]),
+    ("2001:db8:20::/48", [(1, [64502, 64520], None, 64502)]),
+    ("2001:db8:40::/48", [(0, [64501, 64541, 64540], None, 64541)]),
+    ("2001:db8:50::/48", [(1, [64502, 64520], None, b"\xfb\xf6")]),
+]
+
 
 def identifier(path):
     return b"" if path is None else struct.pack(">I", path)
@@ -62,6 +72,11 @@ def as_path(path):
     return struct.pack(">BBB", 0x40, 2, len(segments)) + segments
 
 
+def only_to_customer(otc):
+    content = struct.pack(">I", otc) if isinstance(otc, int) else otc
+    return b"" if content is None else struct.pack(">BBB", 0xC0, 35, len(content)) + content
+
+
 def record(kind, subkind, body, time=TIME):
     return struct.pack(">IHHI", time, kind, subkind, len(body)) + body
 
@@ -77,9 +92,10 @@ def peer_table(peers):
 def rib(sequence, prefix, entries):
     body = struct.pack(">I", sequence) + prefix_bytes(prefix) + struct.pack(">H", len(entries))
     six, with_paths = ":" in prefix, any(len(entry) == 3 for entry in entries)
-    for peer, path, *number in entries:
-        attributes = struct.pack(">BBBB", 0x40, 1, 1, 0) + as_path(path)
-        body += struct.pack(">HI", peer, TIME) + b"".join(map(identifier, number)) + struct.pack(">H", len(attributes)) + attributes
+    for peer, path, *more in entries:
+        number, otc = (*more, None, None)[:2]
+        attributes = struct.pack(">BBBB", 0x40, 1, 1, 0) + as_path(path) + only_to_customer(otc)
+        body += struct.pack(">HI", peer, TIME) + identifier(number) + struct.pack(">H", len(attributes)) + attributes
     return record(13, (10 if six else 8) if with_paths else (4 if six else 2), body)
 
 
@@ -109,6 +125,7 @@ def main():
     ]
     (HERE / "updates.mrt").write_bytes(b"".join(news))
     (HERE / "paths.mrt").write_bytes(table(PEERS, PATHS) + update(TIME + 60, 2, ["203.0.113.0/24"], b"", [], 2))
+    (HERE / "otc.mrt").write_bytes(table(PEERS, OTC_TABLE))
 
 
 if __name__ == "__main__":

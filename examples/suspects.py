@@ -1,5 +1,5 @@
 #!/usr/bin/env python3
-"""Who leaked? Lists suspects for the invalid routes of a table dump: python3 examples/leaks.py SCRIPT TABLE
+"""Who leaked? Lists suspects for the invalid routes of a table dump: python3 examples/suspects.py SCRIPT TABLE
 
 SCRIPT is one for aspaview that loads attestations and roles and takes the table dump TABLE, and no updates behind it. Its own text is
 passed over, but for what is refused, of which standard error tells. It is performed twice: for the routes that are invalid, and for why
@@ -22,25 +22,25 @@ def text_of(script):
     """The lines that aspaview writes for a script."""
     done = subprocess.run([PROGRAM, "run"], input=script, stdout=subprocess.PIPE, text=True)
     if done.returncode > 1:
-        sys.exit(f"leaks.py: aspaview ended with status {done.returncode}")
+        sys.exit(f"suspects.py: aspaview ended with status {done.returncode}")
     return done.stdout.splitlines()
 
 
 def judged(script):
     """The number of routes, and each invalid one, 'ADDRESS AS PREFIX', perhaps with 'path ID', with the words of its witness."""
     if sum(line.split()[:1] == ["open"] for line in script.splitlines()) != 1:
-        sys.exit("leaks.py: the script must open one dump, the table: behind updates a route may have another path than there")
+        sys.exit("suspects.py: the script must open one dump, the table: behind updates a route may have another path than there")
     text = text_of(script + "\nsummary\nreport\n")
     if refused := [line for line in text if line.startswith("! ")]:
-        print(f"leaks.py: {len(refused)} refused, the first: {refused[0]}", file=sys.stderr)
+        print(f"suspects.py: {len(refused)} refused, the first: {refused[0]}", file=sys.stderr)
     last = max(i for i, line in enumerate(text) if line.startswith("summary "))
     words = text[last].split()
     if "0" in (words[2], words[10]):
-        sys.exit(f"leaks.py: nothing is judged: {text[last]}")
+        sys.exit(f"suspects.py: nothing is judged: {text[last]}")
     routes = [line.rsplit(" ", 1)[0] for line in text[last + 1:] if line.endswith(" invalid")]
     answers = text_of(script + "\n" + "".join(f"why {route.replace(' path ', ' ')}\n" for route in routes))[-len(routes):] if routes else []
     if len(answers) < len(routes) or any(answer.startswith("! ") for answer in answers):
-        sys.exit("leaks.py: the second run had other routes than the first")
+        sys.exit("suspects.py: the second run had other routes than the first")
     return int(words[2]), {route: answer.split()[1:] for route, answer in zip(routes, answers)}
 
 
@@ -116,7 +116,7 @@ def main():
     with open(sys.argv[2], "rb") as table:
         found = paths(table, blocked)
     if missing := blocked.keys() - found.keys():
-        sys.exit(f"leaks.py: {sys.argv[2]} has no route {min(missing)}")
+        sys.exit(f"suspects.py: {sys.argv[2]} has no route {min(missing)}")
     leaks = collections.defaultdict(list)
     for route in blocked:
         leaks[suspects(found[route], blocked[route])].append(route)
