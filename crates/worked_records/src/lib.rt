@@ -2,8 +2,8 @@
 //!
 //! Each table has its expected values worked out by hand, or, for the dumps that routing daemons wrote, by `bgpdump`. `attributes` reads
 //! attribute fields and `lists` prefixes in them, `records` single records and streams in any pieces (`comparing`), `identifiers` records
-//! with path identifiers, and `daemons` whole dumps of two daemons. `monitoring` reads the messages of BMP streams, and `notes` what
-//! attribute fields, records and messages say of Only-to-Customer.
+//! with path identifiers, and `daemons` whole dumps of two daemons. `monitoring` reads the messages of BMP streams, `notes` what
+//! attribute fields, records and messages say of Only-to-Customer, and `marks` what records make of the marks of routes.
 #![tactic(auto)]
 
 #[cfg(test)]
@@ -18,6 +18,8 @@ mod hex;
 mod identifiers;
 #[cfg(test)]
 mod lists;
+#[cfg(test)]
+mod marks;
 #[cfg(test)]
 mod monitoring;
 #[cfg(test)]

@@ -51,6 +51,18 @@ fn fields_and_their_marks(rt: HostRuntime) -> Result<(), NoMemory> {
     Ok(())
 }
 
+// A message withdraws 198.51.100.0/24 and announces it and 203.0.113.0/24.
+pub(crate) const MARKED: &str =
+    "00000000 0010 0004 0000004B  0000FBF5 0000FBFF 0000 0001 C0000201 C00002FE
+    FFFFFFFFFFFFFFFFFFFFFFFFFFFFFFFF 0037 02 0004 18C63364
+    0014 40020A 0202 0000FBF5 0000FBF4 C02304 0000FBF4 18C63364 18CB0071";
+
+// A message announces 2001:db8::/32.
+pub(crate) const MARKED_SIX: &str =
+    "00000000 0010 0004 0000005C  0000FBF5 0000FBFF 0000 0001 C0000201 C00002FE
+    FFFFFFFFFFFFFFFFFFFFFFFFFFFFFFFF 0048 02 0000 0031  40020A 0202 0000FBF5 0000FBF4
+    800E1A 0002 01 10 20010DB8000000000000000000000001 00 20 20010DB8 C02304 0000FBF5";
+
 // A dump whose last record makes changes, and the notes of these.
 const DUMPS: [(&str, &str, &[Otc]); 8] = [
     // The route to 198.51.100.0/24 has the attribute; and it has three bytes of it.
@@ -75,22 +87,9 @@ const DUMPS: [(&str, &str, &[Otc]); 8] = [
         0000 00000000 000D 40020A 0202 0000FBF5 0000FBF4",
         &[Absent, As(64500), Absent],
     ),
-    // A message withdraws 198.51.100.0/24 and announces it and 203.0.113.0/24.
-    (
-        "",
-        "00000000 0010 0004 0000004B  0000FBF5 0000FBFF 0000 0001 C0000201 C00002FE
-        FFFFFFFFFFFFFFFFFFFFFFFFFFFFFFFF 0037 02 0004 18C63364
-        0014 40020A 0202 0000FBF5 0000FBF4 C02304 0000FBF4 18C63364 18CB0071",
-        &[As(64500), As(64500)],
-    ),
-    // A message announces 2001:db8::/32.
-    (
-        "",
-        "00000000 0010 0004 0000005C  0000FBF5 0000FBFF 0000 0001 C0000201 C00002FE
-        FFFFFFFFFFFFFFFFFFFFFFFFFFFFFFFF 0048 02 0000 0031  40020A 0202 0000FBF5 0000FBF4
-        800E1A 0002 01 10 20010DB8000000000000000000000001 00 20 20010DB8 C02304 0000FBF5",
-        &[As(64501)],
-    ),
+    // Messages.
+    ("", MARKED, &[As(64500), As(64500)]),
+    ("", MARKED_SIX, &[As(64501)]),
     // An old table's record.
     (
         "",

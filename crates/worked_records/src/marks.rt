@@ -1,0 +1,96 @@
+//! What records make of the marks of routes, one record after another (RFC 9234, section 5).
+use crate::hex::hex;
+use crate::notes::{MARKED, MARKED_SIX};
+use crate::records::{DOWN, NET, NET6, ONE, SIX, WITHDRAWN};
+use Otc::{Absent, As};
+use av_base::NoMemory;
+use mrt_reader::{Body, Framer, read_body};
+use otc_check::Marks;
+use path_model::{Addr, Key, Otc, Prefix};
+use std::alloc::Global;
+use std::process::Abort;
+
+// A prefix of the first peer, by its address and its length, and its route's mark.
+type Mark = (Addr, u8, Otc);
+
+const NEXT: Addr = Addr::V4(0xCB00_7100);
+
+// A record that makes changes, and the marks behind it, in key order.
+const STEPS: [(&str, [Mark; 3]); 5] = [
+    // 2001:db8::/32 has the attribute, and then two others that come before it.
+    (
+        MARKED_SIX,
+        [(NET, 24, Absent), (NEXT, 24, Absent), (NET6, 32, As(64501))],
+    ),
+    (
+        MARKED,
+        [
+            (NET, 24, As(64500)),
+            (NEXT, 24, As(64500)),
+            (NET6, 32, As(64501)),
+        ],
+    ),
+    // 198.51.100.0/24 is withdrawn,
+    (
+        WITHDRAWN,
+        [
+            (NET, 24, Absent),
+            (NEXT, 24, As(64500)),
+            (NET6, 32, As(64501)),
+        ],
+    ),
+    // 2001:db8::/32 is announced again without the attribute,
+    (
+        SIX,
+        [(NET, 24, Absent), (NEXT, 24, As(64500)), (NET6, 32, Absent)],
+    ),
+    // and the session ends.
+    (
+        DOWN,
+        [(NET, 24, Absent), (NEXT, 24, Absent), (NET6, 32, Absent)],
+    ),
+];
+
+// The marks after the changes of a stream's one record.
+fn applied(rt: &impl Abort, alloc: Global, marks: Marks, text: &str) -> Result<Marks, NoMemory> {
+    let mut framer = Framer::new(alloc).feed(&hex(alloc, text)?)?;
+    match framer.next() {
+        Ok(Some(record)) => match read_body(alloc, &record, None) {
+            Ok(Body::Routes(noted)) => return marks.apply(&noted),
+            _ => assert!(rt; false, "{text}"),
+        },
+        _ => assert!(rt; false, "{text}"),
+    }
+    Ok(marks)
+}
+
+fn compare_marks(rt: &impl Abort, marks: &Marks, wants: &[Mark]) {
+    let mut found = marks.iter();
+    let mut none = true;
+    for (addr, len, want) in wants {
+        if let Some(prefix) = Prefix::new(*addr, *len) {
+            let peer = ONE;
+            let path = None;
+            let key = Key { peer, prefix, path };
+            assert_eq!(rt; marks.of(&key), *want);
+            if *want != Absent {
+                assert!(rt; found.next() == Some((key, *want)));
+                none = false;
+            }
+        }
+    }
+    assert!(rt; found.next().is_none());
+    assert_eq!(rt; marks.is_empty(), none);
+}
+
+#[test]
+fn records_and_their_marks(rt: HostRuntime) -> Result<(), NoMemory> {
+    let alloc = rt.alloc();
+    let mut marks = Marks::new(alloc);
+    assert!(&rt; marks.is_empty());
+    for (text, wants) in STEPS {
+        marks = applied(&rt, alloc, marks, text)?;
+        compare_marks(&rt, &marks, &wants);
+    }
+    Ok(())
+}
