@@ -50,6 +50,9 @@ impl PrefixFilter {
     }
 }
 
+// So many filters are gone through, and more are looked up.
+const FEW: usize = 32;
+
 /// A list of prefix filters. One takes its place in the list, and another one in the tree by which it is found.
 #[derive(Debug, Drop)]
 pub struct PrefixFilters {
@@ -104,14 +107,21 @@ impl PrefixFilters {
         self.filters.iter()
     }
 
-    /// Whether one of them hits a payload. It takes four look-ups, and two more for each bit of the payload's prefix, however many filters
-    /// there are; and none where there is none.
+    /// Whether one of them hits a payload. Up to 32 are gone through; among more it takes four look-ups, and two more for each bit of the
+    /// payload's prefix, however many there are.
     pub fn hit(&self, v: &Vrp) -> bool
         ensures { IsTrue result ↔ IsHit self.now v.now }
     {
-        if self.filters.is_empty() {
-            return false;
+        if self.filters.len() <= FEW {
+            return hits_one(self.filters.as_slice(), v);
         }
+        self.finds(v)
+    }
+
+    // The same by look-ups.
+    fn finds(&self, v: &Vrp) -> bool
+        ensures { IsTrue result ↔ IsHit self.now v.now }
+    {
         self.has_either(&None, v.asn()) || self.has_within(v)
     }
 
@@ -163,4 +173,16 @@ impl PrefixFilters {
             parts: self.parts.clone()?,
         })
     }
+}
+
+// Whether one of these hits a payload.
+fn hits_one(filters: &[PrefixFilter], v: &Vrp) -> bool
+    ensures { IsTrue result ↔ IsHit filters.now v.now }
+{
+    for f in filters {
+        if f.hits(v) {
+            return true;
+        }
+    }
+    false
 }

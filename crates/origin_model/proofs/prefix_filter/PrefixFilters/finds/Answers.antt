@@ -1,7 +1,7 @@
 use Rattle.std.proofs.Common.{None, ap, sym, ◌∙◌, inl, inr, true≢false}
 use Rattle.origin_model.specs.FilterIndex.{has_either}
 use Rattle.origin_model.proofs.FilterLemmas.{any_hits, hits_by, within_hits}
-use Rattle.origin_model.proofs.prefix_filter.PrefixFilters.hit.Goals as goal
+use Rattle.origin_model.proofs.prefix_filter.PrefixFilters.finds.Goals as goal
 
 pub returns-then-has_either : goal.returns-then-has_either
 returns-then-has_either c =
