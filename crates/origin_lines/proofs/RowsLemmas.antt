@@ -1,74 +1,124 @@
 -- Rows of states that are written line by line, and that none reads as a refusal.
-use Rattle.std.proofs.Common.{◌≡◌, ℕ, List, [], ◌∷◌, ◌++◌, map, Ok, Err, OnOk, refl, sym, subst, ◌∙◌, ap}
+use Rattle.std.proofs.Common.{◌≡◌, ℕ, List, [], ◌∷◌, ◌++◌, map, Ok, Err, OnOk, refl, sym, subst, ◌∙◌, ap, append_assoc}
 use Rattle.std.specs.FinMap as fin
 use Rattle.std.specs.Io.KnownBytes.{append_known}
 use Rattle.std.specs.List.{All}
 use Rattle.std.specs.declared.option.Option.{Option}
 use Rattle.std.specs.declared.result.Result.{Result}
+use Rattle.std.proofs.lemmas.List.{append-nil}
 use Rattle.std.proofs.lemmas.List.Elements.{All-map}
-use Rattle.av_base.specs.Told.{AppendsBefore, AppendsFront}
-use Rattle.av_base.proofs.ToldLemmas.{append_known-append, AppendsBefore-more}
+use Rattle.av_base.proofs.ToldLemmas.{append_known-append, append_known-nil}
 use Rattle.path_model.specs.declared.key.Key.{Key}
 use Rattle.path_model.specs.Routes.{Routes}
 use Rattle.path_model.specs.Trail.{Path}
 use Rattle.origin_model.specs.declared.origin_state.OriginState.{OriginState}
-use Rattle.origin_model.specs.Current.{Parts}
-use Rattle.origin_model.specs.OriginState.{IsStateOf}
-use Rattle.origin_model.proofs.LawLemmas.{one_for_each_route}
-use Rattle.origin_validation.specs.Rows.{AreOriginRows, AreRowsOf}
+use Rattle.origin_model.specs.Current.{Parts, IsCurrent}
+use Rattle.origin_model.specs.OriginState.{HasState, IsStateOf}
+use Rattle.origin_validation.specs.Rows.{AreRowsOf}
+use Rattle.origin_validation.proofs.RowLemmas.{rows_both, some_rows}
 use Rattle.report_text.specs.Laws.{IsAnswerLine}
 use Rattle.report_text.specs.Origins.{origin_line, origin_text}
 use Rattle.report_text.specs.Reported.{lines_text}
 use Rattle.report_text.proofs.AnswerLemmas.{origin_is_one_line}
-use Rattle.origin_lines.specs.Each.{each_text, rows_of, state_of}
+use Rattle.origin_lines.specs.Each.{ListsBefore, ListsFirst, ListsUpToOne}
 use Rattle.origin_lines.specs.Rows.{Lists, ListsFront, origins_text}
-use Rattle.rib_store.specs.declared.trails.Trails.{Trails}
-use Rattle.rib_store.specs.Trails.{trails_left}
 
--- the rows are those of the definition
-are_rows : (parts : Parts) (routes : List (Key × Path)) → AreRowsOf parts routes (rows_of parts routes)
-unfolding state_of
-are_rows parts [] = tt
-are_rows parts (route ∷ routes) = (record { key = refl; state = (one_for_each_route parts route.0 route.1).is }, are_rows parts routes)
+text_both : (rows more : List (Key × OriginState)) → origins_text (rows ++ more) ≡ origins_text rows ++ origins_text more
+text_both [] more = refl
+text_both (row ∷ rows) more =
+    ap (λ (t : List ℕ). origin_text row.0 row.1 ++ t) (text_both rows more) ∙ sym (append_assoc (origin_text row.0 row.1) (origins_text rows) (origins_text more))
 
-pub are_origin_rows : (routes : Routes) (parts : Parts) → AreOriginRows routes parts (rows_of parts (fin.entries routes))
-are_origin_rows routes parts = are_rows parts (fin.entries routes)
+-- none is listed yet
+pub lists_start : (parts : Parts) (routes : List (Key × Path)) (all : Option (List ℕ)) → ListsBefore parts routes routes all all
+lists_start parts routes all = record { listed = []; whole = refl; rows = []; are = tt; added = sym (append_known-nil all) }
 
--- a state that is so is the one of the law
-pub is_state : (parts : Parts) (key : Key) (path : Path) (state : OriginState) → IsStateOf parts key path state → state ≡ state_of parts key path
-unfolding state_of
-is_state parts key path state is = (one_for_each_route parts key path).only state is
-
--- one row more is held, and what is held was perhaps written
-pub row_next : (parts : Parts) (old mid new : Option (List ℕ)) (routes left more : List (Key × Path)) (key : Key) (path : Path) (state : OriginState) (written : Option (List ℕ)) (text_old text_new : List ℕ)
-    → AppendsBefore old mid (origins_text (rows_of parts routes)) (origins_text (rows_of parts left)) → left ≡ (key, path) ∷ more → IsStateOf parts key path state → mid ≡ append_known written text_old
-    → text_new ≡ text_old ++ origin_text key state → new ≡ append_known written text_new → AppendsBefore old new (origins_text (rows_of parts routes)) (origins_text (rows_of parts more))
-row_next parts old mid new routes left more key path state written text_old text_new so_far is right held added same =
-    let line = origin_text key (state_of parts key path) in
-    let put = added ∙ ap (λ (s : OriginState). text_old ++ origin_text key s) (is_state parts key path state right) in
-    AppendsBefore-more so_far new line (origins_text (rows_of parts more)) (ap (λ (r : List (Key × Path)). origins_text (rows_of parts r)) is)
-    (same ∙ ap (append_known written) put ∙ sym (append_known-append written text_old line) ∙ ap (λ (m : Option (List ℕ)). append_known m line) (sym held))
-
--- the lines of the routes that an iterator has left are those of the routes
-same_text : (routes : Routes) (parts now : Parts) (trails : Trails) → trails_left trails ≡ fin.entries routes → now ≡ parts → each_text now trails ≡ origins_text (rows_of parts (fin.entries routes))
-same_text routes parts now trails is same = λ i. origins_text (rows_of (same i) (is i))
-
-pub lists : {T E : Type 0} (result : Result T E) (routes : Routes) (parts now : Parts) (trails : Trails) (old new : Option (List ℕ)) → trails_left trails ≡ fin.entries routes → now ≡ parts
-    → OnOk result (new ≡ append_known old (each_text now trails)) → OnOk result (Lists routes parts old new)
-lists {T} {E} (Ok x) routes parts now trails old new is same added = record {
-  rows = rows_of parts (fin.entries routes);
-  are = are_origin_rows routes parts;
-  added = added ∙ ap (append_known old) (same_text routes parts now trails is same);
+-- some were listed, and then some more
+pub lists_then : (parts : Parts) (routes left more : List (Key × Path)) (old mid new : Option (List ℕ)) → ListsBefore parts routes left old mid → ListsBefore parts left more mid new
+    → ListsBefore parts routes more old new
+lists_then parts routes left more old mid new one two = record {
+  listed = one.listed ++ two.listed;
+  whole = one.whole ∙ ap (λ (l : List (Key × Path)). one.listed ++ l) two.whole ∙ sym (append_assoc one.listed two.listed more);
+  rows = one.rows ++ two.rows;
+  are = rows_both parts one.listed two.listed one.rows two.rows one.are two.are;
+  added = two.added ∙ ap (λ (m : Option (List ℕ)). append_known m (origins_text two.rows)) one.added ∙ append_known-append old (origins_text one.rows) (origins_text two.rows)
+      ∙ ap (append_known old) (sym (text_both one.rows two.rows));
 }
-lists {T} {E} (Err e) routes parts now trails old new is same added = tt
 
-pub lists_front : (routes : Routes) (parts now : Parts) (trails : Trails) (old new : Option (List ℕ)) → trails_left trails ≡ fin.entries routes → now ≡ parts → AppendsFront old new (each_text now trails)
+-- one route more is held, and what is held was perhaps written
+pub lists_next : (parts : Parts) (old mid new : Option (List ℕ)) (routes left more : List (Key × Path)) (key : Key) (path : Path) (state : OriginState) (written : Option (List ℕ)) (text_old text_new : List ℕ)
+    → ListsBefore parts routes left old mid → left ≡ (key, path) ∷ more → IsStateOf parts key path state → mid ≡ append_known written text_old
+    → text_new ≡ text_old ++ origin_text key state → new ≡ append_known written text_new → ListsBefore parts routes more old new
+lists_next parts old mid new routes left more key path state written text_old text_new so_far is right held added same = lists_then parts routes left more old mid new so_far (record {
+  listed = (key, path) ∷ [];
+  whole = is;
+  rows = (key, state) ∷ [];
+  are = (record { key = refl; state = right }, tt);
+  added = same ∙ ap (append_known written) added ∙ sym (append_known-append written text_old (origin_text key state))
+      ∙ ap (λ (m : Option (List ℕ)). append_known m (origin_text key state)) (sym held) ∙ ap (append_known mid) (sym (append-nil (origin_text key state)));
+})
+
+-- ---- up to a route that is told
+
+-- it is held behind those before it, and what is held was perhaps written
+pub lists_one : (parts now : Parts) (old mid so new : Option (List ℕ)) (routes middle left : List (Key × Path)) (next : Key × Option ℕ) (state : OriginState) (written : Option (List ℕ)) (text_old text_new : List ℕ)
+    → ListsBefore parts routes middle old mid → now ≡ parts → ListsUpToOne next now middle left mid so → HasState (IsCurrent now) next.0.prefix next.1 state → so ≡ append_known written text_old
+    → text_new ≡ text_old ++ origin_text next.0 state → new ≡ append_known written text_new → ListsBefore parts routes left old new
+lists_one parts now old mid so new routes middle left next state written text_old text_new so_far same up_to right held added is =
+    let path = up_to.path in
+    let before = subst (λ (p : Parts). ListsBefore p middle ((next.0, path) ∷ left) mid so) same up_to.before in
+    let state_is : IsStateOf parts next.0 path state =
+    subst (λ (p : Parts). IsStateOf p next.0 path state) same (subst (λ (o : Option ℕ). HasState (IsCurrent now) next.0.prefix o state) up_to.origin right) in
+    lists_next parts old so new routes ((next.0, path) ∷ left) left next.0 path state written text_old text_new
+    (lists_then parts routes middle ((next.0, path) ∷ left) old mid so so_far before) refl state_is held added is
+
+-- those before it were
+pub first_up_to : (parts now : Parts) (old mid new : Option (List ℕ)) (routes middle left : List (Key × Path)) (next : Key × Option ℕ) → ListsBefore parts routes middle old mid → now ≡ parts
+    → ListsUpToOne next now middle left mid new → ListsFirst parts routes old new
+first_up_to parts now old mid new routes middle left next so_far same up_to =
+    let path = up_to.path in
+    record {
+      rest = (next.0, path) ∷ left;
+      before = lists_then parts routes middle ((next.0, path) ∷ left) old mid new so_far (subst (λ (p : Parts). ListsBefore p middle ((next.0, path) ∷ left) mid new) same up_to.before);
+    }
+
+-- some were listed, and then the first of the others
+pub first_then : (parts now : Parts) (old mid new : Option (List ℕ)) (routes middle : List (Key × Path)) → ListsBefore parts routes middle old mid → now ≡ parts → ListsFirst now middle mid new
+    → ListsFirst parts routes old new
+first_then parts now old mid new routes middle so_far same first =
+    record { rest = first.rest; before = lists_then parts routes middle first.rest old mid new so_far (subst (λ (p : Parts). ListsBefore p middle first.rest mid new) same first.before) }
+
+-- and then all others
+pub all_then : (parts now : Parts) (old mid new : Option (List ℕ)) (routes middle : List (Key × Path)) → ListsBefore parts routes middle old mid → now ≡ parts → ListsBefore now middle [] mid new
+    → ListsBefore parts routes [] old new
+all_then parts now old mid new routes middle so_far same more = lists_then parts routes middle [] old mid new so_far (subst (λ (p : Parts). ListsBefore p middle [] mid new) same more)
+
+-- all are the first
+pub first_all : (parts : Parts) (old new : Option (List ℕ)) (routes : List (Key × Path)) → ListsBefore parts routes [] old new → ListsFirst parts routes old new
+first_all parts old new routes all = record { rest = []; before = all }
+
+-- ---- the whole list
+
+pub lists : {T E : Type 0} (result : Result T E) (routes : Routes) (parts now : Parts) (left : List (Key × Path)) (old new : Option (List ℕ)) → left ≡ fin.entries routes → now ≡ parts
+    → OnOk result (ListsBefore now left [] old new) → OnOk result (Lists routes parts old new)
+lists {T} {E} (Ok x) routes parts now left old new is same before = record {
+  rows = before.rows;
+  are = subst (λ (p : Parts). AreRowsOf p (fin.entries routes) before.rows) same
+      (subst (λ (l : List (Key × Path)). AreRowsOf now l before.rows) (sym (append-nil before.listed) ∙ sym before.whole ∙ is) before.are);
+  added = before.added;
+}
+lists {T} {E} (Err e) routes parts now left old new is same before = tt
+
+pub lists_front : (routes : Routes) (parts now : Parts) (left : List (Key × Path)) (old new : Option (List ℕ)) → left ≡ fin.entries routes → now ≡ parts → ListsFirst now left old new
     → ListsFront routes parts old new
-lists_front routes parts now trails old new is same front = record {
-  rows = rows_of parts (fin.entries routes);
-  are = are_origin_rows routes parts;
-  front = subst (AppendsFront old new) (same_text routes parts now trails is same) front;
-}
+lists_front routes parts now left old new is same first =
+    let before = first.before in
+    let more = some_rows now first.rest in
+    record {
+      rows = before.rows ++ more.0;
+      are = subst (λ (p : Parts). AreRowsOf p (fin.entries routes) (before.rows ++ more.0)) same
+          (subst (λ (l : List (Key × Path)). AreRowsOf now l (before.rows ++ more.0)) (sym before.whole ∙ is) (rows_both now before.listed first.rest before.rows more.0 before.are more.1));
+      front = record { rest = origins_text more.0; before = record { front = origins_text before.rows; whole = text_both before.rows more.0; told = before.added } };
+    }
 
 -- ---- lines
 

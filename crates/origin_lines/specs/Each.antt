@@ -1,22 +1,36 @@
--- The rows of the routes that are left to list; private contracts alone cite it.
-use Rattle.std.specs.Prelude.{ℕ, List, map}
+-- The routes that were listed before others; private contracts alone cite it.
+use Rattle.std.specs.Prelude.{◌≡◌, ℕ, List, [], ◌∷◌, ◌++◌}
+use Rattle.std.specs.Io.KnownBytes.{append_known}
+use Rattle.std.specs.declared.option.Option.{Option}
+use Rattle.std.specs.declared.option.Option.TheVariants.{None, Some}
 use Rattle.path_model.specs.declared.key.Key.{Key}
 use Rattle.path_model.specs.Trail.{Path}
 use Rattle.origin_model.specs.declared.origin_state.OriginState.{OriginState}
 use Rattle.origin_model.specs.Current.{Parts}
-use Rattle.origin_model.proofs.LawLemmas.{one_for_each_route}
-use Rattle.rib_store.specs.declared.trails.Trails.{Trails}
-use Rattle.rib_store.specs.Trails.{trails_left}
+use Rattle.origin_model.specs.OriginState.{origin_of}
+use Rattle.origin_validation.specs.Rows.{AreRowsOf}
 use Rattle.origin_lines.specs.Rows.{origins_text}
 
--- the state of a route: the one that the law of states gives
-unfoldable pub state_of : Parts → Key → Path → OriginState
-state_of parts key path = (one_for_each_route parts key path).one
+-- the lines of these routes but for the rest were added; `all` is what was written and then what is held
+pub record ListsBefore (parts : Parts) (routes rest : List (Key × Path)) (all_old all_new : Option (List ℕ)) : Type 0 where
+  pub listed : List (Key × Path)
+  pub whole : routes ≡ listed ++ rest
+  pub rows : List (Key × OriginState)
+  pub are : AreRowsOf parts listed rows
+  pub added : all_new ≡ append_known all_old (origins_text rows)
 
--- a row for each of these routes
-abbrev pub rows_of : Parts → List (Key × Path) → List (Key × OriginState)
-rows_of parts routes = map (λ e. (e.0, state_of parts e.0 e.1)) routes
+-- those of the first of them were, perhaps of none and perhaps of all
+pub record ListsFirst (parts : Parts) (routes : List (Key × Path)) (all_old all_new : Option (List ℕ)) : Type 0 where
+  pub rest : List (Key × Path)
+  pub before : ListsBefore parts routes rest all_old all_new
 
--- the lines of the routes that an iterator has left
-abbrev pub each_text : Parts → Trails → List ℕ
-each_text parts trails = origins_text (rows_of parts (trails_left trails))
+-- those before a route were, which is told by its key and its origin; `left` are the routes behind it
+pub record ListsUpToOne (next : Key × Option ℕ) (parts : Parts) (routes left : List (Key × Path)) (all_old all_new : Option (List ℕ)) : Type 0 where
+  pub path : Path
+  pub origin : next.1 ≡ origin_of path
+  pub before : ListsBefore parts routes ((next.0, path) ∷ left) all_old all_new
+
+-- those before the route that is told were, or those of all where none is
+abbrev pub ListsUpTo : Option (Key × Option ℕ) → Parts → List (Key × Path) → List (Key × Path) → Option (List ℕ) → Option (List ℕ) → Type 0
+ListsUpTo None parts routes left all_old all_new = ListsBefore parts routes [] all_old all_new
+ListsUpTo (Some next) parts routes left all_old all_new = ListsUpToOne next parts routes left all_old all_new

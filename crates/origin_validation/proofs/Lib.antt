@@ -8,3 +8,4 @@ pub mod PatchLemmas
 pub mod RowLemmas
 pub mod StateLemmas
 pub mod UnderLemmas
+pub mod WalkLemmas

@@ -11,15 +11,16 @@ use Rattle.origin_validation.specs.Laws.{RoutesHaveOneListOfStates}
 use Rattle.origin_validation.specs.Rows.{AreRowsOf}
 
 module _ (parts : Parts) where
-  -- one route more
-  pub rows_push : (routes : List (Key × Path)) (rows : List (Key × OriginState)) (key : Key) (path : Path) (state : OriginState) → AreRowsOf parts routes rows → IsStateOf parts key path state
-      → AreRowsOf parts (routes ++ (key, path) ∷ []) (rows ++ (key, state) ∷ [])
-  rows_push [] [] key path state are is = (record { key = refl; state = is }, tt)
-  rows_push [] (row ∷ rows) key path state are is = absurd are
-  rows_push (route ∷ routes) [] key path state are is = absurd are
-  rows_push (route ∷ routes) (row ∷ rows) key path state are is = (are.0, rows_push routes rows key path state are.1 is)
+  -- rows of some routes and then of more
+  pub rows_both : (routes more : List (Key × Path)) (rows others : List (Key × OriginState)) → AreRowsOf parts routes rows → AreRowsOf parts more others
+      → AreRowsOf parts (routes ++ more) (rows ++ others)
+  rows_both [] more [] others are also = also
+  rows_both [] more (row ∷ rows) others are also = absurd are
+  rows_both (route ∷ routes) more [] others are also = absurd are
+  rows_both (route ∷ routes) more (row ∷ rows) others are also = (are.0, rows_both routes more rows others are.1 also)
 
-  some_rows : (routes : List (Key × Path)) → (rows : List (Key × OriginState)) × AreRowsOf parts routes rows
+  -- routes have rows
+  pub some_rows : (routes : List (Key × Path)) → (rows : List (Key × OriginState)) × AreRowsOf parts routes rows
   some_rows [] = ([], tt)
   some_rows (route ∷ routes) =
       let one = one_for_each_route parts route.0 route.1 in

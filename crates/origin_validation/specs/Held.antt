@@ -1,6 +1,8 @@
 -- The states that are held, one for each pair of a prefix and an origin: private contracts alone cite it.
-use Rattle.std.specs.Prelude.{◌≡◌, ℕ, Bool, true, List}
+use Rattle.std.specs.Prelude.{◌≡◌, ℕ, Bool, true, List, IfSome}
 use Rattle.std.specs.BTreeMap.{is_at}
+use Rattle.std.specs.Borrow.{Bor}
+use Rattle.std.specs.List.{AllByRecursion}
 use Rattle.std.specs.Map.{lookup}
 use Rattle.std.specs.Ordering.{nat_cmp, ordering_then}
 use Rattle.std.specs.declared.cmp.Ordering.{Ordering}
@@ -38,6 +40,14 @@ IsRight parts p state = HasState (IsCurrent parts) p.0 (Some p.1) state
 -- each state that is held is the pair's
 pub record AreRight (parts : Parts) (held : Entries) : Type 0 where
   pub each : (p : Pair) (state : OriginState) → at held p ≡ Some state → IsRight parts p state
+
+-- each of these states is its pair's
+abbrev pub AreAllRight : Parts → Entries → Type 0
+AreAllRight parts entries = AllByRecursion (λ e. IsRight parts e.0 e.1) entries
+
+-- the state is its pair's, if there is one
+abbrev pub IsRightBeside : Parts → Option (Bor Pair × Bor OriginState) → Type 0
+IsRightBeside parts beside = IfSome beside (λ e. IsRight parts e.0.now e.1.now)
 
 -- the pair's state is held as before, and the pair is so
 pub record IsKept (Quiet : Pair → Type 0) (before : Entries) (p : Pair) (state : OriginState) : Type 0 where

@@ -1,7 +1,8 @@
 //! The states that are held, one for each pair of a prefix and an origin, and which of them an event forgets.
 ghost use Rattle.std.specs.Prelude.{◌≡◌, true, IfNone, IfSome, is_some};
 ghost use Rattle.std.specs.Option.{option_copied};
-ghost use Rattle.origin_validation.specs.Held.{AllHave, AreAlready, HasNoneUnder, IsAlready, IsAmongCovering, IsApart, IsUnhitBy, IsUnhitByAll, Keeps, SameHave, at};
+ghost use Rattle.origin_validation.specs.Held.{AllHave, AreAlready, HasNoneUnder, IsAlready, IsAmongCovering, IsApart};
+ghost use Rattle.origin_validation.specs.Held.{IsUnhitBy, IsUnhitByAll, Keeps, SameHave, at};
 ghost use Rattle.origin_validation.specs.Records.{or_none};
 
 use origin_model::{OriginState, PrefixFilter, PrefixFilters, Vrp, VrpChanges, VrpSet, covers};

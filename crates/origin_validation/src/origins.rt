@@ -6,6 +6,7 @@ ghost use Rattle.origin_validation.specs.Records.{PatchesSource, with_source};
 
 use crate::held::{HeldStates, forget_differing, forget_hit, forget_patched, forget_replaced};
 use crate::records::Records;
+use crate::walk::Walk;
 use av_base::NoMemory;
 use origin_model::{OriginState, PrefixFilters, VrpChanges, VrpSet};
 use path_model::{Name, Prefix};
@@ -63,6 +64,20 @@ impl Origins {
         let state = self.records.state(prefix, Some(pair.1));
         self.held.insert(pair, state)?;
         Ok(state)
+    }
+
+    /// A walk along the states that are held. It takes no memory.
+    pub fn walk(&self) -> Walk<'_>
+        ensures { result ≡ self.now }
+    {
+        Walk::new(self, self.held.range(..))
+    }
+
+    // One that begins at a pair.
+    pub(crate) fn walk_from(&self, pair: (Prefix, u32)) -> Walk<'_>
+        ensures { result ≡ self.now }
+    {
+        Walk::new(self, self.held.range(pair..))
     }
 
     /// The source of this name has these payloads from now on. It takes the time of two look-ups for each payload that the source had or
