@@ -4,3 +4,4 @@ pub mod MapLemmas
 pub mod NotingLemmas
 pub mod OfPeerLemmas
 pub mod RouteLemmas
+pub mod UnitLemmas

@@ -1,5 +1,5 @@
 -- Laws of leaks and marks, each the contract of a public function of the module `laws`.
-use Rattle.std.specs.Prelude.{◌≡◌, ◌≢◌, ℕ, List, ◌∷◌, ◌++◌, All, slice_get, unwrap_or}
+use Rattle.std.specs.Prelude.{◌≡◌, ◌≢◌, ℕ, List, ◌∷◌, ◌++◌, All, length, slice_get, unwrap_or}
 use Rattle.std.specs.FinMap as map
 use Rattle.std.specs.Option.{IsSome}
 use Rattle.av_base.specs.One.{HasOne}
@@ -66,3 +66,10 @@ abbrev pub MarksAreOfRoutes : Type 0
 MarksAreOfRoutes =
     (changes : List Change) (notes : List Otc) (marks : Marked) (routes : Routes) → AreOfRoutes marks routes
     → AreOfRoutes (noted_by changes notes marks) (performed changes routes)
+
+-- What changes with their notes make of marks, and then more changes with theirs, is what both together make: so what is so of one list of
+-- changes is so of those of many messages and records.
+abbrev pub MarksGoOn : Type 0
+MarksGoOn =
+    (changes more : List Change) (notes others : List Otc) (marks : Marked) → length notes ≡ announced_of changes
+    → noted_by (changes ++ more) (notes ++ others) marks ≡ noted_by more others (noted_by changes notes marks)

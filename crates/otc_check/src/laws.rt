@@ -1,6 +1,6 @@
 //! Laws of the definitions: the contract of each function is the law, and its body does nothing.
 ghost use Rattle.otc_check.specs.Laws.{EachCaseHasOneLeak, MarksAreOfLastAnnouncements, MarksAreOfRoutes};
-ghost use Rattle.otc_check.specs.Laws.{MarksGoWithPeers, MarksGoWithWithdrawals, OtherMarksStay};
+ghost use Rattle.otc_check.specs.Laws.{MarksGoOn, MarksGoWithPeers, MarksGoWithWithdrawals, OtherMarksStay};
 
 /// For every role, neighbour and attribute there is exactly one leak.
 pub fn each_case_has_one_leak()
@@ -24,4 +24,9 @@ pub fn marks_go_with_their_routes()
 /// Only keys that have a route have a mark: where that is so before some changes, it is so after them.
 pub fn marks_are_of_routes()
     ensures { MarksAreOfRoutes }
+{}
+
+/// The marks after many messages and records are those after all of their changes, each announcement with its own note.
+pub fn marks_go_on()
+    ensures { MarksGoOn }
 {}

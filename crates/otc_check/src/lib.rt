@@ -18,7 +18,7 @@ mod noting;
 mod procedure;
 
 pub use laws::{
-    each_case_has_one_leak, marks_are_of_last_announcements, marks_are_of_routes,
+    each_case_has_one_leak, marks_are_of_last_announcements, marks_are_of_routes, marks_go_on,
     marks_go_with_their_routes,
 };
 pub use leaks::Leak;

@@ -12,7 +12,7 @@ use std::alloc::Global;
 use std::marker::Model;
 
 /// The attribute Only-to-Customer of each route's last announcement (RFC 9234, section 5). Only routes that have the attribute are held,
-/// each as in a [`RouteMap`] with values of 8 bytes.
+/// each as in a [`RouteMap`] with values of 8 bytes: in a peer with many of them 13 bytes or so for IPv4, and some 700 for a peer's first.
 #[derive(Drop)]
 pub struct Marks {
     // none is `Absent`
@@ -67,8 +67,9 @@ impl Marks {
         }
     }
 
-    /// The marks after some changes, each announcement with its note; one that had none would count as without the attribute. Where no route has the attribute and no announcement has it, the work
-    /// doesn't grow with the changes. Else a change costs a look-up, and a peer's end costs one for each of its routes that have it.
+    /// The marks after some changes, each announcement with its note; one that had none would count as without the attribute. Where no
+    /// route has the attribute and no announcement has it, the work doesn't grow with the changes. Else a change costs a look-up, and a
+    /// peer's end costs one for each of its routes that have it.
     pub fn apply(mut self, noted: &Noted) -> Result<Marks, NoMemory>
         ensures { IfOk result (λ marks.
             marks ≡ noted_by noted.now.changes noted.now.notes self) }
