@@ -11,7 +11,8 @@
 //!
 //! `connection_calls` below asks a connection for PDUs and sends on it. `spelling` spells queries, `taking` takes PDUs one after another,
 //! `changing` makes what they change of the analysis and of the origin records, `working` performs what a line asks of a feed that goes on,
-//! `named` finds it by its name, `connecting` starts one, and `lines` writes what is reported. Lemmas for the proofs above are in `proofs/`: `LawLemmas`, `LostLemmas` and `TiedLemmas` for the laws.
+//! `named` finds it by its name, `connecting` starts one, and `lines` writes what is reported. Lemmas for the proofs above are in `proofs/`:
+//! `LawLemmas`, `LostLemmas` and `TiedLemmas` for the laws.
 #![tactic(auto)]
 
 mod changing;

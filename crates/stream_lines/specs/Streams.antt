@@ -22,8 +22,9 @@ pub record Dump : Type 0 where
   pub known : Known
   pub over : Bool
 
--- What a taken unit changes: the dump, the analysis, what the routes say of Only-to-Customer, the counts of passed units and refused lines, and how many judgements the units so far
--- may have cost: one for each route that was announced, and for a role that was learnt what a `role` line may cost.
+-- What a taken unit changes: the dump, the analysis, what the routes say of Only-to-Customer, the counts of passed units and refused
+-- lines, and how many judgements the units so far may have cost: one for each route that was announced, and for a role that was learnt
+-- what a `role` line may cost.
 pub record Taking : Type 0 where
   pub dump : Dump
   pub state : State

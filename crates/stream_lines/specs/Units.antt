@@ -77,7 +77,8 @@ record_cause faults.NoPeerTable = Some causes.NoPeerTable
 record_cause faults.PeerIndex = Some causes.PeerIndex
 record_cause faults.NoMemory = None
 
--- A record that reads so: its changes happen, with their notes; its peer table is that of the records behind it; or it is passed over. A refused one changes nothing.
+-- A record that reads so: its changes happen, with their notes; its peer table is that of the records behind it; or it is passed over. A
+-- refused one changes nothing.
 abbrev pub RecordSays : Option (List Peer) → Result RecordBody BodyFault → List ℕ → Coming → Type 0
 RecordSays peers (Ok (bodies.Peers table)) rest coming = coming ≡ comes (AUnit (Ok Note)) (Mrt (Some table)) rest
 RecordSays peers (Ok (bodies.Routes noted)) rest coming = coming ≡ comes (AUnit (Ok (Routes noted))) (Mrt peers) rest
@@ -107,8 +108,8 @@ abbrev pub learnt : Peer → Option Role → Effect
 learnt peer (Some role) = Learn peer.asn role
 learnt peer None = Note
 
--- A message that reads so: its changes happen, with their notes; the role of a peer that came up is learnt, and whether it identifies paths; or it is passed
--- over. A refused one changes nothing.
+-- A message that reads so: its changes happen, with their notes; the role of a peer that came up is learnt, and whether it identifies
+-- paths; or it is passed over. A refused one changes nothing.
 abbrev pub MessageSays : View → bmp.Identifying → Result MessageBody BmpFault → List ℕ → Coming → Type 0
 MessageSays view peers (Ok (sayings.Routes noted)) rest coming = coming ≡ comes (AUnit (Ok (Routes noted))) (Bmp view peers) rest
 MessageSays view peers (Ok (sayings.Up peer role paths)) rest coming = coming ≡ comes (AUnit (Ok (learnt peer role))) (Bmp view (noted peers peer paths)) rest

@@ -46,8 +46,8 @@ pub struct Progress {
     pub refused: u64,
 }
 
-/// Takes the next units of a dump, or all that come until it is over; then its file is let go at once. A refused unit is reported by a line. The text is held, and
-/// written in pieces. Each judgement is a step.
+/// Takes the next units of a dump, or all that come until it is over; then its file is let go at once. A refused unit is reported by a
+/// line. The text is held, and written in pieces. Each judgement is a step.
 pub fn take_units<F: Shelf, W: Sink, L: Ledger>(
     alloc: Global,
     dump: &mut OpenDump,
