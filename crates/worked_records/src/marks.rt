@@ -5,7 +5,7 @@ use crate::records::{DOWN, NET, NET6, ONE, SIX, WITHDRAWN};
 use Otc::{Absent, As};
 use av_base::NoMemory;
 use mrt_reader::{Body, Framer, read_body};
-use otc_check::Marks;
+use otc_check::{Marks, MarksIter};
 use path_model::{Addr, Key, Otc, Prefix};
 use std::alloc::Global;
 use std::process::Abort;
@@ -15,8 +15,8 @@ type Mark = (Addr, u8, Otc);
 
 const NEXT: Addr = Addr::V4(0xCB00_7100);
 
-// A record that makes changes, and the marks behind it, in key order.
-const STEPS: [(&str, [Mark; 3]); 5] = [
+// A record that makes changes, and what three routes have behind it, in key order.
+const STEPS: [(&str, [Mark; 3]); 4] = [
     // 2001:db8::/32 has the attribute, and then two others that come before it.
     (
         MARKED_SIX,
@@ -39,15 +39,10 @@ const STEPS: [(&str, [Mark; 3]); 5] = [
             (NET6, 32, As(64501)),
         ],
     ),
-    // 2001:db8::/32 is announced again without the attribute,
+    // and 2001:db8::/32 is announced again without the attribute.
     (
         SIX,
         [(NET, 24, Absent), (NEXT, 24, As(64500)), (NET6, 32, Absent)],
-    ),
-    // and the session ends.
-    (
-        DOWN,
-        [(NET, 24, Absent), (NEXT, 24, Absent), (NET6, 32, Absent)],
     ),
 ];
 
@@ -64,23 +59,26 @@ fn applied(rt: &impl Abort, alloc: Global, marks: Marks, text: &str) -> Result<M
     Ok(marks)
 }
 
-fn compare_marks(rt: &impl Abort, marks: &Marks, wants: &[Mark]) {
-    let mut found = marks.iter();
-    let mut none = true;
-    for (addr, len, want) in wants {
-        if let Some(prefix) = Prefix::new(*addr, *len) {
+// Whether the route has this mark, and comes next where it has one.
+fn is_marked(marks: &Marks, found: &mut MarksIter<'_>, want: &Mark) -> bool {
+    let (addr, len, otc) = *want;
+    match Prefix::new(addr, len) {
+        None => false,
+        Some(prefix) => {
             let peer = ONE;
             let path = None;
             let key = Key { peer, prefix, path };
-            assert_eq!(rt; marks.of(&key), *want);
-            if *want != Absent {
-                assert!(rt; found.next() == Some((key, *want)));
-                none = false;
-            }
+            marks.of(&key) == otc && (otc == Absent || found.next() == Some((key, otc)))
         }
     }
+}
+
+fn compare_marks(rt: &impl Abort, marks: &Marks, wants: &[Mark]) {
+    let mut found = marks.iter();
+    for want in wants {
+        assert!(rt; is_marked(marks, &mut found, want));
+    }
     assert!(rt; found.next().is_none());
-    assert_eq!(rt; marks.is_empty(), none);
 }
 
 #[test]
@@ -90,7 +88,12 @@ fn records_and_their_marks(rt: HostRuntime) -> Result<(), NoMemory> {
     assert!(&rt; marks.is_empty());
     for (text, wants) in STEPS {
         marks = applied(&rt, alloc, marks, text)?;
+        assert!(&rt; !marks.is_empty());
         compare_marks(&rt, &marks, &wants);
     }
+    // The session ends.
+    marks = applied(&rt, alloc, marks, DOWN)?;
+    assert!(&rt; marks.is_empty());
+    compare_marks(&rt, &marks, &[]);
     Ok(())
 }
