@@ -5,7 +5,7 @@ use crate::records::{DOWN, NET, NET6, ONE, SIX, WITHDRAWN};
 use Otc::{Absent, As};
 use av_base::NoMemory;
 use mrt_reader::{Body, Framer, read_body};
-use otc_check::{Marks, MarksIter};
+use otc_check::Marks;
 use path_model::{Addr, Key, Otc, Prefix};
 use std::alloc::Global;
 use std::process::Abort;
@@ -59,26 +59,44 @@ fn applied(rt: &impl Abort, alloc: Global, marks: Marks, text: &str) -> Result<M
     Ok(marks)
 }
 
-// Whether the route has this mark, and comes next where it has one.
-fn is_marked(marks: &Marks, found: &mut MarksIter<'_>, want: &Mark) -> bool {
+// Whether the route has this mark.
+fn is_marked(marks: &Marks, want: &Mark) -> bool {
     let (addr, len, otc) = *want;
     match Prefix::new(addr, len) {
         None => false,
         Some(prefix) => {
             let peer = ONE;
             let path = None;
-            let key = Key { peer, prefix, path };
-            marks.of(&key) == otc && (otc == Absent || found.next() == Some((key, otc)))
+            marks.of(&Key { peer, prefix, path }) == otc
         }
     }
 }
 
-fn compare_marks(rt: &impl Abort, marks: &Marks, wants: &[Mark]) {
-    let mut found = marks.iter();
-    for want in wants {
-        assert!(rt; is_marked(marks, &mut found, want));
+// How many routes have the attribute.
+fn number(marks: &Marks) -> usize {
+    let mut number = 0usize;
+    for _ in marks.iter() {
+        number = number.saturating_add(1);
     }
-    assert!(rt; found.next().is_none());
+    number
+}
+
+// How many of these do.
+fn wanted(wants: &[Mark]) -> usize {
+    let mut number = 0usize;
+    for want in wants {
+        if want.2 != Absent {
+            number = number.saturating_add(1);
+        }
+    }
+    number
+}
+
+fn compare_marks(rt: &impl Abort, marks: &Marks, wants: &[Mark]) {
+    for want in wants {
+        assert!(rt; is_marked(marks, want));
+    }
+    assert_eq!(rt; number(marks), wanted(wants));
 }
 
 #[test]
