@@ -1,0 +1,6 @@
+pub mod AddLemmas
+pub mod CountLemmas
+pub mod GatherLemmas
+pub mod HitLemmas
+pub mod SuspectLemmas
+pub mod TestLemmas
