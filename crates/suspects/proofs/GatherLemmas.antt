@@ -1,31 +1,19 @@
 -- What was gathered of the pairs so far.
-use Rattle.std.proofs.Common.{◌≡◌, ◌↔◌, ℕ, zero, suc, ◌+◌, ◌<◌, ◌≤◌, ◌^◌, Bool, true, false, cond, List, [], ◌∷◌, ◌++◌, length, refl, ap, sym, ◌∙◌, subst, arith, append_assoc}
-use Rattle.std.specs.Prelude.{Contains}
+use Rattle.std.proofs.Common.{◌≡◌, ℕ, zero, suc, ◌+◌, ◌<◌, ◌≤◌, ◌^◌, Bool, true, false, cond, List, [], ◌∷◌, ◌++◌, length, refl, ap, sym, ◌∙◌, subst, arith, append_assoc}
 use Rattle.std.specs.FinMap as fin
 use Rattle.std.specs.declared.option.Option.{Option}
 use Rattle.std.specs.declared.option.Option.TheVariants.{Some, None}
 use Rattle.std.proofs.lemmas.List.Sums.{count_by-le-length, sum_by-append, sum_by-cons, sum_by_push}
 use Rattle.path_model.specs.Authority.{Table}
-use Rattle.path_model.specs.Labelling.{direction_of}
 use Rattle.attestations.specs.ComputedTable.{table_of}
 use Rattle.rib_store.specs.Pairs.{ArePairs, Paired}
 use Rattle.rib_store.specs.State.{State}
 use Rattle.valleys.specs.declared.valley.Valley.{Valley}
-use Rattle.valleys.specs.Valleys.{HasValley}
 use Rattle.suspects.specs.declared.tally.Tally.{Tally}
-use Rattle.suspects.specs.Gathering.{AddsTo, HasRoom, IsBlocked, IsNoted, more, tally_at}
+use Rattle.suspects.specs.Gathering.{AddsTo, HasRoom, IsNoted, more, tally_at}
 use Rattle.suspects.proofs.CountLemmas.{any_hit, no_weight}
 use Rattle.suspects.proofs.HitLemmas.{hits, paths_of, routes_hit, routes_of, test}
 use Rattle.suspects.proofs.TestLemmas.{decided_noted, holds_so, so_holds}
-
--- what the distinct valleys of a blocked pair's path add
-pub noted_adds : (table : Table) (p : Paired) (list : List Valley) (chain : List ℕ) (old new : List (Valley × Tally)) → IsBlocked p.standing.witness
-    → chain ≡ p.standing.path.chain → ((v : Valley) → Contains list v ↔ HasValley table (direction_of p.standing.role) chain v)
-    → AddsTo (Contains list) p.routes old new → AddsTo (IsNoted table p) p.routes old new
-noted_adds table p list chain old new blocked same exact adds = record {
-  here = λ v noted. adds.here v ((exact v).1 (rw same noted.has));
-  others = λ v none. adds.others v (λ h. none (record { blocked = blocked; has = rw (← same) ((exact v).0 h) }));
-}
 
 -- the tally of so many routes over so many paths, if there is one
 abbrev pub tallied : ℕ → ℕ → Option Tally

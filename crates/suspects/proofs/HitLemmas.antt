@@ -74,7 +74,7 @@ entries_apart routes = keys_apart (keys_of (fin.entries routes)) (entries_in_ord
 -- ---- what a pair is noted for
 
 -- each current table is the computed one
-same_table : (parts : Parts) (table : Table) → IsCurrentTable parts table → table ≡ table_of parts
+pub same_table : (parts : Parts) (table : Table) → IsCurrentTable parts table → table ≡ table_of parts
 same_table parts table current =
     let one : HasOneTable parts = parts_have_one_table parts in
     λ i x. (one.only table current x ∙ sym (one.only (table_of parts) (table_is_current parts) x)) i

@@ -4,3 +4,4 @@ pub mod GatherLemmas
 pub mod HitLemmas
 pub mod SuspectLemmas
 pub mod TestLemmas
+pub mod UniqueLemmas

@@ -4,13 +4,15 @@
 //! ascending order, with the exact numbers of routes and of pairs of a peer AS and a path that have it (`specs/Suspects.antt`). It speaks of
 //! the routes whose printed witness is `Blocked` alone. Each pair is visited once, whatever number of routes has it, and nothing is judged.
 //!
-//! Begin reading in `specs/Suspects.antt`, and then in `gathering`.
+//! Begin reading in `specs/Suspects.antt`, and then in `gathering`. That no state has two lists of suspects is a law of `laws`.
 #![tactic(auto)]
 
 mod gathering;
+mod laws;
 mod list;
 mod tally;
 
 pub use gathering::suspects;
+pub use laws::no_state_has_two_lists_of_suspects;
 pub use list::Suspects;
 pub use tally::Tally;
