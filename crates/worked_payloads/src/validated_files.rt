@@ -103,9 +103,16 @@ fn reads_both_layouts(rt: HostRuntime) {
     assert!(rt; records_of(read(alloc, b"{\"roas\":[],\"aspas\":[]}")).is_some());
 }
 
+// Whether a file with these elements of `aspas` says this of 64496.
+fn attests_with(alloc: Global, aspas: &[u8], wanted: &[Wanted]) -> bool {
+    match with(alloc, aspas, b"") {
+        None => false,
+        Some(file) => attests(file, wanted),
+    }
+}
+
 #[test]
-fn reads_elements(rt: HostRuntime) {
-    let alloc = rt.alloc();
+fn reads_attestations(rt: HostRuntime) {
     let table: [(&[u8], &[Wanted]); 7] = [
         (b"", &[]),
         // `customer_asid` counts where both are there, whatever the other is; of members of one name the last counts.
@@ -137,11 +144,13 @@ fn reads_elements(rt: HostRuntime) {
         ),
     ];
     for (aspas, wanted) in table {
-        match with(alloc, aspas, b"") {
-            None => assert!(rt; false),
-            Some(file) => assert!(rt; attests(file, wanted)),
-        }
+        assert!(rt; attests_with(rt.alloc(), aspas, wanted));
     }
+}
+
+#[test]
+fn reads_records(rt: HostRuntime) {
+    let alloc = rt.alloc();
     let records: [(&[u8], u8, u32); 3] = [
         (b"{\"asn\":0,\"prefix\":\"192.0.2.0/24\"}", 24, 0),
         (
