@@ -27,7 +27,7 @@ pub record IsNumberOf {A : Type 0} (P : A → Type 0) (n : ℕ) : Type 0 where
   pub exact : (x : A) → Contains members x ↔ P x
   pub counted : n ≡ length members
 
--- In the role of the AS, the witness that is printed of the path from it is `Blocked`, and the path has the valley.
+-- In the role of the AS, the printed witness of the path from it is `Blocked`, so that no completion makes it valid, and it has the valley.
 pub record IsBlockedWith (table : Table) (roles : Relations) (valley : Valley) (asn : ℕ) (path : Path) : Type 0 where
   pub first : ℕ
   pub last : Option ℕ

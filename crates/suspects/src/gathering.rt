@@ -14,8 +14,8 @@ use std::alloc::Global;
 use valleys::valleys;
 use vap_table::Vaps;
 
-/// The valleys of the routes that are invalid by no completion, as their printed witness shows, each with how many have it. It visits each
-/// pair of a peer AS and a path once, looks up the two directions of its hops where that witness is `Blocked`, and judges nothing.
+/// The valleys of the routes whose printed witness is `Blocked`, so that no completion makes them valid, each with how many have it. It visits
+/// each pair of a peer AS and a path once, looks up each hop in both directions where the witness is `Blocked`, and judges nothing.
 pub fn suspects(alloc: Global, store: &RibStore) -> Result<Suspects, NoMemory>
     ensures { IfOk result (AreSuspects store.now.state) }
 {
