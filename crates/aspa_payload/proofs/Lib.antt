@@ -1,5 +1,5 @@
 mod AnswerLemmas
-mod AttestedLemmas
+pub mod AttestedLemmas
 mod ContentLemmas
 mod DecideLemmas
 pub mod FileLawLemmas

@@ -26,6 +26,7 @@ pub use laws::{
     each_attestation_has_one_payload, each_file_has_one_reading,
     each_file_of_lines_has_one_reading, one_payload_at_the_front, written_is_read_again,
 };
+pub use line::Dated;
 pub use lines::read_lines;
 pub use payload::Payload;
 pub use reading::read;

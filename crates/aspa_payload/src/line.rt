@@ -20,11 +20,13 @@ use base64::DecodeAllocError;
 use base64::engine::general_purpose::STANDARD;
 use std::alloc::Global;
 
-// A payload, and the moment at which what it attests ends, in seconds; where there is none it never ends.
+/// A payload, and the moment at which what it attests ends: what a line says, and what definitions of files of other kinds speak of.
 #[derive(Drop)]
-pub(crate) struct Dated {
-    pub(crate) payload: Payload,
-    pub(crate) until: Option<u32>,
+pub struct Dated {
+    /// The payload.
+    pub payload: Payload,
+    /// The moment of its end, in seconds; `None` is never.
+    pub until: Option<u32>,
 }
 
 // Reads one line that isn't empty. What its text decodes to is kept in the buffer.

@@ -12,15 +12,16 @@ use Rattle.origin_model.specs.Vrp.{Payload, IsPayload, payload_of}
 use Rattle.origin_model.proofs.ChangeLemmas.{set_of_all, set_of_all-in_order, set_of_all-same}
 use Rattle.any_prefix.specs.AnyPrefix.{IsAnyPrefixText}
 use Rattle.any_prefix.proofs.DecideLemmas.{SomeOrNone, prefix_or_none}
-use Rattle.slurm_rules.specs.Each.{Each}
+use Rattle.json_fields.specs.Each.{Each}
 use Rattle.slurm_rules.specs.Form.{Assertion, Form, PrefixAssertionText, PrefixFilterText}
 use Rattle.slurm_rules.specs.Numbers.{AreAssertions, ArePrefixAssertions, ContentIs, HasAsns, HasAssertedAsn, HasFilteredAsn, IsAsn, IsAsnIfThere, IsPrefixIfThere, IsFilterOf, IsMax, IsPayloadOf, Attests, IsContent}
 use Rattle.slurm_rules.specs.Answers.{Misses}
 use Rattle.slurm_rules.specs.declared.fault.SlurmFault.{SlurmFault}
 use Rattle.slurm_rules.specs.declared.fault.SlurmFault.TheVariants.{Json, Version, Member, Number, PrefixText, NoMemory}
 use Rattle.slurm_rules.specs.declared.slurm.Slurm.{Slurm}
-use Rattle.slurm_rules.proofs.DecideLemmas.{each_or_none, not_float, not_negative}
-use Rattle.slurm_rules.proofs.OneLemmas.{unsigned_injective, one_asn, one_max, one_prefix}
+use Rattle.json_fields.proofs.FoundLemmas.{each_or_none, not_float, not_negative}
+use Rattle.json_fields.proofs.FoundLemmas.{unsigned_injective}
+use Rattle.slurm_rules.proofs.OneLemmas.{one_asn, one_max, one_prefix}
 
 -- ---- the numbers
 
@@ -28,7 +29,7 @@ asn_by : (k : ℕ) (p : Bool) → ltb k (2 ^ 32) ≡ p → SomeOrNone (IsAsn (un
 asn_by k true e = inl (k, (refl, ltb-true _ _ e))
 asn_by k false e = inr (λ x h. let same = unsigned_injective k x h.0 in let small = h.1 in let big = ltb-false _ _ e in absurd (omega arith))
 
-asn_or_none : (n : Num) → SomeOrNone (IsAsn n)
+pub asn_or_none : (n : Num) → SomeOrNone (IsAsn n)
 asn_or_none (unsigned k) = asn_by k (ltb k (2 ^ 32)) refl
 asn_or_none (negative z) = inr (λ x h. not_negative z x h.0)
 asn_or_none (float y) = inr (λ x h. not_float y x h.0)
@@ -113,6 +114,13 @@ module _ (w : PrefixAssertionText) where
 payload_of_or_none : (w : PrefixAssertionText) → SomeOrNone (IsPayloadOf w)
 payload_of_or_none w = payload_prefix w (prefix_or_none w.prefix)
 
+payloads_by : (ws : List PrefixAssertionText) → SomeOrNone (Each IsPayloadOf ws) → SomeOrNone (ArePrefixAssertions ws)
+payloads_by ws (inr none) = inr (λ set h. none h.payloads h.each)
+payloads_by ws (inl vs) = inl (set_of_all vs.0, record { payloads = vs.0; each = vs.1; in_order = set_of_all-in_order vs.0; same = set_of_all-same vs.0 })
+
+pub payloads_or_none : (ws : List PrefixAssertionText) → SomeOrNone (ArePrefixAssertions ws)
+payloads_or_none ws = payloads_by ws (each_or_none IsPayloadOf payload_of_or_none ws)
+
 -- ---- the content
 
 filtered_or_none : (w : PrefixFilterText) → SomeOrNone (HasFilteredAsn w)
@@ -143,23 +151,23 @@ asns_or_not form =
     asns_by form (each_or_none IsAsn asn_or_none form.filters.customers) (each_or_none Attests attests_or_none form.assertions.attestations)
     (each_or_none HasFilteredAsn filtered_or_none form.filters.prefixes) (each_or_none HasAssertedAsn asserted_or_none form.assertions.prefixes)
 
-content_by : (form : Form) → HasAsns form → SomeOrNone (Each IsFilterOf form.filters.prefixes) → SomeOrNone (Each IsPayloadOf form.assertions.prefixes) → SomeOrNone (IsContent form)
+content_by : (form : Form) → HasAsns form → SomeOrNone (Each IsFilterOf form.filters.prefixes) → SomeOrNone (ArePrefixAssertions form.assertions.prefixes) → SomeOrNone (IsContent form)
 content_by form has (inr none) xs = inr (λ slurm h. none slurm.prefix_filters h.prefix_filters)
-content_by form has (inl fs) (inr none) = inr (λ slurm h. none h.prefix_assertions.payloads h.prefix_assertions.each)
+content_by form has (inl fs) (inr none) = inr (λ slurm h. none slurm.prefix_assertions h.prefix_assertions)
 content_by form has (inl fs) (inl xs) =
     let u = some_union has.attestations in
     inl (
-      record { filters = ascending_of has.customers; assertions = u.0; prefix_filters = fs.0; prefix_assertions = set_of_all xs.0 },
+      record { filters = ascending_of has.customers; assertions = u.0; prefix_filters = fs.0; prefix_assertions = xs.0 },
       record {
         filters = record { asns = has.customers; each = has.are_customers; is_set = some_set has.customers };
         assertions = record { attestations = has.attestations; each = has.are_attested; united = u.1 };
         prefix_filters = fs.1;
-        prefix_assertions = record { payloads = xs.0; each = xs.1; in_order = set_of_all-in_order xs.0; same = set_of_all-same xs.0 };
+        prefix_assertions = xs.1;
       },
     )
 
 pub content_or_none : (form : Form) → HasAsns form → SomeOrNone (IsContent form)
-content_or_none form has = content_by form has (each_or_none IsFilterOf filter_of_or_none form.filters.prefixes) (each_or_none IsPayloadOf payload_of_or_none form.assertions.prefixes)
+content_or_none form has = content_by form has (each_or_none IsFilterOf filter_of_or_none form.filters.prefixes) (payloads_or_none form.assertions.prefixes)
 
 -- ---- what comes to something has AS numbers
 

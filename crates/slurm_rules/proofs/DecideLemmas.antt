@@ -1,48 +1,16 @@
 -- Any tree has a form, or none.
-use Rattle.std.proofs.Common.{◌≡◌, ℕ, ◌⊎◌, inl, inr, Bool, true, false, ◌||◌, eqb, List, [], ◌∷◌, Option, Some, None, is_some, codes, refl, ap, ◌∙◌, subst}
+use Rattle.std.proofs.Common.{◌≡◌, ℕ, ◌⊎◌, inl, inr, Bool, true, false, ◌||◌, eqb, List, [], ◌∷◌, Option, Some, is_some, codes, refl, ap, ◌∙◌}
 use Rattle.std.proofs.lemmas.Bool.{eqb-true, eqb-false}
 use Rattle.serde_json.specs.Data.{Num, unsigned, negative, float, Data}
-use Rattle.serde_json.specs.Find.{get, as_number}
 use Rattle.any_prefix.proofs.DecideLemmas.{SomeOrNone}
-use Rattle.slurm_rules.specs.Each.{Each}
-use Rattle.slurm_rules.specs.Object.{number_at, number_if_there, text_if_there, array_at, may_have_text, has_only, are_arrays}
-use Rattle.slurm_rules.specs.Form.{IsNumber, IsFilter, IsAssertion, IsPrefixAssertion, IsPrefixFilter, HasArrays, ArrayIs, IsFilterPart, IsAssertionPart, MemberIs, IsFile}
+use Rattle.json_fields.specs.Object.{number_at, number_if_there, text_if_there, may_have_text, has_only, are_arrays}
+use Rattle.json_fields.specs.Object.{IsNumber, ArrayIs, MemberIs}
+use Rattle.json_fields.proofs.FoundLemmas.{clash, found_or_none, there_or_none, number_or_none, array_or_none, member_or_none, not_negative, not_float}
+use Rattle.slurm_rules.specs.Form.{IsFilter, IsAssertion, IsPrefixAssertion, IsPrefixFilter, HasArrays, IsFilterPart, IsAssertionPart, IsFile}
 use Rattle.slurm_rules.specs.Reading.{HasVersion}
 use Rattle.slurm_rules.specs.declared.draft.Version.{Version}
 use Rattle.slurm_rules.specs.declared.draft.Version.TheVariants.{One, Two}
-use Rattle.slurm_rules.proofs.OneLemmas.{same_some, unsigned_injective}
-
-pub none_found : {A : Type 0} (o : Option A) (a : A) → o ≡ None → o ≡ Some a → ⊥
-none_found o a e f = cc
-
-pub clash : (b : Bool) → b ≡ true → b ≡ false → ⊥
-clash b e f = cc
-
-each_head : {D A : Type 0} (R : D → A → Type 0) (d : D) (ds : List D) (xs : List A) → ((a : A) → R d a → ⊥)
-    → Each R (d ∷ ds) xs → ⊥
-each_head R d ds [] none e = e
-each_head R d ds (x ∷ xs) none e = none x e.0
-
-each_tail : {D A : Type 0} (R : D → A → Type 0) (d : D) (ds : List D) (xs : List A) → ((more : List A) → Each R ds more → ⊥)
-    → Each R (d ∷ ds) xs → ⊥
-each_tail R d ds [] none e = e
-each_tail R d ds (x ∷ xs) none e = none xs e.1
-
-each_cons : {D A : Type 0} (R : D → A → Type 0) (d : D) (ds : List D) → SomeOrNone (R d) → SomeOrNone (Each R ds)
-    → SomeOrNone (Each R (d ∷ ds))
-each_cons R d ds (inl h) (inl more) = inl (h.0 ∷ more.0, (h.1, more.1))
-each_cons R d ds (inl h) (inr none) = inr (λ xs e. each_tail R d ds xs none e)
-each_cons R d ds (inr none) more = inr (λ xs e. each_head R d ds xs none e)
-
-pub each_or_none : {D A : Type 0} (R : D → A → Type 0) → ((d : D) → SomeOrNone (R d)) → (ds : List D) → SomeOrNone (Each R ds)
-each_or_none R dec [] = inl ([], tt)
-each_or_none R dec (d ∷ ds) = each_cons R d ds (dec d) (each_or_none R dec ds)
-
--- ---- the form
-
-found_or_none : {A : Type 0} (o : Option A) → SomeOrNone (λ a. o ≡ Some a)
-found_or_none None = inr (λ a e. none_found None a refl e)
-found_or_none (Some a) = inl (a, refl)
+use Rattle.json_fields.proofs.FoundLemmas.{same_some, unsigned_injective}
 
 filter_by : (d : Data) (p q : Bool) → has_only (codes "comment" ∷ codes "customerAsn" ∷ []) d ≡ p
     → may_have_text (codes "comment") d ≡ q → SomeOrNone (λ n. number_at (codes "customerAsn") d ≡ Some n)
@@ -54,22 +22,6 @@ filter_by d true true e f (inr none) = inr (λ a h. none a h.names)
 
 filter_or_none : (d : Data) → SomeOrNone (IsFilter d)
 filter_or_none d = filter_by d (has_only (codes "comment" ∷ codes "customerAsn" ∷ []) d) (may_have_text (codes "comment") d) refl refl (found_or_none (number_at (codes "customerAsn") d))
-
-number_or_none : (d : Data) → SomeOrNone (IsNumber d)
-number_or_none d = found_or_none (as_number d)
-
-array_by : {A : Type 0} (R : Data → A → Type 0) → ((d : Data) → SomeOrNone (R d)) → (name : List ℕ) (d : Data)
-    → SomeOrNone (λ items. array_at name d ≡ Some items) → SomeOrNone (ArrayIs R name d)
-array_by {A = A} R dec name d (inr none) = inr (λ list h. none h.items h.is)
-array_by {A = A} R dec name d (inl items) = by (each_or_none R dec items.0)
-  where
-    by : SomeOrNone (Each R items.0) → SomeOrNone (ArrayIs R name d)
-    by (inl list) = inl (list.0, record { items = items.0; is = items.1; each = list.1 })
-    by (inr none) = inr (λ list h. none list (subst (λ (ds : List Data). Each R ds list) (same_some _ h.items items.0 h.is items.1) h.each))
-
-array_or_none : {A : Type 0} (R : Data → A → Type 0) → ((d : Data) → SomeOrNone (R d)) → (name : List ℕ) (d : Data)
-    → SomeOrNone (ArrayIs R name d)
-array_or_none R dec name d = array_by R dec name d (found_or_none (array_at name d))
 
 -- the array of providers of an assertion
 assertion_by : (d : Data) (p q : Bool) → has_only (codes "comment" ∷ codes "customerAsn" ∷ codes "providerAsns" ∷ []) d ≡ p
@@ -109,15 +61,6 @@ prefix_filter_by d true true e f (inl g) (inl h) = prefix_filter_with d g.0 h.0 
 prefix_filter_or_none : (d : Data) → SomeOrNone (IsPrefixFilter d)
 prefix_filter_or_none d = prefix_filter_by d (has_only (codes "asn" ∷ codes "comment" ∷ codes "prefix" ∷ []) d) (may_have_text (codes "comment") d) refl refl
     (found_or_none (text_if_there (codes "prefix") d)) (found_or_none (number_if_there (codes "asn") d))
-
-none_within : {A : Type 0} (o : Option (Option A)) (a : A) → o ≡ Some None → o ≡ Some (Some a) → ⊥
-none_within o a e f = cc
-
--- the member is there and of its kind
-there_or_none : {A : Type 0} (o : Option (Option A)) → SomeOrNone (λ x. o ≡ Some (Some x))
-there_or_none None = inr (λ x e. none_found None (Some x) refl e)
-there_or_none (Some None) = inr (λ x e. none_within (Some None) x refl e)
-there_or_none (Some (Some x)) = inl (x, refl)
 
 prefix_assertion_by : (d : Data) (p q : Bool) → has_only (codes "asn" ∷ codes "comment" ∷ codes "maxPrefixLength" ∷ codes "prefix" ∷ []) d ≡ p → may_have_text (codes "comment") d ≡ q
     → SomeOrNone (λ x. text_if_there (codes "prefix") d ≡ Some (Some x)) → SomeOrNone (λ x. number_if_there (codes "asn") d ≡ Some (Some x))
@@ -178,19 +121,6 @@ assertions_or_none Two d = both_parts (HasArrays (codes "aspaAssertions" ∷ cod
     (λ a b p q r. (p, q, r)) (λ c t. t.0) (λ c t. (c.attestations, t.1)) (λ c t. (c.prefixes, t.2))
     (arrays_or_not _ d) (array_or_none IsAssertion assertion_or_none (codes "aspaAssertions") d) (array_or_none IsPrefixAssertion prefix_assertion_or_none (codes "prefixAssertions") d)
 
-member_by : {A : Type 0} (R : Data → A → Type 0) → ((d : Data) → SomeOrNone (R d)) → (name : List ℕ) (d : Data)
-    → SomeOrNone (λ m. get name d ≡ Some m) → SomeOrNone (MemberIs R name d)
-member_by {A = A} R dec name d (inr none) = inr (λ a h. none h.member h.is)
-member_by {A = A} R dec name d (inl m) = by (dec m.0)
-  where
-    by : SomeOrNone (R m.0) → SomeOrNone (MemberIs R name d)
-    by (inl a) = inl (a.0, record { member = m.0; is = m.1; holds = a.1 })
-    by (inr none) = inr (λ a h. none a (subst (λ (x : Data). R x a) (same_some _ h.member m.0 h.is m.1) h.holds))
-
-member_or_none : {A : Type 0} (R : Data → A → Type 0) → ((d : Data) → SomeOrNone (R d)) → (name : List ℕ) (d : Data)
-    → SomeOrNone (MemberIs R name d)
-member_or_none R dec name d = member_by R dec name d (found_or_none (get name d))
-
 file_by : (version : Version) (d : Data) (p : Bool)
     → has_only (codes "locallyAddedAssertions" ∷ codes "slurmVersion" ∷ codes "validationOutputFilters" ∷ []) d ≡ p
     → SomeOrNone (MemberIs (IsFilterPart version) (codes "validationOutputFilters") d)
@@ -221,12 +151,6 @@ version_one : (tree : Data) (k : ℕ) (p : Bool) → number_at (codes "slurmVers
     → SomeOrNone (λ v. HasVersion v tree)
 version_one tree k true e f = inl (One, e ∙ ap (λ (n : ℕ). Some (unsigned n)) (eqb-true k 1 f))
 version_one tree k false e f = version_two tree k (eqb k 2) e (eqb-false k 1 f) refl
-
-pub not_negative : (z : _) (k : ℕ) → negative z ≡ unsigned k → ⊥
-not_negative z k e = cc
-
-pub not_float : (x : _) (k : ℕ) → float x ≡ unsigned k → ⊥
-not_float x k e = cc
 
 version_by : (tree : Data) → SomeOrNone (λ n. number_at (codes "slurmVersion") tree ≡ Some n)
     → SomeOrNone (λ v. HasVersion v tree)

@@ -4,9 +4,10 @@ use Rattle.std.specs.declared.alloc.Global.{Global}
 use Rattle.serde_json.specs.Data.{Num, Data}
 use Rattle.serde_json.specs.Find.{get}
 use Rattle.serde_json.specs.declared.number.Number.{Number}
-use Rattle.slurm_rules.specs.Form.{Assertion, Assertions, Filters, PrefixAssertionText, PrefixFilterText, IsNumber, IsAssertion, IsAssertionPart, IsFilter, IsFilterPart, IsPrefixAssertion, IsPrefixFilter, ArrayIs, MemberIs, drafts_view, numbers_view, prefix_assertions_view, prefix_filters_view}
+use Rattle.json_fields.specs.Object.{IsNumber, ArrayIs, MemberIs}
+use Rattle.slurm_rules.specs.Form.{Assertion, Assertions, Filters, PrefixAssertionText, PrefixFilterText, IsAssertion, IsAssertionPart, IsFilter, IsFilterPart, IsPrefixAssertion, IsPrefixFilter, drafts_view, numbers_view, prefix_assertions_view, prefix_filters_view}
 use Rattle.slurm_rules.specs.Kept.{AssertionIs, AssertionPartAt, AssertionPartIs, FilterPartAt, FilterPartIs}
-use Rattle.slurm_rules.specs.Tokens.{Holds}
+use Rattle.json_fields.specs.Tokens.{Holds}
 use Rattle.slurm_rules.specs.declared.draft.Version.{Version}
 use Rattle.slurm_rules.specs.declared.element.AssertionFields.{AssertionFields}
 use Rattle.slurm_rules.specs.declared.part.AssertionPart.{AssertionPart}

@@ -1,31 +1,28 @@
 -- Each file has one reading.
-use Rattle.std.proofs.Common.{◌≡◌, ℕ, ◌⊎◌, inl, inr, Bool, true, false, List, Option, Some, None, refl, sym, ap, subst}
+use Rattle.std.proofs.Common.{◌≡◌, ℕ, ◌⊎◌, inl, inr, List, refl, sym, ap, subst}
 use Rattle.std.proofs.Common.{arith}
-use Rattle.std.specs.Str.{is_utf8}
-use Rattle.std.proofs.lemmas.Str.{IsUtf8-from_is_utf8, is_utf8-from_IsUtf8}
 use Rattle.std.specs.declared.result.Result.{Result}
 use Rattle.std.specs.declared.result.Result.TheVariants.{Ok, Err}
 use Rattle.serde_json.specs.Data.{Data, unsigned}
-use Rattle.serde_json.specs.Read.{read}
 use Rattle.av_base.specs.One.{HasOne}
 use Rattle.slurm_rules.specs.Form.{Form, IsFile}
 use Rattle.slurm_rules.specs.Numbers.{HasAsns, IsContent}
-use Rattle.slurm_rules.specs.Reading.{IsTree, HasVersion, IsVersioned, IsFormed, IsReading}
+use Rattle.json_fields.specs.Tree.{IsTree}
+use Rattle.json_fields.proofs.TreeLemmas.{one_tree, tree_or_none}
+use Rattle.slurm_rules.specs.Reading.{HasVersion, IsVersioned, IsFormed, IsReading}
 use Rattle.slurm_rules.specs.Laws.{EachFileHasOneReading}
 use Rattle.slurm_rules.specs.declared.slurm.Slurm.{Slurm}
 use Rattle.slurm_rules.specs.declared.draft.Version.{Version as SlurmVersion}
 use Rattle.slurm_rules.specs.declared.draft.Version.TheVariants.{One, Two}
 use Rattle.slurm_rules.specs.declared.fault.SlurmFault.{SlurmFault}
 use Rattle.slurm_rules.specs.declared.fault.SlurmFault.TheVariants.{Json, Version, Member, Number, PrefixText, NoMemory}
-use Rattle.slurm_rules.proofs.OneLemmas.{same_some, unsigned_injective, one_form, one_content}
+use Rattle.json_fields.proofs.FoundLemmas.{same_some, unsigned_injective}
+use Rattle.slurm_rules.proofs.OneLemmas.{one_form, one_content}
 use Rattle.any_prefix.proofs.DecideLemmas.{SomeOrNone}
 use Rattle.slurm_rules.proofs.ContentLemmas.{asns_or_not, content_asns, content_or_none}
-use Rattle.slurm_rules.proofs.DecideLemmas.{clash, none_found, version_or_none, file_or_none}
+use Rattle.slurm_rules.proofs.DecideLemmas.{version_or_none, file_or_none}
 
 -- ---- each step is determined
-
-one_tree : (bytes : List ℕ) (t u : Data) → IsTree bytes t → IsTree bytes u → t ≡ u
-one_tree bytes t u h k = same_some (read bytes) t u h.1 k.1
 
 one_version : (tree : Data) (v w : SlurmVersion) → HasVersion v tree → HasVersion w tree → v ≡ w
 one_version tree One One h k = refl
@@ -150,14 +147,9 @@ module _ (bytes : List ℕ) (t : Data) (tree : IsTree bytes t) where
 
 -- ---- the tree
 
-tree_or_none : (bytes : List ℕ) (b : Bool) (o : Option Data) → is_utf8 bytes ≡ b → read bytes ≡ o → SomeOrNone (IsTree bytes)
-tree_or_none bytes false o e f = inr (λ t h. clash _ (is_utf8-from_IsUtf8 bytes h.0) e)
-tree_or_none bytes true None e f = inr (λ t h. none_found (read bytes) t f h.1)
-tree_or_none bytes true (Some t) e f = inl (t, (IsUtf8-from_is_utf8 bytes e, f))
-
 by_tree : (bytes : List ℕ) → SomeOrNone (IsTree bytes) → HasOne (IsReading bytes)
 by_tree bytes (inl t) = by_version bytes t.0 t.1 (version_or_none t.0)
 by_tree bytes (inr none) = record { one = Err Json; is = none; only = only_json bytes none }
 
 pub each_file : EachFileHasOneReading
-each_file bytes = by_tree bytes (tree_or_none bytes (is_utf8 bytes) (read bytes) refl refl)
+each_file bytes = by_tree bytes (tree_or_none bytes)

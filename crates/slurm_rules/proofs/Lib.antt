@@ -1,13 +1,8 @@
-mod ContentLemmas
+pub mod ContentLemmas
 mod DecideLemmas
 mod EachLemmas
 pub mod LawLemmas
-mod FaultLemmas
 mod KeptLemmas
-mod ListsLemmas
 mod NumbersLemmas
-mod ObjectLemmas
-mod OneLemmas
+pub mod OneLemmas
 mod PrefixesLemmas
-mod TokensLemmas
-mod TurnsLemmas

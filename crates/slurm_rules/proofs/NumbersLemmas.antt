@@ -5,11 +5,11 @@ use Rattle.std.specs.FinMap as map
 use Rattle.path_model.specs.Rows.{RowMap, AreSetsOf, row_or_empty}
 use Rattle.path_model.specs.Union.{Attestation}
 use Rattle.path_model.proofs.UnionLemmas.{IsGathered, gathered_start, gathered_next, united_by}
-use Rattle.slurm_rules.specs.Each.{Each}
+use Rattle.json_fields.specs.Each.{Each}
 use Rattle.slurm_rules.specs.Form.{assertion_view}
 use Rattle.slurm_rules.specs.Numbers.{Attests, AreAssertions}
 use Rattle.slurm_rules.specs.declared.draft.DraftAssertion.{DraftAssertion}
-use Rattle.slurm_rules.proofs.EachLemmas.{each_next}
+use Rattle.json_fields.proofs.EachLemmas.{each_next}
 
 -- what the first assertions attest is gathered
 pub record Gathering (assertions : List DraftAssertion) (i : ℕ) (gathered : RowMap) : Type 0 where

@@ -1,9 +1,8 @@
 -- A tree has one form, and a form comes to one thing.
-use Rattle.std.proofs.Common.{◌≡◌, ℕ, List, [], ◌∷◌, Option, Some, None, codes, refl, sym, ap, ◌∙◌, subst}
-use Rattle.std.proofs.lemmas.Option.{same_Some}
+use Rattle.std.proofs.Common.{◌≡◌, ℕ, List, Option, Some, None, codes, refl, sym, ap, ◌∙◌, subst}
 use Rattle.serde_json.specs.Data.{Num, unsigned, Data}
-use Rattle.slurm_rules.specs.Each.{Each}
-use Rattle.slurm_rules.specs.Object.{number_if_there, text_if_there}
+use Rattle.json_fields.specs.Each.{Each}
+use Rattle.json_fields.specs.Object.{number_if_there, text_if_there}
 use Rattle.std.specs.BTreeSet.{BTreeSet}
 use Rattle.std.proofs.lemmas.Map.Lookups.{btree_set_from_contains}
 use Rattle.path_model.specs.Prefix.{Subnet, prefix_of}
@@ -13,7 +12,9 @@ use Rattle.origin_model.specs.VrpSet.{has}
 use Rattle.origin_model.proofs.PayloadLemmas.{payload_exact}
 use Rattle.any_prefix.specs.AnyPrefix.{IsAnyPrefixText}
 use Rattle.any_prefix.proofs.UniqueLemmas.{prefix_made, prefix_parts}
-use Rattle.slurm_rules.specs.Form.{Assertion, Assertions, Filters, Form, PrefixAssertionText, PrefixFilterText, IsNumber, IsFilter, IsAssertion, IsPrefixAssertion, IsPrefixFilter, ArrayIs, IsFilterPart, IsAssertionPart, MemberIs, IsFile}
+use Rattle.json_fields.specs.Object.{IsNumber}
+use Rattle.slurm_rules.specs.Form.{Assertion, Assertions, Filters, Form, PrefixAssertionText, PrefixFilterText, IsFilter, IsAssertion, IsPrefixAssertion, IsPrefixFilter, IsFilterPart, IsAssertionPart, IsFile}
+use Rattle.json_fields.proofs.FoundLemmas.{same_some, unsigned_injective, same_each, same_array, same_member}
 use Rattle.path_model.specs.Sets.{IsSetOf}
 use Rattle.path_model.specs.Rows.{RowMap}
 use Rattle.path_model.specs.Union.{Attestation}
@@ -24,41 +25,11 @@ use Rattle.slurm_rules.specs.declared.slurm.Slurm.{Slurm}
 use Rattle.slurm_rules.specs.declared.draft.Version.{Version}
 use Rattle.slurm_rules.specs.declared.draft.Version.TheVariants.{One, Two}
 
-pub unsigned_injective : (x y : ℕ) → unsigned x ≡ unsigned y → x ≡ y
-unsigned_injective x y e = cc
-
-pub same_some : {A : Type 0} (o : Option A) (a b : A) → o ≡ Some a → o ≡ Some b → a ≡ b
-same_some {A = A} o a b e f = let both : ◌≡◌ {A = Option A} (Some a) (Some b) = sym e ∙ f in same_Some a b both
-
-each_same : {D A : Type 0} (R : D → A → Type 0) → ((d : D) (a b : A) → R d a → R d b → a ≡ b)
-    → (ds : List D) (xs ys : List A) → Each R ds xs → Each R ds ys → xs ≡ ys
-each_same R one [] [] [] e f = refl
-each_same R one [] [] (y ∷ ys) e f = absurd f
-each_same R one [] (x ∷ xs) ys e f = absurd e
-each_same R one (d ∷ ds) [] ys e f = absurd e
-each_same R one (d ∷ ds) (x ∷ xs) [] e f = absurd f
-each_same R one (d ∷ ds) (x ∷ xs) (y ∷ ys) e f =
-    let head : x ≡ y = one d x y e.0 f.0 in
-    let tail : xs ≡ ys = each_same R one ds xs ys e.1 f.1 in
-    λ i. head i ∷ tail i
-
-array_same : {A : Type 0} (R : Data → A → Type 0) → ((d : Data) (a b : A) → R d a → R d b → a ≡ b)
-    → (name : List ℕ) (d : Data) (xs ys : List A) → ArrayIs R name d xs → ArrayIs R name d ys → xs ≡ ys
-array_same R one name d xs ys s t =
-    let same : s.items ≡ t.items = same_some _ s.items t.items s.is t.is in
-    each_same R one t.items xs ys (subst (λ (ds : List Data). Each R ds xs) same s.each) t.each
-
-member_same : {A : Type 0} (R : Data → A → Type 0) → ((d : Data) (a b : A) → R d a → R d b → a ≡ b)
-    → (name : List ℕ) (d : Data) (x y : A) → MemberIs R name d x → MemberIs R name d y → x ≡ y
-member_same R one name d x y s t =
-    let same : s.member ≡ t.member = same_some _ s.member t.member s.is t.is in
-    one t.member x y (subst (λ (m : Data). R m x) same s.holds) t.holds
-
 one_assertion : (d : Data) (a b : Assertion) → IsAssertion d a → IsAssertion d b → a ≡ b
 one_assertion d a b s t =
     let customers : a.customer ≡ b.customer = same_some _ a.customer b.customer s.names t.names in
     let arrays : s.providers ≡ t.providers = same_some _ s.providers t.providers s.attests t.attests in
-    let lists : a.providers ≡ b.providers = each_same IsNumber (λ x m n p q. same_some _ m n p q) t.providers a.providers b.providers (subst (λ (ds : List Data). Each IsNumber ds a.providers) arrays s.numbers) t.numbers in
+    let lists : a.providers ≡ b.providers = same_each IsNumber (λ x m n p q. same_some _ m n p q) t.providers a.providers b.providers (subst (λ (ds : List Data). Each IsNumber ds a.providers) arrays s.numbers) t.numbers in
     λ i. record { customer = customers i; providers = lists i }
 
 one_prefix_filter : (d : Data) (a b : PrefixFilterText) → IsPrefixFilter d a → IsPrefixFilter d b → a ≡ b
@@ -77,27 +48,27 @@ one_prefix_assertion d a b s t =
 one_filter_part : (version : Version) (d : Data) (xs ys : Filters) → IsFilterPart version d xs → IsFilterPart version d ys → xs ≡ ys
 one_filter_part One d xs ys s t =
     let customers : xs.customers ≡ ys.customers = s.1 ∙ sym t.1 in
-    let prefixes : xs.prefixes ≡ ys.prefixes = array_same IsPrefixFilter one_prefix_filter _ d xs.prefixes ys.prefixes s.2 t.2 in
+    let prefixes : xs.prefixes ≡ ys.prefixes = same_array IsPrefixFilter one_prefix_filter _ d xs.prefixes ys.prefixes s.2 t.2 in
     λ i. record { customers = customers i; prefixes = prefixes i }
 one_filter_part Two d xs ys s t =
-    let customers : xs.customers ≡ ys.customers = array_same IsFilter (λ x m n p q. same_some _ m n p.names q.names) _ d xs.customers ys.customers s.1 t.1 in
-    let prefixes : xs.prefixes ≡ ys.prefixes = array_same IsPrefixFilter one_prefix_filter _ d xs.prefixes ys.prefixes s.2 t.2 in
+    let customers : xs.customers ≡ ys.customers = same_array IsFilter (λ x m n p q. same_some _ m n p.names q.names) _ d xs.customers ys.customers s.1 t.1 in
+    let prefixes : xs.prefixes ≡ ys.prefixes = same_array IsPrefixFilter one_prefix_filter _ d xs.prefixes ys.prefixes s.2 t.2 in
     λ i. record { customers = customers i; prefixes = prefixes i }
 
 one_assertion_part : (version : Version) (d : Data) (xs ys : Assertions) → IsAssertionPart version d xs → IsAssertionPart version d ys → xs ≡ ys
 one_assertion_part One d xs ys s t =
     let attestations : xs.attestations ≡ ys.attestations = s.1 ∙ sym t.1 in
-    let prefixes : xs.prefixes ≡ ys.prefixes = array_same IsPrefixAssertion one_prefix_assertion _ d xs.prefixes ys.prefixes s.2 t.2 in
+    let prefixes : xs.prefixes ≡ ys.prefixes = same_array IsPrefixAssertion one_prefix_assertion _ d xs.prefixes ys.prefixes s.2 t.2 in
     λ i. record { attestations = attestations i; prefixes = prefixes i }
 one_assertion_part Two d xs ys s t =
-    let attestations : xs.attestations ≡ ys.attestations = array_same IsAssertion one_assertion _ d xs.attestations ys.attestations s.1 t.1 in
-    let prefixes : xs.prefixes ≡ ys.prefixes = array_same IsPrefixAssertion one_prefix_assertion _ d xs.prefixes ys.prefixes s.2 t.2 in
+    let attestations : xs.attestations ≡ ys.attestations = same_array IsAssertion one_assertion _ d xs.attestations ys.attestations s.1 t.1 in
+    let prefixes : xs.prefixes ≡ ys.prefixes = same_array IsPrefixAssertion one_prefix_assertion _ d xs.prefixes ys.prefixes s.2 t.2 in
     λ i. record { attestations = attestations i; prefixes = prefixes i }
 
 pub one_form : (version : Version) (tree : Data) (f g : Form) → IsFile version tree f → IsFile version tree g → f ≡ g
 one_form version tree f g s t =
-    let filters : f.filters ≡ g.filters = member_same (IsFilterPart version) (one_filter_part version) _ tree f.filters g.filters s.filters t.filters in
-    let assertions : f.assertions ≡ g.assertions = member_same (IsAssertionPart version) (one_assertion_part version) _ tree f.assertions g.assertions s.assertions t.assertions in
+    let filters : f.filters ≡ g.filters = same_member (IsFilterPart version) (one_filter_part version) _ tree f.filters g.filters s.filters t.filters in
+    let assertions : f.assertions ≡ g.assertions = same_member (IsAssertionPart version) (one_assertion_part version) _ tree f.assertions g.assertions s.assertions t.assertions in
     λ i. record { filters = filters i; assertions = assertions i }
 
 pub one_asn : (n : Num) (x y : ℕ) → IsAsn n x → IsAsn n y → x ≡ y
@@ -106,18 +77,18 @@ one_asn n x y s t = let both : unsigned x ≡ unsigned y = sym s.0 ∙ t.0 in un
 one_attestation : (a : Assertion) (x y : Attestation) → Attests a x → Attests a y → x ≡ y
 one_attestation a x y s t =
     let customers : x.customer ≡ y.customer = one_asn a.customer x.customer y.customer s.customer t.customer in
-    let lists : x.providers ≡ y.providers = each_same IsAsn one_asn a.providers x.providers y.providers s.providers t.providers in
+    let lists : x.providers ≡ y.providers = same_each IsAsn one_asn a.providers x.providers y.providers s.providers t.providers in
     λ i. record { customer = customers i; providers = lists i }
 
 one_filters : (numbers : List Num) (xs ys : List ℕ) → AreFilters numbers xs → AreFilters numbers ys → xs ≡ ys
 one_filters numbers xs ys s t =
-    let same = each_same IsAsn one_asn numbers s.asns t.asns s.each t.each in
+    let same = same_each IsAsn one_asn numbers s.asns t.asns s.each t.each in
     one_set t.asns xs ys (subst (λ (list : List ℕ). IsSetOf list xs) same s.is_set) t.is_set
 
 one_assertions : (assertions : List Assertion) (rows others : RowMap) → AreAssertions assertions rows
     → AreAssertions assertions others → rows ≡ others
 one_assertions assertions rows others s t =
-    let same = each_same Attests one_attestation assertions s.attestations t.attestations s.each t.each in
+    let same = same_each Attests one_attestation assertions s.attestations t.attestations s.each t.each in
     one_union t.attestations rows others (subst (λ (list : List Attestation). AreUnited list rows) same s.united) t.united
 
 -- ---- prefixes
@@ -163,15 +134,15 @@ one_payload_of w v u s t =
 abbrev set_of : List Payload → BTreeSet Payload
 set_of payloads = record { keys = payloads }
 
-one_payload_set : (written : List PrefixAssertionText) (a b : List Payload) → ArePrefixAssertions written a → ArePrefixAssertions written b → a ≡ b
+pub one_payload_set : (written : List PrefixAssertionText) (a b : List Payload) → ArePrefixAssertions written a → ArePrefixAssertions written b → a ≡ b
 one_payload_set written a b s t =
-    let same : s.payloads ≡ t.payloads = each_same IsPayloadOf one_payload_of written s.payloads t.payloads s.each t.each in
+    let same : s.payloads ≡ t.payloads = same_each IsPayloadOf one_payload_of written s.payloads t.payloads s.each t.each in
     btree_set_from_contains payload_total (set_of a) (set_of b) s.in_order t.in_order (λ v. s.same v ∙ ap (λ (vs : List Payload). has vs v) same ∙ sym (t.same v)) payload_exact
 
 pub one_content : (form : Form) (c d : Slurm) → IsContent form c → IsContent form d → c ≡ d
 one_content form c d s t =
     let filters : c.filters ≡ d.filters = one_filters form.filters.customers c.filters d.filters s.filters t.filters in
     let assertions : c.assertions ≡ d.assertions = one_assertions form.assertions.attestations c.assertions d.assertions s.assertions t.assertions in
-    let prefix_filters : c.prefix_filters ≡ d.prefix_filters = each_same IsFilterOf one_filter_of form.filters.prefixes c.prefix_filters d.prefix_filters s.prefix_filters t.prefix_filters in
+    let prefix_filters : c.prefix_filters ≡ d.prefix_filters = same_each IsFilterOf one_filter_of form.filters.prefixes c.prefix_filters d.prefix_filters s.prefix_filters t.prefix_filters in
     let prefix_assertions : c.prefix_assertions ≡ d.prefix_assertions = one_payload_set form.assertions.prefixes c.prefix_assertions d.prefix_assertions s.prefix_assertions t.prefix_assertions in
     λ i. record { filters = filters i; assertions = assertions i; prefix_filters = prefix_filters i; prefix_assertions = prefix_assertions i }

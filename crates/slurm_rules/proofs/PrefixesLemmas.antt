@@ -4,14 +4,14 @@ use Rattle.std.specs.List.Sorted.{IsStrictlySortedBy}
 use Rattle.origin_model.specs.Vrp.{Payload, payload_cmp}
 use Rattle.origin_model.specs.VrpSet.{Gains, has}
 use Rattle.origin_model.proofs.ChangeLemmas.{gains_pushed}
-use Rattle.slurm_rules.specs.Each.{Each}
+use Rattle.json_fields.specs.Each.{Each}
 use Rattle.slurm_rules.specs.Form.{PrefixAssertionText, prefix_assertion_view}
 use Rattle.slurm_rules.specs.Numbers.{ArePrefixAssertions, IsAsn, IsMax, IsPayloadOf}
 use Rattle.slurm_rules.specs.declared.draft.DraftPrefixAssertion.{DraftPrefixAssertion}
 use Rattle.any_prefix.specs.AnyPrefix.{IsAnyPrefixText}
 use Rattle.any_prefix.proofs.TextLemmas.{bits_most}
 use Rattle.path_model.specs.Prefix.{Subnet, bits_of}
-use Rattle.slurm_rules.proofs.EachLemmas.{each_grown, each_whole}
+use Rattle.json_fields.proofs.EachLemmas.{each_grown, each_whole}
 use Rattle.slurm_rules.proofs.OneLemmas.{one_max, one_prefix}
 
 -- what the first assertions assert is the set

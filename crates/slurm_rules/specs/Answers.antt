@@ -4,7 +4,9 @@ use Rattle.std.specs.declared.result.Result.{Result}
 use Rattle.std.specs.declared.result.Result.TheVariants.{Ok, Err}
 use Rattle.slurm_rules.specs.declared.slurm.Slurm.{Slurm}
 use Rattle.slurm_rules.specs.declared.fault.SlurmFault.{SlurmFault}
-use Rattle.slurm_rules.specs.declared.fault.SlurmFault.TheVariants.{NoMemory}
+use Rattle.slurm_rules.specs.declared.fault.SlurmFault.TheVariants.{Json, NoMemory}
+use Rattle.json_fields.specs.declared.fault.JsonFault.{JsonFault}
+use Rattle.json_fields.specs.declared.fault.JsonFault.TheVariants.{Json as NoJson, NoMemory as OutOfMemory}
 
 -- want of memory, or this
 abbrev pub MemoryOr : SlurmFault → Type 0 → Type 0
@@ -17,6 +19,11 @@ Answers Due (Ok slurm) = Due (Ok slurm)
 Answers Due (Err fault) = MemoryOr fault (Due (Err fault))
 
 -- The words below are those of private functions.
+
+-- the fault of a file of which nothing is read
+abbrev pub of_json : JsonFault → SlurmFault
+of_json NoJson = Json
+of_json OutOfMemory = NoMemory
 
 -- no memory, or this cause, as nothing is what was asked for
 abbrev pub Misses : {A : Type 0} → SlurmFault → SlurmFault → (A → Type 0) → Type 0

@@ -5,11 +5,11 @@ use Rattle.std.specs.declared.alloc.Global.{Global}
 use Rattle.std.specs.declared.option.Option.{Option}
 use Rattle.std.specs.declared.option.Option.TheVariants.{Some}
 use Rattle.serde_json.specs.Data.{Num, Data}
-use Rattle.serde_json.specs.Find.{get, as_number}
 use Rattle.serde_json.specs.View.{number_view}
 use Rattle.serde_json.specs.declared.number.Number.{Number}
-use Rattle.slurm_rules.specs.Each.{Each}
-use Rattle.slurm_rules.specs.Object.{number_at, number_if_there, text_if_there, array_at, may_have_text, has_only, are_arrays}
+use Rattle.json_fields.specs.Each.{Each}
+use Rattle.json_fields.specs.Tokens.{text_view}
+use Rattle.json_fields.specs.Object.{ArrayIs, IsNumber, MemberIs, number_at, number_if_there, text_if_there, array_at, may_have_text, has_only, are_arrays}
 use Rattle.slurm_rules.specs.declared.draft.Version.{Version}
 use Rattle.slurm_rules.specs.declared.draft.Version.TheVariants.{One, Two}
 use Rattle.slurm_rules.specs.declared.draft.DraftAssertion.{DraftAssertion}
@@ -49,9 +49,6 @@ pub record Form : Type 0 where
   pub filters : Filters
   pub assertions : Assertions
 
-abbrev pub IsNumber : Data → Num → Type 0
-IsNumber d n = as_number d ≡ Some n
-
 -- an element of `aspaFilters`
 pub record IsFilter (d : Data) (customer : Num) : Type 0 where
   pub only : has_only (codes "comment" ∷ codes "customerAsn" ∷ []) d ≡ true
@@ -88,12 +85,6 @@ pub record HasArrays (names : List (List ℕ)) (d : Data) : Type 0 where
   pub only : has_only names d ≡ true
   pub arrays : are_arrays names d ≡ true
 
--- this array of the object stands for this list
-pub record ArrayIs {A : Type 0} (R : Data → A → Type 0) (name : List ℕ) (d : Data) (list : List A) : Type 0 where
-  pub items : List Data
-  pub is : array_at name d ≡ Some items
-  pub each : Each R items list
-
 -- `validationOutputFilters`. The elements of `bgpsecFilters` are passed over unread.
 abbrev pub IsFilterPart : Version → Data → Filters → Type 0
 IsFilterPart One d filters = HasArrays (codes "bgpsecFilters" ∷ codes "prefixFilters" ∷ []) d × (filters.customers ≡ [])
@@ -108,12 +99,6 @@ IsAssertionPart One d assertions = HasArrays (codes "bgpsecAssertions" ∷ codes
 IsAssertionPart Two d assertions = HasArrays (codes "aspaAssertions" ∷ codes "bgpsecAssertions" ∷ codes "prefixAssertions" ∷ []) d
     × ArrayIs IsAssertion (codes "aspaAssertions") d assertions.attestations
     × ArrayIs IsPrefixAssertion (codes "prefixAssertions") d assertions.prefixes
-
--- the member of this name is of that kind
-pub record MemberIs {A : Type 0} (R : Data → A → Type 0) (name : List ℕ) (d : Data) (value : A) : Type 0 where
-  pub member : Data
-  pub is : get name d ≡ Some member
-  pub holds : R member value
 
 -- the tree has the form of this version, and says this
 pub record IsFile (version : Version) (d : Data) (form : Form) : Type 0 where
@@ -130,15 +115,6 @@ numbers_view v = map number_view v.items
 
 abbrev pub drafts_view : Vec DraftAssertion Global → List Assertion
 drafts_view v = map assertion_view v.items
-
-abbrev pub numbers_kept : Option (Option Number) → Option (Option Num)
-numbers_kept kept = option_map (option_map number_view) kept
-
-abbrev pub text_view : Option (Vec ℕ Global) → Option (List ℕ)
-text_view text = option_map (λ v. v.items) text
-
-abbrev pub texts_kept : Option (Option (Vec ℕ Global)) → Option (Option (List ℕ))
-texts_kept kept = option_map text_view kept
 
 abbrev pub prefix_filter_view : DraftPrefixFilter → PrefixFilterText
 prefix_filter_view f = record { prefix = text_view f.prefix; asn = option_map number_view f.asn }

@@ -5,10 +5,10 @@ use Rattle.std.specs.declared.option.Option.TheVariants.{Some, None}
 use Rattle.serde_json.specs.Data.{Num, Data, unsigned}
 use Rattle.serde_json.specs.Find.{get}
 use Rattle.serde_json.specs.View.{number_view}
-use Rattle.slurm_rules.specs.Object.{number_at, number_if_there, text_if_there, array_at, may_have_text, has_only}
-use Rattle.slurm_rules.specs.Form.{IsNumber, IsFilter, IsAssertion, IsPrefixFilter, IsPrefixAssertion, ArrayIs, drafts_view, numbers_kept, numbers_view, prefix_assertions_view, prefix_filters_view, texts_kept}
+use Rattle.json_fields.specs.Object.{ArrayIs, IsNumber, number_at, number_if_there, text_if_there, array_at, may_have_text, has_only}
+use Rattle.slurm_rules.specs.Form.{IsFilter, IsAssertion, IsPrefixFilter, IsPrefixAssertion, drafts_view, numbers_view, prefix_assertions_view, prefix_filters_view}
 use Rattle.slurm_rules.specs.Reading.{version_number}
-use Rattle.slurm_rules.specs.Tokens.{Holds}
+use Rattle.json_fields.specs.Tokens.{Holds, numbers_kept, texts_kept}
 use Rattle.slurm_rules.specs.declared.draft.Version.{Version}
 use Rattle.slurm_rules.specs.declared.element.FilterFields.{FilterFields}
 use Rattle.slurm_rules.specs.declared.element.AssertionFields.{AssertionFields}

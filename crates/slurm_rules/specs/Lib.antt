@@ -1,9 +1,6 @@
 pub mod Answers
-pub mod Each
 pub mod Form
 pub mod Kept
 pub mod Laws
 pub mod Numbers
-pub mod Object
 pub mod Reading
-pub mod Tokens

@@ -15,7 +15,7 @@ use Rattle.origin_model.specs.declared.prefix_filter.PrefixFilter.{PrefixFilter}
 use Rattle.origin_model.specs.Vrp.{Payload, IsPayload, payload_cmp}
 use Rattle.origin_model.specs.VrpSet.{has}
 use Rattle.any_prefix.specs.AnyPrefix.{IsAnyPrefixText}
-use Rattle.slurm_rules.specs.Each.{Each}
+use Rattle.json_fields.specs.Each.{Each}
 use Rattle.slurm_rules.specs.Form.{Assertion, Form, PrefixAssertionText, PrefixFilterText}
 use Rattle.slurm_rules.specs.declared.fault.SlurmFault.{SlurmFault}
 use Rattle.slurm_rules.specs.declared.fault.SlurmFault.TheVariants.{Number as NoAsn, PrefixText, NoMemory}

@@ -1,11 +1,11 @@
 -- What a SLURM file says, or why it is refused.
-use Rattle.std.specs.Prelude.{◌≡◌, ℕ, List, codes, IsUtf8}
+use Rattle.std.specs.Prelude.{◌≡◌, ℕ, List, codes}
 use Rattle.std.specs.declared.option.Option.TheVariants.{Some}
 use Rattle.std.specs.declared.result.Result.{Result}
 use Rattle.std.specs.declared.result.Result.TheVariants.{Ok, Err}
 use Rattle.serde_json.specs.Data.{Data, unsigned}
-use Rattle.serde_json.specs.Read.{read}
-use Rattle.slurm_rules.specs.Object.{number_at}
+use Rattle.json_fields.specs.Object.{number_at}
+use Rattle.json_fields.specs.Tree.{IsTree}
 use Rattle.slurm_rules.specs.Form.{Form, IsFile}
 use Rattle.slurm_rules.specs.Numbers.{HasAsns, IsContent}
 use Rattle.slurm_rules.specs.declared.slurm.Slurm.{Slurm}
@@ -13,10 +13,6 @@ use Rattle.slurm_rules.specs.declared.draft.Version.{Version}
 use Rattle.slurm_rules.specs.declared.draft.Version.TheVariants.{One, Two}
 use Rattle.slurm_rules.specs.declared.fault.SlurmFault.{SlurmFault}
 use Rattle.slurm_rules.specs.declared.fault.SlurmFault.TheVariants.{Json, Version as WrongVersion, Member, Number, PrefixText, NoMemory}
-
--- the tree that the bytes are, as JSON (RFC 8259)
-abbrev pub IsTree : List ℕ → Data → Type 0
-IsTree bytes tree = IsUtf8 bytes × (read bytes ≡ Some tree)
 
 abbrev pub version_number : Version → ℕ
 version_number One = 1

@@ -43,10 +43,13 @@ pub(crate) struct DraftPrefixFilter {
     pub(crate) asn: Option<Number>,
 }
 
-// One prefix assertion: the text of a prefix, an AS, and a maximum length, which may be absent.
+/// One prefix assertion as it is written (RFC 8416, section 3.4.1).
 #[derive(Drop)]
-pub(crate) struct DraftPrefixAssertion {
-    pub(crate) prefix: Vec<u8>,
-    pub(crate) asn: Number,
-    pub(crate) max: Option<Number>,
+pub struct DraftPrefixAssertion {
+    /// The text of its prefix.
+    pub prefix: Vec<u8>,
+    /// Its AS, as a number of the tree.
+    pub asn: Number,
+    /// Its maximum length likewise; `None` is the prefix's own.
+    pub max: Option<Number>,
 }

@@ -1,17 +1,18 @@
 //! The elements of `aspaFilters` and `aspaAssertions`, one at a time.
 ghost use Rattle.std.specs.Prelude.{◌≡◌};
-ghost use Rattle.serde_json.specs.Data.{Data};
+ghost use Rattle.serde_json.specs.Data.{Data, Num};
 ghost use Rattle.serde_json.specs.View.{number_view};
-ghost use Rattle.slurm_rules.specs.Form.{IsFilter, IsAssertion, assertion_view};
-ghost use Rattle.slurm_rules.specs.Tokens.{Holds, IsOr, Takes};
+ghost use Rattle.json_fields.specs.Object.{IsNumber};
+ghost use Rattle.json_fields.specs.Tokens.{Holds};
+ghost use Rattle.slurm_rules.specs.Form.{Assertion, IsFilter, IsAssertion, assertion_view};
 ghost use Rattle.slurm_rules.specs.Kept.{FilterIs, AssertionIs};
 
 use crate::draft::DraftAssertion;
-use crate::fault::SlurmFault;
-use crate::fields::{Fields, number_after, only_after, read_object, text_after};
-use crate::lists::read_numbers;
-use crate::passing::pass;
 use json::Reader;
+use json_fields::{
+    Element, Fields, JsonFault, Kind, number_after, only_after, pass, read_list, read_object,
+    text_after,
+};
 use serde_json::Number;
 use std::alloc::Global;
 
@@ -49,7 +50,7 @@ impl Fields for FilterFields {
         name: &str,
         reader: &mut Reader<'_>,
         depth: usize,
-    ) -> Result<FilterFields, SlurmFault> {
+    ) -> Result<FilterFields, JsonFault> {
         let kind = pass(reader, depth)?;
         let only = only_after(self.only, &["comment", "customerAsn"], name);
         let comment = text_after(self.comment, "comment", name, kind);
@@ -112,10 +113,10 @@ impl Fields for AssertionFields {
         name: &str,
         reader: &mut Reader<'_>,
         depth: usize,
-    ) -> Result<AssertionFields, SlurmFault> {
+    ) -> Result<AssertionFields, JsonFault> {
         let only = only_after(self.only, &["comment", "customerAsn", "providerAsns"], name);
         if name == "providerAsns" {
-            let providers = read_numbers(alloc, reader, depth)?;
+            let providers = read_list::<ProviderElement>(alloc, reader, depth)?;
             return Ok(AssertionFields {
                 only,
                 comment: self.comment,
@@ -156,26 +157,68 @@ impl AssertionFields {
     }
 }
 
-// The customer of one element of `aspaFilters`, where it is a filter.
-pub(crate) fn read_filter(
-    alloc: Global,
-    reader: &mut Reader<'_>,
-    depth: usize,
-) -> Result<Option<Number>, SlurmFault>
-    ensures { Takes (IsOr number_view IsFilter) depth reader.old reader.new result }
-{
-    let fields: FilterFields = read_object(alloc, reader, depth)?;
-    Ok(fields.into_filter())
+// The elements of `aspaFilters`, each the customer that it filters out.
+pub(crate) struct FilterElement;
+
+impl Element for FilterElement {
+    type Item = Number;
+
+    ghost Seen = { Num };
+
+    ghost see = { number_view };
+
+    ghost stands_for = { IsFilter };
+
+    fn read(
+        alloc: Global,
+        reader: &mut Reader<'_>,
+        depth: usize,
+    ) -> Result<Option<Number>, JsonFault> {
+        let fields: FilterFields = read_object(alloc, reader, depth)?;
+        Ok(fields.into_filter())
+    }
 }
 
-// One element of `aspaAssertions`, where it is an assertion.
-pub(crate) fn read_assertion(
-    alloc: Global,
-    reader: &mut Reader<'_>,
-    depth: usize,
-) -> Result<Option<DraftAssertion>, SlurmFault>
-    ensures { Takes (IsOr assertion_view IsAssertion) depth reader.old reader.new result }
-{
-    let fields: AssertionFields = read_object(alloc, reader, depth)?;
-    Ok(fields.into_assertion())
+// The elements of `aspaAssertions`.
+pub(crate) struct AssertionElement;
+
+impl Element for AssertionElement {
+    type Item = DraftAssertion;
+
+    ghost Seen = { Assertion };
+
+    ghost see = { assertion_view };
+
+    ghost stands_for = { IsAssertion };
+
+    fn read(
+        alloc: Global,
+        reader: &mut Reader<'_>,
+        depth: usize,
+    ) -> Result<Option<DraftAssertion>, JsonFault> {
+        let fields: AssertionFields = read_object(alloc, reader, depth)?;
+        Ok(fields.into_assertion())
+    }
+}
+
+// The elements of `providerAsns`.
+struct ProviderElement;
+
+impl Element for ProviderElement {
+    type Item = Number;
+
+    ghost Seen = { Num };
+
+    ghost see = { number_view };
+
+    ghost stands_for = { IsNumber };
+
+    fn read(
+        _alloc: Global,
+        reader: &mut Reader<'_>,
+        depth: usize,
+    ) -> Result<Option<Number>, JsonFault> {
+        let kind = pass(reader, depth)?;
+        Ok(kind.number())
+    }
 }

@@ -1,9 +1,10 @@
 //! Why a SLURM file is refused.
 ghost use Rattle.std.specs.Prelude.{◌≡◌};
-ghost use Rattle.slurm_rules.specs.declared.fault.SlurmFault.TheVariants.{Json as NoJson, NoMemory as OutOfMemory};
+ghost use Rattle.slurm_rules.specs.Answers.{of_json};
+ghost use Rattle.slurm_rules.specs.declared.fault.SlurmFault.TheVariants.{NoMemory as OutOfMemory};
 
 use av_base::NoMemory;
-use std::alloc::{AllocError, AllocFailed};
+use json_fields::JsonFault;
 use thiserror::Error;
 
 /// Why a SLURM file is refused. The causes are tested in this order, each over the whole file.
@@ -29,27 +30,14 @@ pub enum SlurmFault {
     NoMemory,
 }
 
-impl From<json::Invalid> for SlurmFault {
-    ghost from_gives = { λ _ e. e ≡ NoJson };
+impl From<JsonFault> for SlurmFault {
+    ghost from_gives = { λ fault e. e ≡ of_json fault };
 
-    fn from(_: json::Invalid) -> SlurmFault {
-        SlurmFault::Json
-    }
-}
-
-impl From<AllocError> for SlurmFault {
-    ghost from_gives = { λ _ e. e ≡ OutOfMemory };
-
-    fn from(_: AllocError) -> SlurmFault {
-        SlurmFault::NoMemory
-    }
-}
-
-impl<T: Drop> From<AllocFailed<T>> for SlurmFault {
-    ghost from_gives = { λ _ e. e ≡ OutOfMemory };
-
-    fn from(_: AllocFailed<T>) -> SlurmFault {
-        SlurmFault::NoMemory
+    fn from(fault: JsonFault) -> SlurmFault {
+        match fault {
+            JsonFault::Json => SlurmFault::Json,
+            JsonFault::NoMemory => SlurmFault::NoMemory,
+        }
     }
 }
 

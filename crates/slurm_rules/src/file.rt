@@ -5,14 +5,12 @@ ghost use Rattle.serde_json.specs.View.{number_view};
 ghost use Rattle.slurm_rules.specs.Form.{draft_view, IsFile};
 ghost use Rattle.slurm_rules.specs.Kept.{FileIs, IsVersion};
 ghost use Rattle.slurm_rules.specs.Reading.{HasVersion};
-ghost use Rattle.slurm_rules.specs.Tokens.{Holds};
+ghost use Rattle.json_fields.specs.Tokens.{Holds};
 
 use crate::draft::{Draft, Version};
-use crate::fault::SlurmFault;
-use crate::fields::{Fields, number_after, only_after, read_object};
 use crate::part::{AssertionPart, FilterPart};
-use crate::passing::pass;
 use json::Reader;
+use json_fields::{Fields, JsonFault, number_after, only_after, pass, read_object};
 use serde_json::Number;
 use std::alloc::Global;
 
@@ -53,7 +51,7 @@ impl Fields for File {
         name: &str,
         reader: &mut Reader<'_>,
         depth: usize,
-    ) -> Result<File, SlurmFault> {
+    ) -> Result<File, JsonFault> {
         let only = only_after(
             self.only,
             &[

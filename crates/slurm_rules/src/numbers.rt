@@ -1,7 +1,7 @@
 //! The numbers of a form, and what the form comes to.
 ghost use Rattle.std.specs.Prelude.{◌≡◌, map, option_map, Some, None, IfSome, IfNone};
 ghost use Rattle.serde_json.specs.View.{number_view};
-ghost use Rattle.slurm_rules.specs.Each.{Each};
+ghost use Rattle.json_fields.specs.Each.{Each};
 ghost use Rattle.slurm_rules.specs.Answers.{Finds, Reads};
 ghost use Rattle.slurm_rules.specs.Form.{assertion_view, draft_view, prefix_assertion_view, prefix_filter_view};
 ghost use Rattle.slurm_rules.specs.Numbers.{AreAssertions, Attests, ContentIs, HasAssertedAsn, HasFilteredAsn, IsAsn, IsAsnIfThere, IsOfAny, attested_view};
@@ -117,8 +117,8 @@ fn read_asns(alloc: Global, numbers: &[Number]) -> Result<AsList, SlurmFault>
     Ok(asns)
 }
 
-// An AS number.
-pub(crate) fn read_asn(number: &Number) -> Option<u32>
+/// The number as one of 32 bits, if it is one: a whole number that isn't written as a float.
+pub fn read_asn(number: &Number) -> Option<u32>
     ensures some { IfSome result (IsAsn (number_view number.now)) }
     ensures none { IfNone result ((x : _) → IsAsn (number_view number.now) x → ⊥) }
 {

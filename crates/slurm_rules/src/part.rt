@@ -2,19 +2,18 @@
 ghost use Rattle.std.specs.Prelude.{◌≡◌, ℕ, List, None};
 ghost use Rattle.serde_json.specs.Data.{Data};
 ghost use Rattle.serde_json.specs.Find.{as_object, get};
-ghost use Rattle.slurm_rules.specs.Form.{IsFilterPart, IsAssertionPart, MemberIs, added_view, filters_view};
+ghost use Rattle.json_fields.specs.Object.{MemberIs};
+ghost use Rattle.slurm_rules.specs.Form.{IsFilterPart, IsAssertionPart, added_view, filters_view};
 ghost use Rattle.slurm_rules.specs.Kept.{AssertionPartAt, AssertionPartIs, FilterPartAt, FilterPartIs};
-ghost use Rattle.slurm_rules.specs.Tokens.{Holds};
+ghost use Rattle.json_fields.specs.Tokens.{Holds};
 
 use crate::draft::{
     DraftAssertion, DraftAssertions, DraftFilters, DraftPrefixAssertion, DraftPrefixFilter, Version,
 };
-use crate::fault::SlurmFault;
-use crate::fields::{Fields, array_after, only_after};
-use crate::lists::{read_assertions, read_filters};
-use crate::passing::pass;
-use crate::prefix_lists::{read_prefix_assertions, read_prefix_filters};
+use crate::element::{AssertionElement, FilterElement};
+use crate::prefix_element::{PrefixAssertionElement, PrefixFilterElement};
 use json::Reader;
+use json_fields::{Fields, JsonFault, array_after, only_after, pass, read_list};
 use serde_json::Number;
 use std::alloc::Global;
 
@@ -53,7 +52,7 @@ impl Fields for FilterPart {
         name: &str,
         reader: &mut Reader<'_>,
         depth: usize,
-    ) -> Result<FilterPart, SlurmFault> {
+    ) -> Result<FilterPart, JsonFault> {
         let one = only_after(self.one, &["bgpsecFilters", "prefixFilters"], name);
         let two = only_after(
             self.two,
@@ -61,7 +60,7 @@ impl Fields for FilterPart {
             name,
         );
         if name == "aspaFilters" {
-            let customers = read_filters(alloc, reader, depth)?;
+            let customers = read_list::<FilterElement>(alloc, reader, depth)?;
             return Ok(FilterPart {
                 one,
                 two,
@@ -71,7 +70,7 @@ impl Fields for FilterPart {
             });
         }
         if name == "prefixFilters" {
-            let prefixes = read_prefix_filters(alloc, reader, depth)?;
+            let prefixes = read_list::<PrefixFilterElement>(alloc, reader, depth)?;
             return Ok(FilterPart {
                 one,
                 two,
@@ -202,7 +201,7 @@ impl Fields for AssertionPart {
         name: &str,
         reader: &mut Reader<'_>,
         depth: usize,
-    ) -> Result<AssertionPart, SlurmFault> {
+    ) -> Result<AssertionPart, JsonFault> {
         let one = only_after(self.one, &["bgpsecAssertions", "prefixAssertions"], name);
         let two = only_after(
             self.two,
@@ -210,7 +209,7 @@ impl Fields for AssertionPart {
             name,
         );
         if name == "aspaAssertions" {
-            let attestations = read_assertions(alloc, reader, depth)?;
+            let attestations = read_list::<AssertionElement>(alloc, reader, depth)?;
             return Ok(AssertionPart {
                 one,
                 two,
@@ -220,7 +219,7 @@ impl Fields for AssertionPart {
             });
         }
         if name == "prefixAssertions" {
-            let prefixes = read_prefix_assertions(alloc, reader, depth)?;
+            let prefixes = read_list::<PrefixAssertionElement>(alloc, reader, depth)?;
             return Ok(AssertionPart {
                 one,
                 two,

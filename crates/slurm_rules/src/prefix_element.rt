@@ -1,17 +1,16 @@
 //! The elements of `prefixFilters` and `prefixAssertions`, one at a time.
 ghost use Rattle.std.specs.Prelude.{◌≡◌};
 ghost use Rattle.serde_json.specs.Data.{Data};
-ghost use Rattle.slurm_rules.specs.Form.{IsPrefixAssertion, IsPrefixFilter, prefix_assertion_view, prefix_filter_view};
+ghost use Rattle.slurm_rules.specs.Form.{IsPrefixAssertion, IsPrefixFilter, PrefixAssertionText, PrefixFilterText, prefix_assertion_view, prefix_filter_view};
 ghost use Rattle.slurm_rules.specs.Kept.{PrefixIs};
-ghost use Rattle.slurm_rules.specs.Tokens.{Holds, IsOr, Takes};
+ghost use Rattle.json_fields.specs.Tokens.{Holds};
 
 use crate::draft::{DraftPrefixAssertion, DraftPrefixFilter};
-use crate::fault::SlurmFault;
-use crate::fields::{
-    Fields, number_if_there_after, only_after, read_object, text_after, text_if_there_after,
-};
-use crate::passing::pass;
 use json::Reader;
+use json_fields::{
+    Element, Fields, JsonFault, number_if_there_after, only_after, pass, read_object, text_after,
+    text_if_there_after,
+};
 use serde_json::Number;
 use std::alloc::Global;
 
@@ -59,7 +58,7 @@ impl Fields for PrefixFields {
         name: &str,
         reader: &mut Reader<'_>,
         depth: usize,
-    ) -> Result<PrefixFields, SlurmFault> {
+    ) -> Result<PrefixFields, JsonFault> {
         let kind = pass(reader, depth)?;
         let filter = only_after(self.filter, &["asn", "comment", "prefix"], name);
         let assertion = only_after(
@@ -138,26 +137,46 @@ impl PrefixFields {
     }
 }
 
-// One element of `prefixFilters`, where it is a filter.
-pub(crate) fn read_prefix_filter(
-    alloc: Global,
-    reader: &mut Reader<'_>,
-    depth: usize,
-) -> Result<Option<DraftPrefixFilter>, SlurmFault>
-    ensures { Takes (IsOr prefix_filter_view IsPrefixFilter) depth reader.old reader.new result }
-{
-    let fields: PrefixFields = read_object(alloc, reader, depth)?;
-    Ok(fields.into_filter())
+// The elements of `prefixFilters`.
+pub(crate) struct PrefixFilterElement;
+
+impl Element for PrefixFilterElement {
+    type Item = DraftPrefixFilter;
+
+    ghost Seen = { PrefixFilterText };
+
+    ghost see = { prefix_filter_view };
+
+    ghost stands_for = { IsPrefixFilter };
+
+    fn read(
+        alloc: Global,
+        reader: &mut Reader<'_>,
+        depth: usize,
+    ) -> Result<Option<DraftPrefixFilter>, JsonFault> {
+        let fields: PrefixFields = read_object(alloc, reader, depth)?;
+        Ok(fields.into_filter())
+    }
 }
 
-// One element of `prefixAssertions`, where it is an assertion.
-pub(crate) fn read_prefix_assertion(
-    alloc: Global,
-    reader: &mut Reader<'_>,
-    depth: usize,
-) -> Result<Option<DraftPrefixAssertion>, SlurmFault>
-    ensures { Takes (IsOr prefix_assertion_view IsPrefixAssertion) depth reader.old reader.new result }
-{
-    let fields: PrefixFields = read_object(alloc, reader, depth)?;
-    Ok(fields.into_assertion())
+// The elements of `prefixAssertions`.
+pub(crate) struct PrefixAssertionElement;
+
+impl Element for PrefixAssertionElement {
+    type Item = DraftPrefixAssertion;
+
+    ghost Seen = { PrefixAssertionText };
+
+    ghost see = { prefix_assertion_view };
+
+    ghost stands_for = { IsPrefixAssertion };
+
+    fn read(
+        alloc: Global,
+        reader: &mut Reader<'_>,
+        depth: usize,
+    ) -> Result<Option<DraftPrefixAssertion>, JsonFault> {
+        let fields: PrefixFields = read_object(alloc, reader, depth)?;
+        Ok(fields.into_assertion())
+    }
 }

@@ -2,8 +2,9 @@
 ghost use Rattle.std.specs.Prelude.{◌≡◌, ◌<◌, map, option_map, IfSome, IfNone};
 ghost use Rattle.serde_json.specs.View.{number_view};
 ghost use Rattle.slurm_rules.specs.Answers.{Finds};
-ghost use Rattle.slurm_rules.specs.Each.{Each};
-ghost use Rattle.slurm_rules.specs.Form.{prefix_assertion_view, prefix_filter_view, text_view};
+ghost use Rattle.json_fields.specs.Each.{Each};
+ghost use Rattle.json_fields.specs.Tokens.{text_view};
+ghost use Rattle.slurm_rules.specs.Form.{prefix_assertion_view, prefix_filter_view};
 ghost use Rattle.slurm_rules.specs.Numbers.{ArePrefixAssertions, IsFilterOf, IsMax, IsPayloadOf, IsPrefixIfThere};
 
 use crate::draft::{DraftPrefixAssertion, DraftPrefixFilter};
@@ -33,8 +34,9 @@ pub(crate) fn read_prefix_filters(
     Ok(list)
 }
 
-// The set of the payloads that are asserted.
-pub(crate) fn read_prefix_assertions(
+/// The set of the payloads that are asserted. An assertion whose AS isn't a number of 32 bits is refused by the same fault as one whose
+/// prefix or maximum length is wrong.
+pub fn read_prefix_assertions(
     alloc: Global,
     assertions: &[DraftPrefixAssertion],
 ) -> Result<VrpSet, SlurmFault>

@@ -1,9 +1,9 @@
-//! Tests of what attests: payloads and files of them, SLURM files, and the table that they make.
+//! Tests of what attests: payloads and files of them, SLURM files, a validator's files, and the table that they make.
 //!
-//! Each table has its expected values worked out by hand. `payloads`, `payload_lines` and `slurm_files` read attestations as the RPKI and an
-//! operator give them; `scale` reads large ones. `held_terms` holds attestations by customer; `tables` changes a table, and counts who gives a
-//! customer its providers. `origin_states` asks validated ROA payloads for the states of routes, `changes` says of payloads what comes and
-//! goes, and `held_states` asks for states again behind that.
+//! Each table has its expected values worked out by hand. `payloads`, `payload_lines`, `slurm_files` and `validated_files` read attestations
+//! as the RPKI, an operator and a validator give them; `scale` reads large ones. `held_terms` holds attestations by customer; `tables`
+//! changes a table, and counts who gives a customer its providers. `origin_states` asks validated ROA payloads for the states of routes,
+//! `changes` says of payloads what comes and goes, and `held_states` asks for states again behind that.
 #![tactic(auto)]
 
 #[cfg(test)]
@@ -24,3 +24,5 @@ mod scale;
 mod slurm_files;
 #[cfg(test)]
 mod tables;
+#[cfg(test)]
+mod validated_files;

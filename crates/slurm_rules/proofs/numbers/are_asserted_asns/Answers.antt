@@ -1,7 +1,7 @@
 use Rattle.std.proofs.Common.{◌∷◌, ◌++◌, [], refl, arith}
 use Rattle.slurm_rules.specs.Form.{prefix_assertion_view}
 use Rattle.slurm_rules.specs.Numbers.{HasAssertedAsn}
-use Rattle.slurm_rules.proofs.EachLemmas.{each_grown, each_refused, each_whole}
+use Rattle.json_fields.proofs.EachLemmas.{each_grown, each_refused, each_whole}
 use Rattle.slurm_rules.proofs.numbers.are_asserted_asns.Goals as goal
 
 pub loop-assertion-init : goal.loop-assertion-init

@@ -1,5 +1,5 @@
 use Rattle.std.proofs.Common.{ℕ, List, map, take}
-use Rattle.slurm_rules.specs.Each.{Each}
+use Rattle.json_fields.specs.Each.{Each}
 use Rattle.slurm_rules.specs.Form.{prefix_assertion_view}
 use Rattle.slurm_rules.specs.Numbers.{HasAssertedAsn}
 use Rattle.slurm_rules.proofs.numbers.are_asserted_asns.Given as goal

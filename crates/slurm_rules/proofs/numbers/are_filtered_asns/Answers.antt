@@ -1,7 +1,7 @@
 use Rattle.std.proofs.Common.{◌∷◌, ◌++◌, [], refl, arith}
 use Rattle.slurm_rules.specs.Form.{prefix_filter_view}
 use Rattle.slurm_rules.specs.Numbers.{HasFilteredAsn}
-use Rattle.slurm_rules.proofs.EachLemmas.{each_grown, each_refused, each_whole}
+use Rattle.json_fields.proofs.EachLemmas.{each_grown, each_refused, each_whole}
 use Rattle.slurm_rules.proofs.numbers.are_filtered_asns.Goals as goal
 
 pub loop-filter-init : goal.loop-filter-init

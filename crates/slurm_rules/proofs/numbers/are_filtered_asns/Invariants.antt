@@ -1,5 +1,5 @@
 use Rattle.std.proofs.Common.{ℕ, List, map, take, Option}
-use Rattle.slurm_rules.specs.Each.{Each}
+use Rattle.json_fields.specs.Each.{Each}
 use Rattle.slurm_rules.specs.Form.{prefix_filter_view}
 use Rattle.slurm_rules.specs.Numbers.{HasFilteredAsn}
 use Rattle.slurm_rules.proofs.numbers.are_filtered_asns.Given as goal

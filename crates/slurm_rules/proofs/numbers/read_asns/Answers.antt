@@ -1,7 +1,7 @@
 use Rattle.std.proofs.Common.{refl}
 use Rattle.serde_json.specs.View.{number_view}
 use Rattle.slurm_rules.specs.Numbers.{IsAsn}
-use Rattle.slurm_rules.proofs.EachLemmas.{each_grown, each_refused}
+use Rattle.json_fields.proofs.EachLemmas.{each_grown, each_refused}
 use Rattle.slurm_rules.proofs.numbers.read_asns.Goals as goal
 
 pub returns-in_default : goal.returns-in_default

@@ -3,7 +3,8 @@ use Rattle.std.proofs.lemmas.Result.{err_from_is_err_and}
 use Rattle.slurm_rules.specs.Form.{assertion_view}
 use Rattle.slurm_rules.specs.Numbers.{Attests, AreAssertions, attested_view}
 use Rattle.slurm_rules.specs.declared.fault.SlurmFault.TheVariants.{Number}
-use Rattle.slurm_rules.proofs.EachLemmas.{each_refused, misses_by}
+use Rattle.json_fields.proofs.EachLemmas.{each_refused}
+use Rattle.slurm_rules.proofs.EachLemmas.{misses_by}
 use Rattle.slurm_rules.proofs.NumbersLemmas.{gathering_start, gathering_next, gathering_end}
 use Rattle.slurm_rules.proofs.numbers.read_assertions.Goals as goal
 

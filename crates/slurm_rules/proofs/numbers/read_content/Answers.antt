@@ -3,7 +3,7 @@ use Rattle.std.proofs.lemmas.Result.{err_from_is_err_and}
 use Rattle.serde_json.specs.View.{number_view}
 use Rattle.serde_json.specs.declared.number.Number.{Number}
 use Rattle.slurm_rules.specs.Answers.{Misses}
-use Rattle.slurm_rules.specs.Each.{Each}
+use Rattle.json_fields.specs.Each.{Each}
 use Rattle.slurm_rules.specs.Form.{assertion_view, draft_view, prefix_assertion_view, prefix_filter_view}
 use Rattle.slurm_rules.specs.Numbers.{AreAssertions, ArePrefixAssertions, HasAsns, HasAssertedAsn, HasFilteredAsn, IsAsn, IsOfAny}
 use Rattle.slurm_rules.specs.declared.draft.DraftAssertion.{DraftAssertion}

@@ -1,7 +1,7 @@
 use Rattle.std.proofs.Common.{refl, arith}
 use Rattle.slurm_rules.specs.Form.{prefix_assertion_view}
 use Rattle.slurm_rules.specs.Numbers.{IsPayloadOf}
-use Rattle.slurm_rules.proofs.EachLemmas.{each_refused}
+use Rattle.json_fields.proofs.EachLemmas.{each_refused}
 use Rattle.slurm_rules.proofs.PrefixesLemmas.{asserting_end, asserting_next, asserting_start}
 use Rattle.slurm_rules.proofs.prefixes.read_prefix_assertions.Goals as goal
 

@@ -1,7 +1,7 @@
 use Rattle.std.proofs.Common.{refl}
 use Rattle.slurm_rules.specs.Form.{prefix_filter_view}
 use Rattle.slurm_rules.specs.Numbers.{IsFilterOf}
-use Rattle.slurm_rules.proofs.EachLemmas.{each_grown, each_refused}
+use Rattle.json_fields.proofs.EachLemmas.{each_grown, each_refused}
 use Rattle.slurm_rules.proofs.prefixes.read_prefix_filters.Goals as goal
 
 pub returns-in_default : goal.returns-in_default

@@ -1,5 +1,5 @@
 use Rattle.std.proofs.Common.{map, take}
-use Rattle.slurm_rules.specs.Each.{Each}
+use Rattle.json_fields.specs.Each.{Each}
 use Rattle.slurm_rules.specs.Form.{prefix_filter_view}
 use Rattle.slurm_rules.specs.Numbers.{IsFilterOf}
 use Rattle.slurm_rules.proofs.prefixes.read_prefix_filters.Given as goal

@@ -1,7 +1,8 @@
 use Rattle.std.proofs.Common.{codes, refl, sym, ◌∙◌}
-use Rattle.slurm_rules.specs.Form.{IsNumber, numbers_view}
-use Rattle.slurm_rules.proofs.ListsLemmas.{list_replaced, list_kept}
-use Rattle.slurm_rules.proofs.ObjectLemmas.{not_that, number_other, text_other}
+use Rattle.json_fields.specs.Object.{IsNumber}
+use Rattle.slurm_rules.specs.Form.{numbers_view}
+use Rattle.json_fields.proofs.ListsLemmas.{list_replaced, list_kept}
+use Rattle.json_fields.proofs.ObjectLemmas.{not_that, number_other, text_other}
 use Rattle.slurm_rules.proofs.element.AssertionFieldsFields.read_member.Goals as goal
 
 pub returns-then-eq : goal.returns-then-eq

@@ -1,7 +1,7 @@
 use Rattle.std.proofs.Common.{codes, Option, refl, sym, subst, ◌∙◌}
 use Rattle.serde_json.specs.Data.{Data}
 use Rattle.slurm_rules.specs.Kept.{AssertionPartAt, FilterPartAt}
-use Rattle.slurm_rules.proofs.ObjectLemmas.{get_same, get_other, not_that, number_other}
+use Rattle.json_fields.proofs.ObjectLemmas.{get_same, get_other, not_that, number_other}
 use Rattle.slurm_rules.proofs.file.FileFields.read_member.Goals as goal
 
 pub returns-then-eq : goal.returns-then-eq

@@ -1,7 +1,7 @@
 use Rattle.std.proofs.Common.{codes, is_some, refl, sym, ap, ◌∙◌}
 use Rattle.slurm_rules.specs.Form.{IsAssertion, IsPrefixAssertion, drafts_view, prefix_assertions_view}
-use Rattle.slurm_rules.proofs.ListsLemmas.{list_replaced, list_kept}
-use Rattle.slurm_rules.proofs.ObjectLemmas.{not_that, array_other}
+use Rattle.json_fields.proofs.ListsLemmas.{list_replaced, list_kept}
+use Rattle.json_fields.proofs.ObjectLemmas.{not_that, array_other}
 use Rattle.slurm_rules.proofs.part.AssertionPartFields.read_member.Goals as goal
 
 pub returns-then-eq : goal.returns-then-eq

@@ -1,7 +1,7 @@
 use Rattle.std.proofs.Common.{codes, is_some, refl, sym, ap, ◌∙◌}
 use Rattle.slurm_rules.specs.Form.{IsFilter, IsPrefixFilter, numbers_view, prefix_filters_view}
-use Rattle.slurm_rules.proofs.ListsLemmas.{list_replaced, list_kept}
-use Rattle.slurm_rules.proofs.ObjectLemmas.{not_that, array_other}
+use Rattle.json_fields.proofs.ListsLemmas.{list_replaced, list_kept}
+use Rattle.json_fields.proofs.ObjectLemmas.{not_that, array_other}
 use Rattle.slurm_rules.proofs.part.FilterPartFields.read_member.Goals as goal
 
 pub returns-then-eq : goal.returns-then-eq

@@ -1,0 +1,5 @@
+pub mod Answers
+pub mod Each
+pub mod Object
+pub mod Tokens
+pub mod Tree

@@ -1,0 +1,6 @@
+pub mod Answers
+pub mod Content
+pub mod Form
+pub mod Kept
+pub mod Laws
+pub mod Reading
