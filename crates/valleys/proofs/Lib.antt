@@ -1,0 +1,4 @@
+pub mod LawLemmas
+pub mod OpenLemmas
+pub mod OrderLemmas
+pub mod WalkLemmas
