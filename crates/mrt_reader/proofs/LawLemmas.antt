@@ -1,16 +1,16 @@
 -- In a stream exactly one thing comes next.
-use Rattle.std.proofs.Common.{true≢false, ◌≡◌, ◌≢◌, ℕ, ◌+◌, ◌≤◌, Bool, true, false, List, [], ◌∷◌, ◌++◌, length, take, drop, Some, None, Ok, Err, refl, sym, ap, subst, ◌∙◌, append_assoc, arith}
+use Rattle.std.proofs.Common.{true≢false, ◌≡◌, ◌≢◌, ℕ, ◌+◌, ◌≤◌, Bool, true, false, List, [], ◌∷◌, ◌++◌, length, take, drop, Some, None, Ok, Err, refl, sym, ap, subst, ◌∙◌, append_assoc, inl, inr, arith}
 use Rattle.std.specs.Prelude.{◌↔◌, nat_lt, nat_le, is_some, IfSome, IsTrue}
 use Rattle.std.specs.declared.option.Option.{Option}
 use Rattle.std.proofs.lemmas.Option.{same_Some}
 use Rattle.std.proofs.lemmas.List.{take-append-drop, length-take}
 use Rattle.std.proofs.lemmas.Bool.Decides.{nat_tests}
 use Rattle.av_base.specs.One.{HasOne}
-use Rattle.held_bytes.specs.Units.{Begins}
+use Rattle.held_bytes.specs.Units.{Begins, BeginsWithNone}
 use Rattle.mrt_reader.specs.declared.fault.FrameFault.{FrameFault}
 use Rattle.mrt_reader.specs.declared.fault.FrameFault.TheVariants as faults
 use Rattle.mrt_reader.specs.declared.heading.Heading.{Heading}
-use Rattle.mrt_reader.specs.Coming.{Coming, Whole, TooLong, CutShort, End, IsComing, IsTooLong, IsPartial}
+use Rattle.mrt_reader.specs.Coming.{Coming, Whole, TooLong, CutShort, End, IsComing, IsTooLong, IsPartial, IsNextStamp}
 use Rattle.mrt_reader.specs.Headed.{IsHeaded, head_of}
 use Rattle.mrt_reader.specs.Records.{Recorded, IsRecord, Head, head_at, limit}
 use Rattle.mrt_reader.proofs.RecordLemmas.{head_front, head_long, record_head, record_made, partial_short, partial_cut, one_record}
@@ -93,3 +93,31 @@ ready_by_head left (Some h) ready e is = (λ on partial. partial.no_record _ _ (
 pub ready_by_fault : (left : List ℕ) (fault : FrameFault) → IsHeaded left (Err fault) → IsTrue true ↔ ¬ IsPartial left
 ready_by_fault left faults.TooLong is = (λ on. long_not_partial left is, λ apart. refl)
 ready_by_fault left faults.CutShort is = absurd is
+
+-- ---- the stamp of the record that comes next
+
+-- it is what the header says,
+pub stamp_by_head : (left : List ℕ) (head : Heading) → IsHeaded left (Ok (Some head)) → IsNextStamp left (Some head.stamp)
+stamp_by_head left head is = (
+  record { stamp = head.stamp; kind = head.kind; subkind = head.subkind; body = take head.size (drop 12 left) },
+  drop head.size (drop 12 left),
+  record_made left (head_of head) is.0 is.1 is.2,
+  refl,
+)
+
+-- and there is none where no whole record is held
+pub no_stamp_by_head : (left : List ℕ) → IsHeaded left (Ok None) → IsNextStamp left None
+no_stamp_by_head left is = inl is
+
+pub no_stamp_by_fault : (left : List ℕ) (fault : FrameFault) → IsHeaded left (Err fault) → IsNextStamp left None
+no_stamp_by_fault left faults.TooLong is = inr is
+no_stamp_by_fault left faults.CutShort is = absurd is
+
+-- the record that comes next has it,
+pub stamp_of_next : (left : List ℕ) (stamp : ℕ) (it : Recorded) (rest : List ℕ) → IsNextStamp left (Some stamp) → Begins IsRecord left it rest → it.stamp ≡ stamp
+stamp_of_next left stamp it rest is begins = ap (λ (r : Recorded). r.stamp) (one_record left it is.0 rest is.1 begins is.2).0 ∙ is.3
+
+-- and without one no record does
+pub none_without_stamp : (left : List ℕ) → IsNextStamp left None → BeginsWithNone IsRecord left
+none_without_stamp left (inl partial) = partial.no_record
+none_without_stamp left (inr long) = λ it rest begins. not_too_long left it rest begins long

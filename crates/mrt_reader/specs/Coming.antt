@@ -1,5 +1,5 @@
 -- What comes next in a stream.
-use Rattle.std.specs.Prelude.{◌≡◌, ◌≢◌, ℕ, ◌+◌, ◌<◌, ◌≤◌, List, [], length, None, Some, Ok, Err, IfSome}
+use Rattle.std.specs.Prelude.{◌≡◌, ◌≢◌, ◌⊎◌, ℕ, ◌+◌, ◌<◌, ◌≤◌, List, [], length, None, Some, Ok, Err, IfSome}
 use Rattle.std.specs.declared.option.Option.{Option}
 use Rattle.std.specs.declared.result.Result.{Result}
 use Rattle.held_bytes.specs.Units.{Begins, BeginsWithNone}
@@ -21,6 +21,12 @@ pub record IsPartial (bytes : List ℕ) : Type 0 where
   pub no_record : BeginsWithNone IsRecord bytes
   pub allowed : IfSome (head_at bytes) (λ head. head.size ≤ limit)
   pub short : length bytes < 12 + limit
+
+-- the stamp of the record that comes next, or that no whole one does
+abbrev pub IsNextStamp : List ℕ → Option ℕ → Type 0
+IsNextStamp held (Some stamp) =
+    (it : Recorded) × (rest : List ℕ) × Begins IsRecord held it rest × (it.stamp ≡ stamp)
+IsNextStamp held None = IsPartial held ⊎ IsTooLong held
 
 -- what the framer answers, of the bytes held before and after
 abbrev pub Answers : List ℕ → List ℕ → Result (Option Record) FrameFault → Type 0

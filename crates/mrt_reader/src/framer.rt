@@ -41,7 +41,7 @@ impl Model for Framer {
 }
 
 impl Framer {
-    ghost use Rattle.mrt_reader.specs.Coming.{Answers, IsPartial};
+    ghost use Rattle.mrt_reader.specs.Coming.{Answers, IsNextStamp, IsPartial};
     ghost use Rattle.mrt_reader.specs.contracts.framer.Framer.{the_row};
 
     /// Nothing is held. It takes no memory.
@@ -96,6 +96,18 @@ impl Framer {
         match whole_head(self.held.front()) {
             Ok(head) => head.is_some(),
             Err(_) => true,
+        }
+    }
+
+    /// The time of the record that `next` would take, in seconds since 1970-01-01 00:00 UTC (RFC 6396, section 2). `None` comes exactly where
+    /// `next` would take none: no whole record is held, or the length is over the limit.
+    pub fn stamp(&self) -> Option<u32>
+        ensures { IsNextStamp self.now result }
+    {
+        match whole_head(self.held.front()) {
+            Ok(Some(head)) => Some(head.stamp),
+            Ok(None) => None,
+            Err(_) => None,
         }
     }
 
