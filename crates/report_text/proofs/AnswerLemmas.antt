@@ -1,5 +1,5 @@
 -- The lines of answers are lines, and none of them begins with `! `.
-use Rattle.std.proofs.Common.{◌≡◌, ◌≢◌, ℕ, suc, ◌+◌, ◌/◌, ◌%◌, ◌^◌, ◌≤◌, ◌&&◌, take, Bool, true, false, cond, nat_eq, nat_lt, List, [], ◌∷◌, ◌++◌, codes, decimal, refl, sym, subst, ◌∙◌, arith}
+use Rattle.std.proofs.Common.{◌≡◌, ◌≢◌, ℕ, suc, ◌+◌, ◌/◌, ◌%◌, ◌^◌, ◌≤◌, ◌&&◌, take, Bool, true, false, cond, nat_eq, nat_lt, List, [], ◌∷◌, ◌++◌, codes, decimal, reverse, refl, sym, subst, ◌∙◌, arith}
 use Rattle.std.specs.List.{starts_with}
 use Rattle.std.specs.Cmp.Lexicographic.{pointwise}
 use Rattle.std.specs.Char.{digit_char}
@@ -37,6 +37,10 @@ use Rattle.report_text.specs.Rows.{row_line}
 use Rattle.report_text.specs.Served.{served_line}
 use Rattle.report_text.specs.Summary.{verdicts_part, sources_part, summary_line}
 use Rattle.report_text.specs.Why.{hops_text, labelling_text, witness_text, why_line}
+use Rattle.report_text.specs.Details.{ases_text, detail_line, path_text, set_text}
+use Rattle.report_text.specs.Sayings.{said_line}
+use Rattle.report_text.specs.Suspects.{having_text, suspect_line, to_text, valley_text}
+use Rattle.path_model.specs.Trail.{Path}
 use Rattle.report_text.proofs.InLineLemmas.{clean, both, number}
 
 -- ---- lines that begin with an address
@@ -254,3 +258,68 @@ reason_is_one_line verdict witness = record {
       (both (codes " ") (witness_text witness) (clean (codes " ") refl) (witness_in_line witness));
   unmarked = why_unmarked verdict (32 ∷ witness_text witness);
 }
+
+-- ---- details
+
+-- a number behind a space
+behind_space : (n : ℕ) → IsInLine (32 ∷ decimal n)
+behind_space n = worded (codes " ") n (clean (codes " ") refl)
+
+set_in_line : (set : Bool) → IsInLine (set_text set)
+set_in_line false = clean [] refl
+set_in_line true = clean (codes " set") refl
+
+ases_in_line : (ases : List ℕ) → IsInLine (ases_text ases)
+ases_in_line [] = clean [] refl
+ases_in_line (asn ∷ ases) = both (32 ∷ decimal asn) (ases_text ases) (behind_space asn) (ases_in_line ases)
+
+path_in_line : (path : Path) → IsInLine (path_text path)
+path_in_line path =
+    both (codes " path" ++ set_text path.set) (ases_text (reverse path.chain))
+    (both (codes " path") (set_text path.set) (clean (codes " path") refl) (set_in_line path.set)) (ases_in_line (reverse path.chain))
+
+detail_parts : (k v w p : List ℕ) → ((k ++ 32 ∷ v) ++ 32 ∷ w) ++ p ≡ k ++ 32 ∷ ((v ++ 32 ∷ w) ++ p)
+detail_parts k v w p = simp append_assoc refl
+
+pub detail_is_one_line : (key : Key) (verdict : Verdict) (witness : Witness) (path : Path) → IsAnswerLine (detail_line key verdict witness path)
+detail_is_one_line key verdict witness path =
+    let words = (verdict_text verdict ++ 32 ∷ witness_text witness) ++ path_text path in
+    let reason = reason_is_one_line verdict witness in
+    subst IsAnswerLine (sym (detail_parts (key_text key) (verdict_text verdict) (witness_text witness) (path_text path)))
+    (of_key key words (both (why_line verdict witness) (path_text path) reason.in_line (path_in_line path)))
+
+-- ---- valleys
+
+to_in_line : (to : Option ℕ) → IsInLine (to_text to)
+to_in_line None = clean (codes "here") refl
+to_in_line (Some asn) = number asn
+
+valley_in_line : (from first last : ℕ) (to : Option ℕ) → IsInLine (valley_text from first last to)
+valley_in_line from first last to =
+    both (decimal from ++ 32 ∷ decimal first ++ 32 ∷ decimal last) (32 ∷ to_text to)
+    (both (decimal from ++ 32 ∷ decimal first) (32 ∷ decimal last)
+    (both (decimal from) (32 ∷ decimal first) (number from) (behind_space first)) (behind_space last))
+    (both (codes " ") (to_text to) (clean (codes " ") refl) (to_in_line to))
+
+having_in_line : (routes paths : ℕ) → IsInLine (having_text routes paths)
+having_in_line routes paths =
+    counted (codes " routes " ++ decimal routes) (codes " paths ") paths
+    (worded (codes " routes ") routes (clean (codes " routes ") refl)) (clean (codes " paths ") refl)
+
+suspect_parts : (a b c d e : List ℕ) → (((a ++ 32 ∷ b) ++ 32 ∷ c) ++ 32 ∷ d) ++ e ≡ a ++ 32 ∷ (b ++ 32 ∷ (c ++ 32 ∷ (d ++ e)))
+suspect_parts a b c d e = simp append_assoc refl
+
+pub suspect_is_one_line : (from first last : ℕ) (to : Option ℕ) (routes paths : ℕ) → IsAnswerLine (suspect_line from first last to routes paths)
+suspect_is_one_line from first last to routes paths =
+    let line = suspect_line from first last to routes paths in
+    let back = decimal first ++ 32 ∷ (decimal last ++ 32 ∷ (to_text to ++ having_text routes paths)) in
+    let is = suspect_parts (decimal from) (decimal first) (decimal last) (to_text to) (having_text routes paths) in
+    record {
+      in_line = both (valley_text from first last to) (having_text routes paths) (valley_in_line from first last to) (having_in_line routes paths);
+      unmarked = begins_other line (subst StartsOther (sym is) (starts_at (decimal from) 32 back (decimal-lacks 33 from (omega arith)) (λ e. cc)));
+    }
+
+-- ---- what is said
+
+pub saying_is_one_line : (text : List ℕ) → IsInLine text → IsAnswerLine (said_line text)
+saying_is_one_line text in_line = record { in_line = both (codes "# ") text (clean (codes "# ") refl) in_line; unmarked = refl }

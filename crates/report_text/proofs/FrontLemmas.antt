@@ -12,9 +12,11 @@ use Rattle.path_model.specs.declared.peer.Peer.{Peer}
 use Rattle.path_model.specs.declared.verdict.Verdict.{Verdict}
 use Rattle.av_text.specs.PeerText.{peer_text}
 use Rattle.av_text.specs.PrefixText.{prefix_text}
+use Rattle.av_text.specs.VerdictText.{verdict_text}
 use Rattle.report_text.specs.Change.{mark_text, change_text}
-use Rattle.report_text.specs.Fronts.{IsFront, nlri_text, change_rest}
+use Rattle.report_text.specs.Fronts.{IsFront, nlri_text, change_rest, unended_rest}
 use Rattle.report_text.specs.Keys.{identifier_text, key_text}
+use Rattle.report_text.specs.Rows.{row_line}
 use Rattle.report_text.specs.Writes.{Writes}
 
 -- peers that their order doesn't tell apart are the same
@@ -37,6 +39,9 @@ line_parts p n i v = simp append_assoc refl
 change_parts : (p n i v w : List ℕ) → (p ++ 32 ∷ []) ++ ((n ++ (i ++ 32 ∷ [])) ++ (v ++ 32 ∷ (w ++ 10 ∷ []))) ≡ (((p ++ 32 ∷ n) ++ i) ++ 32 ∷ (v ++ 32 ∷ w)) ++ 10 ∷ []
 change_parts p n i v w = simp append_assoc refl
 
+unended_parts : (p n i v : List ℕ) → (p ++ 32 ∷ []) ++ ((n ++ (i ++ 32 ∷ [])) ++ v) ≡ ((p ++ 32 ∷ n) ++ i) ++ 32 ∷ v
+unended_parts p n i v = simp append_assoc refl
+
 -- the front and the rest are the line: a row, or one of an origin or a leak,
 pub line_of : {a b : List ℕ} {i j : ℕ} (held : Option Peer) (key : Key) (words : List ℕ) → held ≡ Some key.peer → IsFront held i a
     → Writes (nlri_text key ++ (words ++ 10 ∷ [])) a i b j → take j b ≡ (key_text key ++ 32 ∷ words) ++ 10 ∷ []
@@ -44,6 +49,14 @@ line_of {a} {b} {i} {j} held key words is front written =
     let own : IsFront (Some key.peer) i a = subst (λ (h : Option Peer). IsFront h i a) is front in
     written.front ∙ ap (λ (l : List ℕ). l ++ (nlri_text key ++ (words ++ 10 ∷ []))) own.1
     ∙ line_parts (peer_text key.peer) (prefix_text key.prefix) (identifier_text key.path) words
+
+-- the words of a row alone,
+pub words_of : {a b : List ℕ} {i j : ℕ} (held : Option Peer) (key : Key) (verdict : Verdict) → held ≡ Some key.peer → IsFront held i a
+    → Writes (unended_rest key verdict) a i b j → take j b ≡ row_line key verdict
+words_of {a} {b} {i} {j} held key verdict is front written =
+    let own : IsFront (Some key.peer) i a = subst (λ (h : Option Peer). IsFront h i a) is front in
+    written.front ∙ ap (λ (l : List ℕ). l ++ unended_rest key verdict) own.1
+    ∙ unended_parts (peer_text key.peer) (prefix_text key.prefix) (identifier_text key.path) (verdict_text verdict)
 
 -- and the change
 pub change_of : {a b : List ℕ} {i j : ℕ} (held : Option Peer) (key : Key) (before after : Option Verdict) → held ≡ Some key.peer → IsFront held i a

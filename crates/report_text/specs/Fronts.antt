@@ -28,6 +28,10 @@ nlri_text key = prefix_text key.prefix ++ (identifier_text key.path ++ 32 ∷ []
 abbrev pub row_rest : Key → Verdict → List ℕ
 row_rest key verdict = nlri_text key ++ (verdict_text verdict ++ 10 ∷ [])
 
+-- the same without its line feed
+abbrev pub unended_rest : Key → Verdict → List ℕ
+unended_rest key verdict = nlri_text key ++ verdict_text verdict
+
 -- the state of an origin behind its front
 abbrev pub origin_rest : Key → OriginState → List ℕ
 origin_rest key state = nlri_text key ++ (state_text state ++ 10 ∷ [])

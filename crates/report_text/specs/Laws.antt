@@ -5,20 +5,24 @@ use Rattle.std.specs.List.{starts_with}
 use Rattle.path_model.specs.declared.key.Key.{Key}
 use Rattle.path_model.specs.declared.verdict.Verdict.{Verdict}
 use Rattle.path_model.specs.declared.witness.Witness.{Witness}
+use Rattle.path_model.specs.Trail.{Path}
 use Rattle.origin_model.specs.declared.origin_state.OriginState.{OriginState}
 use Rattle.otc_check.specs.declared.leaks.Leak.{Leak}
 use Rattle.av_text.specs.Spellings.{IsInLine}
 use Rattle.report_text.specs.declared.summary.Summary.{Summary}
 use Rattle.report_text.specs.declared.cause.Cause.{Cause}
 use Rattle.report_text.specs.Change.{change_line, changed_line}
+use Rattle.report_text.specs.Details.{detail_line}
 use Rattle.report_text.specs.declared.feed.FeedEnd.{FeedEnd}
 use Rattle.report_text.specs.Feeds.{feed_line}
 use Rattle.report_text.specs.Leaks.{leak_line}
 use Rattle.report_text.specs.Origins.{origin_line}
 use Rattle.report_text.specs.Refusals.{AnyPlace, of_line, of_unit, refusal_line}
 use Rattle.report_text.specs.Rows.{row_line}
+use Rattle.report_text.specs.Sayings.{said_line}
 use Rattle.report_text.specs.Served.{served_line}
 use Rattle.report_text.specs.Summary.{summary_line}
+use Rattle.report_text.specs.Suspects.{suspect_line}
 use Rattle.report_text.specs.Why.{why_line}
 
 -- a place whose name has no line feed
@@ -66,3 +70,14 @@ EachServedIsOneLine = (accepted answers : ℕ) → IsAnswerLine (served_line acc
 
 abbrev pub EachReasonIsOneLine : Type 0
 EachReasonIsOneLine = (verdict : Verdict) (witness : Witness) → IsAnswerLine (why_line verdict witness)
+
+abbrev pub EachDetailIsOneLine : Type 0
+EachDetailIsOneLine =
+    (key : Key) (verdict : Verdict) (witness : Witness) (path : Path) → IsAnswerLine (detail_line key verdict witness path)
+
+abbrev pub EachSuspectIsOneLine : Type 0
+EachSuspectIsOneLine =
+    (from first last : ℕ) (to : Option ℕ) (routes paths : ℕ) → IsAnswerLine (suspect_line from first last to routes paths)
+
+abbrev pub EachSayingIsOneLine : Type 0
+EachSayingIsOneLine = (text : List ℕ) → IsInLine text → IsAnswerLine (said_line text)

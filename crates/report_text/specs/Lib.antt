@@ -1,5 +1,6 @@
 pub mod Causes
 pub mod Change
+pub mod Details
 pub mod Feeds
 pub mod Fronts
 pub mod Keys
@@ -10,7 +11,9 @@ pub mod Places
 pub mod Refusals
 pub mod Reported
 pub mod Rows
+pub mod Sayings
 pub mod Served
 pub mod Summary
+pub mod Suspects
 pub mod Why
 pub mod Writes

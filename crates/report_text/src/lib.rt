@@ -1,20 +1,22 @@
 //! The lines that the program reports with.
 //!
 //! The layer above uses one contract: **each `put_` call appends the one line that it names, whole, or leaves the text as it was.**
-//! [`put_refusal`] reports a refusal, [`put_feed`] a feed's end or a router's, [`put_row`] a route's verdict, [`put_origin`] the state of
-//! its origin, [`put_leak`] what Only-to-Customer shows of it, [`put_change`] a route whose verdict changed, [`put_changed`] how many
-//! changed, [`put_why`] why a path has its verdict, [`put_summary`] how many there are of each, and [`put_served`] what came of serving
-//! routers. `refusal_text` of `specs/Refusals.antt` and the `.._text` of `Feeds`, `Rows`, `Origins`, `Leaks`, `Change`, `Why`, `Summary` and
-//! `Served` are those lines: begin there, and at `specs/Causes.antt`, the table of causes with their numbers and words. Rows, origins, leaks
-//! and changes begin with the route's key (`specs/Keys.antt`), its path identifier included; [`PeerLines`] writes them one after another,
-//! and a peer's text once for all of its lines that follow one another (`line` and `digits` write into its room). Whatever is refused and
-//! however a feed or a router ends, the line is one line that begins with `! `, and no other line begins so (`laws`): who reads the
-//! program's output finds each of them by its first two bytes.
+//! [`put_refusal`] reports a refusal, [`put_feed`] a feed's end or a router's, [`put_row`] a route's verdict, [`put_detail`] that with what
+//! shows it and the path, [`put_origin`] the state of the route's origin, [`put_leak`] what Only-to-Customer shows of it, [`put_change`] a
+//! route whose verdict changed, [`put_changed`] how many changed, [`put_why`] why a path has its verdict, [`put_suspect`] a valley of paths,
+//! [`put_summary`] how many there are of each, [`put_served`] what came of serving routers, and [`put_said`] what the script wants said.
+//! `refusal_text` of `specs/Refusals.antt` and the `.._text` of `Feeds`, `Rows`, `Details`, `Origins`, `Leaks`, `Change`, `Why`, `Suspects`,
+//! `Summary`, `Served` and `Sayings` are those lines: begin there, and at `specs/Causes.antt`, the table of causes with their numbers and
+//! words. Rows, details, origins, leaks and changes begin with the route's key (`specs/Keys.antt`), its path identifier included;
+//! [`PeerLines`] writes them one after another, and a peer's text once for all of its lines that follow one another (`line` and `digits`
+//! write into its room). Whatever is refused and however a feed or a router ends, the line is one line that begins with `! `, and no other
+//! line begins so (`laws`): who reads the program's output finds each of them by its first two bytes.
 #![tactic(auto)]
 
 mod cause;
 mod change;
 mod count;
+mod detail;
 mod digits;
 mod feed;
 mod key;
@@ -26,12 +28,15 @@ mod peer_lines;
 mod place;
 mod refusal;
 mod row;
+mod said;
 mod served;
 mod summary;
+mod suspect;
 mod why;
 
 pub use cause::Cause;
 pub use change::{put_change, put_changed};
+pub use detail::put_detail;
 pub use feed::{FeedEnd, put_feed};
 pub use laws::{each_feed_end_is_one_line, each_refusal_is_one_line, no_answer_reads_as_a_refusal};
 pub use leak::put_leak;
@@ -40,6 +45,8 @@ pub use peer_lines::PeerLines;
 pub use place::Place;
 pub use refusal::put_refusal;
 pub use row::put_row;
+pub use said::put_said;
 pub use served::put_served;
 pub use summary::{Summary, put_summary};
+pub use suspect::put_suspect;
 pub use why::put_why;

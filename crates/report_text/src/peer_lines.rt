@@ -1,14 +1,16 @@
-//! Rows, origins, leaks and changes one after another, each written behind the text of its peer.
+//! Rows, origins, leaks, changes and details one after another, each written behind the text of its peer.
 ghost use Rattle.std.specs.Prelude.{◌≡◌, ◌≢◌, ◌++◌, ◌∷◌, ◌+◌, ◌≤◌, [], None, Some, IsTrue, take, OnOk, OnErr};
 ghost use Rattle.otc_check.specs.declared.leaks.Leak.TheVariants.{Clean};
 ghost use Rattle.av_text.specs.PeerText.{peer_text};
 ghost use Rattle.report_text.specs.Change.{change_text};
-ghost use Rattle.report_text.specs.Fronts.{change_rest, leak_rest, nlri_text, origin_rest, row_rest};
+ghost use Rattle.report_text.specs.Details.{detail_text};
+ghost use Rattle.report_text.specs.Fronts.{change_rest, leak_rest, nlri_text, origin_rest, row_rest, unended_rest};
 ghost use Rattle.report_text.specs.Leaks.{leak_text};
 ghost use Rattle.report_text.specs.Origins.{origin_text};
 ghost use Rattle.report_text.specs.Rows.{row_text};
 ghost use Rattle.report_text.specs.Writes.{Writes};
 
+use crate::detail::put_behind;
 use crate::digits::write_number;
 use crate::line::{
     ROOM, write_addr, write_behind, write_bytes, write_identifier, write_mark, write_prefix,
@@ -18,7 +20,7 @@ use crate::origin::word_of;
 use av_base::NoMemory;
 use origin_model::OriginState;
 use otc_check::Leak;
-use path_model::{Key, Peer, Verdict};
+use path_model::{Key, Peer, Trail, Verdict, Witness};
 use std::marker::Model;
 
 /// Writes lines one after another, and the text of a peer once for all of its lines that follow one another.
@@ -119,6 +121,24 @@ impl PeerLines {
         Ok(())
     }
 
+    /// Appends the line that [`put_detail`](crate::put_detail) appends, or nothing. What it takes is that room in `out` alone.
+    pub fn put_detail(
+        &mut self,
+        out: &mut Vec<u8>,
+        key: &Key,
+        verdict: Verdict,
+        witness: Witness,
+        trail: &Trail,
+    ) -> Result<(), NoMemory>
+        ensures ok { OnOk result
+            (out.new.items ≡ out.old.items ++ detail_text key.now verdict witness trail.now) }
+        ensures err { OnErr result (out.new.items ≡ out.old.items) }
+    {
+        self.turn_to(&key.peer);
+        let end = write_unended(&mut self.line, self.front, key, verdict);
+        put_behind(out, &self.line[..end], witness, trail)
+    }
+
     // The text of this peer is held.
     fn turn_to(&mut self, peer: &Peer)
         ensures { self.new ≡ Some peer.now }
@@ -171,6 +191,18 @@ fn write_row(line: &mut [u8; ROOM], front: usize, key: &Key, verdict: Verdict) -
     let end = write_nlri(line, front, key);
     let end = write_verdict(line, end, verdict);
     write_behind(line, end, b'\n')
+}
+
+// Writes the rest of a row without its line feed behind the text of its peer, and answers where it ends.
+#[inline(always)]
+fn write_unended(line: &mut [u8; ROOM], front: usize, key: &Key, verdict: Verdict) -> usize
+    requires { front ≤ 51 }
+    ensures written { Writes (unended_rest key.now verdict) line.old front line.new result }
+    ensures within { front ≤ result }
+    ensures end { result ≤ ROOM }
+{
+    let end = write_nlri(line, front, key);
+    write_verdict(line, end, verdict)
 }
 
 // Writes the rest of an origin's line behind the text of its peer, and answers where it ends.

@@ -36,8 +36,8 @@ fn push_why(out: &mut Vec<u8>, verdict: Verdict, witness: Witness) -> Result<(),
     Ok(())
 }
 
-// Appends the witness, or a front of it where that fails.
-fn push_witness(out: &mut Vec<u8>, witness: Witness) -> Result<(), NoMemory>
+/// Appends the witness, or a front of it where that fails.
+pub(crate) fn push_witness(out: &mut Vec<u8>, witness: Witness) -> Result<(), NoMemory>
     ensures ok { OnOk result (out.new.items ≡ out.old.items ++ witness_text witness) }
     ensures grown { IsGrown out.old.items out.new.items }
 {

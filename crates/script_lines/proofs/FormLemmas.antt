@@ -7,8 +7,8 @@ use Rattle.script_lines.specs.declared.command.Command.{Command}
 use Rattle.script_lines.specs.declared.command.Command.TheVariants.{Idle}
 use Rattle.script_lines.specs.declared.command.LineFault.{LineFault}
 use Rattle.script_lines.specs.declared.command.LineFault.TheVariants.{Long, Command as NoCommand, Words, Number, NoMemory}
-use Rattle.script_lines.specs.Kinds.{WordKind, NAME, TEXT, ROLE, VIEW, ADDRESS, PREFIX, NUMBER, WHOM, ValueOf, Spells, HasForm}
-use Rattle.script_lines.specs.Forms.{AreAses, Form, end, ases, optional, ◌then◌, Builds, IsSpelled, Fits}
+use Rattle.script_lines.specs.Kinds.{WordKind, NAME, TEXT, ROLE, VIEW, VERDICT, ADDRESS, PREFIX, NUMBER, WHOM, ValueOf, Spells, HasForm}
+use Rattle.script_lines.specs.Forms.{AreAses, Form, end, ases, texts, optional, ◌then◌, Builds, IsSpelled, Fits}
 use Rattle.script_lines.specs.Fields.{AreSpelled, RefusesWord, RefusesWords, joined}
 
 -- a spelling has the form
@@ -17,6 +17,7 @@ spelled-form NAME word value is = (value, is)
 spelled-form TEXT word value is = (value, is)
 spelled-form ROLE word value is = (value, is)
 spelled-form VIEW word value is = (value, is)
+spelled-form VERDICT word value is = (value, is)
 spelled-form ADDRESS word value is = (value, is)
 spelled-form PREFIX word value is = (value, is)
 spelled-form (NUMBER least most) word value is = tt
@@ -26,6 +27,7 @@ spelled-form WHOM word value is = tt
 some_build : (form : Form) → Builds form
 some_build end = Idle
 some_build (ases least) = λ ns. Idle
+some_build texts = λ text. Idle
 some_build (optional kind) = λ value. Idle
 some_build (kind then form) = λ value. some_build form
 
@@ -33,6 +35,7 @@ some_build (kind then form) = λ value. some_build form
 pub spelled-fits : (form : Form) (build : Builds form) (words : List (List ℕ)) (command : Command) → IsSpelled form build words command → Fits form words
 spelled-fits end made words command is = is.0
 spelled-fits (ases least) build words command is = let same : length words ≡ length is.0 = ap length is.2.1 ∙ length-map is.0 decimal in let long = is.1 in omega arith
+spelled-fits texts build words command is = (is.0, is.1)
 spelled-fits (optional kind) build [] command is = tt
 spelled-fits (optional kind) build (word ∷ words) command is = (spelled-form kind word is.0 is.1, is.2)
 spelled-fits (kind then form) build [] command is = is

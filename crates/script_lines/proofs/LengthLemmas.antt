@@ -6,9 +6,9 @@ use Rattle.av_text.proofs.WordLemmas.{length-words_of}
 use Rattle.script_lines.specs.declared.command.Command.{Command}
 use Rattle.script_lines.specs.declared.command.Command.TheVariants.{Judge}
 use Rattle.script_lines.specs.declared.command.CommandName.{CommandName}
-use Rattle.script_lines.specs.declared.command.CommandName.TheVariants.{Aspa as AspaName, Aspa64 as Aspa64Name, Slurm as SlurmName, Filter as FilterName, Unfilter as UnfilterName, Assert as AssertName, Unassert as UnassertName, At as AtName, Role as RoleName, Open as OpenName, Bmp as BmpName, Take as TakeName, Feed as FeedName, Ask as AskName, Sync as SyncName, Serve as ServeName, Judge as JudgeName, Changes as ChangesName, Why as WhyName, Show as ShowName}
+use Rattle.script_lines.specs.declared.command.CommandName.TheVariants.{Aspa as AspaName, Aspa64 as Aspa64Name, Validated as ValidatedName, Slurm as SlurmName, Filter as FilterName, Unfilter as UnfilterName, Assert as AssertName, Unassert as UnassertName, At as AtName, Role as RoleName, Open as OpenName, Bmp as BmpName, Take as TakeName, Until as UntilName, Feed as FeedName, Ask as AskName, Sync as SyncName, Serve as ServeName, Judge as JudgeName, Clear as ClearName, Changes as ChangesName, Why as WhyName, Details as DetailsName, Say as SayName, Show as ShowName}
 use Rattle.script_lines.specs.Kinds.{ValueOf}
-use Rattle.script_lines.specs.Forms.{Form, end, ases, optional, ◌then◌, Builds, IsSpelled}
+use Rattle.script_lines.specs.Forms.{Form, end, ases, texts, optional, ◌then◌, sentence, Builds, IsSpelled}
 use Rattle.script_lines.specs.Commands.{form_of, sets_role, made_by}
 use Rattle.script_lines.specs.Grammar.{IsReading}
 
@@ -20,6 +20,7 @@ JudgesWithin most command = (role : Role) (neighbour : ℕ) (path : List ℕ) �
 abbrev MakesShort : (form : Form) → Builds form → Type 0
 MakesShort end made = JudgesWithin 0 made
 MakesShort (ases least) build = (ns : List ℕ) → JudgesWithin (length ns) (build ns)
+MakesShort texts build = (text : List ℕ) → JudgesWithin 0 (build text)
 MakesShort (optional kind) build = (value : Option (ValueOf kind)) → JudgesWithin 0 (build value)
 MakesShort (kind then form) build = (value : ValueOf kind) → MakesShort form (build value)
 
@@ -32,6 +33,7 @@ sets_no_path (Some asn) given = λ role neighbour path is. cc
 makes_short : (name : CommandName) → MakesShort (form_of name) (made_by name)
 makes_short AspaName = λ name file role neighbour path is. cc
 makes_short Aspa64Name = λ name file role neighbour path is. cc
+makes_short ValidatedName = λ name file role neighbour path is. cc
 makes_short SlurmName = λ file role neighbour path is. cc
 makes_short FilterName = λ customer role neighbour path is. cc
 makes_short UnfilterName = λ customer role neighbour path is. cc
@@ -42,13 +44,17 @@ makes_short RoleName = λ whom given role neighbour path is. sets_no_path whom g
 makes_short OpenName = λ name file role neighbour path is. cc
 makes_short BmpName = λ name file post role neighbour path is. cc
 makes_short TakeName = λ name count role neighbour path is. cc
+makes_short UntilName = λ name seconds role neighbour path is. cc
 makes_short FeedName = λ name place role neighbour path is. cc
 makes_short AskName = λ name role neighbour path is. cc
 makes_short SyncName = λ name count role neighbour path is. cc
 makes_short ServeName = λ place session count role neighbour path is. cc
 makes_short JudgeName = λ role neighbour path r n p is. let same : path ≡ p = cc in let as_long : length path ≡ length p = ap length same in omega (arith, as_long)
+makes_short ClearName = λ role neighbour path is. cc
 makes_short ChangesName = λ role neighbour path is. cc
 makes_short WhyName = λ addr asn prefix identifier role neighbour path is. cc
+makes_short DetailsName = λ verdict role neighbour path is. cc
+makes_short SayName = λ text role neighbour path is. cc
 makes_short (ShowName show) = λ role neighbour path is. cc
 
 -- a path has no more ASes than its line has words
@@ -59,6 +65,8 @@ spelled_within (ases least) build words command short is = λ role neighbour pat
     let most = short is.0 role neighbour path (sym is.3 ∙ judged) in
     let spelled = ap length is.2.1 in
     omega (arith, spelled, most, length-map is.0 decimal)
+spelled_within texts build words command short is = λ role neighbour path judged.
+    let most = short (sentence words) role neighbour path (sym is.2 ∙ judged) in omega arith
 spelled_within (optional kind) build [] command short is = λ role neighbour path judged. let most = short None role neighbour path (sym is ∙ judged) in omega arith
 spelled_within (optional kind) build (word ∷ words) command short is = λ role neighbour path judged.
     let most = short (Some is.0) role neighbour path (sym is.3 ∙ judged) in omega arith

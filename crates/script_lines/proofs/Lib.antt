@@ -7,4 +7,5 @@ mod NameLemmas
 mod ReadingLemmas
 pub mod SourceNameLemmas
 mod SpellingLemmas
+mod TextLemmas
 mod WordLemmas

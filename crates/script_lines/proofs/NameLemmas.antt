@@ -3,22 +3,24 @@ use Rattle.std.proofs.Common.{◌≡◌, ℕ, List, [], ◌∷◌, refl}
 use Rattle.path_model.proofs.Decide.{Decided}
 use Rattle.av_text.proofs.SpellingLemmas.{value_among, found_injective, found_or_none}
 use Rattle.script_lines.specs.declared.command.CommandName.{CommandName}
-use Rattle.script_lines.specs.declared.command.CommandName.TheVariants.{Aspa as AspaName, Aspa64 as Aspa64Name, Slurm as SlurmName, Filter as FilterName, Unfilter as UnfilterName, Assert as AssertName, Unassert as UnassertName, At as AtName, Role as RoleName, Open as OpenName, Bmp as BmpName, Take as TakeName, Feed as FeedName, Ask as AskName, Sync as SyncName, Serve as ServeName, Judge as JudgeName, Changes as ChangesName, Why as WhyName, Show as ShowName}
-use Rattle.script_lines.specs.declared.command.Show.TheVariants.{Report, Origins, Leaks, Summary}
+use Rattle.script_lines.specs.declared.command.CommandName.TheVariants.{Aspa as AspaName, Aspa64 as Aspa64Name, Validated as ValidatedName, Slurm as SlurmName, Filter as FilterName, Unfilter as UnfilterName, Assert as AssertName, Unassert as UnassertName, At as AtName, Role as RoleName, Open as OpenName, Bmp as BmpName, Take as TakeName, Until as UntilName, Feed as FeedName, Ask as AskName, Sync as SyncName, Serve as ServeName, Judge as JudgeName, Clear as ClearName, Changes as ChangesName, Why as WhyName, Details as DetailsName, Say as SayName, Show as ShowName}
+use Rattle.script_lines.specs.declared.command.Show.TheVariants.{Report, Origins, Leaks, Suspects, Summary}
 use Rattle.script_lines.specs.Commands.{name_text}
 use Rattle.script_lines.specs.Grammar.{IsCommandName}
 
 -- the command that a word could name
 name_of : List ℕ → CommandName
 name_of = value_among name_text JudgeName
-    (AspaName ∷ Aspa64Name ∷ SlurmName ∷ FilterName ∷ UnfilterName ∷ AssertName ∷ UnassertName
-    ∷ AtName ∷ RoleName ∷ OpenName ∷ BmpName ∷ TakeName ∷ FeedName ∷ AskName ∷ SyncName ∷ ServeName ∷ ChangesName ∷ WhyName
-    ∷ ShowName Report ∷ ShowName Origins ∷ ShowName Leaks ∷ ShowName Summary ∷ [])
+    (AspaName ∷ Aspa64Name ∷ ValidatedName ∷ SlurmName ∷ FilterName ∷ UnfilterName ∷ AssertName ∷ UnassertName
+    ∷ AtName ∷ RoleName ∷ OpenName ∷ BmpName ∷ TakeName ∷ UntilName ∷ FeedName ∷ AskName ∷ SyncName ∷ ServeName ∷ ClearName ∷ ChangesName ∷ WhyName
+    ∷ DetailsName ∷ SayName
+    ∷ ShowName Report ∷ ShowName Origins ∷ ShowName Leaks ∷ ShowName Suspects ∷ ShowName Summary ∷ [])
 
 name_of-name_text : (name : CommandName) → name_of (name_text name) ≡ name
 unfolding name_of value_among
 name_of-name_text AspaName = refl
 name_of-name_text Aspa64Name = refl
+name_of-name_text ValidatedName = refl
 name_of-name_text SlurmName = refl
 name_of-name_text FilterName = refl
 name_of-name_text UnfilterName = refl
@@ -29,16 +31,21 @@ name_of-name_text RoleName = refl
 name_of-name_text OpenName = refl
 name_of-name_text BmpName = refl
 name_of-name_text TakeName = refl
+name_of-name_text UntilName = refl
 name_of-name_text FeedName = refl
 name_of-name_text AskName = refl
 name_of-name_text SyncName = refl
 name_of-name_text ServeName = refl
 name_of-name_text JudgeName = refl
+name_of-name_text ClearName = refl
 name_of-name_text ChangesName = refl
 name_of-name_text WhyName = refl
+name_of-name_text DetailsName = refl
+name_of-name_text SayName = refl
 name_of-name_text (ShowName Report) = refl
 name_of-name_text (ShowName Origins) = refl
 name_of-name_text (ShowName Leaks) = refl
+name_of-name_text (ShowName Suspects) = refl
 name_of-name_text (ShowName Summary) = refl
 
 -- two commands with one name are one

@@ -6,6 +6,8 @@ use Rattle.std.proofs.lemmas.Bool.{cases_lt}
 use Rattle.std.proofs.lemmas.List.Elements.{All-head, All-tail, All-cons, All-nil}
 use Rattle.path_model.specs.declared.addr.Addr.{Addr}
 use Rattle.path_model.specs.declared.peer.Peer.{Peer}
+use Rattle.path_model.specs.declared.verdict.Verdict.{Verdict}
+use Rattle.path_model.specs.declared.verdict.Verdict.TheVariants.{Valid, Unknown, Invalid}
 use Rattle.path_model.specs.Name.{IsName, is_name_byte}
 use Rattle.path_model.specs.Prefix.{IsAddr, IsSubnet}
 use Rattle.path_model.proofs.Decide.{Decided, decided_both, decided_true}
@@ -13,13 +15,14 @@ use Rattle.av_text.specs.AddressText.{addr_text, IsAddrText}
 use Rattle.av_text.specs.Number.{Is32Bit, IsNoNumber}
 use Rattle.av_text.specs.PrefixText.{prefix_text}
 use Rattle.av_text.specs.Spellings.{SpellsOne}
+use Rattle.av_text.specs.VerdictText.{verdict_text}
 use Rattle.av_text.proofs.AnySpellingLemmas.{addr_or_none, prefix_or_none, prefix_text_injective, peer_text_injective}
 use Rattle.av_text.proofs.NumberLemmas.{number_or_none, no_number-other, map-decimal_injective}
 use Rattle.av_text.proofs.SpellingLemmas.{value_among, found_injective, found_or_none, decided_text, role_text_injective, decided_role}
 use Rattle.script_lines.specs.declared.command.Command.{Command}
 use Rattle.script_lines.specs.Word.{IsVisible}
-use Rattle.script_lines.specs.Kinds.{view_text, WordKind, NAME, TEXT, ROLE, VIEW, ADDRESS, PREFIX, NUMBER, WHOM, ValueOf, Spells, HasForm, LacksNumber}
-use Rattle.script_lines.specs.Forms.{Form, end, ases, optional, ◌then◌, Builds, IsSpelled, Fits, SomeNoAs, SomeNoNumber}
+use Rattle.script_lines.specs.Kinds.{view_text, WordKind, NAME, TEXT, ROLE, VIEW, VERDICT, ADDRESS, PREFIX, NUMBER, WHOM, ValueOf, Spells, HasForm, LacksNumber}
+use Rattle.script_lines.specs.Forms.{Form, end, ases, texts, optional, ◌then◌, sentence, Builds, IsSpelled, Fits, SomeNoAs, SomeNoNumber}
 use Rattle.script_lines.proofs.AsLemmas.{no_as_first, no_as_later}
 use Rattle.script_lines.proofs.FormLemmas.{ases-spelled}
 use Rattle.script_lines.proofs.KindLemmas.{one_number, lacks-none, lacks-outside, lacks-whom}
@@ -28,16 +31,16 @@ use Rattle.script_lines.proofs.KindLemmas.{one_number, lacks-none, lacks-outside
 pub decided_le : (m n : ℕ) → Decided (m ≤ n)
 decided_le m n = elim (cases_lt n m) [ inl less ↦ inr (λ most. omega arith) | inr most ↦ inl most ]
 
--- whether each byte is so
-pub decided_all : (P : ℕ → Type 0) → ((byte : ℕ) → Decided (P byte)) → (bytes : List ℕ) → Decided (All P bytes)
+-- whether each of some is so
+pub decided_all : {A : Type 0} (P : A → Type 0) → ((a : A) → Decided (P a)) → (xs : List A) → Decided (All P xs)
 decided_all P decide [] = inl (All-nil P)
-decided_all P decide (byte ∷ bytes) =
-    elim (decide byte) [
-      | inl here ↦ elim (decided_all P decide bytes) [
-        | inl rest ↦ inl (All-cons P byte bytes here rest)
-        | inr not_rest ↦ inr (λ all. not_rest (All-tail P byte bytes all))
+decided_all P decide (a ∷ xs) =
+    elim (decide a) [
+      | inl here ↦ elim (decided_all P decide xs) [
+        | inl rest ↦ inl (All-cons P a xs here rest)
+        | inr not_rest ↦ inr (λ all. not_rest (All-tail P a xs all))
       ]
-      | inr not_here ↦ inr (λ all. not_here (All-head P byte bytes all))
+      | inr not_here ↦ inr (λ all. not_here (All-head P a xs all))
     ]
 
 decided_name_byte : (byte : ℕ) → Decided (IsTrue (is_name_byte byte))
@@ -72,6 +75,24 @@ view_text_injective = found_injective view_text view_of view_of-view_text
 decided_view : (word : List ℕ) → Decided ((post : Bool) × (word ≡ view_text post))
 decided_view = found_or_none view_text view_of view_of-view_text
 
+-- the verdict that a word could name
+verdict_of : List ℕ → Verdict
+verdict_of = value_among verdict_text Invalid (Valid ∷ Unknown ∷ [])
+
+verdict_of-verdict_text : (verdict : Verdict) → verdict_of (verdict_text verdict) ≡ verdict
+unfolding verdict_of value_among
+verdict_of-verdict_text Valid = refl
+verdict_of-verdict_text Unknown = refl
+verdict_of-verdict_text Invalid = refl
+
+-- two verdicts with one word are equal
+verdict_text_injective : (one other : Verdict) → verdict_text one ≡ verdict_text other → one ≡ other
+verdict_text_injective = found_injective verdict_text verdict_of verdict_of-verdict_text
+
+-- whether a word names a verdict
+decided_verdict : (word : List ℕ) → Decided ((verdict : Verdict) × (word ≡ verdict_text verdict))
+decided_verdict = found_or_none verdict_text verdict_of verdict_of-verdict_text
+
 -- a word that is so is the text of itself
 decided_itself : (P : Type 0) (word : List ℕ) → Decided P → Decided ((text : List ℕ) × (P × (text ≡ word)))
 decided_itself P word (inl is) = inl (word, (is, refl))
@@ -88,6 +109,7 @@ decided_kind NAME word = decided_itself (IsName word) word (decided_is_name word
 decided_kind TEXT word = decided_itself (All IsVisible word) word (decided_all IsVisible decided_visible word)
 decided_kind ROLE word = decided_role word
 decided_kind VIEW word = decided_view word
+decided_kind VERDICT word = decided_verdict word
 decided_kind ADDRESS word = decided_spelling IsAddr addr_text word (addr_or_none word)
 decided_kind PREFIX word = decided_spelling IsSubnet prefix_text word (prefix_or_none word)
 decided_kind (NUMBER least most) word = inl tt
@@ -99,6 +121,7 @@ value_or_lacks NAME word form = inr form
 value_or_lacks TEXT word form = inr form
 value_or_lacks ROLE word form = inr form
 value_or_lacks VIEW word form = inr form
+value_or_lacks VERDICT word form = inr form
 value_or_lacks ADDRESS word form = inr form
 value_or_lacks PREFIX word form = inr form
 value_or_lacks (NUMBER least most) word form =
@@ -141,6 +164,7 @@ one_value NAME word one other a b = a.1 ∙ sym b.1
 one_value TEXT word one other a b = a.1 ∙ sym b.1
 one_value ROLE word one other a b = role_text_injective one other (sym a ∙ b)
 one_value VIEW word one other a b = view_text_injective one other (sym a ∙ b)
+one_value VERDICT word one other a b = verdict_text_injective one other (sym a ∙ b)
 one_value ADDRESS word one other a b = one_addr word one other a b
 one_value PREFIX word one other a b = prefix_text_injective one other a.0 b.0 (sym a.1 ∙ b.1)
 one_value (NUMBER least most) word one other a b = one_number word one other a.0 b.0
@@ -152,6 +176,7 @@ no_lack NAME word value is lacks = lacks
 no_lack TEXT word value is lacks = lacks
 no_lack ROLE word value is lacks = lacks
 no_lack VIEW word value is lacks = lacks
+no_lack VERDICT word value is lacks = lacks
 no_lack ADDRESS word value is lacks = lacks
 no_lack PREFIX word value is lacks = lacks
 no_lack (NUMBER least most) word value is lacks = lacks value is
@@ -185,6 +210,7 @@ decided_none (word ∷ words) = inr (λ same. cc)
 pub decided_fits : (form : Form) (words : List (List ℕ)) → Decided (Fits form words)
 decided_fits end words = decided_none words
 decided_fits (ases least) words = decided_le least (length words)
+decided_fits texts words = decided_both (decided_le 1 (length words)) (decided_all (HasForm TEXT) (decided_kind TEXT) words)
 decided_fits (optional kind) [] = inl tt
 decided_fits (optional kind) (word ∷ words) = decided_both (decided_kind kind word) (decided_none words)
 decided_fits (kind then form) [] = inr (λ no. no)
@@ -198,6 +224,7 @@ spelled_or_lacks (ases least) build words fits =
       | inl some ↦ inl some
       | inr ns ↦ inr (build ns.0, ases-spelled least build words ns.0 fits (ns.1, ns.2))
     ]
+spelled_or_lacks texts build words fits = inr (build (sentence words), (fits.0, fits.1, refl))
 spelled_or_lacks (optional kind) build [] fits = inr (build None, refl)
 spelled_or_lacks (optional kind) build (word ∷ words) fits =
     elim (value_or_lacks kind word fits.0) [
@@ -218,6 +245,7 @@ spelled_or_lacks (kind then form) build (word ∷ words) fits =
 pub one_command : (form : Form) (build : Builds form) (words : List (List ℕ)) (one other : Command) → IsSpelled form build words one → IsSpelled form build words other → one ≡ other
 one_command end made words one other a b = a.1 ∙ sym b.1
 one_command (ases least) build words one other a b = a.3 ∙ ap build (map-decimal_injective a.0 b.0 a.2.0 b.2.0 (sym a.2.1 ∙ b.2.1)) ∙ sym b.3
+one_command texts build words one other a b = a.2 ∙ sym b.2
 one_command (optional kind) build [] one other a b = a ∙ sym b
 one_command (optional kind) build (word ∷ words) one other a b =
     a.3 ∙ ap (λ (v : ValueOf kind). build (Some v)) (one_value kind word a.0 b.0 a.1 b.1) ∙ sym b.3
@@ -231,6 +259,7 @@ one_command (kind then form) build (word ∷ words) one other a b =
 pub lacks_none : (form : Form) (build : Builds form) (words : List (List ℕ)) (command : Command) → IsSpelled form build words command → SomeNoNumber form words → ⊥
 lacks_none end made words command is lacks = lacks
 lacks_none (ases least) build words command is some = number_at is.0 some.place some.word is.2.0 (ap (λ (ws : List (List ℕ)). slice_get ws some.place) (sym is.2.1) ∙ some.among) some.no_number
+lacks_none texts build words command is lacks = lacks
 lacks_none (optional kind) build [] command is lacks = lacks
 lacks_none (optional kind) build (word ∷ words) command is lacks = no_lack kind word is.0 is.1 lacks
 lacks_none (kind then form) build [] command is lacks = lacks

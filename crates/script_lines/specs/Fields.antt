@@ -6,7 +6,7 @@ use Rattle.script_lines.specs.declared.command.Command.{Command}
 use Rattle.script_lines.specs.declared.command.LineFault.{LineFault}
 use Rattle.script_lines.specs.declared.command.LineFault.TheVariants.{Long, Command as NoCommand, Words, Number, NoMemory}
 use Rattle.script_lines.specs.Kinds.{WordKind, HasForm, LacksNumber}
-use Rattle.script_lines.specs.Forms.{Form, Builds, IsSpelled, Fits, SomeNoNumber}
+use Rattle.script_lines.specs.Forms.{Form, AreTexts, Builds, IsSpelled, Fits, SomeNoNumber}
 
 -- a word of this kind is refused for this cause
 abbrev pub RefusesWord : WordKind → List ℕ → LineFault → Type 0
@@ -27,6 +27,14 @@ RefusesWords form words Number = Fits form words × SomeNoNumber form words
 RefusesWords form words NoMemory = Unit {0}
 RefusesWords form words Long = ⊥
 RefusesWords form words NoCommand = ⊥
+
+-- texts are refused for this cause
+abbrev pub RefusesTexts : List (List ℕ) → LineFault → Type 0
+RefusesTexts words Words = ¬ AreTexts words
+RefusesTexts words Number = ⊥
+RefusesTexts words NoMemory = Unit {0}
+RefusesTexts words Long = ⊥
+RefusesTexts words NoCommand = ⊥
 
 -- two values, or the fault of one: that of a number comes last
 abbrev pub joined : {A B : Type 0} → Result A LineFault → Result B LineFault → Result (A × B) LineFault

@@ -1,16 +1,19 @@
 -- The forms that the words behind a command's name may have.
 use Rattle.std.specs.Prelude.{◌≡◌, ◌⊎◌, ℕ, ◌≤◌, List, [], ◌∷◌, length, slice_get, map, All, decimal}
+use Rattle.std.specs.List.{join_with_byte}
 use Rattle.std.specs.declared.option.Option.{Option}
 use Rattle.std.specs.declared.option.Option.TheVariants.{Some, None}
 use Rattle.av_text.specs.Number.{Is32Bit, IsNoNumber}
 use Rattle.script_lines.specs.declared.command.Command.{Command}
-use Rattle.script_lines.specs.Kinds.{WordKind, ValueOf, Spells, HasForm, LacksNumber}
+use Rattle.script_lines.specs.Kinds.{WordKind, TEXT, ValueOf, Spells, HasForm, LacksNumber}
 
 infixr 5 ◌then◌
--- no more words; any number of ASes, but at least so many; a word of some kind or none; or a word of some kind, and then others
+-- no more words; any number of ASes, but at least so many; one or more words, whatever they are; a word of some kind or none; or a word of
+-- some kind, and then others
 pub data Form : Type 0 where
   end : Form
   ases : ℕ → Form
+  texts : Form
   optional : WordKind → Form
   ◌then◌ : WordKind → Form → Form
 
@@ -18,6 +21,7 @@ pub data Form : Type 0 where
 abbrev pub Builds : Form → Type 0
 Builds end = Command
 Builds (ases least) = List ℕ → Command
+Builds texts = List ℕ → Command
 Builds (optional kind) = Option (ValueOf kind) → Command
 Builds (kind then form) = ValueOf kind → Builds form
 
@@ -25,11 +29,21 @@ Builds (kind then form) = ValueOf kind → Builds form
 abbrev pub AreAses : List (List ℕ) → List ℕ → Type 0
 AreAses words ns = All Is32Bit ns × (words ≡ map decimal ns)
 
+-- each of the words is a text,
+abbrev pub AreTexts : List (List ℕ) → Type 0
+AreTexts words = All (HasForm TEXT) words
+
+-- and what they say is the words with one space between two
+abbrev pub sentence : List (List ℕ) → List ℕ
+sentence words = join_with_byte 32 words
+
 -- the words spell the values of which the command is made
 abbrev pub IsSpelled : (form : Form) → Builds form → List (List ℕ) → Command → Type 0
 IsSpelled end made words command = (words ≡ []) × (command ≡ made)
 IsSpelled (ases least) build words command =
     (ns : List ℕ) × (least ≤ length ns) × AreAses words ns × (command ≡ build ns)
+IsSpelled texts build words command =
+    (1 ≤ length words) × AreTexts words × (command ≡ build (sentence words))
 IsSpelled (optional kind) build [] command = command ≡ build None
 IsSpelled (optional kind) build (word ∷ words) command =
     (value : ValueOf kind) × Spells kind word value × (words ≡ []) × (command ≡ build (Some value))
@@ -41,6 +55,7 @@ IsSpelled (kind then form) build (word ∷ words) command =
 abbrev pub Fits : Form → List (List ℕ) → Type 0
 Fits end words = words ≡ []
 Fits (ases least) words = least ≤ length words
+Fits texts words = (1 ≤ length words) × AreTexts words
 Fits (optional kind) [] = Unit {0}
 Fits (optional kind) (word ∷ words) = HasForm kind word × (words ≡ [])
 Fits (kind then form) [] = ⊥
@@ -57,6 +72,7 @@ pub record SomeNoAs (words : List (List ℕ)) : Type 0 where
 abbrev pub SomeNoNumber : Form → List (List ℕ) → Type 0
 SomeNoNumber end words = ⊥
 SomeNoNumber (ases least) words = SomeNoAs words
+SomeNoNumber texts words = ⊥
 SomeNoNumber (optional kind) [] = ⊥
 SomeNoNumber (optional kind) (word ∷ words) = LacksNumber kind word
 SomeNoNumber (kind then form) [] = ⊥

@@ -4,11 +4,13 @@ use Rattle.std.specs.declared.option.Option.{Option}
 use Rattle.std.specs.declared.option.Option.TheVariants.{Some, None}
 use Rattle.path_model.specs.declared.addr.Addr.{Addr}
 use Rattle.path_model.specs.declared.role.Role.{Role}
+use Rattle.path_model.specs.declared.verdict.Verdict.{Verdict}
 use Rattle.path_model.specs.Name.{IsName}
 use Rattle.path_model.specs.Prefix.{Subnet}
 use Rattle.av_text.specs.AddressText.{IsAddrText}
 use Rattle.av_text.specs.PrefixText.{IsPrefixText}
 use Rattle.av_text.specs.RoleText.{role_text}
+use Rattle.av_text.specs.VerdictText.{verdict_text}
 use Rattle.av_text.specs.Number.{IsNumber}
 use Rattle.script_lines.specs.Word.{IsVisible}
 
@@ -17,12 +19,13 @@ abbrev pub view_text : Bool → List ℕ
 view_text false = codes "pre"
 view_text true = codes "post"
 
--- NAME, a text such as FILE or PLACE, ROLE, VIEW, ADDRESS, PREFIX, a number from a least one to a most, and whom a role is given: an AS or all others
+-- NAME, a text such as FILE or PLACE, ROLE, VIEW, VERDICT, ADDRESS, PREFIX, a number from a least one to a most, and whom a role is given: an AS or all others
 pub data WordKind : Type 0 where
   NAME : WordKind
   TEXT : WordKind
   ROLE : WordKind
   VIEW : WordKind
+  VERDICT : WordKind
   ADDRESS : WordKind
   PREFIX : WordKind
   NUMBER : ℕ → ℕ → WordKind
@@ -34,6 +37,7 @@ ValueOf NAME = List ℕ
 ValueOf TEXT = List ℕ
 ValueOf ROLE = Role
 ValueOf VIEW = Bool
+ValueOf VERDICT = Verdict
 ValueOf ADDRESS = Addr
 ValueOf PREFIX = Subnet
 ValueOf (NUMBER least most) = ℕ
@@ -50,6 +54,7 @@ Spells NAME word name = IsName word × (name ≡ word)
 Spells TEXT word text = All IsVisible word × (text ≡ word)
 Spells ROLE word role = word ≡ role_text role
 Spells VIEW word post = word ≡ view_text post
+Spells VERDICT word verdict = word ≡ verdict_text verdict
 Spells ADDRESS word addr = IsAddrText word addr
 Spells PREFIX word prefix = IsPrefixText word prefix
 Spells (NUMBER least most) word n = IsNumber word n × (least ≤ n) × (n ≤ most)
@@ -61,6 +66,7 @@ HasForm NAME word = (name : List ℕ) × Spells NAME word name
 HasForm TEXT word = (text : List ℕ) × Spells TEXT word text
 HasForm ROLE word = (role : Role) × Spells ROLE word role
 HasForm VIEW word = (post : Bool) × Spells VIEW word post
+HasForm VERDICT word = (verdict : Verdict) × Spells VERDICT word verdict
 HasForm ADDRESS word = (addr : Addr) × Spells ADDRESS word addr
 HasForm PREFIX word = (prefix : Subnet) × Spells PREFIX word prefix
 HasForm (NUMBER least most) word = Unit {0}
@@ -72,6 +78,7 @@ LacksNumber NAME word = ⊥
 LacksNumber TEXT word = ⊥
 LacksNumber ROLE word = ⊥
 LacksNumber VIEW word = ⊥
+LacksNumber VERDICT word = ⊥
 LacksNumber ADDRESS word = ⊥
 LacksNumber PREFIX word = ⊥
 LacksNumber (NUMBER least most) word = (n : ℕ) → ¬ Spells (NUMBER least most) word n

@@ -2,9 +2,10 @@
 ghost use Rattle.std.specs.Prelude.{◌≡◌};
 ghost use Rattle.script_lines.specs.declared.command.LineFault.TheVariants.{NoMemory as OutOfMemory};
 
+use crate::saying::Saying;
 use crate::word::Word;
 use av_base::NoMemory;
-use path_model::{Addr, AsList, Name, Prefix, Role};
+use path_model::{Addr, AsList, Name, Prefix, Role, Verdict};
 use thiserror::Error;
 
 /// What a line of a script asks for. ASes and providers stand in the order written, with repeats.
@@ -16,6 +17,8 @@ pub enum Command {
     Aspa(Name, Word),
     /// `aspa64 NAME FILE`: the same, from a file of base64 lines.
     Aspa64(Name, Word),
+    /// `validated NAME FILE`: the same, from the JSON that a validator writes.
+    Validated(Name, Word),
     /// `slurm FILE`: the file's filters and assertions are those in force.
     Slurm(Word),
     /// `filter AS`: what the sources attest of the customer is left out.
@@ -39,6 +42,9 @@ pub enum Command {
     Bmp(Name, Word, bool),
     /// `take NAME N`: at most so many more units of the dump, or PDUs of the feed, 1 to 100,000,000.
     Take(Name, u32),
+    /// `until NAME SECONDS`: the records of the dump up to the first whose time, in seconds since 1970-01-01 00:00 UTC, isn't below this one
+    /// (RFC 6396, section 2); that one stays.
+    Until(Name, u32),
     /// `feed NAME PLACE`: a new connection to the place is the feed of that name, and its cache is asked for all that it has.
     Feed(Name, Word),
     /// `ask NAME`: the feed's cache is asked for what is new.
@@ -50,8 +56,14 @@ pub enum Command {
     Serve(Word, u16, u32),
     /// `judge ROLE NEIGHBOUR AS..`: the verdict of the path, written neighbour first.
     Judge(Role, u32, AsList),
+    /// `clear`: all routes go, in one event.
+    Clear,
     /// `changes`: each route that stands otherwise than it was marked; all are marked then.
     Changes,
+    /// `details` or `details VERDICT`: each route of the table, or each with that verdict, with what shows it and its path.
+    Details(Option<Verdict>),
+    /// `say WORD..`: the words, with one space between two.
+    Say(Saying),
     /// A line of one word that shows what is held, and changes nothing.
     Show(Show),
     /// `why ADDRESS AS PREFIX` or `why ADDRESS AS PREFIX ID`: the verdict of the route of that peer and prefix, without a path identifier
@@ -68,6 +80,8 @@ pub enum Show {
     Origins,
     /// `leaks`: each route of the table that its attribute Only-to-Customer marks as a leak (RFC 9234, section 5).
     Leaks,
+    /// `suspects`: the valleys of the table's paths, each by the ASes at its ends, with how many routes and paths have it.
+    Suspects,
     /// `summary`: how many routes and customers there are, and how many units were passed over and lines refused.
     Summary,
 }
@@ -77,6 +91,7 @@ pub enum Show {
 pub(crate) enum CommandName {
     Aspa,
     Aspa64,
+    Validated,
     Slurm,
     Filter,
     Unfilter,
@@ -87,13 +102,17 @@ pub(crate) enum CommandName {
     Open,
     Bmp,
     Take,
+    Until,
     Feed,
     Ask,
     Sync,
     Serve,
     Judge,
+    Clear,
     Changes,
     Why,
+    Details,
+    Say,
     Show(Show),
 }
 

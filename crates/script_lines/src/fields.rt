@@ -1,11 +1,12 @@
 //! The words behind a command's name, read as the values of which the command is made.
-ghost use Rattle.std.specs.Prelude.{◌≡◌, ◌⊎◌, IfOk, IfErr, IsErrOf};
+ghost use Rattle.std.specs.Prelude.{◌≡◌, ◌∷◌, ◌⊎◌, IfOk, IfErr, IsErrOf};
 ghost use Rattle.av_text.specs.Words.{words_left};
-ghost use Rattle.script_lines.specs.Fields.{joined};
-ghost use Rattle.script_lines.specs.Forms.{AreAses, SomeNoAs};
+ghost use Rattle.script_lines.specs.Fields.{joined, RefusesTexts};
+ghost use Rattle.script_lines.specs.Forms.{AreAses, AreTexts, SomeNoAs, sentence};
 
 use crate::command::LineFault;
-use crate::kinds::Kind;
+use crate::kinds::{Kind, TextWord};
+use crate::saying::Saying;
 use av_text::{Words, read_u32};
 use path_model::AsList;
 use std::alloc::Global;
@@ -148,4 +149,39 @@ fn read_ases(alloc: Global, words: Words<'_>) -> Result<AsList, LineFault>
         numbers.push(number)?;
     }
     Ok(numbers)
+}
+
+/// One or more words up to the line's end, whatever they are.
+pub(crate) struct Texts;
+
+impl Fields for Texts {
+    ghost use Rattle.script_lines.specs.Forms.{texts};
+
+    type Values = Saying;
+
+    ghost form = { texts };
+
+    ghost build = { λ text b. b text };
+
+    fn read(alloc: Global, mut words: Words<'_>) -> Result<Saying, LineFault> {
+        let Some(word) = words.next() else {
+            return Err(LineFault::Words);
+        };
+        let first = TextWord::read(alloc, word)?;
+        read_more(alloc, Saying::from(first), words)
+    }
+}
+
+// Reads words behind a first one.
+fn read_more(alloc: Global, first: Saying, words: Words<'_>) -> Result<Saying, LineFault>
+    ensures spelled { IfOk result (λ saying.
+        (saying ≡ sentence (first ∷ words_left words.entry)) × AreTexts (words_left words.entry)) }
+    ensures refused { IfErr result (RefusesTexts (words_left words.entry)) }
+{
+    let mut saying = first;
+    for word in words {
+        let next = TextWord::read(alloc, word)?;
+        saying = saying.with(&next)?;
+    }
+    Ok(saying)
 }

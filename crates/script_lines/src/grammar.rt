@@ -6,10 +6,10 @@ ghost use Rattle.script_lines.specs.Commands.{name_text, form_of, sets_role, Spe
 ghost use Rattle.script_lines.specs.Grammar.{IsCommandName, IsComment, IsPrintable, IsReading};
 
 use crate::command::{Command, CommandName, LineFault, Show};
-use crate::fields::{Ases, End, Fields, Optional, Then};
+use crate::fields::{Ases, End, Fields, Optional, Texts, Then};
 use crate::kinds::{
     AddressWord, AsWord, CountWord, IdentifierWord, MomentWord, NameWord, PrefixWord, RoleWord,
-    SessionWord, TextWord, ViewWord, WhomWord,
+    SessionWord, TextWord, VerdictWord, ViewWord, WhomWord,
 };
 use av_text::{Words, words};
 use path_model::Role;
@@ -66,6 +66,7 @@ fn command_name(word: &[u8]) -> Option<CommandName>
     match word {
         b"aspa" => Some(CommandName::Aspa),
         b"aspa64" => Some(CommandName::Aspa64),
+        b"validated" => Some(CommandName::Validated),
         b"slurm" => Some(CommandName::Slurm),
         b"filter" => Some(CommandName::Filter),
         b"unfilter" => Some(CommandName::Unfilter),
@@ -76,16 +77,21 @@ fn command_name(word: &[u8]) -> Option<CommandName>
         b"open" => Some(CommandName::Open),
         b"bmp" => Some(CommandName::Bmp),
         b"take" => Some(CommandName::Take),
+        b"until" => Some(CommandName::Until),
         b"feed" => Some(CommandName::Feed),
         b"ask" => Some(CommandName::Ask),
         b"sync" => Some(CommandName::Sync),
         b"serve" => Some(CommandName::Serve),
         b"judge" => Some(CommandName::Judge),
+        b"clear" => Some(CommandName::Clear),
         b"changes" => Some(CommandName::Changes),
         b"why" => Some(CommandName::Why),
+        b"details" => Some(CommandName::Details),
+        b"say" => Some(CommandName::Say),
         b"report" => Some(CommandName::Show(Show::Report)),
         b"origins" => Some(CommandName::Show(Show::Origins)),
         b"leaks" => Some(CommandName::Show(Show::Leaks)),
+        b"suspects" => Some(CommandName::Show(Show::Suspects)),
         b"summary" => Some(CommandName::Show(Show::Summary)),
         _ => None,
     }
@@ -104,6 +110,10 @@ fn read_fields(alloc: Global, name: CommandName, words: Words<'_>) -> Result<Com
         CommandName::Aspa64 => {
             let (name, (file, ())) = <Then<NameWord, Then<TextWord, End>>>::read(alloc, words)?;
             Ok(Command::Aspa64(name, file))
+        }
+        CommandName::Validated => {
+            let (name, (file, ())) = <Then<NameWord, Then<TextWord, End>>>::read(alloc, words)?;
+            Ok(Command::Validated(name, file))
         }
         CommandName::Slurm => {
             let (file, ()) = <Then<TextWord, End>>::read(alloc, words)?;
@@ -148,6 +158,12 @@ fn read_fields(alloc: Global, name: CommandName, words: Words<'_>) -> Result<Com
             let (name, (count, ())) = <Then<NameWord, Then<CountWord, End>>>::read(alloc, words)?;
             Ok(Command::Take(name, count))
         }
+        CommandName::Until => {
+            let (name, (seconds, ())) = <Then<NameWord, Then<MomentWord, End>>>::read(
+                alloc, words,
+            )?;
+            Ok(Command::Until(name, seconds))
+        }
         CommandName::Feed => {
             let (name, (place, ())) = <Then<NameWord, Then<TextWord, End>>>::read(alloc, words)?;
             Ok(Command::Feed(name, place))
@@ -173,6 +189,10 @@ fn read_fields(alloc: Global, name: CommandName, words: Words<'_>) -> Result<Com
             )?;
             Ok(Command::Judge(role, neighbour, path))
         }
+        CommandName::Clear => {
+            End::read(alloc, words)?;
+            Ok(Command::Clear)
+        }
         CommandName::Changes => {
             End::read(alloc, words)?;
             Ok(Command::Changes)
@@ -183,6 +203,14 @@ fn read_fields(alloc: Global, name: CommandName, words: Words<'_>) -> Result<Com
                 Then<AsWord, Then<PrefixWord, Optional<IdentifierWord>>>,
             >>::read(alloc, words)?;
             Ok(Command::Why(addr, asn, prefix, path))
+        }
+        CommandName::Details => {
+            let verdict = <Optional<VerdictWord>>::read(alloc, words)?;
+            Ok(Command::Details(verdict))
+        }
+        CommandName::Say => {
+            let saying = Texts::read(alloc, words)?;
+            Ok(Command::Say(saying))
         }
         CommandName::Show(show) => {
             End::read(alloc, words)?;

@@ -1,11 +1,13 @@
 //! The kinds of words that a command's line may hold, each read as its value.
 ghost use Rattle.std.specs.Prelude.{◌≡◌, ◌≢◌, ◌↔◌, Bool, codes, IfOk, IfErr, IfSome, IfNone, IsTrue};
+ghost use Rattle.path_model.specs.declared.verdict.Verdict.{Verdict as AnyVerdict};
+ghost use Rattle.av_text.specs.VerdictText.{verdict_text};
 ghost use Rattle.script_lines.specs.Kinds.{view_text};
 
 use crate::command::LineFault;
 use crate::word::Word;
 use av_text::{read_addr, read_name, read_prefix, read_role, read_u32};
-use path_model::{Addr, Name, Prefix, Role};
+use path_model::{Addr, Name, Prefix, Role, Verdict};
 use std::alloc::Global;
 
 /// A kind of word.
@@ -113,6 +115,39 @@ fn read_view(word: &[u8]) -> Option<bool>
     match word {
         b"pre" => Some(false),
         b"post" => Some(true),
+        _ => None,
+    }
+}
+
+/// A VERDICT.
+pub(crate) struct VerdictWord;
+
+impl Kind for VerdictWord {
+    ghost use Rattle.script_lines.specs.Kinds.{VERDICT};
+
+    type Value = Verdict;
+
+    ghost kind = { VERDICT };
+
+    ghost value = { λ verdict. verdict };
+
+    fn read(_alloc: Global, word: &[u8]) -> Result<Verdict, LineFault> {
+        match read_verdict(word) {
+            Some(verdict) => Ok(verdict),
+            None => Err(LineFault::Words),
+        }
+    }
+}
+
+// Reads a word as a verdict.
+fn read_verdict(word: &[u8]) -> Option<Verdict>
+    ensures spelled { IfSome result (λ verdict. word.now ≡ verdict_text verdict) }
+    ensures none { IfNone result ((verdict : AnyVerdict) → word.now ≢ verdict_text verdict) }
+{
+    match word {
+        b"valid" => Some(Verdict::Valid),
+        b"unknown" => Some(Verdict::Unknown),
+        b"invalid" => Some(Verdict::Invalid),
         _ => None,
     }
 }

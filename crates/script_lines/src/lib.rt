@@ -12,9 +12,11 @@ mod fields;
 mod grammar;
 mod kinds;
 mod laws;
+mod saying;
 mod word;
 
 pub use command::{Command, LineFault, Show};
 pub use grammar::read;
 pub use laws::each_line_has_one_reading;
+pub use saying::Saying;
 pub use word::Word;

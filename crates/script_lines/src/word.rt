@@ -1,5 +1,5 @@
 //! Words that a line holds as they are.
-ghost use Rattle.std.specs.Prelude.{◌≡◌, ◌↔◌, All, IfOk, IfSome, IfNone, IsTrue};
+ghost use Rattle.std.specs.Prelude.{◌≡◌, ◌↔◌, All, IfOk, IfSome, IfNone, IsTrue, string_bytes};
 ghost use Rattle.script_lines.specs.Word.{IsVisible};
 
 use av_base::NoMemory;
@@ -47,6 +47,15 @@ impl Word {
         ensures visible { All IsVisible self.now }
     {
         self.text.as_str()
+    }
+
+    /// Its text, which the caller keeps. It takes no memory.
+    pub(crate) fn into_text(self) -> String
+        ensures text { string_bytes result ≡ self }
+        ensures visible { All IsVisible self }
+    {
+        let Word { text } = self;
+        text
     }
 }
 

@@ -1,265 +1,13 @@
-//! Lines by themselves: of each command some that are right, and some wrong in the number of words, in a spelling and in a number.
+//! Reads lines by themselves.
+use crate::lines::{
+    AMENDMENTS, ASSERTIONS, DUMPS, FEEDS, FILES, IDLE, JUDGEMENTS, QUESTIONS, Reading, Row,
+    SAYINGS, SERVINGS, TABLES, VALIDATED,
+};
 use av_base::NoMemory;
-use path_model::{Addr, Prefix, Role};
+use path_model::{Addr, Prefix};
 use script_lines::{Command, LineFault, Show, read};
 use std::alloc::Global;
 use std::process::Abort;
-
-// What a line is read as.
-#[derive(Clone, Copy)]
-enum Reading {
-    Idle,
-    Aspa(&'static str, &'static str),
-    Aspa64(&'static str, &'static str),
-    Slurm(&'static str),
-    Filter(u32),
-    Unfilter(u32),
-    Assert(u32, &'static [u32]),
-    Unassert(u32),
-    At(u32),
-    Role(u32, Role),
-    RoleDefault(Role),
-    Open(&'static str, &'static str),
-    // of the view `post`, or `pre`
-    Bmp(&'static str, &'static str, bool),
-    Take(&'static str, u32),
-    Feed(&'static str, &'static str),
-    Ask(&'static str),
-    Sync(&'static str, u32),
-    // at this place, in this session, so many routers
-    Serve(&'static str, u16, u32),
-    Judge(Role, u32, &'static [u32]),
-    Report,
-    Origins,
-    Leaks,
-    // of the peer 192.0.2.1 in AS 64501 and the prefix 198.51.100.0/24, with a path identifier or without
-    Why(Option<u32>),
-    Refused(LineFault),
-}
-
-// A line, and what it is read as.
-type Row = (&'static [u8], Reading);
-
-// Nothing to do, and no command.
-const IDLE: [Row; 7] = [
-    (b"", Reading::Idle),
-    (b" \t", Reading::Idle),
-    (b"#", Reading::Idle),
-    (b"#assert \xff 1 2", Reading::Idle),
-    (b"Assert 1 2", Reading::Refused(LineFault::Command)),
-    (b"assert1 2", Reading::Refused(LineFault::Command)),
-    (b"demo 1", Reading::Refused(LineFault::Command)),
-];
-
-const ASSERTIONS: [Row; 10] = [
-    (b"assert 1 2", Reading::Assert(1, &[2])),
-    (
-        b" assert\t4294967295  0 7 7 ",
-        Reading::Assert(4_294_967_295, &[0, 7, 7]),
-    ),
-    (b"assert", Reading::Refused(LineFault::Words)),
-    (b"assert 1", Reading::Refused(LineFault::Words)),
-    (b"assert x", Reading::Refused(LineFault::Words)),
-    (b"assert 1 2\x00", Reading::Refused(LineFault::Words)),
-    (b"assert x 2\r", Reading::Refused(LineFault::Words)),
-    (b"assert AS1 2", Reading::Refused(LineFault::Number)),
-    (
-        b"assert 1 2 4294967296",
-        Reading::Refused(LineFault::Number),
-    ),
-    (b"assert 1 02 3", Reading::Refused(LineFault::Number)),
-];
-
-const FILES: [Row; 15] = [
-    (
-        b"aspa cache-1_a.b payloads/v4.asa",
-        Reading::Aspa("cache-1_a.b", "payloads/v4.asa"),
-    ),
-    (b"aspa\ta  ~!\"#\t", Reading::Aspa("a", "~!\"#")),
-    (b"aspa a", Reading::Refused(LineFault::Words)),
-    (b"aspa a f g", Reading::Refused(LineFault::Words)),
-    (b"aspa a/b f", Reading::Refused(LineFault::Words)),
-    (b"aspa a f\x7f", Reading::Refused(LineFault::Words)),
-    (b"aspa64 1 -", Reading::Aspa64("1", "-")),
-    (b"aspa64 a", Reading::Refused(LineFault::Words)),
-    (b"aspa64 a: f", Reading::Refused(LineFault::Words)),
-    (b"aspa64 a f g", Reading::Refused(LineFault::Words)),
-    (b"aspa6 a f", Reading::Refused(LineFault::Command)),
-    (b"slurm local.json", Reading::Slurm("local.json")),
-    (b"slurm", Reading::Refused(LineFault::Words)),
-    (b"slurm my file", Reading::Refused(LineFault::Words)),
-    (b"slurm \xc3\xa9", Reading::Refused(LineFault::Words)),
-];
-
-const AMENDMENTS: [Row; 20] = [
-    (b"filter 0", Reading::Filter(0)),
-    (b"filter", Reading::Refused(LineFault::Words)),
-    (b"filter 1 2", Reading::Refused(LineFault::Words)),
-    (b"filter x 2", Reading::Refused(LineFault::Words)),
-    (b"filter AS1", Reading::Refused(LineFault::Number)),
-    (b"unfilter 4294967295", Reading::Unfilter(4_294_967_295)),
-    (b"unfilter 1 2", Reading::Refused(LineFault::Words)),
-    (b"unfilter 4294967296", Reading::Refused(LineFault::Number)),
-    (b"unassert 64500", Reading::Unassert(64_500)),
-    (b"unassert", Reading::Refused(LineFault::Words)),
-    (b"unassert 64500 1", Reading::Refused(LineFault::Words)),
-    (b"unassert 064500", Reading::Refused(LineFault::Number)),
-    (b"at 0", Reading::At(0)),
-    (b"at 4294967295", Reading::At(4_294_967_295)),
-    (b"at", Reading::Refused(LineFault::Words)),
-    (b"at 1 2", Reading::Refused(LineFault::Words)),
-    (b"At 1", Reading::Refused(LineFault::Command)),
-    (b"at 4294967296", Reading::Refused(LineFault::Number)),
-    (b"at -1", Reading::Refused(LineFault::Number)),
-    (b"at 00", Reading::Refused(LineFault::Number)),
-];
-
-const DUMPS: [Row; 22] = [
-    (
-        b"role 64501 customer",
-        Reading::Role(64_501, Role::Customer),
-    ),
-    (
-        b"role default rs-client",
-        Reading::RoleDefault(Role::RsClient),
-    ),
-    (b"role 1 nobody", Reading::Refused(LineFault::Words)),
-    (b"role default", Reading::Refused(LineFault::Words)),
-    (b"role x nobody", Reading::Refused(LineFault::Words)),
-    (b"role x customer", Reading::Refused(LineFault::Number)),
-    (b"open d updates.mrt", Reading::Open("d", "updates.mrt")),
-    (b"open d", Reading::Refused(LineFault::Words)),
-    (b"bmp b f pre", Reading::Bmp("b", "f", false)),
-    (b"bmp b f post", Reading::Bmp("b", "f", true)),
-    (b"bmp b f in", Reading::Refused(LineFault::Words)),
-    (b"bmp b f", Reading::Refused(LineFault::Words)),
-    (b"bmp b f pre more", Reading::Refused(LineFault::Words)),
-    (b"take d 1", Reading::Take("d", 1)),
-    (b"take d 100000000", Reading::Take("d", 100_000_000)),
-    (b"take d", Reading::Refused(LineFault::Words)),
-    (b"take d 0", Reading::Refused(LineFault::Number)),
-    (b"take d 100000001", Reading::Refused(LineFault::Number)),
-    (b"report", Reading::Report),
-    (b"origins", Reading::Origins),
-    (b"leaks", Reading::Leaks),
-    (b"report now", Reading::Refused(LineFault::Words)),
-];
-
-const FEEDS: [Row; 16] = [
-    (b"feed c cache:323", Reading::Feed("c", "cache:323")),
-    (b"feed c-1\t[::1]:8282", Reading::Feed("c-1", "[::1]:8282")),
-    (b"feed c", Reading::Refused(LineFault::Words)),
-    (b"feed c cache 323", Reading::Refused(LineFault::Words)),
-    (b"feed c:1 cache:323", Reading::Refused(LineFault::Words)),
-    (b"feeds c cache:323", Reading::Refused(LineFault::Command)),
-    (b"ask c", Reading::Ask("c")),
-    (b"ask", Reading::Refused(LineFault::Words)),
-    (b"ask c 1", Reading::Refused(LineFault::Words)),
-    (b"sync c 1", Reading::Sync("c", 1)),
-    (b"sync c 100000000", Reading::Sync("c", 100_000_000)),
-    (b"sync c", Reading::Refused(LineFault::Words)),
-    (b"sync c/ 0", Reading::Refused(LineFault::Words)),
-    (b"sync c 0", Reading::Refused(LineFault::Number)),
-    (b"sync c 100000001", Reading::Refused(LineFault::Number)),
-    (b"Sync c 1", Reading::Refused(LineFault::Command)),
-];
-
-const SERVINGS: [Row; 13] = [
-    (b"serve here 7 1", Reading::Serve("here", 7, 1)),
-    (b"serve\t[::]:323 0 1 ", Reading::Serve("[::]:323", 0, 1)),
-    (
-        b"serve here 65535 100000000",
-        Reading::Serve("here", 65_535, 100_000_000),
-    ),
-    (b"serve here 7", Reading::Refused(LineFault::Words)),
-    (b"serve here 7 1 1", Reading::Refused(LineFault::Words)),
-    (b"serve her\xc3\xa9 x 1", Reading::Refused(LineFault::Words)),
-    (b"serve here 65536 1", Reading::Refused(LineFault::Number)),
-    (b"serve here 07 1", Reading::Refused(LineFault::Number)),
-    (b"serve here x 1", Reading::Refused(LineFault::Number)),
-    (b"serve 7 here 1", Reading::Refused(LineFault::Number)),
-    (b"serve here 7 0", Reading::Refused(LineFault::Number)),
-    (
-        b"serve here 7 100000001",
-        Reading::Refused(LineFault::Number),
-    ),
-    (b"serves here 7 1", Reading::Refused(LineFault::Command)),
-];
-
-const JUDGEMENTS: [Row; 14] = [
-    (b"judge rs-client 5", Reading::Judge(Role::RsClient, 5, &[])),
-    (
-        b"judge mutual 2 2 1 1",
-        Reading::Judge(Role::Mutual, 2, &[2, 1, 1]),
-    ),
-    (
-        b"judge provider 0 0",
-        Reading::Judge(Role::Provider, 0, &[0]),
-    ),
-    (b"judge", Reading::Refused(LineFault::Words)),
-    (b"judge rs", Reading::Refused(LineFault::Words)),
-    (b"judge 1 customer 1", Reading::Refused(LineFault::Words)),
-    (b"judge rsclient 1 1", Reading::Refused(LineFault::Words)),
-    (b"judge PEER 1 1", Reading::Refused(LineFault::Words)),
-    // What is spelled wrong comes before what is no number, wherever it stands.
-    (b"judge bogus x 1", Reading::Refused(LineFault::Words)),
-    (b"judge peer x 1\x7f", Reading::Refused(LineFault::Words)),
-    (b"judge peer x 1", Reading::Refused(LineFault::Number)),
-    (b"judge peer 1 -1", Reading::Refused(LineFault::Number)),
-    (b"judge peer 1 1 1.", Reading::Refused(LineFault::Number)),
-    (b"judge peer 00 1", Reading::Refused(LineFault::Number)),
-];
-
-const QUESTIONS: [Row; 14] = [
-    (b"why 192.0.2.1 64501 198.51.100.0/24", Reading::Why(None)),
-    (
-        b"why 192.0.2.1 64501 198.51.100.0/24 0",
-        Reading::Why(Some(0)),
-    ),
-    (
-        b"why 192.0.2.1 64501 198.51.100.0/24\t4294967295 ",
-        Reading::Why(Some(4_294_967_295)),
-    ),
-    (b"why 192.0.2.1 64501", Reading::Refused(LineFault::Words)),
-    (b"why 192.0.2.1 x", Reading::Refused(LineFault::Words)),
-    (
-        b"why 192.0.2.1 64501 198.51.100.0/24 1 2",
-        Reading::Refused(LineFault::Words),
-    ),
-    (
-        b"why 192.0.2.1 64501 198.51.100.0/24 path 1",
-        Reading::Refused(LineFault::Words),
-    ),
-    // What is spelled wrong comes before what is no number, wherever it stands.
-    (
-        b"why 192.0.2.1 64501 198.51.100.0/24 x 2",
-        Reading::Refused(LineFault::Words),
-    ),
-    (
-        b"why 192.0.2.1 x 198.51.100.1/24 x",
-        Reading::Refused(LineFault::Words),
-    ),
-    (
-        b"why 192.0.2.1 x 198.51.100.0/24 1",
-        Reading::Refused(LineFault::Number),
-    ),
-    (
-        b"why 192.0.2.1 64501 198.51.100.0/24 x",
-        Reading::Refused(LineFault::Number),
-    ),
-    (
-        b"why 192.0.2.1 64501 198.51.100.0/24 01",
-        Reading::Refused(LineFault::Number),
-    ),
-    (
-        b"why 192.0.2.1 64501 198.51.100.0/24 -1",
-        Reading::Refused(LineFault::Number),
-    ),
-    (
-        b"why 192.0.2.1 64501 198.51.100.0/24 4294967296",
-        Reading::Refused(LineFault::Number),
-    ),
-];
 
 // Whether a line was read so.
 fn is_read_so(read: &Result<Command, LineFault>, reading: Reading) -> bool {
@@ -269,6 +17,9 @@ fn is_read_so(read: &Result<Command, LineFault>, reading: Reading) -> bool {
             name.text() == called && file.text() == of
         }
         (Ok(Command::Aspa64(name, file)), Reading::Aspa64(called, of)) => {
+            name.text() == called && file.text() == of
+        }
+        (Ok(Command::Validated(name, file)), Reading::Validated(called, of)) => {
             name.text() == called && file.text() == of
         }
         (Ok(Command::Slurm(file)), Reading::Slurm(of)) => file.text() == of,
@@ -292,6 +43,9 @@ fn is_read_so(read: &Result<Command, LineFault>, reading: Reading) -> bool {
         (Ok(Command::Take(name, count)), Reading::Take(called, wanted)) => {
             name.text() == called && *count == wanted
         }
+        (Ok(Command::Until(name, seconds)), Reading::Until(called, wanted)) => {
+            name.text() == called && *seconds == wanted
+        }
         (Ok(Command::Feed(name, place)), Reading::Feed(called, of)) => {
             name.text() == called && place.text() == of
         }
@@ -305,6 +59,10 @@ fn is_read_so(read: &Result<Command, LineFault>, reading: Reading) -> bool {
         (Ok(Command::Show(Show::Report)), Reading::Report) => true,
         (Ok(Command::Show(Show::Origins)), Reading::Origins) => true,
         (Ok(Command::Show(Show::Leaks)), Reading::Leaks) => true,
+        (Ok(Command::Show(Show::Suspects)), Reading::Suspects) => true,
+        (Ok(Command::Details(verdict)), Reading::Details(wanted)) => *verdict == wanted,
+        (Ok(Command::Clear), Reading::Clear) => true,
+        (Ok(Command::Say(saying)), Reading::Say(text)) => saying.text() == text,
         (Ok(Command::Judge(role, neighbour, path)), Reading::Judge(of, wanted, all)) => {
             *role == of && *neighbour == wanted && path.as_slice() == all
         }
@@ -330,17 +88,63 @@ fn test_lines(rt: &impl Abort, alloc: Global, rows: &[Row]) {
 }
 
 #[test]
-fn reads_lines(rt: HostRuntime) {
-    let alloc = rt.alloc();
-    test_lines(&rt, alloc, &IDLE);
-    test_lines(&rt, alloc, &ASSERTIONS);
-    test_lines(&rt, alloc, &FILES);
-    test_lines(&rt, alloc, &AMENDMENTS);
-    test_lines(&rt, alloc, &DUMPS);
-    test_lines(&rt, alloc, &FEEDS);
-    test_lines(&rt, alloc, &SERVINGS);
-    test_lines(&rt, alloc, &JUDGEMENTS);
-    test_lines(&rt, alloc, &QUESTIONS);
+fn reads_idle_lines(rt: HostRuntime) {
+    test_lines(&rt, rt.alloc(), &IDLE);
+}
+
+#[test]
+fn reads_assertions(rt: HostRuntime) {
+    test_lines(&rt, rt.alloc(), &ASSERTIONS);
+}
+
+#[test]
+fn reads_files(rt: HostRuntime) {
+    test_lines(&rt, rt.alloc(), &FILES);
+}
+
+#[test]
+fn reads_amendments(rt: HostRuntime) {
+    test_lines(&rt, rt.alloc(), &AMENDMENTS);
+}
+
+#[test]
+fn reads_dumps(rt: HostRuntime) {
+    test_lines(&rt, rt.alloc(), &DUMPS);
+}
+
+#[test]
+fn reads_feeds(rt: HostRuntime) {
+    test_lines(&rt, rt.alloc(), &FEEDS);
+}
+
+#[test]
+fn reads_servings(rt: HostRuntime) {
+    test_lines(&rt, rt.alloc(), &SERVINGS);
+}
+
+#[test]
+fn reads_judgements(rt: HostRuntime) {
+    test_lines(&rt, rt.alloc(), &JUDGEMENTS);
+}
+
+#[test]
+fn reads_questions(rt: HostRuntime) {
+    test_lines(&rt, rt.alloc(), &QUESTIONS);
+}
+
+#[test]
+fn reads_files_of_validators(rt: HostRuntime) {
+    test_lines(&rt, rt.alloc(), &VALIDATED);
+}
+
+#[test]
+fn reads_tables(rt: HostRuntime) {
+    test_lines(&rt, rt.alloc(), &TABLES);
+}
+
+#[test]
+fn reads_sayings(rt: HostRuntime) {
+    test_lines(&rt, rt.alloc(), &SAYINGS);
 }
 
 // Reads a line of one byte so many times.

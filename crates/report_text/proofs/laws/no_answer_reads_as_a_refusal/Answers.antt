@@ -1,4 +1,4 @@
-use Rattle.report_text.proofs.AnswerLemmas.{row_is_one_line, origin_is_one_line, leak_is_one_line, change_is_one_line, changed_is_one_line, summary_is_one_line, served_is_one_line, reason_is_one_line}
+use Rattle.report_text.proofs.AnswerLemmas.{row_is_one_line, origin_is_one_line, leak_is_one_line, change_is_one_line, changed_is_one_line, summary_is_one_line, served_is_one_line, reason_is_one_line, detail_is_one_line, suspect_is_one_line, saying_is_one_line}
 use Rattle.report_text.proofs.laws.no_answer_reads_as_a_refusal.Goals as goal
 
 pub returns-clause-rows : goal.returns-clause-rows
@@ -24,3 +24,12 @@ returns-clause-servings c = served_is_one_line
 
 pub returns-clause-reasons : goal.returns-clause-reasons
 returns-clause-reasons c = reason_is_one_line
+
+pub returns-clause-details : goal.returns-clause-details
+returns-clause-details c = detail_is_one_line
+
+pub returns-clause-suspects : goal.returns-clause-suspects
+returns-clause-suspects c = suspect_is_one_line
+
+pub returns-clause-sayings : goal.returns-clause-sayings
+returns-clause-sayings c = saying_is_one_line

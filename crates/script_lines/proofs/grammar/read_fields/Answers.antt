@@ -1,8 +1,9 @@
 use Rattle.std.proofs.Common.{ℕ, Option, subst}
 use Rattle.std.proofs.lemmas.Iterator.Adapters.{option_map_id}
+use Rattle.path_model.specs.declared.verdict.Verdict.{Verdict}
 use Rattle.av_text.specs.Words.{words_left}
-use Rattle.script_lines.specs.declared.command.Command.TheVariants.{Why}
-use Rattle.script_lines.specs.declared.command.CommandName.TheVariants.{Aspa as AspaName, Aspa64 as Aspa64Name, Slurm as SlurmName, Filter as FilterName, Unfilter as UnfilterName, Assert as AssertName, Unassert as UnassertName, At as AtName, Role as RoleName, Open as OpenName, Bmp as BmpName, Take as TakeName, Feed as FeedName, Ask as AskName, Sync as SyncName, Serve as ServeName, Judge as JudgeName, Changes as ChangesName, Why as WhyName, Show as ShowName}
+use Rattle.script_lines.specs.declared.command.Command.TheVariants.{Details, Why}
+use Rattle.script_lines.specs.declared.command.CommandName.TheVariants.{Aspa as AspaName, Aspa64 as Aspa64Name, Validated as ValidatedName, Slurm as SlurmName, Filter as FilterName, Unfilter as UnfilterName, Assert as AssertName, Unassert as UnassertName, At as AtName, Role as RoleName, Open as OpenName, Bmp as BmpName, Take as TakeName, Until as UntilName, Feed as FeedName, Ask as AskName, Sync as SyncName, Serve as ServeName, Judge as JudgeName, Clear as ClearName, Changes as ChangesName, Why as WhyName, Details as DetailsName, Say as SayName, Show as ShowName}
 use Rattle.script_lines.specs.Commands.{made_by, SpellsCommand}
 use Rattle.script_lines.proofs.grammar.read_fields.Goals as goal
 
@@ -11,6 +12,9 @@ returns-in_ok-name-in-Aspa-clause-spelled c = rw c.in-Aspa.is (c.in_ok-name-in-A
 
 pub returns-in_ok-name-in-Aspa64-clause-spelled : goal.returns-in_ok-name-in-Aspa64-clause-spelled
 returns-in_ok-name-in-Aspa64-clause-spelled c = rw c.in-Aspa64.is (c.in_ok-name-in-Aspa64.ensures.spelled (made_by Aspa64Name))
+
+pub returns-in_ok-name-in-Validated-clause-spelled : goal.returns-in_ok-name-in-Validated-clause-spelled
+returns-in_ok-name-in-Validated-clause-spelled c = rw c.in-Validated.is (c.in_ok-name-in-Validated.ensures.spelled (made_by ValidatedName))
 
 pub returns-in_ok-file-in-Slurm-clause-spelled : goal.returns-in_ok-file-in-Slurm-clause-spelled
 returns-in_ok-file-in-Slurm-clause-spelled c = rw c.in-Slurm.is (c.in_ok-file-in-Slurm.ensures.spelled (made_by SlurmName))
@@ -42,6 +46,9 @@ returns-in_ok-name-in-Bmp-clause-spelled c = rw c.in-Bmp.is (c.in_ok-name-in-Bmp
 pub returns-in_ok-name-in-Take-clause-spelled : goal.returns-in_ok-name-in-Take-clause-spelled
 returns-in_ok-name-in-Take-clause-spelled c = rw c.in-Take.is (c.in_ok-name-in-Take.ensures.spelled (made_by TakeName))
 
+pub returns-in_ok-name-in-Until-clause-spelled : goal.returns-in_ok-name-in-Until-clause-spelled
+returns-in_ok-name-in-Until-clause-spelled c = rw c.in-Until.is (c.in_ok-name-in-Until.ensures.spelled (made_by UntilName))
+
 pub returns-in_ok-name-in-Feed-clause-spelled : goal.returns-in_ok-name-in-Feed-clause-spelled
 returns-in_ok-name-in-Feed-clause-spelled c = rw c.in-Feed.is (c.in_ok-name-in-Feed.ensures.spelled (made_by FeedName))
 
@@ -57,6 +64,9 @@ returns-in_ok-place-in-Serve-clause-spelled c = rw c.in-Serve.is (c.in_ok-place-
 pub returns-in_ok-role-in-Judge-clause-spelled : goal.returns-in_ok-role-in-Judge-clause-spelled
 returns-in_ok-role-in-Judge-clause-spelled c = rw c.in-Judge.is (c.in_ok-role-in-Judge.ensures.spelled (made_by JudgeName))
 
+pub returns-in_ok-read-in-Clear-clause-spelled : goal.returns-in_ok-read-in-Clear-clause-spelled
+returns-in_ok-read-in-Clear-clause-spelled c = rw c.in-Clear.is (c.in_ok-read-in-Clear.ensures.spelled (made_by ClearName))
+
 pub returns-in_ok-read-in-Changes-clause-spelled : goal.returns-in_ok-read-in-Changes-clause-spelled
 returns-in_ok-read-in-Changes-clause-spelled c = rw c.in-Changes.is (c.in_ok-read-in-Changes.ensures.spelled (made_by ChangesName))
 
@@ -65,6 +75,15 @@ returns-in_ok-addr-in-Why-clause-spelled c =
     let found = c.in_ok-addr-in-Why in
     let P : Option ℕ → Type 0 = λ path. SpellsCommand WhyName (words_left c.args.words) (Why found.addr found.asn found.prefix path) in
     rw c.in-Why.is (subst P (option_map_id found.path) (found.ensures.spelled (made_by WhyName)))
+
+pub returns-in_ok-verdict-in-Details-clause-spelled : goal.returns-in_ok-verdict-in-Details-clause-spelled
+returns-in_ok-verdict-in-Details-clause-spelled c =
+    let found = c.in_ok-verdict-in-Details in
+    let P : Option Verdict → Type 0 = λ verdict. SpellsCommand DetailsName (words_left c.args.words) (Details verdict) in
+    rw c.in-Details.is (subst P (option_map_id found.verdict) (found.ensures.spelled (made_by DetailsName)))
+
+pub returns-in_ok-saying-in-Say-clause-spelled : goal.returns-in_ok-saying-in-Say-clause-spelled
+returns-in_ok-saying-in-Say-clause-spelled c = rw c.in-Say.is (c.in_ok-saying-in-Say.ensures.spelled (made_by SayName))
 
 pub returns-in_ok-read-in-Show-clause-spelled : goal.returns-in_ok-read-in-Show-clause-spelled
 returns-in_ok-read-in-Show-clause-spelled c = rw c.in-Show.is (c.in_ok-read-in-Show.ensures.spelled (made_by (ShowName c.in-Show.show)))
