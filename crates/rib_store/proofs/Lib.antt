@@ -14,6 +14,7 @@ pub mod MergeLemmas
 pub mod NotedLemmas
 pub mod NumberLemmas
 pub mod OfPeerLemmas
+pub mod PairLemmas
 pub mod PartLemmas
 pub mod ReportLemmas
 pub mod RouteLemmas

@@ -42,7 +42,7 @@ lowered_mark : (c : Option StoredCase) → marked_or (lowered c) ≡ marked_or c
 lowered_mark None = refl
 lowered_mark (Some c) = refl
 
-stored_with : (c : Option StoredCase) (asn : ℕ) (path : Path) (users : ℕ) → IsCounted c users → 0 < users → IsOfAs c asn → path_or c ≡ path → IsStoredAs c asn path
+pub stored_with : (c : Option StoredCase) (asn : ℕ) (path : Path) (users : ℕ) → IsCounted c users → 0 < users → IsOfAs c asn → path_or c ≡ path → IsStoredAs c asn path
 stored_with None asn path users counted used of_as is = absurd (omega (arith, counted, used))
 stored_with (Some c) asn path users counted used of_as is = (of_as, is)
 

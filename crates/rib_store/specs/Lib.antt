@@ -9,10 +9,12 @@ pub mod Laws
 pub mod Marks
 pub mod Merge
 pub mod OfPeer
+pub mod Pairs
 pub mod Routing
 pub mod Rows
 pub mod Sharing
 pub mod Shown
+pub mod ShownLeft
 pub mod State
 pub mod Steps
 pub mod Stored

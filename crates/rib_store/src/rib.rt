@@ -1,10 +1,12 @@
 //! The routes with their current verdicts.
+ghost use Rattle.std.specs.Prelude.{◌≡◌};
 ghost use Rattle.std.specs.Iterator.{YieldsFirstBy, item_count};
 ghost use Rattle.rib_store.specs.Rows.{rows_left};
+ghost use Rattle.rib_store.specs.Shown.{standing, standing_in};
 
 use path_model::{Key, Role, Trail, Verdict, Witness};
 use route_map::Iter;
-use shared_cases::SharedCases;
+use shared_cases::{Case, SharedCases};
 
 /// One row for each route, its key and its current verdict, in key order. It judges nothing, and takes no memory.
 #[derive(Drop)]
@@ -40,4 +42,18 @@ pub struct Shown<'a> {
     pub role: Role,
     /// Its path.
     pub trail: &'a Trail,
+}
+
+impl<'a> Shown<'a> {
+    // What the case says of a route, in this role of its peer's AS.
+    pub(crate) fn of(case: Case<'a>, role: Role) -> Shown<'a>
+        ensures { standing result ≡ standing_in role case.entry.trail.now case.entry.judged.now }
+    {
+        Shown {
+            verdict: case.judged.verdict(),
+            witness: case.judged.witness(),
+            role,
+            trail: case.trail,
+        }
+    }
 }

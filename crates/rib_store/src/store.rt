@@ -271,12 +271,8 @@ impl RibStore {
     {
         let number = self.routing.routes.get(key)?;
         let case = self.routing.cases.get(*number as usize)?;
-        Some(Shown {
-            verdict: case.judged.verdict(),
-            witness: case.judged.witness(),
-            role: self.roles.of(key.peer.asn),
-            trail: case.trail,
-        })
+        let role = self.roles.of(key.peer.asn);
+        Some(Shown::of(case, role))
     }
 
     /// The number of routes, and of those with each current verdict. It takes no memory, and visits no route.

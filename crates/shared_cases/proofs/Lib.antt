@@ -1,6 +1,7 @@
 pub mod CaseLemmas
 pub mod FollowLemmas
 pub mod KeptLemmas
+pub mod ListedLemmas
 pub mod MoveLemmas
 pub mod NameLemmas
 pub mod NamingLemmas

@@ -58,6 +58,7 @@ IsShown None (Some c) = ⊥
 IsShown (Some shown) None = ⊥
 IsShown (Some shown) (Some c) =
     (shown.asn ≡ c.asn) × (shown.trail.now ≡ c.trail) × (shown.judged.now ≡ c.judged) × (shown.marked ≡ c.marked)
+    × (shown.users ≡ c.users)
 
 -- the verdict of a case, and the marked one; invalid where there is none
 abbrev pub verdict_or : Option StoredCase → Verdict

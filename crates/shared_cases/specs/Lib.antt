@@ -3,6 +3,7 @@ pub mod Codes
 pub mod Differed
 pub mod Grounds
 pub mod Kept
+pub mod Listed
 pub mod Names
 pub mod Naming
 pub mod Numbers

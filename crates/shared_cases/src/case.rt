@@ -1,5 +1,6 @@
 //! One case.
 ghost use Rattle.std.specs.Prelude.{◌≡◌, IfOk};
+ghost use Rattle.shared_cases.specs.Listed.{listed, shown};
 ghost use Rattle.shared_cases.specs.Taking.{new_case};
 
 use crate::case_name::CaseName;
@@ -34,6 +35,23 @@ pub struct Case<'a> {
     pub judged: &'a Judged,
     /// Its verdict at the last mark, or when it came.
     pub marked: Verdict,
+    /// How many routes have it: at least one.
+    pub users: u32,
+}
+
+impl<'a> Case<'a> {
+    // What is shown of a case.
+    pub(crate) fn of(case: &'a StoredCase) -> Case<'a>
+        ensures { shown result ≡ listed case.now }
+    {
+        Case {
+            asn: case.asn,
+            trail: &case.trail,
+            judged: &case.judged,
+            marked: case.marked,
+            users: case.users,
+        }
+    }
 }
 
 // What is stored of a new case.

@@ -95,12 +95,7 @@ impl SharedCases {
         ensures { IsShown result (at self.now number) }
     {
         let case = self.slab.get(number)?;
-        Some(Case {
-            asn: case.asn,
-            trail: &case.trail,
-            judged: &case.judged,
-            marked: case.marked,
-        })
+        Some(Case::of(case))
     }
 
     /// The verdict of a case, or `Invalid` where there is no case.

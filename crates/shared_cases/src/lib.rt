@@ -3,7 +3,7 @@
 //! The layer above uses one contract for each event: [`SharedCases::take`] and [`SharedCases::leave`] count the routes of a case, and
 //! [`SharedCases::follow_table`], [`SharedCases::follow_role`] and [`SharedCases::follow_default`] judge anew exactly once what another
 //! table or other roles touch, so that **every case that had its right judgement has it again**. [`SharedCases::totals`] says how many
-//! routes have which verdict. Begin reading in `specs/Cases.antt`, then in `specs/Taking.antt` and in `specs/Touched.antt`.
+//! routes have which verdict, and [`SharedCases::iter`] goes over the cases (`specs/Listed.antt`). Begin reading in `specs/Cases.antt`, then in `specs/Taking.antt` and in `specs/Touched.antt`.
 //!
 //! A case has a number as long as some route has it. It is found by its name (`case_name`, `names`; `hints` looks for the cases of many names
 //! ahead of their use), by its hops (the crate `hop_index`) and by its AS (`peers`, which also keeps whose cases follow the default role, as `specs/Owning.antt` says); each case that gets another
@@ -12,6 +12,7 @@
 #![tactic(auto)]
 
 mod case;
+mod case_iter;
 mod case_name;
 mod cases;
 mod hints;
@@ -27,6 +28,7 @@ mod touched;
 mod unmatched;
 
 pub use case::Case;
+pub use case_iter::CaseIter;
 pub use cases::SharedCases;
 pub use number_iter::NumberIter;
 pub use numbers::CaseNumbers;

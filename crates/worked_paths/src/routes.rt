@@ -9,28 +9,28 @@ use std::marker::Brand;
 use std::sync::ledger::{Blank, Ledger};
 
 // 192.0.2.1 in AS 64501, a customer.
-const FIRST: Peer = Peer {
+pub(crate) const FIRST: Peer = Peer {
     addr: Addr::V4(0xC000_0201),
     asn: 64501,
 };
 
 // 192.0.2.2 in AS 64502, which has no role of its own.
-const SECOND: Peer = Peer {
+pub(crate) const SECOND: Peer = Peer {
     addr: Addr::V4(0xC000_0202),
     asn: 64502,
 };
 
 // The peer's key of a network of IPv4 of 24 bits, without a path identifier.
-fn key(peer: Peer, network: u32) -> Option<Key> {
+pub(crate) fn key(peer: Peer, network: u32) -> Option<Key> {
     let prefix = Prefix::new(Addr::V4(network), 24)?;
     let path = None;
     Some(Key { peer, prefix, path })
 }
 
-const NETWORK: u32 = 0xC633_6400;
+pub(crate) const NETWORK: u32 = 0xC633_6400;
 
 // Both peers' routes to 198.51.100.0/24 come from the silent AS 64503.
-fn routes(alloc: Global) -> Result<Changes, NoMemory> {
+pub(crate) fn routes(alloc: Global) -> Result<Changes, NoMemory> {
     let mut changes = Changes::new(alloc);
     if let Some(key) = key(FIRST, NETWORK) {
         changes.announce(key, Trail::new(alloc, false, &[64501, 64503])?)?;
@@ -42,7 +42,7 @@ fn routes(alloc: Global) -> Result<Changes, NoMemory> {
 }
 
 // What is shown of a key: the verdict, the role, and of the path the origin and the length.
-type Seen = (Verdict, Role, Option<u32>, usize);
+pub(crate) type Seen = (Verdict, Role, Option<u32>, usize);
 
 fn seen(store: &RibStore, peer: Peer, network: u32) -> Option<Seen> {
     let key = key(peer, network)?;
