@@ -1,0 +1,10 @@
+pub mod AddLemmas
+pub mod BlockedLemmas
+pub mod CountLemmas
+pub mod ExistLemmas
+pub mod GatherLemmas
+pub mod HitLemmas
+pub mod PairsLemmas
+pub mod SuspectLemmas
+pub mod TestLemmas
+pub mod UniqueLemmas
