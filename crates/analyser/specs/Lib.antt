@@ -1,3 +1,4 @@
+pub mod Departures
 pub mod Events
 pub mod Laws
 pub mod Touched

@@ -1,11 +1,13 @@
 //! The analysis, from event to event.
-ghost use Rattle.std.specs.Prelude.{◌≡◌, IfOk, OnOk};
+ghost use Rattle.std.specs.Prelude.{◌≡◌, ◌≤◌, IfOk, OnOk};
+ghost use Rattle.std.specs.FinMap as fin;
 ghost use Rattle.analyser.specs.Events.{Happens};
 ghost use Rattle.analyser.specs.Touched.{TicksWithin};
 ghost use Rattle.rib_store.specs.Changes.{IsMarked};
 ghost use Rattle.rib_store.specs.State.{no_state};
 
 use crate::Event;
+use crate::departures::departures;
 use av_base::{NoMemory, Steps};
 use rib_store::RibStore;
 use std::alloc::Global;
@@ -60,6 +62,16 @@ impl Analyser {
         let Analyser { alloc, mut store } = self;
         happen(alloc, &mut store, event, steps)?;
         Ok(Analyser { alloc, store })
+    }
+
+    /// The analysis once all routes are gone, in one event: the session of each peer that has routes ends. All that attests, the roles and the
+    /// marked verdicts stay. It judges nothing, and takes the time of the routes that go, with the memory of one change for each of their peers.
+    pub fn clear<L: Ledger>(self, alloc: Global, steps: &mut Steps<L>) -> Result<Analyser, NoMemory>
+        ensures cleared { IfOk result (λ next. next ≡ record self { routes = fin.empty }) }
+        ensures ticks { steps.new ≤ steps.old }
+    {
+        let changes = departures(alloc, self.store())?;
+        self.step(Event::Routes(changes), steps)
     }
 
     /// The analysis once all verdicts are marked as they stand. It takes no memory.
