@@ -7,9 +7,11 @@ use Rattle.std.specs.declared.option.Option.{Option}
 use Rattle.av_base.specs.Files.{Files, closes, left_of}
 use Rattle.av_base.proofs.PlacesLemmas.{get-change_at}
 use Rattle.stream_lines.specs.Held.{HeldDump, fresh_of}
-use Rattle.stream_lines.specs.Units.{Known, Mrt, Bmp}
+use Rattle.stream_lines.specs.Units.{Known, Mrt, Bmp, is_of_records}
 use Rattle.stream_lines.specs.Holding.{HoldsDump, IsLetGo, LetsGo}
-use Rattle.stream_lines.specs.Streams.{Dump}
+use Rattle.stream_lines.specs.declared.taking.Progress.{Progress}
+use Rattle.stream_lines.specs.Streams.{Dump, Taking}
+use Rattle.stream_lines.specs.Taking.{StandsAt}
 
 -- what is left of the dump's file stayed
 pub HoldsDump-leaves : (old new : Option Files) (kept : HeldDump) (dump : Dump) → left_of new kept.file ≡ left_of old kept.file
@@ -17,9 +19,36 @@ pub HoldsDump-leaves : (old new : Option Files) (kept : HeldDump) (dump : Dump) 
 HoldsDump-leaves old new kept dump same holds = record {
   over = holds.over;
   taken = holds.taken;
+  kind = holds.kind;
   left = λ open_yet. ap (prepend_known kept.held) same ∙ holds.left open_yet;
   known = holds.known;
 }
+
+-- bytes of the dump were read from its file
+pub HoldsDump-moved : (old new : Option Files) (before after : HeldDump) (dump : Dump) → after ≡ record before { held = after.held }
+    → prepend_known after.held (left_of new before.file) ≡ prepend_known before.held (left_of old before.file) → HoldsDump old before dump → HoldsDump new after dump
+HoldsDump-moved old new before after dump is same holds = rw is (record {
+  over = holds.over;
+  taken = holds.taken;
+  kind = holds.kind;
+  left = λ open_yet. same ∙ holds.left open_yet;
+  known = holds.known;
+})
+
+pub StandsAt-moved : (old new : Option Files) (before after : HeldDump) (progress : Progress) (state : Taking) → after ≡ record before { held = after.held }
+    → prepend_known after.held (left_of new before.file) ≡ prepend_known before.held (left_of old before.file) → StandsAt old before progress state → StandsAt new after progress state
+StandsAt-moved old new before after progress state is same stands = record {
+  holds = HoldsDump-moved old new before after state.dump is same stands.holds;
+  state = stands.state;
+  marks = stands.marks;
+  passed = stands.passed;
+  refused = stands.refused;
+}
+
+-- of a dump that is over it is known whether it was of records
+pub fresh_kind : (known : Known) → is_of_records (fresh_of known) ≡ is_of_records known
+fresh_kind (Mrt peers) = refl
+fresh_kind (Bmp view peers) = refl
 
 -- ---- at the end
 

@@ -50,7 +50,7 @@ next_unique asking old behind (AUnit (Err cause)) one other end last a b = both 
 next_unique asking old behind (Broken cause) one other end last a b = both one other _ end last _ a b
 next_unique asking old behind End one other end last a b = both one other _ end last _ a b
 
-unless_unique : (over : Bool) (asking : Asking) (old : Taking) (one other : List ℕ) (end last : Taking)
+pub unless_unique : (over : Bool) (asking : Asking) (old : Taking) (one other : List ℕ) (end last : Taking)
     → TakesUnless over asking old one end → TakesUnless over asking old other last → (one ≡ other) × (end ≡ last)
 unless_unique true asking old one other end last a b = both one other _ end last _ a b
 unless_unique false asking old one other end last a b =

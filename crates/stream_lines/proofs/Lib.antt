@@ -9,6 +9,9 @@ pub mod NextLemmas
 pub mod RefusalLemmas
 pub mod ReportedLemmas
 pub mod RowsLemmas
+pub mod StampLemmas
 pub mod SummaryLemmas
 pub mod TakingLemmas
+pub mod TakingUntilLemmas
 pub mod UnitsLemmas
+pub mod UntilLemmas

@@ -31,7 +31,7 @@ use Rattle.stream_lines.specs.Gives.{Gives, IsBreak, IsLast, IsNext, IsPartial, 
 use Rattle.stream_lines.specs.Units.{Known, Mrt, Bmp, comes, RecordSays, MessageSays, IsComing}
 
 -- what begins with a unit does so whatever comes behind
-begins_more : {A : Type 0} (IsUnit : List ℕ → A → Type 0) (held rest more : List ℕ) (it : A) → Begins IsUnit held it rest → Begins IsUnit (held ++ more) it (rest ++ more)
+pub begins_more : {A : Type 0} (IsUnit : List ℕ → A → Type 0) (held rest more : List ℕ) (it : A) → Begins IsUnit held it rest → Begins IsUnit (held ++ more) it (rest ++ more)
 begins_more IsUnit held rest more it begins = record {
   front = begins.front;
   spelled = begins.spelled;

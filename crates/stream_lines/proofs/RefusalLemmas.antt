@@ -19,6 +19,7 @@ use Rattle.stream_lines.specs.declared.next.Next.{Next}
 use Rattle.stream_lines.specs.declared.next.Next.TheVariants.{Unit as AUnit, Broken, End}
 use Rattle.stream_lines.specs.Counts.{refusals_in}
 use Rattle.stream_lines.specs.Streams.{Asking, Dump, Taking, after_unit, Does, TakesComing, TakesUnless, TakesUnits}
+use Rattle.stream_lines.specs.Until.{TakesUntil}
 
 -- ---- texts without a line feed
 
@@ -101,3 +102,8 @@ module _ (asking : Asking) (in_line : IsInLine asking.name) where
 pub units_counted : (asking : Asking) (count : ℕ) (old new : Taking) (text rest : List ℕ) → IsInLine asking.name → TakesUnits asking count old text new
     → new.refused + refusals_in rest ≡ old.refused + refusals_in (text ++ rest)
 units_counted asking count old new text rest in_line takes = counted_in_line asking in_line count old new text rest takes
+
+-- and so it is of the units up to a moment
+pub until_counted : (asking : Asking) (moment limit : ℕ) (old new : Taking) (text rest : List ℕ) → IsInLine asking.name → TakesUntil asking moment limit old text new
+    → new.refused + refusals_in rest ≡ old.refused + refusals_in (text ++ rest)
+until_counted asking moment limit old new text rest in_line takes = units_counted asking takes.count old new text rest in_line takes.counted.takes

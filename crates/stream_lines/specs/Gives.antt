@@ -1,5 +1,5 @@
 -- What a reader gives of the bytes that it holds; only private contracts cite it.
-use Rattle.std.specs.Prelude.{◌≡◌, ◌≢◌, ℕ, ◌<◌, List, [], ◌++◌, length, Some}
+use Rattle.std.specs.Prelude.{◌≡◌, ◌≢◌, ◌↔◌, ℕ, ◌<◌, Bool, IsTrue, List, [], ◌++◌, length, Some}
 use Rattle.std.specs.declared.option.Option.{Option}
 use Rattle.std.specs.declared.option.Option.TheVariants.{Some as Present, None as Absent}
 use Rattle.std.specs.declared.result.Result.{Result}
@@ -12,7 +12,9 @@ use Rattle.report_text.specs.declared.cause.Cause.TheVariants as causes
 use Rattle.stream_lines.specs.declared.next.Effect.{Effect}
 use Rattle.stream_lines.specs.declared.next.Next.{Next}
 use Rattle.stream_lines.specs.declared.next.Next.TheVariants.{Unit as AUnit, Broken, End}
+use Rattle.stream_lines.specs.Streams.{Dump}
 use Rattle.stream_lines.specs.Units.{Known, Mrt, Bmp, Coming, comes, IsComing}
+use Rattle.stream_lines.specs.Until.{IsFrom}
 
 -- no whole unit, and nothing with which none can begin
 abbrev pub IsPartial : Known → List ℕ → Type 0
@@ -52,6 +54,15 @@ abbrev pub IsLast : List ℕ → Next → Type 0
 IsLast held (AUnit effect) = ⊥
 IsLast held (Broken cause) = (held ≢ []) × (cause ≡ causes.CutShort)
 IsLast held End = held ≡ []
+
+-- whether what comes next in a dump is from the moment on, where it is told what is left
+abbrev pub TellsFrom : ℕ → Known → Option (List ℕ) → Bool → Type 0
+TellsFrom moment known left answer = (dump : Dump) → dump.known ≡ known → left ≡ Some dump.left → IsTrue answer ↔ IsFrom moment dump
+
+-- what the stamp that comes next tells: it is that of a record that is held, and without one none is held, of a dump of messages never
+abbrev pub HasStamp : Known → List ℕ → Option ℕ → Type 0
+HasStamp (Mrt peers) held stamp = records.IsNextStamp held stamp
+HasStamp (Bmp view peers) held stamp = stamp ≡ Absent
 
 -- What came next in a dump, where it is told what was left.
 pub record IsNextOf (known : Known) (left : List ℕ) (known_new : Known) (new : Option (List ℕ)) (next : Next) : Type 0 where

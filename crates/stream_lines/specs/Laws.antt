@@ -6,10 +6,15 @@ use Rattle.stream_lines.specs.Counts.{refusals_in}
 use Rattle.rib_store.specs.State.{State}
 use Rattle.stream_lines.specs.Streams.{Asking, Taking, TakesUnits}
 use Rattle.stream_lines.specs.Summary.{IsSummary}
+use Rattle.stream_lines.specs.Until.{TakesUntil}
 
 -- so many units of a dump have one text, and leave one state
 abbrev pub UnitsHaveOneOutcome : Type 0
 UnitsHaveOneOutcome = (asking : Asking) (count : ℕ) (old : Taking) → HasOnePair (TakesUnits asking count old)
+
+-- the units up to a moment have one text, and leave one state
+abbrev pub UntilHasOneOutcome : Type 0
+UntilHasOneOutcome = (asking : Asking) (moment limit : ℕ) (old : Taking) → HasOnePair (TakesUntil asking moment limit old)
 
 -- Where the dump's name has no line feed, as many refusals are counted as the text reports, whatever text comes behind.
 abbrev pub RefusedUnitsAreCounted : Type 0

@@ -14,4 +14,6 @@ pub mod Streams
 pub mod Summary
 pub mod Taking
 pub mod TakingSteps
+pub mod TakingUntil
 pub mod Units
+pub mod Until

@@ -5,9 +5,9 @@ ghost use Rattle.std.specs.Io.KnownBytes.{prepend_known, IsAtEnd};
 ghost use Rattle.av_base.specs.Files.{closes, left_of};
 ghost use Rattle.av_base.specs.Told.{Rose};
 ghost use Rattle.stream_lines.specs.Frames.{Leaves};
-ghost use Rattle.stream_lines.specs.Gives.{IsNext};
+ghost use Rattle.stream_lines.specs.Gives.{IsNext, IsPartial, TellsFrom};
 ghost use Rattle.stream_lines.specs.Held.{fresh_of, held_of, known_of};
-ghost use Rattle.stream_lines.specs.Units.{first_known};
+ghost use Rattle.stream_lines.specs.Units.{first_known, is_of_records};
 
 use crate::kind::DumpKind;
 use crate::next::Next;
@@ -70,6 +70,13 @@ impl OpenDump {
         self.over
     }
 
+    /// Whether it is a dump of records; only these have stamps.
+    pub fn is_of_records(&self) -> bool
+        ensures { result ≡ is_of_records self.now.known }
+    {
+        self.reader.is_of_records()
+    }
+
     /// Whether what comes next is held already, so that no read is waited for.
     pub(crate) fn is_ready(&self) -> bool {
         self.reader.is_ready()
@@ -106,6 +113,36 @@ impl OpenDump {
         self.reader.clear(alloc);
         self.over = true;
         shelf.close_file(self.file);
+    }
+
+    /// Whether what comes next, where the dump isn't over, is a record whose stamp isn't below this moment, in seconds since 1970. It reads
+    /// while that can't be told, and takes nothing off.
+    pub(crate) fn is_from<F: Shelf>(
+        &mut self,
+        alloc: Global,
+        moment: u32,
+        shelf: &mut F,
+    ) -> Result<bool, ReadFault>
+        requires given { self.old.file < F.opened shelf.old }
+        ensures tells { IfOk result (TellsFrom moment self.new.known
+            (prepend_known self.new.held (left_of (F.files shelf.new) self.new.file))) }
+        ensures same { IfOk result (λ _.
+            prepend_known self.new.held (left_of (F.files shelf.new) self.old.file)
+            ≡ prepend_known self.old.held (left_of (F.files shelf.old) self.old.file)) }
+        ensures moved { IfOk result (λ _. self.new ≡ record self.old { held = self.new.held }) }
+        ensures file { self.new.file ≡ self.old.file }
+        ensures others { Leaves (λ other. other ≢ self.old.file)
+            (F.files shelf.old) (F.files shelf.new) }
+        ensures opened { F.opened shelf.new ≡ F.opened shelf.old }
+        ensures cause { IsErrOf result ReadFault.Source
+            → Rose (F.faults shelf.old) (F.faults shelf.new) }
+        ensures faults { F.faults shelf.old ≤ F.faults shelf.new }
+    {
+        fill(alloc, &mut self.reader, self.file, shelf)?;
+        match self.reader.stamp() {
+            Some(stamp) => Ok(moment <= stamp),
+            None => Ok(false),
+        }
     }
 
     /// Takes off what comes next, where the dump isn't over.
@@ -152,6 +189,35 @@ fn take_next<F: Shelf>(
             return Ok(reader.last());
         }
     }
+}
+
+// Reads until a whole unit is held, or nothing is left of the file.
+fn fill<F: Shelf>(
+    alloc: Global,
+    reader: &mut Reader,
+    file: u32,
+    shelf: &mut F,
+) -> Result<(), ReadFault>
+    requires given { file < F.opened shelf.old }
+    ensures same { IfOk result (λ _.
+        prepend_known (held_of reader.new) (left_of (F.files shelf.new) file)
+        ≡ prepend_known (held_of reader.old) (left_of (F.files shelf.old) file)) }
+    ensures known { IfOk result (λ _. known_of reader.new ≡ known_of reader.old) }
+    ensures whole { IfOk result (λ _. IsPartial (known_of reader.new) (held_of reader.new)
+        → IsAtEnd (left_of (F.files shelf.new) file)) }
+    ensures others { Leaves (λ other. other ≢ file)
+        (F.files shelf.old) (F.files shelf.new) }
+    ensures opened { F.opened shelf.new ≡ F.opened shelf.old }
+    ensures cause { IsErrOf result ReadFault.Source
+        → Rose (F.faults shelf.old) (F.faults shelf.new) }
+    ensures faults { F.faults shelf.old ≤ F.faults shelf.new }
+{
+    while !reader.is_ready() {
+        if !read_piece(alloc, reader, file, shelf)? {
+            return Ok(());
+        }
+    }
+    Ok(())
 }
 
 // Reads one piece, and answers false where nothing is left. Its buffer must not be cleared wherever it is called from.

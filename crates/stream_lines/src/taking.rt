@@ -109,8 +109,12 @@ pub fn take_units<F: Shelf, W: Sink, L: Ledger>(
     Ok(progress)
 }
 
-// Writes what is held once that is a whole piece, and all of it before a read that may wait.
-fn pour_before<W: Sink>(dump: &OpenDump, out: &mut W, text: &mut Vec<u8>) -> Result<(), Fault>
+/// Writes what is held once that is a whole piece, and all of it before a read that may wait.
+pub(crate) fn pour_before<W: Sink>(
+    dump: &OpenDump,
+    out: &mut W,
+    text: &mut Vec<u8>,
+) -> Result<(), Fault>
     ensures same { append_known (W.written out.new) text.new.items
         ≡ append_known (W.written out.old) text.old.items }
     ensures grows { Grows (W.written out.old) (W.written out.new) }
@@ -124,8 +128,8 @@ fn pour_before<W: Sink>(dump: &OpenDump, out: &mut W, text: &mut Vec<u8>) -> Res
     }
 }
 
-// Takes what comes next in a dump that isn't over.
-fn take_unit<F: Shelf, L: Ledger>(
+/// Takes what comes next in a dump that isn't over.
+pub(crate) fn take_unit<F: Shelf, L: Ledger>(
     alloc: Global,
     dump: &mut OpenDump,
     asking: Asked<'_>,

@@ -1,0 +1,5 @@
+use Rattle.stream_lines.proofs.UntilLemmas.{one_until}
+use Rattle.stream_lines.proofs.laws.until_has_one_outcome.Goals as goal
+
+pub returns : goal.returns
+returns c = one_until

@@ -1,0 +1,28 @@
+-- The records that a line takes up to a moment, in seconds since 1970-01-01 00:00 UTC. Only a whole record has a stamp.
+use Rattle.std.specs.Prelude.{◌≡◌, ℕ, ◌<◌, ◌≤◌, true, false, List, Some}
+use Rattle.mrt_reader.specs.Coming.{IsNextStamp}
+use Rattle.stream_lines.specs.Streams.{Asking, Dump, Taking, TakesUnits}
+use Rattle.stream_lines.specs.Units.{is_of_records}
+
+-- a dump of records, in which a whole one comes next whose stamp isn't below the moment
+pub record IsFrom (moment : ℕ) (dump : Dump) : Type 0 where
+  pub of_records : is_of_records dump.known ≡ true
+  pub stamp : ℕ
+  pub next : IsNextStamp dump.left (Some stamp)
+  pub late : moment ≤ stamp
+
+-- more is taken up to the moment: the dump isn't over, and what comes next isn't from the moment on
+abbrev pub GoesOn : ℕ → Dump → Type 0
+GoesOn moment dump = (dump.over ≡ false) × ¬ IsFrom moment dump
+
+-- So many units are taken, `limit` at most: it went on before each of them, and stops behind the last one, unless the limit does.
+pub record TakesCount (asking : Asking) (moment limit count : ℕ) (old : Taking) (text : List ℕ) (new : Taking) : Type 0 where
+  pub within : count ≤ limit
+  pub takes : TakesUnits asking count old text new
+  pub before : (first : ℕ) (front : List ℕ) (mid : Taking) → first < count → TakesUnits asking first old front mid → GoesOn moment mid.dump
+  pub stops : count < limit → ¬ GoesOn moment new.dump
+
+-- the records up to the moment are taken, or all that come until the dump is over, and no more than `limit`
+pub record TakesUntil (asking : Asking) (moment limit : ℕ) (old : Taking) (text : List ℕ) (new : Taking) : Type 0 where
+  pub count : ℕ
+  pub counted : TakesCount asking moment limit count old text new

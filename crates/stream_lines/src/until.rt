@@ -1,0 +1,86 @@
+//! The units that a line takes from a dump up to a moment.
+ghost use Rattle.std.specs.Prelude.{◌≡◌, ◌<◌, ◌≤◌, ◌≢◌, ◌^◌, IfOk, OnOk, IsErrOf, length};
+ghost use Rattle.std.specs.Io.KnownBytes.{append_known};
+ghost use Rattle.av_base.specs.Told.{Grows, Rose};
+ghost use Rattle.av_text.specs.Spellings.{IsInLine};
+ghost use Rattle.report_text.specs.Reported.{AddsQuiet};
+ghost use Rattle.stream_lines.specs.Frames.{Leaves, names_of};
+ghost use Rattle.stream_lines.specs.Holding.{LetsGo};
+ghost use Rattle.stream_lines.specs.Taking.{GrewBy, asking_of};
+ghost use Rattle.stream_lines.specs.TakingUntil.{TicksWithinUntil, TookSomeUntil, TookUntil};
+
+use crate::dump::OpenDump;
+use crate::stop::Stop;
+use crate::taking::{Asked, Progress, pour_before, take_unit};
+use av_base::{Shelf, Sink, Steps};
+use std::alloc::Global;
+use std::sync::ledger::Ledger;
+
+/// Takes the next records of a dump up to the first one whose stamp isn't below this moment, which stays in the dump, or all that come
+/// until the dump is over; and no more than the line takes. The moment is in seconds since 1970-01-01 00:00 UTC, as stamps are (RFC 6396,
+/// section 2). Only a whole record has a stamp: what can't be cut out is taken as `take_units` does, and a dump of BMP has none. The
+/// rest is as in `take_units`.
+pub fn take_until<F: Shelf, W: Sink, L: Ledger>(
+    alloc: Global,
+    dump: &mut OpenDump,
+    asking: Asked<'_>,
+    moment: u32,
+    progress: Progress,
+    shelf: &mut F,
+    out: &mut W,
+    text: &mut Vec<u8>,
+    steps: &mut Steps<L>,
+) -> Result<Progress, Stop>
+    requires given { dump.old.file < F.opened shelf.old }
+    requires few_taken { dump.old.taken < 2 ^ 62 }
+    requires few_passed { progress.passed < 2 ^ 62 }
+    requires few_refused { progress.refused < 2 ^ 62 }
+    ensures took { IfOk result (TookUntil (asking_of asking.entry) moment asking.entry.count
+        dump.old dump.new progress
+        (F.files shelf.old) (F.files shelf.new)
+        (append_known (W.written out.old) text.old.items)
+        (append_known (W.written out.new) text.new.items)) }
+
+    // Whether it ended early or not: the text of some first units was added, and no more steps were taken than these and perhaps one
+    // unit more may cost.
+    ensures some { TookSomeUntil (asking_of asking.entry) moment asking.entry.count
+        dump.old progress (F.files shelf.old)
+        (append_known (W.written out.old) text.old.items)
+        (append_known (W.written out.new) text.new.items) steps.old steps.new }
+    ensures ticks { TicksWithinUntil (asking_of asking.entry) moment asking.entry.count
+        dump.old progress (F.files shelf.old) steps.old steps.new }
+    ensures file { dump.new.file ≡ dump.old.file }
+    ensures few { IfOk result (GrewBy asking.entry.count dump.old dump.new progress) }
+
+    // A dump that ends lets its file, its bytes and what its units told go.
+    ensures lets_go { OnOk result (LetsGo dump.old dump.new (F.files shelf.new)) }
+    ensures others { Leaves (λ other. other ≢ dump.old.file)
+        (F.files shelf.old) (F.files shelf.new) }
+    ensures names { names_of (F.files shelf.new) ≡ names_of (F.files shelf.old) }
+    ensures opened { F.opened shelf.new ≡ F.opened shelf.old }
+    ensures shelf_cause { IsErrOf result Stop.Shelf
+        → Rose (F.faults shelf.old) (F.faults shelf.new) }
+    ensures shelf_faults { F.faults shelf.old ≤ F.faults shelf.new }
+    ensures held { IsErrOf result Stop.Sink → 0 < length text.new.items }
+    ensures sink_cause { IsErrOf result Stop.Sink → Rose (W.faults out.old) (W.faults out.new) }
+    ensures sink_faults { W.faults out.old ≤ W.faults out.new }
+    ensures grows { Grows (W.written out.old) (W.written out.new) }
+
+    // Whatever the shelf tells: only whole lines are added, and none says that a feed's place wasn't to be had.
+    ensures reports { IsInLine asking.entry.name.now
+        → AddsQuiet (append_known (W.written out.old) text.old.items)
+        (append_known (W.written out.new) text.new.items) }
+{
+    let mut progress = progress;
+    for _turn in 0..asking.count {
+        if dump.is_over() {
+            return Ok(progress);
+        }
+        if dump.is_from(alloc, moment, shelf)? {
+            return Ok(progress);
+        }
+        progress = take_unit(alloc, dump, asking, progress, shelf, text, steps)?;
+        pour_before(dump, out, text)?;
+    }
+    Ok(progress)
+}
