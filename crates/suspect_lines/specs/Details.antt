@@ -1,0 +1,48 @@
+-- The text that lists the routes as they stand.
+use Rattle.std.specs.Prelude.{◌≡◌, ℕ, Bool, true, List, [], ◌∷◌, ◌++◌, filter}
+use Rattle.std.specs.Io.KnownBytes.{append_known}
+use Rattle.std.specs.declared.option.Option.{Option}
+use Rattle.std.specs.declared.option.Option.TheVariants.{Some, None}
+use Rattle.av_base.specs.Told.{AppendsFront}
+use Rattle.path_model.specs.declared.key.Key.{Key}
+use Rattle.path_model.specs.declared.verdict.Verdict.{Verdict}
+use Rattle.report_text.specs.Details.{detail_text}
+use Rattle.shared_cases.specs.Cases.{same_verdict}
+use Rattle.rib_store.specs.Shown.{AreShown, Standing}
+use Rattle.rib_store.specs.State.{State}
+
+-- whether routes with a verdict are asked for: those with the asked one, or else all
+abbrev pub is_asked : Option Verdict → Verdict → Bool
+is_asked None verdict = true
+is_asked (Some asked) verdict = same_verdict asked verdict
+
+-- those of some routes that are asked for
+abbrev pub asked_of : Option Verdict → List (Key × Standing) → List (Key × Standing)
+asked_of asked routes = filter (λ row. is_asked asked row.1.verdict) routes
+
+-- each route that is asked for, in key order, as it stands
+pub record AreDetails (state : State) (asked : Option Verdict) (rows : List (Key × Standing)) : Type 0 where
+  pub all : List (Key × Standing)
+  pub are : AreShown state all
+  pub asked_for : rows ≡ asked_of asked all
+
+-- the line of a route
+abbrev pub row_text : Key → Standing → List ℕ
+row_text key s = detail_text key s.verdict s.witness s.path
+
+-- one line for each row
+abbrev pub details_text : List (Key × Standing) → List ℕ
+details_text [] = []
+details_text (row ∷ rows) = row_text row.0 row.1 ++ details_text rows
+
+-- the lines of these routes of this state were added; `all` is what was written and then what is held
+pub record ListsDetails (state : State) (asked : Option Verdict) (all_old all_new : Option (List ℕ)) : Type 0 where
+  pub rows : List (Key × Standing)
+  pub are : AreDetails state asked rows
+  pub added : all_new ≡ append_known all_old (details_text rows)
+
+-- a front of them was, perhaps nothing and perhaps all
+pub record ListsDetailsFront (state : State) (asked : Option Verdict) (all_old all_new : Option (List ℕ)) : Type 0 where
+  pub rows : List (Key × Standing)
+  pub are : AreDetails state asked rows
+  pub front : AppendsFront all_old all_new (details_text rows)
