@@ -20,9 +20,9 @@ use Rattle.report_text.specs.Summary.{summary_text}
 use Rattle.report_text.specs.Why.{why_text}
 use Rattle.report_text.specs.Refusals.{of_line, refusal_text}
 use Rattle.report_text.proofs.ReportedLemmas.{adds_answers, adds_answers_front}
-use Rattle.rib_store.specs.Shown.{IsExplained}
+use Rattle.rib_store.specs.Shown.{IsExplained, Standing}
 use Rattle.rib_store.specs.State.{State as Analysis, AreRows}
-use Rattle.script_lines.specs.declared.command.Show.TheVariants.{Report, Origins as ListOrigins, Leaks as ListLeaks, Summary as SumUp}
+use Rattle.script_lines.specs.declared.command.Show.TheVariants.{Report, Origins as ListOrigins, Leaks as ListLeaks, Suspects as ListSuspects, Summary as SumUp}
 use Rattle.otc_check.specs.declared.leaks.Leak.{Leak}
 use Rattle.otc_check.specs.Marks.{Marked}
 use Rattle.path_model.specs.Roles.{Relations}
@@ -33,8 +33,13 @@ use Rattle.stream_lines.specs.declared.stop.Stop.{Stop}
 use Rattle.stream_lines.specs.declared.stop.Stop.TheVariants as stops
 use Rattle.stream_lines.proofs.FrameLemmas.{Leaves-refl}
 use Rattle.serve_lines.specs.Routers.{NoneMore}
+use Rattle.suspects.specs.declared.tally.Tally.{Tally}
+use Rattle.suspects.specs.Suspects.{AreSuspects}
+use Rattle.suspect_lines.specs.Details.{AreDetails, details_text}
+use Rattle.suspect_lines.specs.Suspected.{suspects_text}
+use Rattle.valleys.specs.declared.valley.Valley.{Valley}
 use Rattle.aspa_top.specs.declared.task.Question.{Question}
-use Rattle.aspa_top.specs.declared.task.Question.TheVariants.{Show, Why}
+use Rattle.aspa_top.specs.declared.task.Question.TheVariants.{Show, Details, Why}
 use Rattle.aspa_top.specs.declared.task.Task.TheVariants.{Answer}
 use Rattle.aspa_top.specs.declared.working.Working.{Working}
 use Rattle.aspa_top.specs.Answers.{Answers, AnswersUnless, no_route, refused_for}
@@ -162,6 +167,19 @@ module _ (working : Working) (held : Analysis) (is : held ≡ working.analyser) 
           (subst (λ (r : Relations). AreLeaks r working.marks rows) (are_its ∙ ap (λ (a : Analysis). a.roles) (is ∙ reads.analysis)) are);
       text_is = refl;
     };
+  }
+
+  pub suspects_answer : (rows : List (Valley × Tally)) → AreSuspects held rows → (state : State) → Reads working state → IsAnswered state (Show ListSuspects) (suspects_text rows)
+  suspects_answer rows are = λ state reads. record {
+    there = refl;
+    answers = record { rows = rows; are = subst (λ (a : Analysis). AreSuspects a rows) (is ∙ reads.analysis) are; text_is = refl };
+  }
+
+  pub details_answer : (verdict : Option Verdict) (rows : List (Key × Standing)) → AreDetails held verdict rows → (state : State) → Reads working state
+      → IsAnswered state (Details verdict) (details_text rows)
+  details_answer verdict rows are = λ state reads. record {
+    there = refl;
+    answers = record { rows = rows; are = subst (λ (a : Analysis). AreDetails a verdict rows) (is ∙ reads.analysis) are; text_is = refl };
   }
 
   pub summary_answers : (summary : Summary) → IsSummary held working.passed working.refused summary → (state : State) → Reads working state

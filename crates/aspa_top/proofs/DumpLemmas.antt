@@ -1,4 +1,4 @@
--- A dump that a line opens, and one that it takes from.
+-- A dump that a line opens, and what any line that takes from one does.
 use Rattle.std.proofs.Common.{◌≡◌, ◌≢◌, ℕ, ◌+◌, ◌-◌, ◌<◌, ◌≤◌, Bool, true, false, ◌||◌, cond, List, [], ◌++◌, length, None, Some, IfSome, Ok, inl, refl, sym, ◌∙◌, ap, subst, arith}
 use Rattle.std.specs.Io.KnownBytes.{append_known, prepend_known}
 use Rattle.std.specs.Option.{option_map}
@@ -19,7 +19,7 @@ use Rattle.stream_lines.specs.declared.stop.Stop.{Stop}
 use Rattle.stream_lines.specs.declared.stop.Stop.TheVariants as stops
 use Rattle.stream_lines.specs.Frames.{Leaves}
 use Rattle.stream_lines.specs.Holding.{HoldsDump}
-use Rattle.stream_lines.specs.Taking.{GrewBy, StandsAt, TicksWithinUnits, TookUnits, TookSome}
+use Rattle.stream_lines.specs.Taking.{GrewBy, StandsAt, TookFirst}
 use Rattle.stream_lines.specs.Units.{first_known}
 use Rattle.stream_lines.specs.Streams.{Dump, Taking, Asking, TakesUnits}
 use Rattle.stream_lines.specs.Held.{HeldDump}
@@ -27,13 +27,14 @@ use Rattle.stream_lines.specs.declared.taking.Progress.{Progress}
 use Rattle.stream_lines.proofs.FrameLemmas.{Leaves-refl, Leaves-opens}
 use Rattle.stream_lines.proofs.LawLemmas.{some_units}
 use Rattle.stream_lines.proofs.UnitsLemmas.{TakesUnits-join}
-use Rattle.aspa_top.specs.declared.task.Task.TheVariants.{Open, Take}
+use Rattle.aspa_top.specs.declared.task.Task.{Task}
+use Rattle.aspa_top.specs.declared.task.Task.TheVariants.{Open}
 use Rattle.aspa_top.specs.declared.working.Working.{Working}
 use Rattle.aspa_top.specs.Bounds.{most}
 use Rattle.aspa_top.specs.Outside.{Outside, all_of}
 use Rattle.aspa_top.specs.Performing.{Done, EndedEarly, GoesSome, IsStoppedBy}
 use Rattle.aspa_top.specs.Standing.{IsBegun, StandsFor}
-use Rattle.aspa_top.specs.Tasks.{State, OpensNamed, Takes, TakesNamed, TakesOpen, is_stream, new_dump, with_dump, same_name, taking_of, after_taking}
+use Rattle.aspa_top.specs.Tasks.{CameTo, DoesTask, State, OpensNamed, Takes, TakesNamed, TakesOpen, TaskUsesFile, is_stream, new_dump, with_dump, same_name, asking_of, taking_of, after_taking}
 use Rattle.aspa_top.specs.Working.{NamesDump, cache_in, dump_in, has_source, has_stream}
 use Rattle.aspa_top.specs.World.{Links, World, ending, names_of}
 use Rattle.aspa_top.proofs.DidLemmas.{done_refused, some_done}
@@ -106,7 +107,7 @@ module _ (working next : Working) (kind : DumpKind) (name file : List ℕ) (old 
                   origins = ap (λ (w : Working). w.origins) is ∙ stands.origins;
                   sources = λ q. ap (λ (w : Working). has_source w q) is ∙ stands.sources q;
                   dumps = λ q. rw (names.dumps q) (HoldsOr-put (same_name name q) files kept (new_dump kind opens.bytes) (dump_in working q) (state.dumps q)
-                      (rw is_new (record { over = refl; taken = refl; left = λ yet. ap (prepend_known []) (left ∙ bytes); known = λ yet. refl })) (λ other. stayed.dumps q));
+                      (rw is_new (record { kind = refl; over = refl; taken = refl; left = λ yet. ap (prepend_known []) (left ∙ bytes); known = λ yet. refl })) (λ other. stayed.dumps q));
                   feeds = subst (λ (held : Feeds). (q : List ℕ) → HoldsFeed old.links.wire (feed_in held q) (state.feeds q)) (sym (ap (λ (w : Working). w.feeds) is)) stayed.feeds;
                   caches = λ q. ap (λ (w : Working). cache_in w q) is ∙ stayed.caches q;
                   begun = stayed.begun;
@@ -137,38 +138,13 @@ open_failed working kind name file old files opened faults rose = record {
   cause = (λ state stands. tt, rose);
 }
 
--- ---- `take`
+-- ---- what a line takes of a dump
 
--- the dump is over
-pub take_over : (working next : Working) (name : List ℕ) (count : ℕ) (before : HeldDump) (old : Outside) (held : List ℕ) → IsBegun old working
-    → dump_in working name ≡ Some before → before.over ≡ true → held ≡ old.held ++ refusal_text working.lines of_line causes.StreamOver
-    → next ≡ record working { refused = working.refused + 1 } → Done working (Ok (Take name count)) old (record old { held = held }) next
-take_over working next name count before old held begun here over added is =
-    done_refused working (Ok (Take name count)) old (record old { held = held }) next of_line causes.StreamOver tt (Leaves-refl (λ other. Unit {0}) old.files) (λ n d e. tt)
-    refl refl refl (omega arith) refl refl added is begun
-    (λ world tells state stands.
-    let there = HoldsOr-some old.files (dump_in working name) (state.dumps name) before (stands.dumps name) here in
-    let text : List ℕ = refusal_text state.lines of_line causes.StreamOver in
-    let after : State = record state { refused = state.refused + 1 } in
-    subst (λ (d : Option Dump). TakesNamed d world state name count text after) (sym there.1)
-    (subst (λ (b : Bool). TakesOpen b state name count there.0 text after) (sym (sym there.2.over ∙ over)) (refl, refl)))
-
--- a take that failed was of a dump that is open
-take_uses : (files : Option Files) (links : Links) (working : Working) (name : List ℕ) (before : HeldDump) (state : State) → dump_in working name ≡ Some before
-    → StandsFor files links working state → (dump : Dump) × (state.dumps name ≡ Some dump)
-take_uses files links working name before state here stands =
-    let held = HoldsOr-some files (dump_in working name) (state.dumps name) before (stands.dumps name) here in (held.0, held.1)
-
-module _ (working : Working) (name : List ℕ) (count : ℕ) (before after : HeldDump) (asking : Asking) (first : Progress) (old : Outside)
-    (files : Option Files) (opened shelf_faults : ℕ) (written : Option (List ℕ)) (sink_faults : ℕ) (held : List ℕ) (now : ℕ)
-    (begun : IsBegun old working) (few : count ≤ most) (here : dump_in working name ≡ Some before)
-    (leaves : Leaves (λ other. other ≢ before.file) old.files files) (open_yet : before.over ≡ false)
+module _ (working : Working) (name : List ℕ) (before : HeldDump) (asking : Asking) (first : Progress) (old : Outside)
     (asks : asking ≡ record { line = working.lines; name = name })
-    (starts : first ≡ record { analyser = working.analyser; marks = working.marks; passed = working.passed; refused = working.refused })
-    (ticks : TicksWithinUnits asking count before first old.files old.ticks now)
-    (quiet : AddsQuiet (all_of old) (append_known written held)) where
+    (starts : first ≡ record { analyser = working.analyser; marks = working.marks; passed = working.passed; refused = working.refused }) where
   -- what is taken begins at the state that the working state stands for
-  begins_at : (state : State) (dump : Dump) → StandsFor old.files old.links working state → HoldsDump old.files before dump → StandsAt old.files before first (taking_of state dump)
+  pub begins_at : (state : State) (dump : Dump) → StandsFor old.files old.links working state → HoldsDump old.files before dump → StandsAt old.files before first (taking_of state dump)
   begins_at state dump stands holds = record {
     holds = holds;
     state = ap (λ (p : Progress). p.analyser) starts ∙ stands.analysis;
@@ -177,25 +153,77 @@ module _ (working : Working) (name : List ℕ) (count : ℕ) (before after : Hel
     refused = ap (λ (p : Progress). p.refused) starts ∙ stands.refused;
   }
 
+  -- the line asks as the definition has it
+  pub asks_as : (state : State) → StandsFor old.files old.links working state → asking ≡ asking_of state name
+  asks_as state stands = asks ∙ (λ i. record { line = stands.lines i; name = name })
+
   -- so many units of the open dump are what the line with so many takes
-  takes_units : (world : World) (state : State) (dump : Dump) (units : ℕ) (text : List ℕ) (end : Taking) → StandsFor old.files old.links working state
+  pub takes_units : (world : World) (state : State) (dump : Dump) (units : ℕ) (text : List ℕ) (end : Taking) → StandsFor old.files old.links working state
       → state.dumps name ≡ Some dump → dump.over ≡ false → TakesUnits asking units (taking_of state dump) text end → Takes world state name units text (after_taking state name end)
   takes_units world state dump units text end stands is yet takes =
       subst (λ (d : Option Dump). TakesNamed d world state name units text (after_taking state name end)) (sym is)
       (subst (λ (b : Bool). TakesOpen b state name units dump text (after_taking state name end)) (sym yet) (record {
         end = end;
-        takes = subst (λ (a : Asking). TakesUnits a units (taking_of state dump) text end) (asks ∙ (λ i. record { line = stands.lines i; name = name })) takes;
+        takes = subst (λ (a : Asking). TakesUnits a units (taking_of state dump) text end) (asks_as state stands) takes;
         next_is = refl;
       }))
 
-  -- the units were taken
-  pub take_done : (next : Working) (last : Progress) → TookUnits asking count before after first old.files files (all_of old) (append_known written held) last
+  -- some of so many units were taken, which is what the line came to
+  pub came : (world : World) (state : State) (dump : Dump) (count : ℕ) (all_new : Option (List ℕ)) (now : ℕ) → StandsFor old.files old.links working state
+      → state.dumps name ≡ Some dump → dump.over ≡ false → (done : TookFirst asking count (taking_of state dump) (all_of old) all_new old.ticks now)
+      → CameTo world state name count done.took.text (now - old.ticks)
+  came world state dump count all_new now stands is yet done = record {
+    first = done.first;
+    mid = after_taking state name done.new;
+    does = takes_units world state dump done.first done.took.text done.new stands is yet done.took.takes;
+    reached = done.reached;
+    taken = done.taken;
+    one_more = done.one_more;
+    within = done.within;
+    text = done.text;
+    next = after_taking state name done.end;
+    comes = takes_units world state dump done.reached done.text done.end stands is yet done.comes;
+    judged = omega (arith, done.ticked);
+  }
+
+-- some of so many units were taken: the rest of the text is that of the units that are left
+pub record IsRest (asking : Asking) (count : ℕ) (old : Taking) (part : List ℕ) : Type 0 where
+  pub rest : List ℕ
+  pub end : Taking
+  pub takes : TakesUnits asking count old (part ++ rest) end
+
+pub some_rest : (asking : Asking) (count : ℕ) (old : Taking) (all_old all_new : Option (List ℕ)) (before now : ℕ) (done : TookFirst asking count old all_old all_new before now)
+    → IsRest asking count old done.took.text
+some_rest asking count old all_old all_new before now done =
+    let more = some_units asking (count - done.first) done.new in
+    let all : done.first + (count - done.first) ≡ count = omega (arith, done.taken, done.within) in
+    record {
+      rest = more.0;
+      end = more.1;
+      takes = subst (λ (k : ℕ). TakesUnits asking k old (done.took.text ++ more.0) more.1) all
+          (TakesUnits-join asking done.first (count - done.first) old done.new more.1 done.took.text more.0 done.took.takes more.2);
+    }
+
+-- A task took what it takes of an open dump, and that is what the task does from any state that the working state stands for.
+module _ (working : Working) (name : List ℕ) (task : Task) (count : ℕ) (before after : HeldDump) (asking : Asking) (first : Progress) (old : Outside)
+    (files : Option Files) (opened shelf_faults : ℕ) (written : Option (List ℕ)) (sink_faults : ℕ) (held : List ℕ) (now : ℕ)
+    (begun : IsBegun old working) (few : count ≤ most) (here : dump_in working name ≡ Some before)
+    (leaves : Leaves (λ other. other ≢ before.file) old.files files)
+    (asks : asking ≡ record { line = working.lines; name = name })
+    (starts : first ≡ record { analyser = working.analyser; marks = working.marks; passed = working.passed; refused = working.refused })
+    (quiet : AddsQuiet (all_of old) (append_known written held)) (Takes_all : Taking → List ℕ → Taking → Type 0)
+    (ticks : (from to : Taking) (text : List ℕ) → StandsAt old.files before first from → Takes_all from text to → now + from.judgements ≤ old.ticks + to.judgements)
+    (does : (world : World) (state : State) (dump : Dump) (text : List ℕ) (end : Taking) → StandsFor old.files old.links working state → state.dumps name ≡ Some dump
+    → HoldsDump old.files before dump → Takes_all (taking_of state dump) text end → DoesTask world state task text (after_taking state name end)) where
+  pub all_done : (next : Working) (last : Progress)
+      → ((from : Taking) → StandsAt old.files before first from → (to : Taking) × StandsAt files after last to
+      × (text : List ℕ) × Takes_all from text to × (append_known written held ≡ append_known (all_of old) text))
       → ((q : List ℕ) → dump_in next q ≡ cond (same_name name q) (Some after) (dump_in working q))
       → next ≡ record working { analyser = last.analyser; marks = last.marks; dumps = next.dumps; passed = last.passed; refused = last.refused }
       → opened ≡ old.opened → after.file ≡ before.file → GrewBy count before after first last
-      → Done working (Ok (Take name count)) old
+      → Done working (Ok task) old
       (record old { files = files; opened = opened; shelf_faults = shelf_faults; written = written; sink_faults = sink_faults; held = held; ticks = now }) next
-  take_done next last took dumps is same file grew =
+  all_done next last took dumps is same file grew =
       let lines : next.lines ≡ working.lines = ap (λ (w : Working). w.lines) is in
       let passed : next.passed ≡ last.passed = ap (λ (w : Working). w.passed) is in
       let refused : next.refused ≡ last.refused = ap (λ (w : Working). w.refused) is in
@@ -205,13 +233,13 @@ module _ (working : Working) (name : List ℕ) (count : ℕ) (before after : Hel
       record {
         goes = λ world tells state stands.
             let there = HoldsOr-some old.files (dump_in working name) (state.dumps name) before (stands.dumps name) here in
-            let at = begins_at state there.0 stands there.2 in
+            let at = begins_at working name before asking first old asks starts state there.0 stands there.2 in
             let done = took (taking_of state there.0) at in
             record {
-              text = done.2.text;
+              text = done.2;
               after = after_taking state name done.0;
-              does = λ ends comes. takes_units (ending world ends) state there.0 count done.2.text done.0 stands there.1 (sym there.2.over ∙ open_yet) done.2.takes;
-              added = done.2.added;
+              does = λ ends comes. does (ending world ends) state there.0 done.2 done.0 stands there.1 there.2 done.3;
+              added = done.4;
               stands = record {
                 analysis = ap (λ (w : Working). w.analyser) is ∙ done.1.state;
                 marks = ap (λ (w : Working). w.marks) is ∙ done.1.marks;
@@ -227,7 +255,7 @@ module _ (working : Working) (name : List ℕ) (count : ℕ) (before after : Hel
                 passed = passed ∙ done.1.passed;
                 refused = refused ∙ done.1.refused;
               };
-              ticked = ticks.within (taking_of state there.0) done.0 done.2.text at done.2.takes;
+              ticked = ticks (taking_of state there.0) done.0 done.2 at done.3;
             };
         ready = record {
           sound = IsSound-put old.opened opened (working.lines - 1) next.lines name after working next (omega (arith, lines, begun.counted)) (omega (arith, same)) begun.sound dumps
@@ -241,53 +269,20 @@ module _ (working : Working) (name : List ℕ) (count : ℕ) (before after : Hel
         adds = quiet old.link_faults;
       }
 
-  -- some of the units were taken: the rest of the text is that of the units that are left
-  take_part : TookSome asking count before first old.files (all_of old) (append_known written held) old.ticks now → GoesSome working (Ok (Take name count)) old
+  pub all_stopped : (stop : Stop) → GoesSome working (Ok task) old
       (record old { files = files; opened = opened; shelf_faults = shelf_faults; written = written; sink_faults = sink_faults; held = held; ticks = now })
-  take_part some = λ world tells state stands.
-      let there = HoldsOr-some old.files (dump_in working name) (state.dumps name) before (stands.dumps name) here in
-      let at = begins_at state there.0 stands there.2 in
-      let done = some (taking_of state there.0) at in
-      let more = some_units asking (count - done.first) done.new in
-      let all : done.first + (count - done.first) ≡ count = omega (arith, done.taken, done.within) in
-      let units : TakesUnits asking count (taking_of state there.0) (done.took.text ++ more.0) more.1 =
-      subst (λ (k : ℕ). TakesUnits asking k (taking_of state there.0) (done.took.text ++ more.0) more.1) all
-      (TakesUnits-join asking done.first (count - done.first) (taking_of state there.0) done.new more.1 done.took.text more.0 done.took.takes more.2) in
-      let yet : there.0.over ≡ false = sym there.2.over ∙ open_yet in
-      record {
-        part = done.took.text;
-        rest = more.0;
-        after = after_taking state name more.1;
-        does = λ ends. takes_units (ending world ends) state there.0 count (done.took.text ++ more.0) more.1 stands there.1 yet units;
-        added = done.took.added;
-        ticked = omega (arith, ticks.within (taking_of state there.0) more.1 (done.took.text ++ more.0) at units);
-        came_to = λ ends dump is. record {
-          first = done.first;
-          mid = after_taking state name done.new;
-          does = takes_units (ending world ends) state there.0 done.first done.took.text done.new stands there.1 yet done.took.takes;
-          reached = done.reached;
-          taken = done.taken;
-          one_more = done.one_more;
-          within = done.within;
-          text = done.text;
-          next = after_taking state name done.end;
-          comes = takes_units (ending world ends) state there.0 done.reached done.text done.end stands there.1 yet done.comes;
-          judged = omega (arith, done.ticked);
-        };
-      }
-
-  pub take_stopped : (stop : Stop) → TookSome asking count before first old.files (all_of old) (append_known written held) old.ticks now
+      → ((state : State) → StandsFor old.files old.links working state → TaskUsesFile state task)
       → (stop ≡ stops.Shelf → Rose old.shelf_faults shelf_faults) → (stop ≡ stops.Sink → (0 < length held) × Rose old.sink_faults sink_faults)
-      → EndedEarly working (Ok (Take name count)) old
+      → EndedEarly working (Ok task) old
       (record old { files = files; opened = opened; shelf_faults = shelf_faults; written = written; sink_faults = sink_faults; held = held; ticks = now }) stop
-  take_stopped stop some shelf sink =
+  all_stopped stop some uses shelf sink =
       let new : Outside = record old { files = files; opened = opened; shelf_faults = shelf_faults; written = written; sink_faults = sink_faults; held = held; ticks = now } in
-      some_done working (Ok (Take name count)) old new stop refl (take_part some) (adds_front (all_of old) (all_of new) old.link_faults old.link_faults (quiet old.link_faults))
+      some_done working (Ok task) old new stop refl some (adds_front (all_of old) (all_of new) old.link_faults old.link_faults (quiet old.link_faults))
       (by_stop stop shelf sink)
     where
       by_stop : (stop : Stop) → (stop ≡ stops.Shelf → Rose old.shelf_faults shelf_faults) → (stop ≡ stops.Sink → (0 < length held) × Rose old.sink_faults sink_faults)
-          → IsStoppedBy working (Ok (Take name count)) old
+          → IsStoppedBy working (Ok task) old
           (record old { files = files; opened = opened; shelf_faults = shelf_faults; written = written; sink_faults = sink_faults; held = held; ticks = now }) stop
-      by_stop stops.Shelf shelf sink = (λ state stands. take_uses old.files old.links working name before state here stands, shelf refl)
+      by_stop stops.Shelf shelf sink = (uses, shelf refl)
       by_stop stops.Sink shelf sink = sink refl
       by_stop stops.NoMemory shelf sink = tt

@@ -10,22 +10,23 @@ use Rattle.feed_lines.specs.Feeds.{Feed}
 use Rattle.feed_lines.specs.Lines.{WorksBy}
 use Rattle.feed_lines.specs.Lines.{State as FeedState}
 use Rattle.script_lines.specs.declared.command.Command.{Command}
-use Rattle.script_lines.specs.declared.command.Command.TheVariants.{Idle, Aspa, Aspa64, Slurm, At, Filter, Unfilter, Assert, Unassert, Role as SetRole, RoleDefault, Open as OpenDump, Bmp as OpenBmp, Take as TakeUnits, Feed as FeedLine, Ask, Sync, Serve as ServeLine, Judge as JudgePath, Changes as ListChanges, Why as WhyRoute, Show as ShowAll}
+use Rattle.script_lines.specs.declared.command.Command.TheVariants.{Idle, Aspa, Aspa64, Validated, Slurm, At, Filter, Unfilter, Assert, Unassert, Role as SetRole, RoleDefault, Open as OpenDump, Bmp as OpenBmp, Take as TakeUnits, Until as UntilLine, Feed as FeedLine, Ask, Sync, Serve as ServeLine, Judge as JudgePath, Clear as ClearLine, Changes as ListChanges, Details as DetailsLine, Say as SayLine, Why as WhyRoute, Show as ShowAll}
 use Rattle.script_lines.specs.declared.command.LineFault.{LineFault}
 use Rattle.script_lines.specs.declared.command.LineFault.TheVariants.{Long, Command as NoCommand, Words, Number, NoMemory}
 use Rattle.script_lines.specs.Grammar.{IsReading}
 use Rattle.script_lines.proofs.LawLemmas.{IsReading-unique, some_reading}
 use Rattle.stream_lines.specs.declared.kind.DumpKind.{DumpKind}
 use Rattle.stream_lines.specs.Streams.{Dump}
+use Rattle.stream_lines.specs.Units.{is_of_records}
 use Rattle.aspa_top.specs.declared.loading.FileKind.{FileKind}
 use Rattle.aspa_top.specs.declared.loading.Outcome.{Outcome}
 use Rattle.aspa_top.specs.declared.loading.Outcome.TheVariants.{NoFile, Long as FileLong, Flawed, Good}
 use Rattle.aspa_top.specs.declared.task.Short.{Short as ShortTask}
-use Rattle.aspa_top.specs.declared.task.Short.TheVariants.{Idle as Nothing, Happen, Judge}
+use Rattle.aspa_top.specs.declared.task.Short.TheVariants.{Idle as Nothing, Happen, Clear, Judge, Say}
 use Rattle.aspa_top.specs.declared.task.Question.{Question}
 use Rattle.aspa_top.specs.declared.task.Task.{Task}
-use Rattle.aspa_top.specs.declared.task.Task.TheVariants.{Short, Load, Open, Take, Connect, OnFeed, Serve, Answer, Changes}
-use Rattle.aspa_top.specs.Tasks.{State, Moves, TakesFile, LoadsUnless, OpensNamed, TakesOpen, TakesNamed, Works, DoesShort, DoesTask, feeds_of, is_stream, is_taken}
+use Rattle.aspa_top.specs.declared.task.Task.TheVariants.{Short, Load, Open, Take, Until, Connect, OnFeed, Serve, Answer, Changes}
+use Rattle.aspa_top.specs.Tasks.{State, Moves, TakesFile, LoadsUnless, OpensNamed, TakesOpen, TakesNamed, TakesRecordsUnless, TakesUntilNamed, Works, DoesShort, DoesTask, feeds_of, is_stream, is_taken}
 use Rattle.aspa_top.specs.Answers.{AnswersUnless, Replies, refused_for}
 use Rattle.aspa_top.specs.Evaluation.{Asked, Begins, Does, DoesAsked, asked_of, counted, task_of, Performs, Evaluates}
 use Rattle.aspa_top.specs.Laws.{NeedNoAttempts, NeedsNoAttempt}
@@ -45,6 +46,8 @@ HasNoFeeds state = (name : List ℕ) → state.feeds name ≡ None
 short_keeps : (state : State) (short : ShortTask) (text : List ℕ) (next : State) → DoesShort state short text next → next.feeds ≡ state.feeds
 short_keeps state Nothing text next does = ap (λ (s : State). s.feeds) does.1
 short_keeps state (Happen event) text next does = ap (λ (s : State). s.feeds) does.left
+short_keeps state Clear text next does = ap (λ (s : State). s.feeds) does.1
+short_keeps state (Say words) text next does = ap (λ (s : State). s.feeds) does.1
 short_keeps state (Judge role neighbour path) text next does = ap (λ (s : State). s.feeds) does.1
 
 reply_keeps : (state : State) (question : Question) (text : List ℕ) (next : State) → Replies state question text next → next.feeds ≡ state.feeds
@@ -80,6 +83,17 @@ work_keeps world state name work text next none works =
     let done = subst (λ (held : Option (Option Feed)). WorksBy world.ends (feeds_of state) name work held works.does.tells works.does.after) none works.does.done in
     ap (λ (s : State). s.feeds) works.left ∙ ap (λ (s : FeedState). s.feeds) works.does.left ∙ ap (λ (s : FeedState). s.feeds) done.1
 
+records_keep : (kind over : Bool) (state : State) (name : List ℕ) (moment : ℕ) (dump : Dump) (text : List ℕ) (next : State)
+    → TakesRecordsUnless kind over state name moment dump text next → next.feeds ≡ state.feeds
+records_keep false over state name moment dump text next takes = ap (λ (s : State). s.feeds) takes.1
+records_keep true true state name moment dump text next takes = ap (λ (s : State). s.feeds) takes.1
+records_keep true false state name moment dump text next takes = ap (λ (s : State). s.feeds) takes.next_is
+
+until_keeps : (dump : Option Dump) (state : State) (name : List ℕ) (moment : ℕ) (text : List ℕ) (next : State) → TakesUntilNamed dump state name moment text next
+    → next.feeds ≡ state.feeds
+until_keeps None state name moment text next takes = ap (λ (s : State). s.feeds) takes.1
+until_keeps (Some dump) state name moment text next takes = records_keep (is_of_records dump.known) dump.over state name moment dump text next takes
+
 take_keeps : (dump : Option Dump) (world : World) (state : State) (name : List ℕ) (count : ℕ) (text : List ℕ) (next : State) → state.feeds name ≡ None
     → TakesNamed dump world state name count text next → next.feeds ≡ state.feeds
 take_keeps None world state name count text next none takes = work_keeps world state name (TakePdus count) text next none takes
@@ -91,6 +105,7 @@ task_keeps world state (Short short) text next other none does = short_keeps sta
 task_keeps world state (Load kind file) text next other none does = load_keeps (is_taken state kind) world state kind file text next does
 task_keeps world state (Open kind name file) text next other none does = open_keeps (state.sources name || is_stream state name) (world.named file) state kind name text next does
 task_keeps world state (Take name count) text next other none does = take_keeps (state.dumps name) world state name count text next (none name) does
+task_keeps world state (Until name moment) text next other none does = until_keeps (state.dumps name) state name moment text next does
 task_keeps world state (Connect name place) text next other none does = absurd other
 task_keeps world state (OnFeed name work) text next other none does = work_keeps world state name work text next (none name) does
 task_keeps world state (Serve place session count) text next other none does = absurd other
@@ -122,6 +137,7 @@ no_attempt line (Ok (FeedLine name place)) reads other = other.no_feed name plac
 no_attempt line (Ok Idle) reads other = tt
 no_attempt line (Ok (Aspa name file)) reads other = tt
 no_attempt line (Ok (Aspa64 name file)) reads other = tt
+no_attempt line (Ok (Validated name file)) reads other = tt
 no_attempt line (Ok (Slurm file)) reads other = tt
 no_attempt line (Ok (At moment)) reads other = tt
 no_attempt line (Ok (Filter customer)) reads other = tt
@@ -133,11 +149,15 @@ no_attempt line (Ok (RoleDefault role)) reads other = tt
 no_attempt line (Ok (OpenDump name file)) reads other = tt
 no_attempt line (Ok (OpenBmp name file post)) reads other = tt
 no_attempt line (Ok (TakeUnits name count)) reads other = tt
+no_attempt line (Ok (UntilLine name moment)) reads other = tt
 no_attempt line (Ok (Ask name)) reads other = tt
 no_attempt line (Ok (Sync name count)) reads other = tt
 no_attempt line (Ok (ServeLine place session count)) reads other = other.no_serve place session count reads
 no_attempt line (Ok (JudgePath role neighbour path)) reads other = tt
+no_attempt line (Ok ClearLine) reads other = tt
 no_attempt line (Ok ListChanges) reads other = tt
+no_attempt line (Ok (DetailsLine verdict)) reads other = tt
+no_attempt line (Ok (SayLine words)) reads other = tt
 no_attempt line (Ok (WhyRoute addr asn prefix path)) reads other = tt
 no_attempt line (Ok (ShowAll show)) reads other = tt
 no_attempt line (Err fault) reads other = tt
@@ -254,6 +274,7 @@ front_of_task world attempts told state (Take name count) part text moved next m
 front_of_task world attempts told state (Connect name place) part text moved next moves does = (text, ap (λ (t : List ℕ). t ++ text) (sym moves.0))
 front_of_task world attempts told state (OnFeed name work) part text moved next moves does = (text, ap (λ (t : List ℕ). t ++ text) (sym moves.0))
 front_of_task world attempts told state (Serve place session count) part text moved next moves does = table_front world attempts told state place session count part text moved next moves does
+front_of_task world attempts told state (Until name moment) part text moved next moves does = absurd moves
 front_of_task world attempts told state (Short short) part text moved next moves does = absurd moves
 front_of_task world attempts told state (Load kind file) part text moved next moves does = absurd moves
 front_of_task world attempts told state (Open kind name file) part text moved next moves does = absurd moves

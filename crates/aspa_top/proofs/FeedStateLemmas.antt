@@ -1,54 +1,92 @@
 -- What lines leave of the feeds, and what is so behind all lines where each line on a feed leaves it so.
-use Rattle.std.proofs.Common.{◌≡◌, ℕ, ◌||◌, is_some, Bool, true, false, List, [], ◌∷◌, ◌≤◌, None, Some, Ok, Err, inl, inr, refl, sym, ap, ◌∙◌, subst, arith}
+use Rattle.std.proofs.Common.{true≢false, ◌≡◌, ℕ, ◌||◌, is_some, Bool, true, false, List, [], ◌∷◌, ◌≤◌, None, Some, Ok, Err, inl, inr, refl, sym, ap, ◌∙◌, subst, arith}
+use Rattle.std.specs.Option.{unwrap_or}
+use Rattle.std.proofs.lemmas.Bool.{or_parts}
 use Rattle.std.specs.declared.option.Option.{Option}
 use Rattle.report_text.specs.declared.cause.Cause.{Cause}
+use Rattle.origin_model.specs.Vrp.{Payload}
+use Rattle.origin_validation.specs.Records.{source_of, with_source}
 use Rattle.feed_lines.specs.declared.working.Work.{Work}
 use Rattle.feed_lines.specs.declared.working.Work.TheVariants.{Take as TakePdus}
+use Rattle.feed_lines.proofs.SourceLemmas.{source_other}
 use Rattle.stream_lines.specs.declared.kind.DumpKind.{DumpKind}
 use Rattle.stream_lines.specs.Streams.{Dump}
+use Rattle.stream_lines.specs.Units.{is_of_records}
+use Rattle.aspa_top.specs.declared.loading.Amendment.{Amendment}
+use Rattle.aspa_top.specs.declared.loading.Amendment.TheVariants as amendments
 use Rattle.aspa_top.specs.declared.loading.FileKind.{FileKind}
+use Rattle.aspa_top.specs.declared.loading.FileKind.TheVariants.{Payloads, PayloadLines, Validated, Slurm as SlurmFile}
+use Rattle.aspa_top.specs.declared.loading.Made.{Made}
 use Rattle.aspa_top.specs.declared.loading.Outcome.{Outcome}
 use Rattle.aspa_top.specs.declared.loading.Outcome.TheVariants.{NoFile, Long as FileLong, Flawed, Good}
 use Rattle.aspa_top.specs.declared.task.Short.{Short as ShortTask}
-use Rattle.aspa_top.specs.declared.task.Short.TheVariants.{Idle as Nothing, Happen, Judge as JudgePath}
+use Rattle.aspa_top.specs.declared.task.Short.TheVariants.{Idle as Nothing, Happen, Clear, Judge as JudgePath, Say}
 use Rattle.aspa_top.specs.declared.task.Question.{Question}
 use Rattle.aspa_top.specs.declared.task.Task.{Task}
-use Rattle.aspa_top.specs.declared.task.Task.TheVariants.{Short, Load, Open, Take, Connect, OnFeed, Serve, Answer, Changes}
+use Rattle.aspa_top.specs.declared.task.Task.TheVariants.{Short, Load, Open, Take, Until, Connect, OnFeed, Serve, Answer, Changes}
 use Rattle.aspa_top.specs.Answers.{AnswersUnless, Replies, refused_for}
 use Rattle.aspa_top.specs.Evaluation.{Asked, DoesAsked, Evaluates, asked_of, counted}
+use Rattle.aspa_top.specs.Loading.{ComesOf, Makes}
 use Rattle.aspa_top.specs.Serving.{ServesTable}
-use Rattle.aspa_top.specs.Tasks.{ConnectsUnless, DoesShort, DoesTask, LoadsUnless, OpensNamed, State, TakesFile, TakesNamed, TakesOpen, Works, amended, is_stream, is_taken}
+use Rattle.aspa_top.specs.Tasks.{ConnectsUnless, DoesShort, DoesTask, LoadsUnless, OpensNamed, State, TakesFile, TakesNamed, TakesOpen, TakesRecordsUnless, TakesUntilNamed, Works, amended, is_stream, is_taken, same_name}
 use Rattle.aspa_top.specs.World.{World}
-use Rattle.origin_model.specs.Current.{Parts}
-use Rattle.aspa_top.specs.declared.loading.Amendment.{Amendment}
+use Rattle.aspa_top.proofs.StandsLemmas.{is_same}
 
--- the feeds and the sources of the origin records stayed, and attempts were added, if anything
+-- the feeds stayed, and what each source of a feed's name has in the origin records, and attempts were added, if anything
 pub record KeepsFeeds (old new : State) : Type 0 where
   pub feeds : new.feeds ≡ old.feeds
-  pub sources : new.origins.sources ≡ old.origins.sources
+  pub sources : (name : List ℕ) → is_some (old.feeds name) ≡ true → source_of new.origins.sources name ≡ source_of old.origins.sources name
   pub made : old.made ≤ new.made
 
 kept : (old next built : State) → built.feeds ≡ old.feeds → built.origins.sources ≡ old.origins.sources → built.made ≡ old.made → next ≡ built → KeepsFeeds old next
 kept old next built feeds sources made is =
     let same : next.made ≡ old.made = ap (λ (s : State). s.made) is ∙ made in
-    record { feeds = ap (λ (s : State). s.feeds) is ∙ feeds; sources = ap (λ (s : State). s.origins.sources) is ∙ sources; made = omega (arith, same) }
+    let origins : next.origins.sources ≡ old.origins.sources = ap (λ (s : State). s.origins.sources) is ∙ sources in
+    record {
+      feeds = ap (λ (s : State). s.feeds) is ∙ feeds;
+      sources = λ name there. ap (λ (all : List (List ℕ × List Payload)). source_of all name) origins;
+      made = omega (arith, same);
+    }
 
 -- ---- lines that leave the feeds
 
--- a SLURM file changes no source
-amended_sources : (amends : Option Amendment) (origins : Parts) → (amended amends origins).sources ≡ origins.sources
-amended_sources None origins = refl
-amended_sources (Some amendment) origins = refl
+-- what the sources of feeds' names have stays
+abbrev KeepsSources : State → Amendment → Type 0
+KeepsSources state amends = (q : List ℕ) → is_some (state.feeds q) ≡ true → source_of (amended amends state.origins).sources q ≡ source_of state.origins.sources q
 
-TakesFile-keeps : (state : State) (kind : FileKind) (outcome : Outcome) (text : List ℕ) (next : State) → TakesFile state kind outcome text next → KeepsFeeds state next
-TakesFile-keeps state kind NoFile text next takes = kept state next _ refl refl refl takes.1
-TakesFile-keeps state kind FileLong text next takes = kept state next _ refl refl refl takes.1
-TakesFile-keeps state kind (Flawed flaw) text next takes = kept state next _ refl refl refl takes.1
-TakesFile-keeps state kind (Good change) text next takes = kept state next _ refl (amended_sources change.amends state.origins) refl takes.left
+-- a file's source has a name that is no feed's
+put_keeps : (state : State) (name : List ℕ) (payloads : List Payload) → is_stream state name ≡ false → KeepsSources state (amendments.Source name payloads)
+put_keeps state name payloads free q there = by_name (same_name name q) refl where
+  by_name : (same : Bool) → same_name name q ≡ same → source_of (with_source state.origins name payloads).sources q ≡ source_of state.origins.sources q
+  by_name true hit =
+      let is_a_feeds : is_some (state.feeds name) ≡ true = ap (λ (n : List ℕ). is_some (state.feeds n)) (is_same name q hit) ∙ there in
+      absurd (true≢false (sym is_a_feeds ∙ (or_parts (is_some (state.dumps name)) (is_some (state.feeds name)) free).1))
+  by_name false miss = source_other name payloads q miss state.origins.sources
 
-Loads-keeps : (taken : Bool) (world : World) (state : State) (kind : FileKind) (file text : List ℕ) (next : State) → LoadsUnless taken world state kind file text next → KeepsFeeds state next
-Loads-keeps true world state kind file text next loads = kept state next _ refl refl refl loads.1
-Loads-keeps false world state kind file text next loads = TakesFile-keeps state kind loads.outcome text next loads.takes
+made_keeps : (state : State) (kind : FileKind) (bytes : List ℕ) (made : Made) → is_taken state kind ≡ false → Makes kind bytes made → KeepsSources state made.amends
+made_keeps state (Payloads name) bytes made free makes = subst (λ (m : Made). KeepsSources state m.amends) (sym makes.2) (put_keeps state name [] free)
+made_keeps state (PayloadLines name) bytes made free makes = subst (λ (m : Made). KeepsSources state m.amends) (sym makes.2) (put_keeps state name [] free)
+made_keeps state (Validated name) bytes made free makes =
+    subst (λ (m : Made). KeepsSources state m.amends) (sym makes.2) (put_keeps state name (unwrap_or makes.0.payloads []) free)
+made_keeps state SlurmFile bytes made free makes = subst (λ (m : Made). KeepsSources state m.amends) (sym makes.2) (λ q there. refl)
+
+TakesFile-keeps : (state : State) (kind : FileKind) (named : Option (List ℕ)) (outcome : Outcome) (text : List ℕ) (next : State) → is_taken state kind ≡ false → ComesOf kind named outcome
+    → TakesFile state kind outcome text next → KeepsFeeds state next
+TakesFile-keeps state kind named NoFile text next free comes takes = kept state next _ refl refl refl takes.1
+TakesFile-keeps state kind named FileLong text next free comes takes = kept state next _ refl refl refl takes.1
+TakesFile-keeps state kind named (Flawed flaw) text next free comes takes = kept state next _ refl refl refl takes.1
+TakesFile-keeps state kind named (Good made) text next free comes takes =
+    let same : next.made ≡ state.made = ap (λ (s : State). s.made) takes.left in
+    record {
+      feeds = ap (λ (s : State). s.feeds) takes.left;
+      sources = λ q there. ap (λ (s : State). source_of s.origins.sources q) takes.left ∙ made_keeps state kind comes.bytes made free comes.holds q there;
+      made = omega (arith, same);
+    }
+
+Loads-keeps : (taken : Bool) (world : World) (state : State) (kind : FileKind) (file text : List ℕ) (next : State) → is_taken state kind ≡ taken → LoadsUnless taken world state kind file text next
+    → KeepsFeeds state next
+Loads-keeps true world state kind file text next is loads = kept state next _ refl refl refl loads.1
+Loads-keeps false world state kind file text next is loads = TakesFile-keeps state kind (world.named file) loads.outcome text next is loads.comes loads.takes
 
 Opens-keeps : (used : Bool) (named : Option (List ℕ)) (state : State) (kind : DumpKind) (name text : List ℕ) (next : State) → OpensNamed used named state kind name text next → KeepsFeeds state next
 Opens-keeps true named state kind name text next opens = kept state next _ refl refl refl opens.1
@@ -59,6 +97,16 @@ TakesOpen-keeps : (over : Bool) (state : State) (name : List ℕ) (count : ℕ) 
 TakesOpen-keeps true state name count dump text next takes = kept state next _ refl refl refl takes.1
 TakesOpen-keeps false state name count dump text next takes = kept state next _ refl refl refl takes.next_is
 
+TakesRecords-keeps : (kind over : Bool) (state : State) (name : List ℕ) (moment : ℕ) (dump : Dump) (text : List ℕ) (next : State)
+    → TakesRecordsUnless kind over state name moment dump text next → KeepsFeeds state next
+TakesRecords-keeps false over state name moment dump text next takes = kept state next _ refl refl refl takes.1
+TakesRecords-keeps true true state name moment dump text next takes = kept state next _ refl refl refl takes.1
+TakesRecords-keeps true false state name moment dump text next takes = kept state next _ refl refl refl takes.next_is
+
+TakesUntil-keeps : (dump : Option Dump) (state : State) (name : List ℕ) (moment : ℕ) (text : List ℕ) (next : State) → TakesUntilNamed dump state name moment text next → KeepsFeeds state next
+TakesUntil-keeps None state name moment text next takes = kept state next _ refl refl refl takes.1
+TakesUntil-keeps (Some dump) state name moment text next takes = TakesRecords-keeps (is_of_records dump.known) dump.over state name moment dump text next takes
+
 Replies-keeps : (state : State) (question : Question) (text : List ℕ) (next : State) → Replies state question text next → KeepsFeeds state next
 Replies-keeps state question text next replies = by_cause (refused_for state question) replies where
   by_cause : (cause : Option Cause) → AnswersUnless cause state question text next → KeepsFeeds state next
@@ -68,13 +116,15 @@ Replies-keeps state question text next replies = by_cause (refused_for state que
 DoesShort-keeps : (state : State) (short : ShortTask) (text : List ℕ) (next : State) → DoesShort state short text next → KeepsFeeds state next
 DoesShort-keeps state Nothing text next does = kept state next _ refl refl refl does.1
 DoesShort-keeps state (Happen event) text next does = kept state next _ refl refl refl does.left
+DoesShort-keeps state Clear text next does = kept state next _ refl refl refl does.1
+DoesShort-keeps state (Say words) text next does = kept state next _ refl refl refl does.1
 DoesShort-keeps state (JudgePath role neighbour path) text next does = kept state next _ refl refl refl does.1
 
 ServesTable-keeps : (world : World) (state : State) (place : List ℕ) (session count : ℕ) (text : List ℕ) (next : State) → ServesTable world state place session count text next → KeepsFeeds state next
 ServesTable-keeps world state place session count text next (inl refuses) = kept state next _ refl refl refl refuses.1.1
 ServesTable-keeps world state place session count text next (inr serves) =
     let made = ap (λ (s : State). s.made) serves.1.left in
-    record { feeds = ap (λ (s : State). s.feeds) serves.1.left; sources = ap (λ (s : State). s.origins.sources) serves.1.left; made = omega (arith, made) }
+    record { feeds = ap (λ (s : State). s.feeds) serves.1.left; sources = λ name there. ap (λ (s : State). source_of s.origins.sources name) serves.1.left; made = omega (arith, made) }
 
 -- ---- all lines
 
@@ -95,10 +145,11 @@ module _ (world : World) (Is : State → Type 0) (left : IsLeft world Is) where
 
   DoesTask-left : (state next : State) (task : Task) (text : List ℕ) → Is state → DoesTask world state task text next → Is next
   DoesTask-left state next (Short short) text is does = left.keeps state next (DoesShort-keeps state short text next does) is
-  DoesTask-left state next (Load kind file) text is does = left.keeps state next (Loads-keeps (is_taken state kind) world state kind file text next does) is
+  DoesTask-left state next (Load kind file) text is does = left.keeps state next (Loads-keeps (is_taken state kind) world state kind file text next refl does) is
   DoesTask-left state next (Open kind name file) text is does =
       left.keeps state next (Opens-keeps (state.sources name || is_stream state name) (world.named file) state kind name text next does) is
   DoesTask-left state next (Take name count) text is does = Takes-left (state.dumps name) state next name count text is does
+  DoesTask-left state next (Until name moment) text is does = left.keeps state next (TakesUntil-keeps (state.dumps name) state name moment text next does) is
   DoesTask-left state next (Connect name place) text is does = Connects-left (state.sources name || is_some (state.dumps name)) state next name place text is does
   DoesTask-left state next (OnFeed name work) text is does = left.works state next name work text is does
   DoesTask-left state next (Serve place session count) text is does = left.keeps state next (ServesTable-keeps world state place session count text next does) is

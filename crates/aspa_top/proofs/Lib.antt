@@ -26,7 +26,9 @@ pub mod ShortLemmas
 pub mod StandsLemmas
 pub mod StopLemmas
 pub mod TableLemmas
+pub mod TakeLemmas
 pub mod TaskLemmas
 pub mod TextLemmas
 pub mod TiedLemmas
+pub mod UntilLemmas
 pub mod WordsLemmas

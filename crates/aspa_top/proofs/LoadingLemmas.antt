@@ -1,6 +1,7 @@
 -- A file that was opened, read whole and understood.
-use Rattle.std.proofs.Common.{◌≡◌, ℕ, ◌<◌, ◌≤◌, List, ◌++◌, None, Some, Ok, Err, IfOk, IfSome, length, refl, sym, ◌∙◌, ap, subst, arith, append_assoc, append-nil, length-append}
+use Rattle.std.proofs.Common.{◌≡◌, ℕ, ◌<◌, ◌≤◌, List, [], ◌++◌, None, Some, Ok, Err, IfOk, IfSome, length, refl, sym, ◌∙◌, ap, subst, arith, append_assoc, append-nil, length-append}
 use Rattle.std.specs.Io.KnownBytes.{prepend_known, IsAtEnd}
+use Rattle.std.specs.Option.{unwrap_or}
 use Rattle.std.specs.declared.option.Option.{Option}
 use Rattle.std.specs.declared.result.Result.{Result}
 use Rattle.av_base.specs.declared.fault.NoMemory.{NoMemory as NoMemoryFault}
@@ -8,6 +9,7 @@ use Rattle.av_base.specs.Files.{Files, Opens, left_of}
 use Rattle.av_base.proofs.FilesLemmas.{left_of-opens}
 use Rattle.path_model.specs.Rows.{RowMap}
 use Rattle.attestations.specs.Terms.{TermMap, terms_of}
+use Rattle.origin_model.specs.Vrp.{Payload}
 use Rattle.aspa_payload.specs.File.{FileAnswers, IsFileReading}
 use Rattle.aspa_payload.specs.Lines.{IsLinesReading}
 use Rattle.aspa_payload.specs.declared.file.FileFault.{FileFault}
@@ -18,11 +20,16 @@ use Rattle.slurm_rules.specs.Answers.{MemoryOr}
 use Rattle.slurm_rules.specs.declared.fault.SlurmFault.{SlurmFault}
 use Rattle.slurm_rules.specs.declared.fault.SlurmFault.TheVariants.{Json, Version, Member, Number, PrefixText, NoMemory as SlurmNoMemory}
 use Rattle.report_text.specs.declared.cause.Cause.{Cause}
+use Rattle.validated.specs.Answers.{MemoryOr as ValidatedOr}
+use Rattle.validated.specs.Reading.{Says, IsRefused as IsValidatedRefused}
+use Rattle.validated.specs.declared.fault.ValidatedFault.{ValidatedFault}
+use Rattle.validated.specs.declared.fault.ValidatedFault.TheVariants as validated_faults
+use Rattle.validated.specs.declared.validated_file.Validated.{Validated as ValidatedContent}
 use Rattle.aspa_top.specs.declared.loading.FileKind.{FileKind}
-use Rattle.aspa_top.specs.declared.loading.FileKind.TheVariants.{Payloads, PayloadLines, Slurm}
+use Rattle.aspa_top.specs.declared.loading.FileKind.TheVariants.{Payloads, PayloadLines, Validated, Slurm}
 use Rattle.aspa_top.specs.declared.loading.Outcome.{Outcome}
 use Rattle.aspa_top.specs.declared.loading.Outcome.TheVariants.{NoFile, Long, Flawed, Good}
-use Rattle.aspa_top.specs.Loading.{Makes, Fails, IsWithin, IsBeyond, of_source, payload_cause, slurm_cause}
+use Rattle.aspa_top.specs.Loading.{Makes, Fails, IsWithin, IsBeyond, of_source, payload_cause, slurm_cause, validated_cause}
 use Rattle.aspa_top.specs.LoadingSteps.{ComesTold, IsRefusedFor, IsRowsOutcome, IsTermsOutcome, Understands}
 
 -- ---- a file that was read whole
@@ -78,9 +85,9 @@ module _ (old mid new : Option Files) (before after : ℕ) (name : List ℕ) (fi
 -- of a file that reads to terms, or to rows that never end
 module _ {A : Type 0} (terms : A → TermMap) (Comes : Result A FileFault → Outcome → Type 0) where
   understood : (kind : FileKind) (name bytes : List ℕ) (Due : Result A FileFault → Type 0)
-      → ((read : A) (outcome : Outcome) → Comes (Ok read) outcome → outcome ≡ Good (of_source name (terms read)))
+      → ((read : A) (outcome : Outcome) → Comes (Ok read) outcome → outcome ≡ Good (of_source name (terms read) []))
       → ((fault : FileFault) (outcome : Outcome) → Comes (Err fault) outcome → IsRefusedFor fault outcome)
-      → ((read : A) → Due (Ok read) → Makes kind bytes (of_source name (terms read)))
+      → ((read : A) → Due (Ok read) → Makes kind bytes (of_source name (terms read) []))
       → ((unit : ℕ) (fault : PayloadFault) (cause : Cause) → Due (Err (Bad unit fault)) → payload_cause fault ≡ Some cause → Fails kind bytes (record { unit = unit; cause = cause }))
       → (reading : Result A FileFault) (outcome : Outcome) → FileAnswers Due reading → Comes reading outcome
       → Understands kind bytes outcome
@@ -103,6 +110,21 @@ pub lines_understood : (name bytes : List ℕ) (reading : Result TermMap FileFau
     → FileAnswers (IsLinesReading bytes) reading → IfOk result (IsTermsOutcome name reading) → IfOk result (Understands (PayloadLines name) bytes)
 lines_understood name bytes reading result answers is =
     if_ok result (λ outcome o. understood (λ terms. terms) (IsTermsOutcome name) (PayloadLines name) name bytes (IsLinesReading bytes) (λ terms outcome is. is) (λ fault outcome is. is) (λ terms reads. (terms, reads, refl)) (λ unit fault cause reads caused. (fault, reads, caused)) reading outcome answers o) is
+
+-- a validator's file that is good
+pub validated_makes : (name bytes : List ℕ) (said : ValidatedContent) (payloads : List Payload) (result : Result Outcome NoMemoryFault) → Says bytes said → payloads ≡ unwrap_or said.payloads []
+    → IfOk result (λ outcome. outcome ≡ Good (of_source name said.attestations payloads)) → IfOk result (Understands (Validated name) bytes)
+validated_makes name bytes said payloads result says are is =
+    if_ok result (λ outcome o. subst (Understands (Validated name) bytes) (sym (o ∙ ap (λ (p : List Payload). Good (of_source name said.attestations p)) are)) (said, says, refl)) is
+
+-- or is refused
+pub validated_fails : (name bytes : List ℕ) (fault : ValidatedFault) (cause : Cause) → ValidatedOr fault (IsValidatedRefused bytes fault) → validated_cause fault ≡ Some cause
+    → Fails (Validated name) bytes (record { unit = 1; cause = cause })
+validated_fails name bytes validated_faults.Json cause due is = (validated_faults.Json, due, refl, is)
+validated_fails name bytes validated_faults.Member cause due is = (validated_faults.Member, due, refl, is)
+validated_fails name bytes validated_faults.Number cause due is = (validated_faults.Number, due, refl, is)
+validated_fails name bytes validated_faults.Prefix cause due is = (validated_faults.Prefix, due, refl, is)
+validated_fails name bytes validated_faults.NoMemory cause due is = let none : ⊥ = cc in absurd none
 
 pub slurm_fails : (bytes : List ℕ) (fault : SlurmFault) (cause : Cause) → MemoryOr fault (IsRefused bytes fault) → slurm_cause fault ≡ Some cause
     → Fails Slurm bytes (record { unit = 1; cause = cause })

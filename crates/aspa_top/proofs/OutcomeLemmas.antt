@@ -1,5 +1,5 @@
 -- Each file comes to one outcome.
-use Rattle.std.proofs.Common.{◌≡◌, ◌≢◌, ℕ, ◌≤◌, Bool, true, false, nat_le, List, length, Ok, Err, Some, None, refl, sym, ap, subst, ◌∙◌, arith}
+use Rattle.std.proofs.Common.{◌≡◌, ◌≢◌, ℕ, ◌≤◌, Bool, true, false, nat_le, List, [], length, Ok, Err, Some, None, refl, sym, ap, subst, ◌∙◌, arith}
 use Rattle.std.specs.declared.option.Option.{Option}
 use Rattle.std.specs.declared.result.Result.{Result}
 use Rattle.std.proofs.lemmas.Bool.Decides.{nat_tests}
@@ -16,17 +16,20 @@ use Rattle.aspa_payload.specs.declared.fault.PayloadFault.TheVariants.{NotDer, V
 use Rattle.aspa_payload.proofs.FileLawLemmas.{each_file}
 use Rattle.aspa_payload.proofs.LinesLawLemmas.{each_file_of_lines}
 use Rattle.slurm_rules.specs.Reading.{IsReading as IsSlurmReading}
-use Rattle.slurm_rules.specs.declared.slurm.Slurm.{Slurm as SlurmContent}
 use Rattle.slurm_rules.specs.declared.fault.SlurmFault.{SlurmFault}
 use Rattle.slurm_rules.specs.declared.fault.SlurmFault.TheVariants.{Json, Version as SlurmVersion, Member, Number, PrefixText, NoMemory as SlurmMemory}
 use Rattle.slurm_rules.proofs.LawLemmas.{each_file as each_slurm_file}
+use Rattle.validated.specs.Reading.{IsReading as IsValidatedReading}
+use Rattle.validated.specs.declared.fault.ValidatedFault.{ValidatedFault}
+use Rattle.validated.specs.declared.fault.ValidatedFault.TheVariants as validated_faults
+use Rattle.validated.proofs.LawLemmas.{each_file as each_validated_file}
 use Rattle.aspa_top.specs.declared.loading.FileKind.{FileKind}
-use Rattle.aspa_top.specs.declared.loading.FileKind.TheVariants.{Payloads, PayloadLines, Slurm}
+use Rattle.aspa_top.specs.declared.loading.FileKind.TheVariants.{Payloads, PayloadLines, Validated, Slurm}
 use Rattle.aspa_top.specs.declared.loading.Flaw.{Flaw}
 use Rattle.aspa_top.specs.declared.loading.Made.{Made}
 use Rattle.aspa_top.specs.declared.loading.Outcome.{Outcome}
 use Rattle.aspa_top.specs.declared.loading.Outcome.TheVariants.{NoFile, Long, Flawed, Good}
-use Rattle.aspa_top.specs.Loading.{Makes, Fails, IsWithin, IsBeyond, ComesOf, of_slurm, of_source, payload_cause, slurm_cause}
+use Rattle.aspa_top.specs.Loading.{Makes, Fails, IsWithin, IsBeyond, ComesOf, of_slurm, of_source, of_validated, payload_cause, slurm_cause, validated_cause}
 
 -- ---- what is inside two answers that are equal
 
@@ -39,16 +42,31 @@ same_fault {T} {E} one other the a b = let same = a ∙ sym b in cc
 no_both : {T E : Type 0} (value : T) (fault : E) (the : Result T E) → Ok value ≡ the → Err fault ≡ the → ⊥
 no_both {T} {E} value fault the a b = let same = a ∙ sym b in cc
 
--- ---- files of payloads; `Due` says how the file reads, and `terms` what it attests then
+-- ---- any files; `Due` says how one reads, and `made` what it changes then
 
-module _ {A : Type 0} (terms : A → TermMap) (Due : Result A FileFault → Type 0) (the : HasOne Due) where
-  one_change : (name : List ℕ) (one other : Made)
-      → (read : A) × Due (Ok read) × (one ≡ of_source name (terms read)) → (read : A) × Due (Ok read) × (other ≡ of_source name (terms read))
-      → one ≡ other
-  one_change name one other a b =
+module _ {A F : Type 0} (Due : Result A F → Type 0) (the : HasOne Due) where
+  one_change : (made : A → Made) (one other : Made) → (read : A) × Due (Ok read) × (one ≡ made read) → (read : A) × Due (Ok read) × (other ≡ made read) → one ≡ other
+  one_change made one other a b =
       let same = same_value a.0 b.0 the.one (the.only (Ok a.0) a.1) (the.only (Ok b.0) b.1) in
-      a.2 ∙ ap (λ (read : A). of_source name (terms read)) same ∙ sym b.2
+      a.2 ∙ ap made same ∙ sym b.2
 
+  no_change_and_flaw : (read : A) (fault : F) → Due (Ok read) → Due (Err fault) → ⊥
+  no_change_and_flaw read fault a b = no_both read fault the.one (the.only (Ok read) a) (the.only (Err fault) b)
+
+  -- of those that are one unit, each is refused for one cause
+  one_unit_flaw : (cause_of : F → Option Cause) (one other : Flaw)
+      → (fault : F) × Due (Err fault) × (one.unit ≡ 1) × (cause_of fault ≡ Some one.cause)
+      → (fault : F) × Due (Err fault) × (other.unit ≡ 1) × (cause_of fault ≡ Some other.cause) → one ≡ other
+  one_unit_flaw cause_of one other a b =
+      let fault = same_fault a.0 b.0 the.one (the.only (Err a.0) a.1) (the.only (Err b.0) b.1) in
+      let unit : one.unit ≡ other.unit = a.2 ∙ sym b.2 in
+      let both : Some one.cause ≡ Some other.cause = sym a.3 ∙ ap cause_of fault ∙ b.3 in
+      let cause : one.cause ≡ other.cause = cc in
+      λ i. record { unit = unit i; cause = cause i }
+
+-- ---- files of payloads
+
+module _ {A : Type 0} (Due : Result A FileFault → Type 0) (the : HasOne Due) where
   one_flaw : (one other : Flaw)
       → (fault : PayloadFault) × Due (Err (Bad one.unit fault)) × (payload_cause fault ≡ Some one.cause)
       → (fault : PayloadFault) × Due (Err (Bad other.unit fault)) × (payload_cause fault ≡ Some other.cause) → one ≡ other
@@ -60,36 +78,25 @@ module _ {A : Type 0} (terms : A → TermMap) (Due : Result A FileFault → Type
       let cause : one.cause ≡ other.cause = cc in
       λ i. record { unit = unit i; cause = cause i }
 
-  no_change_and_flaw : (read : A) (unit : ℕ) (fault : PayloadFault) → Due (Ok read) → Due (Err (Bad unit fault)) → ⊥
-  no_change_and_flaw read unit fault a b = no_both read (Bad unit fault) the.one (the.only (Ok read) a) (the.only (Err (Bad unit fault)) b)
-
 -- ---- each kind of file makes one change, or fails in one way
 
 makes_one : (kind : FileKind) (bytes : List ℕ) (one other : Made) → Makes kind bytes one → Makes kind bytes other → one ≡ other
-makes_one (Payloads name) bytes one other a b = one_change terms_of (IsFileReading bytes) (each_file bytes) name one other a b
-makes_one (PayloadLines name) bytes one other a b = one_change (λ terms. terms) (IsLinesReading bytes) (each_file_of_lines bytes) name one other a b
-makes_one Slurm bytes one other a b =
-    let the = each_slurm_file bytes in
-    let same = same_value a.0 b.0 the.one (the.only (Ok a.0) a.1) (the.only (Ok b.0) b.1) in
-    a.2 ∙ ap of_slurm same ∙ sym b.2
+makes_one (Payloads name) bytes one other a b = one_change (IsFileReading bytes) (each_file bytes) (λ rows. of_source name (terms_of rows) []) one other a b
+makes_one (PayloadLines name) bytes one other a b = one_change (IsLinesReading bytes) (each_file_of_lines bytes) (λ terms. of_source name terms []) one other a b
+makes_one (Validated name) bytes one other a b = one_change (IsValidatedReading bytes) (each_validated_file bytes) (of_validated name) one other a b
+makes_one Slurm bytes one other a b = one_change (IsSlurmReading bytes) (each_slurm_file bytes) of_slurm one other a b
 
 fails_one : (kind : FileKind) (bytes : List ℕ) (one other : Flaw) → Fails kind bytes one → Fails kind bytes other → one ≡ other
-fails_one (Payloads name) bytes one other a b = one_flaw terms_of (IsFileReading bytes) (each_file bytes) one other a b
-fails_one (PayloadLines name) bytes one other a b = one_flaw (λ terms. terms) (IsLinesReading bytes) (each_file_of_lines bytes) one other a b
-fails_one Slurm bytes one other a b =
-    let the = each_slurm_file bytes in
-    let fault = same_fault a.0 b.0 the.one (the.only (Err a.0) a.1) (the.only (Err b.0) b.1) in
-    let unit : one.unit ≡ other.unit = a.2 ∙ sym b.2 in
-    let both : Some one.cause ≡ Some other.cause = sym a.3 ∙ ap slurm_cause fault ∙ b.3 in
-    let cause : one.cause ≡ other.cause = cc in
-    λ i. record { unit = unit i; cause = cause i }
+fails_one (Payloads name) bytes one other a b = one_flaw (IsFileReading bytes) (each_file bytes) one other a b
+fails_one (PayloadLines name) bytes one other a b = one_flaw (IsLinesReading bytes) (each_file_of_lines bytes) one other a b
+fails_one (Validated name) bytes one other a b = one_unit_flaw (IsValidatedReading bytes) (each_validated_file bytes) validated_cause one other a b
+fails_one Slurm bytes one other a b = one_unit_flaw (IsSlurmReading bytes) (each_slurm_file bytes) slurm_cause one other a b
 
 makes_or_fails : (kind : FileKind) (bytes : List ℕ) (change : Made) (flaw : Flaw) → Makes kind bytes change → Fails kind bytes flaw → ⊥
-makes_or_fails (Payloads name) bytes change flaw a b = no_change_and_flaw terms_of (IsFileReading bytes) (each_file bytes) a.0 flaw.unit b.0 a.1 b.1
-makes_or_fails (PayloadLines name) bytes change flaw a b = no_change_and_flaw (λ terms. terms) (IsLinesReading bytes) (each_file_of_lines bytes) a.0 flaw.unit b.0 a.1 b.1
-makes_or_fails Slurm bytes change flaw a b =
-    let the = each_slurm_file bytes in
-    no_both a.0 b.0 the.one (the.only (Ok a.0) a.1) (the.only (Err b.0) b.1)
+makes_or_fails (Payloads name) bytes change flaw a b = no_change_and_flaw (IsFileReading bytes) (each_file bytes) a.0 (Bad flaw.unit b.0) a.1 b.1
+makes_or_fails (PayloadLines name) bytes change flaw a b = no_change_and_flaw (IsLinesReading bytes) (each_file_of_lines bytes) a.0 (Bad flaw.unit b.0) a.1 b.1
+makes_or_fails (Validated name) bytes change flaw a b = no_change_and_flaw (IsValidatedReading bytes) (each_validated_file bytes) a.0 b.0 a.1 b.1
+makes_or_fails Slurm bytes change flaw a b = no_change_and_flaw (IsSlurmReading bytes) (each_slurm_file bytes) a.0 b.0 a.1 b.1
 
 -- ---- one outcome
 
@@ -153,6 +160,13 @@ slurm_has_cause bytes Number reads = (_, refl)
 slurm_has_cause bytes PrefixText reads = (_, refl)
 slurm_has_cause bytes SlurmMemory reads = absurd reads
 
+validated_has_cause : (bytes : List ℕ) (fault : ValidatedFault) → IsValidatedReading bytes (Err fault) → (cause : Cause) × (validated_cause fault ≡ Some cause)
+validated_has_cause bytes validated_faults.Json reads = (_, refl)
+validated_has_cause bytes validated_faults.Member reads = (_, refl)
+validated_has_cause bytes validated_faults.Number reads = (_, refl)
+validated_has_cause bytes validated_faults.Prefix reads = (_, refl)
+validated_has_cause bytes validated_faults.NoMemory reads = absurd reads
+
 -- no unit is refused for want of memory
 unit_remembers : (bytes : List ℕ) (unit : ℕ) (fault : PayloadFault) → RefusedAt bytes unit fault → fault ≢ PayloadMemory
 unit_remembers bytes unit fault found is = let refused = rw is at found.refused in refused.1.2
@@ -164,23 +178,26 @@ line_remembers : (bytes : List ℕ) (unit : ℕ) (fault : PayloadFault) → Line
 line_remembers bytes unit fault found is = bad_remembers _ (rw is at found.refused)
 
 read_within : {A : Type 0} (terms : A → TermMap) (kind : FileKind) (name bytes : List ℕ) (Due : Result A FileFault → Type 0) → length bytes ≤ 67108864
-    → ((read : A) → Due (Ok read) → Makes kind bytes (of_source name (terms read)))
+    → ((read : A) → Due (Ok read) → Makes kind bytes (of_source name (terms read) []))
     → ((unit : ℕ) (fault : PayloadFault) (cause : Cause) → Due (Err (Bad unit fault)) → payload_cause fault ≡ Some cause → Fails kind bytes (record { unit = unit; cause = cause }))
     → ((unit : ℕ) (fault : PayloadFault) → Due (Err (Bad unit fault)) → fault ≢ PayloadMemory)
     → (Due (Err NoMemory) → ⊥) → (reading : Result A FileFault) → Due reading → (outcome : Outcome) × ComesOf kind (Some bytes) outcome
-read_within {A} terms kind name bytes Due within makes fails remembers none (Ok read) reads = (Good (of_source name (terms read)), record { bytes = bytes; is = refl; within = within; holds = makes read reads })
+read_within {A} terms kind name bytes Due within makes fails remembers none (Ok read) reads = (Good (of_source name (terms read) []), record { bytes = bytes; is = refl; within = within; holds = makes read reads })
 read_within {A} terms kind name bytes Due within makes fails remembers none (Err (Bad unit fault)) reads =
     let cause = payload_has_cause fault (remembers unit fault reads) in
     (Flawed (record { unit = unit; cause = cause.0 }), record { bytes = bytes; is = refl; within = within; holds = fails unit fault cause.0 reads cause.1 })
 read_within {A} terms kind name bytes Due within makes fails remembers none (Err NoMemory) reads = absurd (none reads)
 
-slurm_within : (bytes : List ℕ) → length bytes ≤ 67108864 → (reading : Result SlurmContent SlurmFault) → IsSlurmReading bytes reading
-    → (outcome : Outcome) × ComesOf Slurm (Some bytes) outcome
-slurm_within bytes within (Ok slurm) reads =
-    (Good (of_slurm slurm), record { bytes = bytes; is = refl; within = within; holds = (slurm, reads, refl) })
-slurm_within bytes within (Err fault) reads =
-    let cause = slurm_has_cause bytes fault reads in
-    (Flawed (record { unit = 1; cause = cause.0 }), record { bytes = bytes; is = refl; within = within; holds = (fault, reads, refl, cause.1) })
+unit_within : {A F : Type 0} (made : A → Made) (cause_of : F → Option Cause) (kind : FileKind) (bytes : List ℕ) (Due : Result A F → Type 0) → length bytes ≤ 67108864
+    → ((read : A) → Due (Ok read) → Makes kind bytes (made read))
+    → ((fault : F) (cause : Cause) → Due (Err fault) → cause_of fault ≡ Some cause → Fails kind bytes (record { unit = 1; cause = cause }))
+    → ((fault : F) → Due (Err fault) → (cause : Cause) × (cause_of fault ≡ Some cause))
+    → (reading : Result A F) → Due reading → (outcome : Outcome) × ComesOf kind (Some bytes) outcome
+unit_within {A} {F} made cause_of kind bytes Due within makes fails has_cause (Ok read) reads =
+    (Good (made read), record { bytes = bytes; is = refl; within = within; holds = makes read reads })
+unit_within {A} {F} made cause_of kind bytes Due within makes fails has_cause (Err fault) reads =
+    let cause = has_cause fault reads in
+    (Flawed (record { unit = 1; cause = cause.0 }), record { bytes = bytes; is = refl; within = within; holds = fails fault cause.0 reads cause.1 })
 
 some_within : (kind : FileKind) (bytes : List ℕ) → length bytes ≤ 67108864 → (outcome : Outcome) × ComesOf kind (Some bytes) outcome
 some_within (Payloads name) bytes within =
@@ -189,7 +206,12 @@ some_within (Payloads name) bytes within =
 some_within (PayloadLines name) bytes within =
     let the = each_file_of_lines bytes in
     read_within (λ terms. terms) (PayloadLines name) name bytes (IsLinesReading bytes) within (λ rows reads. (rows, reads, refl)) (λ unit fault cause reads is. (fault, reads, is)) (λ unit fault reads. line_remembers bytes unit fault reads) (λ none. none) the.one the.is
-some_within Slurm bytes within = let the = each_slurm_file bytes in slurm_within bytes within the.one the.is
+some_within (Validated name) bytes within =
+    let the = each_validated_file bytes in
+    unit_within (of_validated name) validated_cause (Validated name) bytes (IsValidatedReading bytes) within (λ said reads. (said, reads, refl)) (λ fault cause reads is. (fault, reads, refl, is)) (λ fault reads. validated_has_cause bytes fault reads) the.one the.is
+some_within Slurm bytes within =
+    let the = each_slurm_file bytes in
+    unit_within of_slurm slurm_cause Slurm bytes (IsSlurmReading bytes) within (λ slurm reads. (slurm, reads, refl)) (λ fault cause reads is. (fault, reads, refl, is)) (λ fault reads. slurm_has_cause bytes fault reads) the.one the.is
 
 by_length : (kind : FileKind) (bytes : List ℕ) (fits : Bool) → nat_le (length bytes) 67108864 ≡ fits → (outcome : Outcome) × ComesOf kind (Some bytes) outcome
 by_length kind bytes true is = some_within kind bytes (grind (arith, nat_tests, is))

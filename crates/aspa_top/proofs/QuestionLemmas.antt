@@ -30,7 +30,7 @@ use Rattle.report_text.proofs.AnswerLemmas.{summary_is_one_line, reason_is_one_l
 use Rattle.rib_store.specs.Shown.{IsExplained}
 use Rattle.rib_store.specs.State.{State as Analysis}
 use Rattle.rib_store.proofs.ReportLemmas.{has_one_report}
-use Rattle.script_lines.specs.declared.command.Show.TheVariants.{Report, Origins as ListOrigins, Leaks as ListLeaks, Summary as SumUp}
+use Rattle.script_lines.specs.declared.command.Show.TheVariants.{Report, Origins as ListOrigins, Leaks as ListLeaks, Suspects, Summary as SumUp}
 use Rattle.stream_lines.specs.Counts.{refusals_in}
 use Rattle.stream_lines.specs.Leaks.{leaks_text}
 use Rattle.stream_lines.specs.Rows.{rows_text}
@@ -38,8 +38,12 @@ use Rattle.stream_lines.proofs.LeaksLemmas.{leak_line_of, leaks_answer, leaks_ar
 use Rattle.stream_lines.proofs.RefusalLemmas.{lacks, refusals_in-line}
 use Rattle.stream_lines.proofs.ReportedLemmas.{line_of, rows_answer, rows_are_lines}
 use Rattle.stream_lines.proofs.SummaryLemmas.{some_summary, one_summary}
+use Rattle.suspect_lines.specs.Details.{details_text}
+use Rattle.suspect_lines.specs.Suspected.{suspects_text}
+use Rattle.suspect_lines.proofs.DetailsLemmas.{detail_line_of, details_answer, details_are_lines, one_list_of_details}
+use Rattle.suspect_lines.proofs.SuspectedLemmas.{one_list_of_suspects, suspect_line_of, suspects_answer, suspects_are_lines}
 use Rattle.aspa_top.specs.declared.task.Question.{Question}
-use Rattle.aspa_top.specs.declared.task.Question.TheVariants.{Show, Why}
+use Rattle.aspa_top.specs.declared.task.Question.TheVariants.{Show, Details, Why}
 use Rattle.aspa_top.specs.Answers.{Answers, AnswersUnless, Replies, no_route, refused_for}
 use Rattle.aspa_top.specs.Tasks.{State}
 
@@ -100,12 +104,26 @@ one_answer state (Show ListLeaks) there =
       is = record { rows = list.one; are = list.is; text_is = refl };
       only = λ other is. is.text_is ∙ ap leaks_text (list.only is.rows is.are);
     }
+one_answer state (Show Suspects) there =
+    let list = one_list_of_suspects state.analysis in
+    record {
+      one = suspects_text list.one;
+      is = record { rows = list.one; are = list.is; text_is = refl };
+      only = λ other is. is.text_is ∙ ap suspects_text (list.only is.rows is.are);
+    }
 one_answer state (Show SumUp) there =
     let found = some_summary state.analysis state.passed state.refused in
     record {
       one = summary_text found.0;
       is = record { summary = found.0; is = found.1; text_is = refl };
       only = λ other is. is.text_is ∙ ap summary_text (one_summary state.analysis state.passed state.refused is.summary found.0 is.is found.1);
+    }
+one_answer state (Details verdict) there =
+    let list = one_list_of_details state.analysis verdict in
+    record {
+      one = details_text list.one;
+      is = record { rows = list.one; are = list.is; text_is = refl };
+      only = λ other is. is.text_is ∙ ap details_text (list.only is.rows is.are);
     }
 one_answer state (Why key) there =
     let found = some_reason (fin.get state.analysis.routes key) state.analysis key refl there in
@@ -136,6 +154,10 @@ answer_lines state (Show ListOrigins) text lists =
     record { lines = map origin_line_of lists.rows; each = origins_answer lists.rows; is = lists.text_is ∙ origins_are_lines lists.rows }
 answer_lines state (Show ListLeaks) text lists =
     record { lines = map leak_line_of lists.rows; each = leaks_answer lists.rows; is = lists.text_is ∙ leaks_are_lines lists.rows }
+answer_lines state (Show Suspects) text lists =
+    record { lines = map suspect_line_of lists.rows; each = suspects_answer lists.rows; is = lists.text_is ∙ suspects_are_lines lists.rows }
+answer_lines state (Details verdict) text lists =
+    record { lines = map detail_line_of lists.rows; each = details_answer lists.rows; is = lists.text_is ∙ details_are_lines lists.rows }
 answer_lines state (Show SumUp) text sums = one_line (summary_line sums.summary) text (summary_is_one_line sums.summary) sums.text_is
 answer_lines state (Why key) text explains = one_line (why_line explains.verdict explains.witness) text (reason_is_one_line explains.verdict explains.witness) explains.text_is
 

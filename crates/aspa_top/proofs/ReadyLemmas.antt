@@ -1,5 +1,6 @@
 -- What is sound between two lines stays so through each.
 use Rattle.std.proofs.Common.{◌≡◌, ◌≢◌, ℕ, ◌+◌, ◌-◌, ◌*◌, ◌^◌, ◌<◌, ◌≤◌, ◌⊎◌, inl, inr, Bool, true, false, cond, List, Some, refl, sym, ◌∙◌, ap, subst, arith}
+use Rattle.std.specs.FinMap as fin
 use Rattle.std.specs.declared.option.Option.{Option}
 use Rattle.av_base.specs.declared.standing.Standing.{Standing}
 use Rattle.feed_lines.specs.declared.feed.Feeds.{Feeds}
@@ -124,6 +125,18 @@ kept_refused working next is =
 
 pub kept_analysed : (working next : Working) → next ≡ record working { analyser = next.analyser } → KeepsStreams working next
 kept_analysed working next is =
+    let refused : next.refused ≡ working.refused = ap (λ (w : Working). w.refused) is in
+    record {
+      feeds = ap (λ (w : Working). w.feeds) is;
+      caches = λ session. ap (λ (w : Working). cache_in w session) is;
+      dumps = λ name. ap (λ (w : Working). dump_in w name) is;
+      lines = ap (λ (w : Working). w.lines) is;
+      passed = ap (λ (w : Working). w.passed) is;
+      refused = omega (arith, refused);
+    }
+
+pub kept_cleared : (working next : Working) → next ≡ record working { analyser = record working.analyser { routes = fin.empty }; marks = fin.empty } → KeepsStreams working next
+kept_cleared working next is =
     let refused : next.refused ≡ working.refused = ap (λ (w : Working). w.refused) is in
     record {
       feeds = ap (λ (w : Working). w.feeds) is;

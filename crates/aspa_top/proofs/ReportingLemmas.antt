@@ -1,10 +1,12 @@
 -- What lines add to the text, whatever the world tells.
-use Rattle.std.proofs.Common.{◌≡◌, ℕ, ◌≤◌, List, [], ◌++◌, refl, sym, ap, subst, ◌∙◌, arith}
+use Rattle.std.proofs.Common.{◌≡◌, ◌≢◌, ℕ, ◌≤◌, List, [], ◌++◌, refl, sym, ap, subst, ◌∙◌, arith}
 use Rattle.std.proofs.lemmas.List.{append-nil}
 use Rattle.std.specs.Io.KnownBytes.{append_known}
+use Rattle.std.specs.List.{All}
 use Rattle.std.specs.Option.{option_to_list}
 use Rattle.std.specs.declared.option.Option.{Option}
 use Rattle.std.specs.declared.option.Option.TheVariants.{Some, None}
+use Rattle.std.proofs.lemmas.List.Elements.{All-weaker}
 use Rattle.av_base.specs.Told.{Rose}
 use Rattle.av_base.proofs.ToldLemmas.{append_known-nil}
 use Rattle.path_model.specs.declared.role.Role.{Role}
@@ -25,6 +27,9 @@ use Rattle.report_text.proofs.ReportedLemmas.{adds_answer, adds_end, adds_front,
 use Rattle.feed_lines.specs.declared.telling.Telling.{Telling}
 use Rattle.feed_lines.specs.declared.telling.Telling.TheVariants.{NoName, StreamOver, Pdu, End}
 use Rattle.feed_lines.specs.Tellings.{telling_text, tells_text}
+use Rattle.report_text.specs.Sayings.{said_line, said_text}
+use Rattle.report_text.proofs.AnswerLemmas.{saying_is_one_line}
+use Rattle.script_lines.specs.Word.{IsSaid}
 use Rattle.aspa_top.specs.Working.{Judges}
 use Rattle.aspa_top.specs.Reporting.{AddsText, AddsEnds}
 use Rattle.aspa_top.proofs.StandsLemmas.{added_text}
@@ -46,6 +51,13 @@ pub text_judged : (parts : Parts) (role : Role) (neighbour : ℕ) (path text_old
 text_judged parts role neighbour path text_old text_new judges = λ written.
     adds_answer _ _ (verdict_text judges.1.verdict) (verdict_is_one_line judges.1.verdict)
     (added_text written text_old text_new judges.0 judges.2 ∙ ap (append_known (append_known written text_old)) judges.1.text_is)
+
+pub said_in_line : (words : List ℕ) → All IsSaid words → IsInLine words
+said_in_line words said = All-weaker IsSaid (λ (byte : ℕ). byte ≢ 10) (λ byte is same. omega (arith, is.0, same)) words said
+
+pub text_said : (words text_old text_new : List ℕ) → All IsSaid words → text_new ≡ text_old ++ said_text words → AddsText text_old text_new
+text_said words text_old text_new said is = λ written.
+    adds_answer _ _ (said_line words) (saying_is_one_line words (said_in_line words said)) (added_text written text_old text_new _ is)
 
 -- ---- lines on feeds
 

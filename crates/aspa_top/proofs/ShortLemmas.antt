@@ -1,7 +1,13 @@
 -- What is done within memory.
-use Rattle.std.proofs.Common.{◌≡◌, ℕ, ◌+◌, ◌≤◌, List, [], Ok, refl, sym, ap, subst, ◌∙◌, arith}
+use Rattle.std.proofs.Common.{◌≡◌, ℕ, ◌+◌, ◌≤◌, List, [], ◌++◌, Ok, refl, sym, ap, subst, ◌∙◌, arith}
 use Rattle.std.specs.Io.KnownBytes.{append_known}
 use Rattle.av_base.proofs.ToldLemmas.{append_known-nil}
+use Rattle.std.specs.FinMap as fin
+use Rattle.std.specs.List.{All}
+use Rattle.std.specs.declared.option.Option.{Option}
+use Rattle.feed_lines.specs.declared.feed.Feeds.{Feeds}
+use Rattle.feed_lines.specs.Holding.{feed_in}
+use Rattle.feed_lines.specs.Holding.{HoldsOr as HoldsFeed}
 use Rattle.path_model.specs.declared.role.Role.{Role}
 use Rattle.attestations.specs.CurrentTable.{Parts}
 use Rattle.rib_store.specs.State.{State as Analysis}
@@ -10,17 +16,20 @@ use Rattle.analyser.specs.Events.{Happens}
 use Rattle.analyser.specs.Touched.{Costs, TicksWithin}
 use Rattle.analyser.proofs.CostLemmas.{some_cost}
 use Rattle.analyser.proofs.EventLemmas.{one_outcome_of}
+use Rattle.report_text.specs.Sayings.{said_text}
+use Rattle.script_lines.specs.Word.{IsSaid}
 use Rattle.stream_lines.specs.declared.stop.Stop.TheVariants as stops
-use Rattle.aspa_top.specs.declared.task.Short.TheVariants.{Idle, Happen, Judge}
+use Rattle.stream_lines.specs.Held.{HeldDump}
+use Rattle.aspa_top.specs.declared.task.Short.TheVariants.{Idle, Happen, Clear, Judge, Say}
 use Rattle.aspa_top.specs.declared.task.Task.TheVariants.{Short}
 use Rattle.aspa_top.specs.declared.working.Working.{Working}
 use Rattle.aspa_top.specs.Outside.{Outside, all_of}
 use Rattle.aspa_top.specs.Performing.{Done, EndedEarly}
-use Rattle.aspa_top.specs.Standing.{IsBegun}
-use Rattle.aspa_top.specs.Working.{Happened, Judges}
+use Rattle.aspa_top.specs.Standing.{HoldsOr, IsBegun}
+use Rattle.aspa_top.specs.Working.{Happened, Judges, cache_in, dump_in, has_source}
 use Rattle.aspa_top.proofs.DidLemmas.{some_done}
-use Rattle.aspa_top.proofs.ReadyLemmas.{kept_all, kept_analysed, ready_streams}
-use Rattle.aspa_top.proofs.ReportingLemmas.{front_none, text_judged, text_none}
+use Rattle.aspa_top.proofs.ReadyLemmas.{kept_all, kept_analysed, kept_cleared, ready_streams}
+use Rattle.aspa_top.proofs.ReportingLemmas.{front_none, text_judged, text_none, text_said}
 use Rattle.aspa_top.proofs.StandsLemmas.{added_text, stands_analysed}
 use Rattle.aspa_top.proofs.TaskLemmas.{some_short}
 
@@ -85,6 +94,62 @@ module _ (working : Working) (old : Outside) (begun : IsBegun old working) where
         came_to = λ ends. tt;
       })
       (front_none (all_of old) (all_of old) old.link_faults old.link_faults (omega arith) refl) tt
+
+  -- all routes went
+  pub cleared : (next : Working) (ticks : ℕ) → next ≡ record working { analyser = record working.analyser { routes = fin.empty }; marks = fin.empty } → ticks ≤ old.ticks
+      → Done working (Ok (Short Clear)) old (record old { ticks = ticks }) next
+  cleared next ticks is within =
+      record {
+        goes = λ world tells state stands. record {
+          text = [];
+          after = record state { analysis = record state.analysis { routes = fin.empty }; marks = fin.empty };
+          does = λ ends comes. (refl, refl);
+          added = sym (append_known-nil (all_of old));
+          stands = record {
+            analysis = ap (λ (w : Working). w.analyser) is ∙ ap (λ (a : Analysis). record a { routes = fin.empty }) stands.analysis;
+            marks = ap (λ (w : Working). w.marks) is;
+            origins = ap (λ (w : Working). w.origins) is ∙ stands.origins;
+            sources = λ name. ap (λ (w : Working). has_source w name) is ∙ stands.sources name;
+            dumps = λ name. subst (λ (d : Option HeldDump). HoldsOr old.files d (state.dumps name)) (sym (ap (λ (w : Working). dump_in w name) is)) (stands.dumps name);
+            feeds = subst (λ (held : Feeds). (q : List ℕ) → HoldsFeed old.links.wire (feed_in held q) (state.feeds q)) (sym (ap (λ (w : Working). w.feeds) is)) stands.feeds;
+            caches = λ session. ap (λ (w : Working). cache_in w session) is ∙ stands.caches session;
+            begun = stands.begun;
+            made = stands.made;
+            lines = ap (λ (w : Working). w.lines) is ∙ stands.lines;
+            passed = ap (λ (w : Working). w.passed) is ∙ stands.passed;
+            refused = ap (λ (w : Working). w.refused) is ∙ stands.refused;
+          };
+          ticked = omega (arith, within);
+        };
+        ready = ready_streams old (record old { ticks = ticks }) working next (omega arith) refl begun (kept_cleared working next is);
+        lines = ap (λ (w : Working). w.lines) is;
+        adds = text_none old.held old.written old.link_faults;
+      }
+
+  -- or stayed, for want of memory
+  pub clear_stopped : (ticks : ℕ) → ticks ≤ old.ticks → EndedEarly working (Ok (Short Clear)) old (record old { ticks = ticks }) stops.NoMemory
+  clear_stopped ticks within =
+      some_done working (Ok (Short Clear)) old (record old { ticks = ticks }) stops.NoMemory refl
+      (λ world tells state stands. record {
+        part = [];
+        rest = [];
+        after = record state { analysis = record state.analysis { routes = fin.empty }; marks = fin.empty };
+        does = λ ends. (refl, refl);
+        added = sym (append_known-nil (all_of old));
+        ticked = omega (arith, within);
+        came_to = λ ends. tt;
+      })
+      (front_none (all_of old) (all_of old) old.link_faults old.link_faults (omega arith) refl) tt
+
+  -- words were said
+  pub said : (words held : List ℕ) → All IsSaid words → held ≡ old.held ++ said_text words → Done working (Ok (Short (Say words))) old (record old { held = held }) working
+  said words held are is = record {
+    goes = λ world tells state stands.
+        record { text = said_text words; after = state; does = λ ends comes. (refl, refl); added = added_text old.written old.held held (said_text words) is; stands = stands; ticked = omega arith };
+    ready = ready_streams old (record old { held = held }) working working (omega arith) refl begun (kept_all working);
+    lines = refl;
+    adds = text_said words old.held held are is old.written old.link_faults;
+  }
 
   -- a path was judged
   pub judged : (role : Role) (neighbour : ℕ) (path : List ℕ) (table : Parts) (held : List ℕ) (ticks : ℕ) → table ≡ working.analyser.parts

@@ -1,4 +1,4 @@
--- A file of payloads or a SLURM file that a line names.
+-- A file of payloads, a validator's or a SLURM file that a line names.
 use Rattle.std.proofs.Common.{◌≡◌, ℕ, ◌+◌, ◌-◌, ◌≤◌, Bool, true, false, cond, List, [], ◌++◌, Some, Ok, inl, refl, sym, ◌∙◌, ap, subst, arith}
 use Rattle.std.specs.declared.option.Option.{Option}
 use Rattle.std.specs.Io.KnownBytes.{append_known}
@@ -27,7 +27,7 @@ use Rattle.analyser.specs.Touched.{Costs, TicksWithin}
 use Rattle.analyser.proofs.CostLemmas.{some_cost}
 use Rattle.analyser.proofs.EventLemmas.{one_outcome_of}
 use Rattle.aspa_top.specs.declared.loading.FileKind.{FileKind}
-use Rattle.aspa_top.specs.declared.loading.FileKind.TheVariants.{Payloads, PayloadLines, Slurm as SlurmFile}
+use Rattle.aspa_top.specs.declared.loading.FileKind.TheVariants.{Payloads, PayloadLines, Validated, Slurm as SlurmFile}
 use Rattle.aspa_top.specs.declared.loading.Made.{Made}
 use Rattle.aspa_top.specs.declared.loading.Outcome.{Outcome}
 use Rattle.aspa_top.specs.declared.loading.Outcome.TheVariants.{NoFile, Long as FileLong, Flawed, Good}
@@ -59,18 +59,21 @@ pub taken_is : (files : Option Files) (links : Links) (working : Working) (state
     → IsTakenIn working kind taken → is_taken state kind ≡ taken
 taken_is files links working state (Payloads name) taken stands is = sym (same_stream files links working state name stands) ∙ sym is
 taken_is files links working state (PayloadLines name) taken stands is = sym (same_stream files links working state name stands) ∙ sym is
+taken_is files links working state (Validated name) taken stands is = sym (same_stream files links working state name stands) ∙ sym is
 taken_is files links working state SlurmFile taken stands is = sym is
 
 named_after : (kind : FileKind) (mid next : Working) (state : State) → NamesBy kind mid next → ((q : List ℕ) → has_source mid q ≡ state.sources q)
     → (q : List ℕ) → has_source next q ≡ with_name kind state.sources q
 named_after (Payloads name) mid next state names sources q = names.sources q ∙ ap (λ (b : Bool). cond (same_name name q) true b) (sources q)
 named_after (PayloadLines name) mid next state names sources q = names.sources q ∙ ap (λ (b : Bool). cond (same_name name q) true b) (sources q)
+named_after (Validated name) mid next state names sources q = names.sources q ∙ ap (λ (b : Bool). cond (same_name name q) true b) (sources q)
 named_after SlurmFile mid next state names sources q = ap (λ (w : Working). has_source w q) names ∙ sources q
 
 -- all but the names of sources is as before
 left_after : (kind : FileKind) (mid next : Working) → NamesBy kind mid next → next ≡ record mid { sources = next.sources }
 left_after (Payloads name) mid next names = names.left
 left_after (PayloadLines name) mid next names = names.left
+left_after (Validated name) mid next names = names.left
 left_after SlurmFile mid next names = names ∙ ap (λ (w : Working). record mid { sources = w.sources }) (sym names)
 
 -- a good file leaves the streams and the counts as they were

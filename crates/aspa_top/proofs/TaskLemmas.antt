@@ -14,6 +14,7 @@ use Rattle.feed_lines.specs.Feeds.{Feed}
 use Rattle.feed_lines.specs.Lines.{WorksBy}
 use Rattle.feed_lines.specs.Tellings.{tells_text}
 use Rattle.feed_lines.proofs.LawLemmas.{one_outcome}
+use Rattle.report_text.specs.Sayings.{said_text}
 use Rattle.rib_store.specs.State.{State as Analysis}
 use Rattle.rib_store.proofs.ChangeLawLemmas.{has_one_list_of_changes}
 use Rattle.rib_store.proofs.MarkLemmas.{has_one_marking}
@@ -24,16 +25,18 @@ use Rattle.analyser.proofs.EventLemmas.{one_outcome_of}
 use Rattle.stream_lines.specs.declared.kind.DumpKind.{DumpKind}
 use Rattle.stream_lines.specs.Changes.{changes_text}
 use Rattle.stream_lines.specs.Streams.{Dump}
+use Rattle.stream_lines.specs.Units.{is_of_records}
 use Rattle.stream_lines.proofs.LawLemmas.{outcome_and_cost, some_units, units_unique}
+use Rattle.stream_lines.proofs.UntilLemmas.{one_until}
 use Rattle.aspa_top.specs.declared.loading.FileKind.{FileKind}
 use Rattle.aspa_top.specs.declared.loading.Amendment.{Amendment}
 use Rattle.aspa_top.specs.declared.loading.Outcome.{Outcome}
 use Rattle.aspa_top.specs.declared.loading.Outcome.TheVariants.{NoFile, Long as FileLong, Flawed, Good}
 use Rattle.aspa_top.specs.declared.task.Short.{Short as ShortTask}
-use Rattle.aspa_top.specs.declared.task.Short.TheVariants.{Idle, Happen, Judge}
+use Rattle.aspa_top.specs.declared.task.Short.TheVariants.{Idle, Happen, Clear, Judge, Say}
 use Rattle.aspa_top.specs.declared.task.Task.{Task}
-use Rattle.aspa_top.specs.declared.task.Task.TheVariants.{Short, Load, Open, Take, Connect, OnFeed, Serve, Answer, Changes}
-use Rattle.aspa_top.specs.Tasks.{State, MakesHappen, Holds, TakesFile, LoadsUnless, OpensNamed, TakesOpen, TakesNamed, Works, ConnectsUnless, ShowsChanges, DoesShort, DoesTask, amended, is_stream, is_taken, with_name, asking_of, asking_on, feeds_of, with_feeds, taking_of, after_taking}
+use Rattle.aspa_top.specs.declared.task.Task.TheVariants.{Short, Load, Open, Take, Until, Connect, OnFeed, Serve, Answer, Changes}
+use Rattle.aspa_top.specs.Tasks.{State, MakesHappen, Holds, TakesFile, LoadsUnless, OpensNamed, TakesOpen, TakesNamed, TakesRecordsUnless, TakesUntilNamed, Works, ConnectsUnless, ShowsChanges, DoesShort, DoesTask, amended, is_stream, is_taken, with_name, asking_of, asking_on, feeds_of, with_feeds, taking_of, after_taking, most_records}
 use Rattle.aspa_top.specs.World.{World}
 use Rattle.aspa_top.proofs.JudgedLemmas.{IsJudged-unique}
 use Rattle.aspa_top.proofs.OutcomeLemmas.{some_outcome, outcome_unique}
@@ -55,7 +58,7 @@ some_event state event =
       record { silent = refl; analysis = one.one; happens = one.is; cost = cost.0; costs = cost.1; left = refl },
     )
 
-some_holding : (state : State) (kind : FileKind) (event : Event) (amends : Option Amendment) → Some_that (Holds state kind event amends)
+some_holding : (state : State) (kind : FileKind) (event : Event) (amends : Amendment) → Some_that (Holds state kind event amends)
 some_holding state kind event amends =
     let one = one_outcome_of state.analysis event in
     let cost = some_cost state.analysis event one.one in (
@@ -87,6 +90,17 @@ some_units_of true state name count dump = (_, _, (refl, refl))
 some_units_of false state name count dump =
     let units = some_units (asking_of state name) count (taking_of state dump) in
     (units.0, after_taking state name units.1, record { end = units.1; takes = units.2; next_is = refl })
+
+some_records_of : (kind over : Bool) (state : State) (name : List ℕ) (moment : ℕ) (dump : Dump) → Some_that (TakesRecordsUnless kind over state name moment dump)
+some_records_of false over state name moment dump = (_, _, (refl, refl))
+some_records_of true true state name moment dump = (_, _, (refl, refl))
+some_records_of true false state name moment dump =
+    let one = one_until (asking_of state name) moment most_records (taking_of state dump) in
+    (one.one, after_taking state name one.its, record { end = one.its; takes = one.is; next_is = refl })
+
+some_until_of : (dump : Option Dump) (state : State) (name : List ℕ) (moment : ℕ) → Some_that (TakesUntilNamed dump state name moment)
+some_until_of None state name moment = (_, _, (refl, refl))
+some_until_of (Some dump) state name moment = some_records_of (is_of_records dump.known) dump.over state name moment dump
 
 -- the name is no feed's
 some_work : (world : World) (state : State) (name : List ℕ) (work : Work) → state.feeds name ≡ None → Some_that (Works world state name work)
@@ -122,6 +136,8 @@ some_changes state =
 pub some_short : (state : State) (short : ShortTask) → Some_that (DoesShort state short)
 some_short state Idle = ([], state, (refl, refl))
 some_short state (Happen event) = some_event state event
+some_short state Clear = ([], _, (refl, refl))
+some_short state (Say words) = (said_text words, state, (refl, refl))
 some_short state (Judge role neighbour path) =
     let parts = state.analysis.parts in
     let found = some_right (table_of parts) role neighbour (path_of false path) in
@@ -139,6 +155,7 @@ some_task world state (Short short) other none = some_short state short
 some_task world state (Load kind file) other none = some_load (is_taken state kind) world state kind file
 some_task world state (Open kind name file) other none = some_opening (state.sources name || is_stream state name) (world.named file) state kind name
 some_task world state (Take name count) other none = some_take (state.dumps name) world state name count (none name)
+some_task world state (Until name moment) other none = some_until_of (state.dumps name) state name moment
 some_task world state (Connect name place) other none = absurd other
 some_task world state (OnFeed name work) other none = some_work world state name work (none name)
 some_task world state (Serve place session count) other none = absurd other
@@ -160,7 +177,7 @@ MakesHappen-unique state event one other end last a b =
       a.left ∙ (λ i. record state { analysis = same.0 i; judgements = state.judgements + same.1 i }) ∙ sym b.left,
     )
 
-Holds-unique : (state : State) (kind : FileKind) (event : Event) (amends : Option Amendment) (one other : List ℕ) (end last : State)
+Holds-unique : (state : State) (kind : FileKind) (event : Event) (amends : Amendment) (one other : List ℕ) (end last : State)
     → Holds state kind event amends one end → Holds state kind event amends other last → (one ≡ other) × (end ≡ last)
 Holds-unique state kind event amends one other end last a b =
     let same = outcome_and_cost state.analysis event a.analysis b.analysis a.cost b.cost a.happens b.happens a.costs b.costs in (
@@ -196,6 +213,22 @@ TakesOpen-unique false state name count dump one other end last a b =
     let units = units_unique (asking_of state name) count (taking_of state dump) one other a.end b.end a.takes b.takes in
     (units.0, a.next_is ∙ ap (after_taking state name) units.1 ∙ sym b.next_is)
 
+TakesRecords-unique : (kind over : Bool) (state : State) (name : List ℕ) (moment : ℕ) (dump : Dump) (one other : List ℕ) (end last : State)
+    → TakesRecordsUnless kind over state name moment dump one end → TakesRecordsUnless kind over state name moment dump other last → (one ≡ other) × (end ≡ last)
+TakesRecords-unique false over state name moment dump one other end last a b = both one other _ end last _ a b
+TakesRecords-unique true true state name moment dump one other end last a b = both one other _ end last _ a b
+TakesRecords-unique true false state name moment dump one other end last a b =
+    let the = one_until (asking_of state name) moment most_records (taking_of state dump) in
+    let a_is = the.only one a.end a.takes in
+    let b_is = the.only other b.end b.takes in
+    (a_is.0 ∙ sym b_is.0, a.next_is ∙ ap (after_taking state name) (a_is.1 ∙ sym b_is.1) ∙ sym b.next_is)
+
+TakesUntil-unique : (dump : Option Dump) (state : State) (name : List ℕ) (moment : ℕ) (one other : List ℕ) (end last : State)
+    → TakesUntilNamed dump state name moment one end → TakesUntilNamed dump state name moment other last → (one ≡ other) × (end ≡ last)
+TakesUntil-unique None state name moment one other end last a b = both one other _ end last _ a b
+TakesUntil-unique (Some dump) state name moment one other end last a b =
+    TakesRecords-unique (is_of_records dump.known) dump.over state name moment dump one other end last a b
+
 -- a line on feeds has no two outcomes, where the attempts are told
 Works-unique : (world : World) (attempts : List Attempt) → world.ends.attempts ≡ Some attempts → (state : State) (name : List ℕ) (work : Work) (one other : List ℕ) (end last : State)
     → Works world state name work one end → Works world state name work other last → (one ≡ other) × (end ≡ last)
@@ -228,6 +261,8 @@ DoesShort-unique : (state : State) (short : ShortTask) (one other : List ℕ) (e
     → DoesShort state short one end → DoesShort state short other last → (one ≡ other) × (end ≡ last)
 DoesShort-unique state Idle one other end last a b = both one other _ end last _ a b
 DoesShort-unique state (Happen event) one other end last a b = MakesHappen-unique state event one other end last a b
+DoesShort-unique state Clear one other end last a b = both one other _ end last _ a b
+DoesShort-unique state (Say words) one other end last a b = both one other _ end last _ a b
 DoesShort-unique state (Judge role neighbour path) one other end last a b =
     (IsJudged-unique state.analysis.parts role neighbour path one other a.0 b.0, a.1 ∙ sym b.1)
 
@@ -239,6 +274,7 @@ DoesTask-unique world attempts told state (Load kind file) one other end last a 
 DoesTask-unique world attempts told state (Open kind name file) one other end last a b =
     Opens-unique (state.sources name || is_stream state name) (world.named file) state kind name one other end last a b
 DoesTask-unique world attempts told state (Take name count) one other end last a b = Takes-unique (state.dumps name) world attempts told state name count one other end last a b
+DoesTask-unique world attempts told state (Until name moment) one other end last a b = TakesUntil-unique (state.dumps name) state name moment one other end last a b
 DoesTask-unique world attempts told state (Connect name place) one other end last a b =
     Connects-unique (state.sources name || is_some (state.dumps name)) world attempts told state name place one other end last a b
 DoesTask-unique world attempts told state (OnFeed name work) one other end last a b = Works-unique world attempts told state name work one other end last a b

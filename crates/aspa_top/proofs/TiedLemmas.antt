@@ -1,8 +1,6 @@
 -- The sources of feeds' names have the payloads of the feeds' sessions, behind all lines.
-use Rattle.std.proofs.Common.{ℕ, false, List, sym, ap, ◌∙◌, subst}
+use Rattle.std.proofs.Common.{ℕ, false, is_some, List, sym, ap, ◌∙◌, subst}
 use Rattle.std.specs.declared.option.Option.{Option}
-use Rattle.origin_model.specs.Vrp.{Payload}
-use Rattle.origin_validation.specs.Records.{source_of}
 use Rattle.feed_lines.specs.declared.working.Work.{Work}
 use Rattle.feed_lines.specs.Feeds.{Feed}
 use Rattle.feed_lines.specs.Laws.{HasItsPayloads, IsTied}
@@ -19,7 +17,7 @@ keeps_tied : (old new : State) → KeepsFeeds old new → AreTied old → AreTie
 keeps_tied old new keeps tied = record {
   each = λ name feed is.
       let there = sym (ap (λ (f : List ℕ → Option (Option Feed)). f name) keeps.feeds) ∙ is in
-      subst (λ (sources : List (List ℕ × List Payload)). HasItsPayloads feed.session (source_of sources name)) (sym keeps.sources) (tied.each name feed there);
+      subst (HasItsPayloads feed.session) (sym (keeps.sources name (ap is_some there))) (tied.each name feed there);
 }
 
 module _ (world : World) where

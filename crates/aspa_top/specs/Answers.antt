@@ -17,14 +17,19 @@ use Rattle.report_text.specs.declared.summary.Summary.{Summary}
 use Rattle.report_text.specs.Refusals.{of_line}
 use Rattle.report_text.specs.Summary.{summary_text}
 use Rattle.report_text.specs.Why.{why_text}
-use Rattle.rib_store.specs.Shown.{IsExplained}
+use Rattle.rib_store.specs.Shown.{IsExplained, Standing}
 use Rattle.rib_store.specs.State.{AreRows}
-use Rattle.script_lines.specs.declared.command.Show.TheVariants.{Report, Origins, Leaks, Summary as SumUp}
+use Rattle.script_lines.specs.declared.command.Show.TheVariants.{Report, Origins, Leaks, Suspects, Summary as SumUp}
 use Rattle.stream_lines.specs.Leaks.{AreLeaks, leaks_text}
 use Rattle.stream_lines.specs.Rows.{rows_text}
 use Rattle.stream_lines.specs.Summary.{IsSummary}
+use Rattle.suspects.specs.declared.tally.Tally.{Tally}
+use Rattle.suspects.specs.Suspects.{AreSuspects}
+use Rattle.suspect_lines.specs.Details.{AreDetails, details_text}
+use Rattle.suspect_lines.specs.Suspected.{suspects_text}
+use Rattle.valleys.specs.declared.valley.Valley.{Valley}
 use Rattle.aspa_top.specs.declared.task.Question.{Question}
-use Rattle.aspa_top.specs.declared.task.Question.TheVariants.{Show, Why}
+use Rattle.aspa_top.specs.declared.task.Question.TheVariants.{Show, Details, Why}
 use Rattle.aspa_top.specs.State.{State, Refuses}
 
 -- `report`: one line for each route in key order, with its current verdict
@@ -45,11 +50,23 @@ pub record ListsLeaks (state : State) (text : List ℕ) : Type 0 where
   pub are : AreLeaks state.analysis.roles state.marks rows
   pub text_is : text ≡ leaks_text rows
 
+-- `suspects`: one line for each valley of the routes that no completion makes valid, in ascending order, with how many have it
+pub record ListsSuspects (state : State) (text : List ℕ) : Type 0 where
+  pub rows : List (Valley × Tally)
+  pub are : AreSuspects state.analysis rows
+  pub text_is : text ≡ suspects_text rows
+
 -- `summary`: how many routes there are by their current verdicts, the customers of the current table, and what was passed over or refused
 pub record SumsUp (state : State) (text : List ℕ) : Type 0 where
   pub summary : Summary
   pub is : IsSummary state.analysis state.passed state.refused summary
   pub text_is : text ≡ summary_text summary
+
+-- `details`: one line for each route in key order, or for each with this verdict, with its current verdict, its printed witness and its path
+pub record ListsDetails (state : State) (verdict : Option Verdict) (text : List ℕ) : Type 0 where
+  pub rows : List (Key × Standing)
+  pub are : AreDetails state.analysis verdict rows
+  pub text_is : text ≡ details_text rows
 
 -- `why ADDRESS AS PREFIX`: the current verdict of the key's route, and its printed witness, whose facts hold
 pub record Explains (state : State) (key : Key) (text : List ℕ) : Type 0 where
@@ -63,7 +80,9 @@ abbrev pub Answers : State → Question → List ℕ → Type 0
 Answers state (Show Report) text = Reports state text
 Answers state (Show Origins) text = ListsOrigins state text
 Answers state (Show Leaks) text = ListsLeaks state text
+Answers state (Show Suspects) text = ListsSuspects state text
 Answers state (Show SumUp) text = SumsUp state text
+Answers state (Details verdict) text = ListsDetails state verdict text
 Answers state (Why key) text = Explains state key text
 
 -- why is asked of a route that there is
@@ -74,6 +93,7 @@ no_route (Some path) = None
 -- the cause for which a question is refused, if it is
 abbrev pub refused_for : State → Question → Option Cause
 refused_for state (Show show) = None
+refused_for state (Details verdict) = None
 refused_for state (Why key) = no_route (fin.get state.analysis.routes key)
 
 -- a question is refused, or answered, and then nothing changes

@@ -10,7 +10,7 @@ use Rattle.aspa_top.specs.Evaluation.{task_of}
 
 -- the most units that a line takes
 abbrev pub most : ℕ
-most = 100000000
+most = 500000000
 
 -- The path of a judgement isn't longer than a path can be, and a line takes no more units than it may.
 abbrev pub IsWithinShort : ShortTask → Type 0

@@ -8,7 +8,7 @@ use Rattle.vap_table.specs.declared.change.TableChange.{TableChange}
 use Rattle.vap_table.specs.declared.change.TableChange.TheVariants.{At as SetMoment, Filter as FilterByHand, Unfilter as UnfilterByHand, Assert as AssertByHand, Unassert as UnassertByHand}
 use Rattle.analyser.specs.declared.event.Event.TheVariants.{Table as TableEvent, Role as RoleEvent, DefaultRole}
 use Rattle.script_lines.specs.declared.command.Command.{Command}
-use Rattle.script_lines.specs.declared.command.Command.TheVariants.{Idle, Aspa, Aspa64, Slurm, At, Filter, Unfilter, Assert, Unassert, Role as SetRole, RoleDefault, Open, Bmp, Take, Feed, Ask, Sync, Serve, Judge, Changes, Why, Show}
+use Rattle.script_lines.specs.declared.command.Command.TheVariants.{Idle, Aspa, Aspa64, Validated, Slurm, At, Filter, Unfilter, Assert, Unassert, Role as SetRole, RoleDefault, Open, Bmp, Take, Until, Feed, Ask, Sync, Serve, Judge, Clear, Changes, Details, Say, Why, Show}
 use Rattle.script_lines.specs.declared.command.LineFault.{LineFault}
 use Rattle.script_lines.specs.declared.command.LineFault.TheVariants.{Long, Command as NoCommand, Words, Number, NoMemory}
 use Rattle.stream_lines.specs.declared.kind.DumpKind.{DumpKind}
@@ -18,11 +18,11 @@ use Rattle.script_lines.specs.Grammar.{IsReading}
 use Rattle.report_text.specs.declared.cause.Cause.{Cause}
 use Rattle.report_text.specs.declared.cause.Cause.TheVariants as causes
 use Rattle.report_text.specs.Refusals.{of_line}
-use Rattle.aspa_top.specs.declared.loading.FileKind.TheVariants.{Payloads, PayloadLines, Slurm as SlurmFile}
-use Rattle.aspa_top.specs.declared.task.Question.TheVariants.{Show as ShowAll, Why as WhyRoute}
-use Rattle.aspa_top.specs.declared.task.Short.TheVariants.{Idle as Nothing, Happen, Judge as JudgePath}
+use Rattle.aspa_top.specs.declared.loading.FileKind.TheVariants.{Payloads, PayloadLines, Validated as ValidatedFile, Slurm as SlurmFile}
+use Rattle.aspa_top.specs.declared.task.Question.TheVariants.{Show as ShowAll, Details as DetailsOf, Why as WhyRoute}
+use Rattle.aspa_top.specs.declared.task.Short.TheVariants.{Idle as Nothing, Happen, Clear as ClearAll, Judge as JudgePath, Say as SayWords}
 use Rattle.aspa_top.specs.declared.task.Task.{Task}
-use Rattle.aspa_top.specs.declared.task.Task.TheVariants.{Short, Load, Open as OpenDump, Take as TakeUnits, Connect, OnFeed, Serve as ServeRouters, Answer, Changes as ListChanges}
+use Rattle.aspa_top.specs.declared.task.Task.TheVariants.{Short, Load, Open as OpenDump, Take as TakeUnits, Until as TakeUntil, Connect, OnFeed, Serve as ServeRouters, Answer, Changes as ListChanges}
 use Rattle.aspa_top.specs.Tasks.{State, Refuses, DoesTask, Moves, TaskCostsWhatItCameTo, TaskUsesFile}
 use Rattle.aspa_top.specs.World.{World}
 
@@ -48,6 +48,7 @@ abbrev pub task_of : Command → Task
 task_of Idle = Short Nothing
 task_of (Aspa name file) = Load (Payloads name) file
 task_of (Aspa64 name file) = Load (PayloadLines name) file
+task_of (Validated name file) = Load (ValidatedFile name) file
 task_of (Slurm file) = Load SlurmFile file
 task_of (At moment) = table_event (SetMoment moment)
 task_of (Filter customer) = table_event (FilterByHand customer)
@@ -59,12 +60,16 @@ task_of (RoleDefault role) = Short (Happen (DefaultRole role))
 task_of (Open name file) = OpenDump kinds.Mrt name file
 task_of (Bmp name file post) = OpenDump (bmp_kind post) name file
 task_of (Take name count) = TakeUnits name count
+task_of (Until name moment) = TakeUntil name moment
 task_of (Feed name place) = Connect name place
 task_of (Ask name) = OnFeed name AskNow
 task_of (Sync name count) = OnFeed name (SyncTo count)
 task_of (Serve place session count) = ServeRouters place session count
 task_of (Judge role neighbour path) = Short (JudgePath role neighbour path)
+task_of Clear = Short ClearAll
 task_of Changes = ListChanges
+task_of (Say words) = Short (SayWords words)
+task_of (Details verdict) = Answer (DetailsOf verdict)
 task_of (Why addr asn prefix path) = Answer (WhyRoute (record { peer = record { addr = addr; asn = asn }; prefix = prefix; path = path }))
 task_of (Show show) = Answer (ShowAll show)
 

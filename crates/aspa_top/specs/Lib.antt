@@ -1,5 +1,6 @@
 pub mod Answers
 pub mod Bounds
+pub mod Dumps
 pub mod Evaluated
 pub mod Evaluation
 pub mod Laws

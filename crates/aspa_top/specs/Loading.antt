@@ -1,10 +1,12 @@
 -- What comes of a file that a line names.
-use Rattle.std.specs.Prelude.{◌≡◌, ℕ, ◌<◌, ◌≤◌, List, length, codes}
+use Rattle.std.specs.Prelude.{◌≡◌, ℕ, ◌<◌, ◌≤◌, List, [], length, codes}
+use Rattle.std.specs.Option.{unwrap_or}
 use Rattle.std.specs.declared.option.Option.{Option}
 use Rattle.std.specs.declared.option.Option.TheVariants.{Some, None}
 use Rattle.std.specs.declared.result.Result.TheVariants.{Ok, Err}
 use Rattle.path_model.specs.Rows.{RowMap}
 use Rattle.attestations.specs.Terms.{TermMap, terms_of}
+use Rattle.origin_model.specs.Vrp.{Payload}
 use Rattle.vap_table.specs.declared.change.TableChange.TheVariants.{Replace, Slurm as BySlurm}
 use Rattle.report_text.specs.declared.cause.Cause.{Cause}
 use Rattle.report_text.specs.declared.cause.Cause.TheVariants as causes
@@ -17,8 +19,13 @@ use Rattle.slurm_rules.specs.Reading.{IsReading as IsSlurmReading}
 use Rattle.slurm_rules.specs.declared.slurm.Slurm.{Slurm as SlurmContent}
 use Rattle.slurm_rules.specs.declared.fault.SlurmFault.{SlurmFault}
 use Rattle.slurm_rules.specs.declared.fault.SlurmFault.TheVariants.{Json, Version as SlurmVersion, Member, Number, PrefixText, NoMemory as SlurmNoMemory}
+use Rattle.validated.specs.Reading.{IsReading as IsValidatedReading}
+use Rattle.validated.specs.declared.fault.ValidatedFault.{ValidatedFault}
+use Rattle.validated.specs.declared.fault.ValidatedFault.TheVariants as validated_faults
+use Rattle.validated.specs.declared.validated_file.Validated.{Validated as ValidatedContent}
+use Rattle.aspa_top.specs.declared.loading.Amendment.TheVariants as amendments
 use Rattle.aspa_top.specs.declared.loading.FileKind.{FileKind}
-use Rattle.aspa_top.specs.declared.loading.FileKind.TheVariants.{Payloads, PayloadLines, Slurm}
+use Rattle.aspa_top.specs.declared.loading.FileKind.TheVariants.{Payloads, PayloadLines, Validated, Slurm}
 use Rattle.aspa_top.specs.declared.loading.Flaw.{Flaw}
 use Rattle.aspa_top.specs.declared.loading.Made.{Made}
 use Rattle.aspa_top.specs.declared.loading.Outcome.{Outcome}
@@ -28,6 +35,7 @@ use Rattle.aspa_top.specs.declared.loading.Outcome.TheVariants.{NoFile, Long, Fl
 abbrev pub unit_name : FileKind → List ℕ
 unit_name (Payloads name) = name
 unit_name (PayloadLines name) = name
+unit_name (Validated name) = name
 unit_name Slurm = codes "slurm"
 
 -- the cause for which a payload is refused; want of memory is none
@@ -41,6 +49,14 @@ payload_cause Base64 = Some causes.Base64
 payload_cause Moment = Some causes.Moment
 payload_cause NoMemory = None
 
+-- the cause for which a validator's file is refused; want of memory is none
+abbrev pub validated_cause : ValidatedFault → Option Cause
+validated_cause validated_faults.Json = Some causes.Json
+validated_cause validated_faults.Member = Some causes.Member
+validated_cause validated_faults.Number = Some causes.SlurmNumber
+validated_cause validated_faults.Prefix = Some causes.PrefixText
+validated_cause validated_faults.NoMemory = None
+
 -- the cause for which a SLURM file is refused; want of memory is none
 abbrev pub slurm_cause : SlurmFault → Option Cause
 slurm_cause Json = Some causes.Json
@@ -50,30 +66,38 @@ slurm_cause Number = Some causes.SlurmNumber
 slurm_cause PrefixText = Some causes.PrefixText
 slurm_cause SlurmNoMemory = None
 
--- the change of a source's attestations alone
-abbrev pub of_source : List ℕ → TermMap → Made
-of_source name terms = record { table = Replace name terms; amends = None }
+-- the change of all that a source has: its attestations, and its payloads of origin validation
+abbrev pub of_source : List ℕ → TermMap → List Payload → Made
+of_source name terms payloads = record { table = Replace name terms; amends = amendments.Source name payloads }
+
+-- the change by all that a validator's file says: without an array of records the source has no payloads
+abbrev pub of_validated : List ℕ → ValidatedContent → Made
+of_validated name said = of_source name said.attestations (unwrap_or said.payloads [])
 
 -- the change by all that a SLURM file says
 abbrev pub of_slurm : SlurmContent → Made
 of_slurm slurm = record {
   table = BySlurm slurm.filters slurm.assertions;
-  amends = Some (record { filters = slurm.prefix_filters; assertions = slurm.prefix_assertions });
+  amends = amendments.Slurm slurm.prefix_filters slurm.prefix_assertions;
 }
 
 -- The file is good, and this is the change that it makes: the source of that name has its rows, which never end, or its attestations, each with
--- its end; or the filters and assertions of a SLURM file are its own, those of attestations and those of payloads.
+-- its end, and the payloads of origin validation that the file says, or none; or the filters and assertions of a SLURM file are its own, those
+-- of attestations and those of payloads.
 abbrev pub Makes : FileKind → List ℕ → Made → Type 0
-Makes (Payloads name) bytes made = (rows : RowMap) × IsFileReading bytes (Ok rows) × (made ≡ of_source name (terms_of rows))
-Makes (PayloadLines name) bytes made = (terms : TermMap) × IsLinesReading bytes (Ok terms) × (made ≡ of_source name terms)
+Makes (Payloads name) bytes made = (rows : RowMap) × IsFileReading bytes (Ok rows) × (made ≡ of_source name (terms_of rows) [])
+Makes (PayloadLines name) bytes made = (terms : TermMap) × IsLinesReading bytes (Ok terms) × (made ≡ of_source name terms [])
+Makes (Validated name) bytes made = (said : ValidatedContent) × IsValidatedReading bytes (Ok said) × (made ≡ of_validated name said)
 Makes Slurm bytes made = (slurm : SlurmContent) × IsSlurmReading bytes (Ok slurm) × (made ≡ of_slurm slurm)
 
--- The file is refused at this unit for this cause. A SLURM file is one unit.
+-- The file is refused at this unit for this cause. A validator's file is one unit, and so is a SLURM file.
 abbrev pub Fails : FileKind → List ℕ → Flaw → Type 0
 Fails (Payloads name) bytes flaw =
     (fault : PayloadFault) × IsFileReading bytes (Err (Bad flaw.unit fault)) × (payload_cause fault ≡ Some flaw.cause)
 Fails (PayloadLines name) bytes flaw =
     (fault : PayloadFault) × IsLinesReading bytes (Err (Bad flaw.unit fault)) × (payload_cause fault ≡ Some flaw.cause)
+Fails (Validated name) bytes flaw =
+    (fault : ValidatedFault) × IsValidatedReading bytes (Err fault) × (flaw.unit ≡ 1) × (validated_cause fault ≡ Some flaw.cause)
 Fails Slurm bytes flaw =
     (fault : SlurmFault) × IsSlurmReading bytes (Err fault) × (flaw.unit ≡ 1) × (slurm_cause fault ≡ Some flaw.cause)
 

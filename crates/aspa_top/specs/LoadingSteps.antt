@@ -1,5 +1,5 @@
 -- What a file that a shelf tells comes to; private contracts alone cite it.
-use Rattle.std.specs.Prelude.{◌≡◌, ℕ, List}
+use Rattle.std.specs.Prelude.{◌≡◌, ℕ, List, []}
 use Rattle.std.specs.declared.option.Option.{Option}
 use Rattle.std.specs.declared.option.Option.TheVariants.{Some}
 use Rattle.std.specs.declared.result.Result.{Result}
@@ -34,7 +34,7 @@ IsRefusedFor NoMemory outcome = ⊥
 
 -- what comes of a payload file that reads so
 abbrev pub IsTermsOutcome : List ℕ → Result TermMap FileFault → Outcome → Type 0
-IsTermsOutcome name (Ok terms) outcome = outcome ≡ Good (of_source name terms)
+IsTermsOutcome name (Ok terms) outcome = outcome ≡ Good (of_source name terms [])
 IsTermsOutcome name (Err fault) outcome = IsRefusedFor fault outcome
 
 -- the same of one whose rows never end

@@ -1,5 +1,6 @@
 -- What a line asks for, and what comes of it: from the world, and what the lines before have left.
 use Rattle.std.specs.Prelude.{◌≡◌, ℕ, ◌+◌, ◌-◌, ◌≤◌, Bool, true, false, ◌||◌, is_some, cond, List, [], ◌∷◌, ◌++◌}
+use Rattle.std.specs.FinMap as fin
 use Rattle.std.specs.declared.option.Option.{Option}
 use Rattle.std.specs.declared.option.Option.TheVariants.{Some, None}
 use Rattle.path_model.specs.declared.role.Role.{Role}
@@ -23,23 +24,26 @@ use Rattle.feed_lines.specs.Lines.{State as FeedState}
 use Rattle.feed_lines.specs.Tellings.{Asking as FeedAsking}
 use Rattle.report_text.specs.declared.cause.Cause.TheVariants as causes
 use Rattle.report_text.specs.Refusals.{of_line, of_unit}
-use Rattle.stream_lines.specs.declared.kind.DumpKind.{DumpKind}
+use Rattle.report_text.specs.Sayings.{said_text}
 use Rattle.stream_lines.specs.Changes.{changes_text}
-use Rattle.stream_lines.specs.Streams.{Dump, Taking, Asking, TakesUnits}
-use Rattle.stream_lines.specs.Units.{first_known}
+use Rattle.stream_lines.specs.Streams.{Dump, Taking}
+use Rattle.stream_lines.specs.Until.{TakesCount}
 use Rattle.origin_model.specs.Current.{Parts as Origins}
+use Rattle.origin_validation.specs.Records.{with_source}
 use Rattle.aspa_top.specs.declared.loading.Amendment.{Amendment}
+use Rattle.aspa_top.specs.declared.loading.Amendment.TheVariants as amendments
 use Rattle.aspa_top.specs.declared.loading.FileKind.{FileKind}
-use Rattle.aspa_top.specs.declared.loading.FileKind.TheVariants.{Payloads, PayloadLines, Slurm as SlurmFile}
+use Rattle.aspa_top.specs.declared.loading.FileKind.TheVariants.{Payloads, PayloadLines, Validated, Slurm as SlurmFile}
 use Rattle.aspa_top.specs.declared.loading.Outcome.{Outcome}
 use Rattle.aspa_top.specs.declared.loading.Outcome.TheVariants.{NoFile, Long as FileLong, Flawed, Good}
 use Rattle.aspa_top.specs.declared.task.Short.{Short as ShortTask}
-use Rattle.aspa_top.specs.declared.task.Short.TheVariants.{Idle, Happen, Judge}
+use Rattle.aspa_top.specs.declared.task.Short.TheVariants.{Idle, Happen, Clear, Judge, Say}
 use Rattle.aspa_top.specs.declared.task.Task.{Task}
-use Rattle.aspa_top.specs.declared.task.Task.TheVariants.{Short, Load, Open, Take, Connect, OnFeed, Serve, Answer, Changes}
+use Rattle.aspa_top.specs.declared.task.Task.TheVariants.{Short, Load, Open, Take, Until, Connect, OnFeed, Serve, Answer, Changes}
 use Rattle.aspa_top.specs.Answers.{Replies}
 use Rattle.aspa_top.specs.Loading.{ComesOf, unit_name}
 use Rattle.aspa_top.specs.Serving.{ServesTable, ServesTablePart}
+pub use Rattle.aspa_top.specs.Dumps.{new_dump, with_dump, OpensNamed, Opens, asking_of, taking_of, after_taking, TakesAll, TakesOpen, TakesRecords, TakesRecordsUnless, TakesUntilNamed, TakesUpTo, most_records}
 pub use Rattle.aspa_top.specs.State.{State, start, same_name, is_stream, Refuses}
 use Rattle.aspa_top.specs.World.{World}
 
@@ -52,27 +56,29 @@ pub record MakesHappen (state : State) (event : Event) (text : List ℕ) (next :
   pub costs : Costs state.analysis event analysis cost
   pub left : next ≡ record state { analysis = analysis; judgements = state.judgements + cost }
 
--- ---- `aspa NAME FILE`, `aspa64 NAME FILE`, `slurm FILE`
+-- ---- `aspa NAME FILE`, `aspa64 NAME FILE`, `validated NAME FILE`, `slurm FILE`
 
 -- whether the name that the file would go under is one
 abbrev pub is_taken : State → FileKind → Bool
 is_taken state (Payloads name) = is_stream state name
 is_taken state (PayloadLines name) = is_stream state name
+is_taken state (Validated name) = is_stream state name
 is_taken state SlurmFile = false
 
 -- the names of sources with the one that a good file goes under
 abbrev pub with_name : FileKind → (List ℕ → Bool) → List ℕ → Bool
 with_name (Payloads name) sources other = cond (same_name name other) true (sources other)
 with_name (PayloadLines name) sources other = cond (same_name name other) true (sources other)
+with_name (Validated name) sources other = cond (same_name name other) true (sources other)
 with_name SlurmFile sources other = sources other
 
--- the filters and assertions of payloads by a SLURM file stand in place of those before
-abbrev pub amended : Option Amendment → Origins → Origins
-amended None origins = origins
-amended (Some amendment) origins = record origins { filters = amendment.filters; assertions = amendment.assertions }
+-- The payloads of a source, or the filters and assertions of payloads by a SLURM file, stand in place of those before.
+abbrev pub amended : Amendment → Origins → Origins
+amended (amendments.Source name payloads) origins = with_source origins name payloads
+amended (amendments.Slurm filters assertions) origins = record origins { filters = filters; assertions = assertions }
 
--- a good file changes what attests, and its name is in use
-pub record Holds (state : State) (kind : FileKind) (event : Event) (amends : Option Amendment) (text : List ℕ) (next : State) : Type 0 where
+-- a good file changes what attests, and the payloads of origin validation, and its name is in use
+pub record Holds (state : State) (kind : FileKind) (event : Event) (amends : Amendment) (text : List ℕ) (next : State) : Type 0 where
   pub silent : text ≡ []
   pub analysis : Analysis
   pub happens : Happens state.analysis event analysis
@@ -85,7 +91,7 @@ pub record Holds (state : State) (kind : FileKind) (event : Event) (amends : Opt
     judgements = state.judgements + cost;
   }
 
--- What comes of a file is taken: a good one changes what attests, and by another one the line is refused.
+-- What comes of a file is taken: a good one makes its change, and by another one the line is refused.
 abbrev pub TakesFile : State → FileKind → Outcome → List ℕ → State → Type 0
 TakesFile state kind NoFile text next = Refuses state of_line causes.NoFile text next
 TakesFile state kind FileLong text next = Refuses state of_line causes.FileLong text next
@@ -105,27 +111,6 @@ LoadsUnless false world state kind file text next = LoadsFile world state kind f
 
 abbrev pub Loads : World → State → FileKind → List ℕ → List ℕ → State → Type 0
 Loads world state kind file text next = LoadsUnless (is_taken state kind) world state kind file text next
-
--- ---- `open NAME FILE`, `bmp NAME FILE VIEW`
-
--- a dump that was just opened
-abbrev pub new_dump : DumpKind → List ℕ → Dump
-new_dump kind bytes = record { left = bytes; taken = 0; known = first_known kind; over = false }
-
--- the dumps with this one under its name
-abbrev pub with_dump : List ℕ → Dump → (List ℕ → Option Dump) → List ℕ → Option Dump
-with_dump name dump dumps other = cond (same_name name other) (Some dump) (dumps other)
-
--- whether the name is in use, and what the world has under the file's name
-abbrev pub OpensNamed : Bool → Option (List ℕ) → State → DumpKind → List ℕ → List ℕ → State → Type 0
-OpensNamed true named state kind name text next = Refuses state of_line causes.NameTaken text next
-OpensNamed false None state kind name text next = Refuses state of_line causes.NoFile text next
-OpensNamed false (Some bytes) state kind name text next =
-    (text ≡ []) × (next ≡ record state { dumps = with_dump name (new_dump kind bytes) state.dumps })
-
-abbrev pub Opens : World → State → DumpKind → List ℕ → List ℕ → List ℕ → State → Type 0
-Opens world state kind name file text next =
-    OpensNamed (state.sources name || is_stream state name) (world.named file) state kind name text next
 
 -- ---- `feed NAME PLACE`, `ask NAME`, `sync NAME N`, and `take NAME N` on a feed
 
@@ -176,39 +161,6 @@ Connects world state name place text next =
 
 -- ---- `take NAME N`
 
-abbrev pub asking_of : State → List ℕ → Asking
-asking_of state name = record { line = state.lines; name = name }
-
-abbrev pub taking_of : State → Dump → Taking
-taking_of state dump = record {
-  dump = dump;
-  state = state.analysis;
-  marks = state.marks;
-  passed = state.passed;
-  refused = state.refused;
-  judgements = state.judgements;
-}
-
-abbrev pub after_taking : State → List ℕ → Taking → State
-after_taking state name end = record state {
-  analysis = end.state;
-  marks = end.marks;
-  dumps = with_dump name end.dump state.dumps;
-  passed = end.passed;
-  refused = end.refused;
-  judgements = end.judgements;
-}
-
--- so many units are taken from the dump, or all that come until it is over
-pub record TakesAll (state : State) (name : List ℕ) (count : ℕ) (dump : Dump) (text : List ℕ) (next : State) : Type 0 where
-  pub end : Taking
-  pub takes : TakesUnits (asking_of state name) count (taking_of state dump) text end
-  pub next_is : next ≡ after_taking state name end
-
-abbrev pub TakesOpen : Bool → State → List ℕ → ℕ → Dump → List ℕ → State → Type 0
-TakesOpen true state name count dump text next = Refuses state of_line causes.StreamOver text next
-TakesOpen false state name count dump text next = TakesAll state name count dump text next
-
 -- from the dump of that name, or from a feed
 abbrev pub TakesNamed : Option Dump → World → State → List ℕ → ℕ → List ℕ → State → Type 0
 TakesNamed None world state name count text next = Works world state name (TakePdus count) text next
@@ -216,6 +168,19 @@ TakesNamed (Some dump) world state name count text next = TakesOpen dump.over st
 
 abbrev pub Takes : World → State → List ℕ → ℕ → List ℕ → State → Type 0
 Takes world state name count text next = TakesNamed (state.dumps name) world state name count text next
+
+-- ---- `clear`
+
+-- nothing is written, all routes go with what they said of Only-to-Customer, and nothing else changes
+abbrev pub Clears : State → List ℕ → State → Type 0
+Clears state text next = (text ≡ [])
+    × (next ≡ record state { analysis = record state.analysis { routes = fin.empty }; marks = fin.empty })
+
+-- ---- `say WORD..`
+
+-- the words are written, and nothing changes
+abbrev pub Says : State → List ℕ → List ℕ → State → Type 0
+Says state words text next = (text ≡ said_text words) × (next ≡ state)
 
 -- ---- `judge ROLE NEIGHBOUR AS..`
 
@@ -244,6 +209,8 @@ pub record ShowsChanges (state : State) (text : List ℕ) (next : State) : Type 
 abbrev pub DoesShort : State → ShortTask → List ℕ → State → Type 0
 DoesShort state Idle text next = (text ≡ []) × (next ≡ state)
 DoesShort state (Happen event) text next = MakesHappen state event text next
+DoesShort state Clear text next = Clears state text next
+DoesShort state (Say words) text next = Says state words text next
 DoesShort state (Judge role neighbour path) text next =
     IsJudged state.analysis.parts role neighbour path text × (next ≡ record state { judgements = state.judgements + 1 })
 
@@ -253,6 +220,7 @@ DoesTask world state (Short short) text next = DoesShort state short text next
 DoesTask world state (Load kind file) text next = Loads world state kind file text next
 DoesTask world state (Open kind name file) text next = Opens world state kind name file text next
 DoesTask world state (Take name count) text next = Takes world state name count text next
+DoesTask world state (Until name moment) text next = TakesUpTo state name moment text next
 DoesTask world state (Connect name place) text next = Connects world state name place text next
 DoesTask world state (OnFeed name work) text next = Works world state name work text next
 DoesTask world state (Serve place session count) text next = ServesTable world state place session count text next
@@ -264,6 +232,7 @@ abbrev pub TaskUsesFile : State → Task → Type 0
 TaskUsesFile state (Load kind file) = Unit {0}
 TaskUsesFile state (Open kind name file) = Unit {0}
 TaskUsesFile state (Take name count) = (dump : Dump) × (state.dumps name ≡ Some dump)
+TaskUsesFile state (Until name moment) = (dump : Dump) × (state.dumps name ≡ Some dump)
 TaskUsesFile state task = ⊥
 
 -- ---- lines on connections that ended early
@@ -297,9 +266,19 @@ pub record CameTo (world : World) (state : State) (name : List ℕ) (count : ℕ
   pub comes : DoesTask world state (Take name reached) text next
   pub judged : ticks ≤ next.judgements - state.judgements
 
+-- The same of an `until` on a dump: it is so many of the records that the line takes.
+pub record CameToUntil (world : World) (state : State) (name : List ℕ) (moment : ℕ) (dump : Dump) (part : List ℕ) (ticks : ℕ) : Type 0 where
+  pub count : ℕ
+  pub text : List ℕ
+  pub end : Taking
+  pub counted : TakesCount (asking_of state name) moment most_records count (taking_of state dump) text end
+  pub came : CameTo world state name count part ticks
+
 -- A task that wrote this part of its text ticked no more often than what it came to may; that is less than all of it where it takes from a
 -- dump.
 abbrev pub TaskCostsWhatItCameTo : World → State → Task → List ℕ → ℕ → Type 0
 TaskCostsWhatItCameTo world state (Take name count) part ticks =
     (dump : Dump) → state.dumps name ≡ Some dump → CameTo world state name count part ticks
+TaskCostsWhatItCameTo world state (Until name moment) part ticks =
+    (dump : Dump) → state.dumps name ≡ Some dump → CameToUntil world state name moment dump part ticks
 TaskCostsWhatItCameTo world state task part ticks = Unit {0}

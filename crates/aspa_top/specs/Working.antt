@@ -20,10 +20,11 @@ use Rattle.report_text.specs.declared.cause.Cause.TheVariants as causes
 use Rattle.report_text.specs.Refusals.{AnyPlace, of_line, of_unit, refusal_text}
 use Rattle.rtr_cache.specs.Cache.{Versions}
 use Rattle.stream_lines.specs.Held.{HeldDump}
+use Rattle.stream_lines.specs.Units.{is_of_records}
 use Rattle.aspa_top.specs.declared.loading.Amendment.{Amendment}
 use Rattle.aspa_top.specs.declared.loading.FileKind.{FileKind}
 use Rattle.aspa_top.specs.declared.loading.Made.{Made}
-use Rattle.aspa_top.specs.declared.loading.FileKind.TheVariants.{Payloads, PayloadLines, Slurm as SlurmFile}
+use Rattle.aspa_top.specs.declared.loading.FileKind.TheVariants.{Payloads, PayloadLines, Validated, Slurm as SlurmFile}
 use Rattle.aspa_top.specs.declared.loading.Outcome.{Outcome}
 use Rattle.aspa_top.specs.declared.loading.Outcome.TheVariants.{NoFile, Long, Flawed, Good}
 use Rattle.aspa_top.specs.declared.working.Working.{Working}
@@ -72,10 +73,11 @@ pub record NamesDump (working : Working) (name : List ℕ) (dump : HeldDump) (ne
 abbrev pub NamesBy : FileKind → Working → Working → Type 0
 NamesBy (Payloads name) working next = Names working name next
 NamesBy (PayloadLines name) working next = Names working name next
+NamesBy (Validated name) working next = Names working name next
 NamesBy SlurmFile working next = next ≡ working
 
--- the filters and assertions of payloads are those of a SLURM file, and nothing else is altered
-abbrev pub Amended : Working → Option Amendment → Working → Type 0
+-- the payloads of a source are those of its file, or the filters and assertions of payloads those of a SLURM file, and nothing else is altered
+abbrev pub Amended : Working → Amendment → Working → Type 0
 Amended working amends next = next ≡ record working { origins = amended amends working.origins }
 
 -- the change of a good file is made, and its name is noted
@@ -113,12 +115,20 @@ has_stream working name = is_some (dump_in working name) || is_some (feed_in wor
 abbrev pub IsTakenIn : Working → FileKind → Bool → Type 0
 IsTakenIn working (Payloads name) taken = taken ≡ has_stream working name
 IsTakenIn working (PayloadLines name) taken = taken ≡ has_stream working name
+IsTakenIn working (Validated name) taken = taken ≡ has_stream working name
 IsTakenIn working SlurmFile taken = taken ≡ false
 
 -- a dump is open under the name, and not over
 pub record IsOpenIn (working : Working) (name : List ℕ) : Type 0 where
   pub dump : HeldDump
   pub here : dump_in working name ≡ Some dump
+  pub yet : dump.over ≡ false
+
+-- a dump of records is, and not over
+pub record HasRecordsIn (working : Working) (name : List ℕ) : Type 0 where
+  pub dump : HeldDump
+  pub here : dump_in working name ≡ Some dump
+  pub records : is_of_records dump.known ≡ true
   pub yet : dump.over ≡ false
 
 -- the line is counted

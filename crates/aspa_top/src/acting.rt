@@ -1,5 +1,6 @@
 //! What a line does to the working state, whatever it asks for.
-ghost use Rattle.std.specs.Prelude.{◌≡◌, ◌+◌, ◌^◌, ◌<◌, ◌++◌, IfOk, OnOk, OnErr};
+ghost use Rattle.std.specs.Prelude.{◌≡◌, ◌+◌, ◌^◌, ◌<◌, ◌≤◌, ◌++◌, IfOk, OnOk, OnErr};
+ghost use Rattle.std.specs.FinMap as fin;
 ghost use Rattle.report_text.specs.Places.{place_of};
 ghost use Rattle.report_text.specs.Refusals.{refusal_text};
 ghost use Rattle.analyser.specs.Touched.{TicksWithin};
@@ -8,7 +9,9 @@ ghost use Rattle.aspa_top.specs.Working.{Happened, Marked};
 use crate::working::Working;
 use analyser::Event;
 use av_base::{NoMemory, Steps};
+use otc_check::Marks;
 use report_text::{Cause, Place, put_refusal};
+use std::alloc::Global;
 use std::sync::ledger::Ledger;
 
 /// Reports a refused line, which changes nothing but the counts. The line is counted already.
@@ -43,6 +46,26 @@ pub(crate) fn happen<L: Ledger>(
     let analyser = working.analyser.step(event, steps)?;
     Ok(Working {
         analyser,
+        ..working
+    })
+}
+
+/// Lets all routes go, with what they said of Only-to-Customer, and writes nothing.
+pub(crate) fn clear<L: Ledger>(
+    alloc: Global,
+    working: Working,
+    steps: &mut Steps<L>,
+) -> Result<Working, NoMemory>
+    ensures cleared { IfOk result (λ next. next ≡ record working {
+      analyser = record working.analyser { routes = fin.empty };
+      marks = fin.empty;
+    }) }
+    ensures ticks { steps.new ≤ steps.old }
+{
+    let analyser = working.analyser.clear(alloc, steps)?;
+    Ok(Working {
+        analyser,
+        marks: Marks::new(alloc),
         ..working
     })
 }

@@ -1,4 +1,4 @@
-//! What a line only asks: `report`, `origins`, `leaks`, `summary` and `why`.
+//! What a line only asks: `report`, `origins`, `leaks`, `suspects`, `summary`, `details` and `why`.
 ghost use Rattle.std.specs.Prelude.{Ok};
 ghost use Rattle.aspa_top.specs.declared.task.Task.TheVariants.{Answer};
 ghost use Rattle.aspa_top.specs.Outside.{Keeps, outside};
@@ -12,12 +12,15 @@ use av_base::{Links, Shelf, Sink, Steps};
 use origin_lines::put_origins;
 use report_text::{Cause, Place, put_summary, put_why};
 use script_lines::Show;
+use std::alloc::Global;
 use std::sync::ledger::Ledger;
 use stream_lines::{Stop, put_leaks, put_rows, summary_of};
+use suspect_lines::{put_details, put_suspects};
 
 /// Adds the text that answers a question, and changes nothing; where it is refused, the line that says so.
 #[inline(never)]
 pub(crate) fn answer<F: Shelf, K: Links, W: Sink, L: Ledger>(
+    alloc: Global,
     mut working: Working,
     question: Question,
     shelf: &mut F,
@@ -49,8 +52,16 @@ pub(crate) fn answer<F: Shelf, K: Links, W: Sink, L: Ledger>(
             put_leaks(&working.marks, store.roles(), out, text)?;
             Ok(working)
         }
+        Question::Show(Show::Suspects) => {
+            put_suspects(alloc, store, out, text)?;
+            Ok(working)
+        }
         Question::Show(Show::Summary) => {
             put_summary(text, summary_of(store, working.passed, working.refused))?;
+            Ok(working)
+        }
+        Question::Details(verdict) => {
+            put_details(store, verdict, out, text)?;
             Ok(working)
         }
         Question::Why(key) => {

@@ -81,8 +81,18 @@ fn pour_before<W: Sink>(left: &[u8], out: &mut W, text: &mut Vec<u8>) -> Result<
 
 // Whether the first of these lines may wait for others when it is performed: it opens or reads a file, or speaks with a cache.
 fn may_wait(lines: &[u8]) -> bool {
-    let waiting: [&[u8]; 9] = [
-        b"ask", b"aspa", b"bmp", b"feed", b"open", b"serve", b"slurm", b"sync", b"take",
+    let waiting: [&[u8]; 11] = [
+        b"ask",
+        b"aspa",
+        b"bmp",
+        b"feed",
+        b"open",
+        b"serve",
+        b"slurm",
+        b"sync",
+        b"take",
+        b"until",
+        b"validated",
     ];
     let blanks = lines
         .iter()

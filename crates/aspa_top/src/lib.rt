@@ -25,6 +25,7 @@ mod serving;
 mod short;
 mod tables;
 mod task;
+mod until;
 mod words;
 mod working;
 

@@ -4,7 +4,8 @@ ghost use Rattle.std.specs.Io.KnownBytes.{prepend_known, IsAtEnd};
 ghost use Rattle.av_base.specs.Files.{left_of};
 ghost use Rattle.av_base.specs.Told.{Rose};
 ghost use Rattle.av_text.specs.Spellings.{IsInLine};
-ghost use Rattle.aspa_top.specs.Loading.{unit_name, payload_cause as cause_of_payload, slurm_cause as cause_of_slurm};
+ghost use Rattle.aspa_top.specs.declared.loading.Outcome.TheVariants.{Good};
+ghost use Rattle.aspa_top.specs.Loading.{of_source, unit_name, payload_cause as cause_of_payload, slurm_cause as cause_of_slurm, validated_cause as cause_of_validated};
 ghost use Rattle.aspa_top.specs.LoadingSteps.{ComesTold, IsRefusedFor, IsRowsOutcome, IsTermsOutcome, Understands};
 ghost use Rattle.stream_lines.specs.Frames.{Leaves};
 
@@ -17,6 +18,7 @@ use report_text::Cause;
 use slurm_rules::{Slurm, SlurmFault};
 use std::alloc::Global;
 use stream_lines::ReadFault;
+use validated::{Validated, ValidatedFault};
 use vap_table::TableChange;
 
 /// The most bytes that a file may have.
@@ -29,6 +31,8 @@ pub(crate) enum FileKind {
     Payloads(Name),
     /// One base64 payload a line, alone or with its end, of the source of this name.
     PayloadLines(Name),
+    /// A validator's file, of the source of this name.
+    Validated(Name),
     /// A SLURM file.
     Slurm,
 }
@@ -42,6 +46,7 @@ impl FileKind {
         match self {
             FileKind::Payloads(name) => name.text(),
             FileKind::PayloadLines(name) => name.text(),
+            FileKind::Validated(name) => name.text(),
             FileKind::Slurm => "slurm",
         }
     }
@@ -54,11 +59,13 @@ pub(crate) struct Flaw {
     pub(crate) cause: Cause,
 }
 
-/// What a SLURM file says of payloads of origin validation, in place of what one said before.
+/// What a good file says of payloads of origin validation.
 #[derive(Debug, Drop)]
-pub(crate) struct Amendment {
-    pub(crate) filters: PrefixFilters,
-    pub(crate) assertions: VrpSet,
+pub(crate) enum Amendment {
+    /// The source of this name has these, in place of those that it had.
+    Source(Name, VrpSet),
+    /// These filters and assertions are in force, in place of those of the SLURM file before.
+    Slurm(PrefixFilters, VrpSet),
 }
 
 /// What a good file changes.
@@ -66,8 +73,8 @@ pub(crate) struct Amendment {
 pub(crate) struct Made {
     /// What attests.
     pub(crate) table: TableChange,
-    /// The filters and assertions of payloads, by a SLURM file.
-    pub(crate) amends: Option<Amendment>,
+    /// The payloads of origin validation.
+    pub(crate) amends: Amendment,
 }
 
 /// What comes of a file.
@@ -147,7 +154,8 @@ fn understand(alloc: Global, kind: &FileKind, bytes: &[u8]) -> Result<Outcome, N
 {
     match kind {
         FileKind::Payloads(name) => rows_outcome(alloc, name, read_many(alloc, bytes)),
-        FileKind::PayloadLines(name) => terms_outcome(name, read_lines(alloc, bytes)),
+        FileKind::PayloadLines(name) => terms_outcome(alloc, name, read_lines(alloc, bytes)),
+        FileKind::Validated(name) => validated_outcome(alloc, name, bytes),
         FileKind::Slurm => slurm_outcome(alloc, bytes),
     }
 }
@@ -161,21 +169,53 @@ fn rows_outcome(
     ensures comes { IfOk result (IsRowsOutcome name.now reading) }
 {
     match reading {
-        Ok(rows) => terms_outcome(name, Ok(Terms::of(alloc, rows)?)),
+        Ok(rows) => terms_outcome(alloc, name, Ok(Terms::of(alloc, rows)?)),
         Err(fault) => refused_for(fault),
     }
 }
 
 // What comes of a payload file that was read so.
-fn terms_outcome(name: &Name, reading: Result<Terms, FileFault>) -> Result<Outcome, NoMemory>
+fn terms_outcome(
+    alloc: Global,
+    name: &Name,
+    reading: Result<Terms, FileFault>,
+) -> Result<Outcome, NoMemory>
     ensures comes { IfOk result (IsTermsOutcome name.now reading) }
 {
     match reading {
-        Ok(terms) => Ok(Outcome::Good(Made {
-            table: TableChange::Replace(name.copy()?, terms),
-            amends: None,
-        })),
+        Ok(terms) => source_outcome(name, terms, VrpSet::new(alloc)),
         Err(fault) => refused_for(fault),
+    }
+}
+
+// What comes of a good file of a source: what the source attests, and its payloads.
+fn source_outcome(name: &Name, terms: Terms, payloads: VrpSet) -> Result<Outcome, NoMemory>
+    ensures comes { IfOk result (λ outcome. outcome
+        ≡ Good (of_source name.now terms payloads)) }
+{
+    Ok(Outcome::Good(Made {
+        table: TableChange::Replace(name.copy()?, terms),
+        amends: Amendment::Source(name.copy()?, payloads),
+    }))
+}
+
+// What comes of a validator's file of these bytes.
+fn validated_outcome(alloc: Global, name: &Name, bytes: &[u8]) -> Result<Outcome, NoMemory>
+    ensures comes { IfOk result (Understands (FileKind.Validated name.now) bytes.now) }
+{
+    match validated::read(alloc, bytes) {
+        Ok(said) => {
+            let Validated {
+                attestations,
+                payloads,
+            } = said;
+            let payloads = payloads.unwrap_or(VrpSet::new(alloc));
+            source_outcome(name, attestations, payloads)
+        }
+        Err(fault) => Ok(Outcome::Flawed(Flaw {
+            unit: 1,
+            cause: validated_cause(fault)?,
+        })),
     }
 }
 
@@ -206,10 +246,7 @@ fn slurm_outcome(alloc: Global, bytes: &[u8]) -> Result<Outcome, NoMemory>
             } = slurm;
             Ok(Outcome::Good(Made {
                 table: TableChange::Slurm(filters, assertions),
-                amends: Some(Amendment {
-                    filters: prefix_filters,
-                    assertions: prefix_assertions,
-                }),
+                amends: Amendment::Slurm(prefix_filters, prefix_assertions),
             }))
         }
         Err(fault) => Ok(Outcome::Flawed(Flaw {
@@ -232,6 +269,19 @@ fn payload_cause(fault: PayloadFault) -> Result<Cause, NoMemory>
         PayloadFault::Base64 => Ok(Cause::Base64),
         PayloadFault::Moment => Ok(Cause::Moment),
         PayloadFault::NoMemory => Err(NoMemory),
+    }
+}
+
+// The cause for which a validator's file is refused; want of memory is none.
+fn validated_cause(fault: ValidatedFault) -> Result<Cause, NoMemory>
+    ensures { IfOk result (λ cause. cause_of_validated fault ≡ Some cause) }
+{
+    match fault {
+        ValidatedFault::Json => Ok(Cause::Json),
+        ValidatedFault::Member => Ok(Cause::Member),
+        ValidatedFault::Number => Ok(Cause::SlurmNumber),
+        ValidatedFault::Prefix => Ok(Cause::PrefixText),
+        ValidatedFault::NoMemory => Err(NoMemory),
     }
 }
 

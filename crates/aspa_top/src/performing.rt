@@ -15,6 +15,7 @@ use crate::serving::serve_routers;
 use crate::short::perform_short;
 use crate::tables::load;
 use crate::task::{Task, task_of};
+use crate::until::take_up_to;
 use crate::working::Working;
 use av_base::{Links, NoMemory, Shelf, Sink, Steps};
 use report_text::{Cause, Place};
@@ -107,6 +108,11 @@ fn perform_task<F: Shelf, K: Links, W: Sink, L: Ledger>(
         Task::Take(name, count) => {
             take(alloc, working, &name, count, shelf, links, out, text, steps)
         }
+        Task::Until(name, moment) => {
+            take_up_to(
+                alloc, working, &name, moment, shelf, links, out, text, steps,
+            )
+        }
         Task::Connect(name, place) => {
             connect_feed(
                 alloc, working, &name, &place, shelf, links, out, text, steps,
@@ -120,7 +126,9 @@ fn perform_task<F: Shelf, K: Links, W: Sink, L: Ledger>(
         Task::OnFeed(name, work) => {
             work_on(alloc, working, &name, work, shelf, links, out, text, steps)
         }
-        Task::Answer(question) => answer(working, question, shelf, links, out, text, steps),
+        Task::Answer(question) => {
+            answer(alloc, working, question, shelf, links, out, text, steps)
+        }
         Task::Changes => list_changes(working, shelf, links, out, text, steps),
     }
 }

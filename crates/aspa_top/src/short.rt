@@ -6,11 +6,12 @@ ghost use Rattle.aspa_top.specs.Outside.{Keeps, outside};
 ghost use Rattle.aspa_top.specs.Performing.{Did};
 ghost use Rattle.aspa_top.specs.Standing.{IsBegun};
 
-use crate::acting::happen;
+use crate::acting::{clear, happen};
 use crate::judging::put_judgement;
 use crate::task::Short;
 use crate::working::Working;
 use av_base::{Links, Shelf, Sink, Steps};
+use report_text::put_said;
 use std::alloc::Global;
 use std::sync::ledger::Ledger;
 use stream_lines::Stop;
@@ -42,9 +43,17 @@ pub(crate) fn perform_short<F: Shelf, K: Links, W: Sink, L: Ledger>(
             let next = happen(working, event, steps)?;
             Ok(next)
         }
+        Short::Clear => {
+            let next = clear(alloc, working, steps)?;
+            Ok(next)
+        }
         Short::Judge(role, neighbour, path) => {
             let table = working.analyser.store().table();
             put_judgement(alloc, table, role, neighbour, &path, text, steps)?;
+            Ok(working)
+        }
+        Short::Say(saying) => {
+            put_said(text, saying.text())?;
             Ok(working)
         }
     }

@@ -1,4 +1,4 @@
-//! `aspa`, `aspa64` and `slurm`: files that change the table.
+//! `aspa`, `aspa64`, `validated` and `slurm`: files that change the table.
 ghost use Rattle.std.specs.Prelude.{◌≡◌, ◌^◌, ◌<◌, Ok, IfOk, OnErr};
 ghost use Rattle.analyser.specs.declared.event.Event.TheVariants.{Table as TableEvent};
 ghost use Rattle.analyser.specs.Touched.{TicksWithin};
@@ -90,7 +90,7 @@ fn hold<L: Ledger>(
 {
     let Made { table, amends } = made;
     let changed = happen(working, Event::Table(table), steps)?;
-    let amended = amend(changed, amends);
+    let amended = amend(changed, amends)?;
     match kind {
         FileKind::Payloads(name) => {
             let named = name_source(amended, name)?;
@@ -100,23 +100,26 @@ fn hold<L: Ledger>(
             let named = name_source(amended, name)?;
             Ok(named)
         }
+        FileKind::Validated(name) => {
+            let named = name_source(amended, name)?;
+            Ok(named)
+        }
         FileKind::Slurm => Ok(amended),
     }
 }
 
-// Puts the filters and assertions of payloads in place of those before, where a file has some.
-fn amend(mut working: Working, amends: Option<Amendment>) -> Working
-    ensures { Amended working amends result }
+// Puts what a file says of payloads in place of what was said before.
+fn amend(mut working: Working, amends: Amendment) -> Result<Working, NoMemory>
+    ensures { IfOk result (Amended working amends) }
 {
     match amends {
-        None => working,
-        Some(amendment) => {
-            let Amendment {
-                filters,
-                assertions,
-            } = amendment;
+        Amendment::Source(name, payloads) => {
+            working.origins.replace(name, payloads)?;
+            Ok(working)
+        }
+        Amendment::Slurm(filters, assertions) => {
             working.origins.slurm(filters, assertions);
-            working
+            Ok(working)
         }
     }
 }

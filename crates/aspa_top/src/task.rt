@@ -5,8 +5,8 @@ ghost use Rattle.aspa_top.specs.Evaluation.{bmp_kind, table_event, task_of};
 use crate::loading::FileKind;
 use analyser::Event;
 use feed_lines::Work;
-use path_model::{AsList, Key, Name, Peer, Role};
-use script_lines::{Command, Show, Word};
+use path_model::{AsList, Key, Name, Peer, Role, Verdict};
+use script_lines::{Command, Saying, Show, Word};
 use stream_lines::DumpKind;
 use vap_table::TableChange;
 
@@ -21,6 +21,8 @@ pub(crate) enum Task {
     Open(DumpKind, Name, Word),
     /// It takes at most so many units of the stream of that name.
     Take(Name, u32),
+    /// It takes the records of the dump of that name up to the first whose time isn't below this one.
+    Until(Name, u32),
     /// It connects a feed under a name to a place.
     Connect(Name, Word),
     /// It serves so many routers at a place, as the cache of a session.
@@ -40,8 +42,12 @@ pub(crate) enum Short {
     Idle,
     /// An event happens.
     Happen(Event),
+    /// All routes go, with their marks.
+    Clear,
     /// A written path is judged.
     Judge(Role, u32, AsList),
+    /// Words are said.
+    Say(Saying),
 }
 
 /// What is only asked, of all that the lines before have left.
@@ -49,6 +55,8 @@ pub(crate) enum Short {
 pub(crate) enum Question {
     /// What is shown of all.
     Show(Show),
+    /// Each route with what shows its verdict, or each with this verdict.
+    Details(Option<Verdict>),
     /// Why the route of this key has its verdict.
     Why(Key),
 }
@@ -61,6 +69,7 @@ pub(crate) fn task_of(command: Command) -> Task
         Command::Idle => Task::Short(Short::Idle),
         Command::Aspa(name, file) => Task::Load(FileKind::Payloads(name), file),
         Command::Aspa64(name, file) => Task::Load(FileKind::PayloadLines(name), file),
+        Command::Validated(name, file) => Task::Load(FileKind::Validated(name), file),
         Command::Slurm(file) => Task::Load(FileKind::Slurm, file),
         Command::At(moment) => table_event(TableChange::At(moment)),
         Command::Filter(customer) => table_event(TableChange::Filter(customer)),
@@ -74,6 +83,7 @@ pub(crate) fn task_of(command: Command) -> Task
         Command::Open(name, file) => Task::Open(DumpKind::Mrt, name, file),
         Command::Bmp(name, file, post) => Task::Open(bmp_kind(post), name, file),
         Command::Take(name, count) => Task::Take(name, count),
+        Command::Until(name, moment) => Task::Until(name, moment),
         Command::Feed(name, place) => Task::Connect(name, place),
         Command::Ask(name) => Task::OnFeed(name, Work::Ask),
         Command::Sync(name, count) => Task::OnFeed(name, Work::Sync(count)),
@@ -81,7 +91,10 @@ pub(crate) fn task_of(command: Command) -> Task
         Command::Judge(role, neighbour, path) => {
             Task::Short(Short::Judge(role, neighbour, path))
         }
+        Command::Clear => Task::Short(Short::Clear),
         Command::Changes => Task::Changes,
+        Command::Say(saying) => Task::Short(Short::Say(saying)),
+        Command::Details(verdict) => Task::Answer(Question::Details(verdict)),
         Command::Why(addr, asn, prefix, path) => {
             let peer = Peer { addr, asn };
             Task::Answer(Question::Why(Key { peer, prefix, path }))

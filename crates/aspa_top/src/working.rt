@@ -115,6 +115,7 @@ impl Working {
         match kind {
             FileKind::Payloads(name) => self.has_stream(name),
             FileKind::PayloadLines(name) => self.has_stream(name),
+            FileKind::Validated(name) => self.has_stream(name),
             FileKind::Slurm => false,
         }
     }

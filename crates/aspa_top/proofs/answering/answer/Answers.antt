@@ -5,9 +5,11 @@ use Rattle.stream_lines.specs.declared.stop.Stop.TheVariants as stops
 use Rattle.stream_lines.specs.Leaks.{leaks_text}
 use Rattle.stream_lines.specs.Rows.{rows_text}
 use Rattle.origin_lines.specs.Rows.{origins_text}
-use Rattle.aspa_top.specs.declared.task.Question.TheVariants.{Show, Why}
-use Rattle.script_lines.specs.declared.command.Show.TheVariants.{Report, Origins, Leaks, Summary}
-use Rattle.aspa_top.proofs.AnswerLemmas.{answered, answered_same, answer_stopped, leaks_answer, not_answered, origins_answer, report_answers, summary_answers, why_answers, why_refused}
+use Rattle.suspect_lines.specs.Details.{details_text}
+use Rattle.suspect_lines.specs.Suspected.{suspects_text}
+use Rattle.aspa_top.specs.declared.task.Question.TheVariants.{Show, Details, Why}
+use Rattle.script_lines.specs.declared.command.Show.TheVariants.{Report, Origins, Leaks, Suspects, Summary}
+use Rattle.aspa_top.proofs.AnswerLemmas.{answered, answered_same, answer_stopped, details_answer, leaks_answer, not_answered, origins_answer, report_answers, summary_answers, suspects_answer, why_answers, why_refused}
 use Rattle.aspa_top.proofs.DidLemmas.{did_err, nothing}
 use Rattle.aspa_top.proofs.KeepLemmas.{keeps_all, keeps_sink}
 use Rattle.aspa_top.proofs.StandsLemmas.{added_text}
@@ -78,6 +80,48 @@ returns-in_err-put_leaks-in-Show-Leaks g c =
       did = did_err c.args.working _ _ _ c.from_residual-in_err-put_leaks-in-Show-Leaks.result _ c.from_residual-in_err-put_leaks-in-Show-Leaks.ensures.1
           (rw same (answer_stopped c.args.working (Show Leaks) _ _ _ _ (leaks_text rows.rows) c.requires.begun (leaks_answer c.args.working _ c.store-store.ensures _ rows.rows c.roles.ensures rows.are)
           c.in_err-put_leaks-in-Show-Leaks.field-0.0 rows.front (λ is. stopped.no_shelf (ap Err is)) (λ is. stopped.held (ap Err is)) (λ is. stopped.sink_cause (ap Err is))));
+    }
+
+-- `suspects`
+pub returns-in_ok-put_suspects-in-Show-Suspects : goal.returns-in_ok-put_suspects-in-Show-Suspects
+returns-in_ok-put_suspects-in-Show-Suspects g c =
+    let same = c.in-Show-Suspects.is ∙ ap Show (rw c.in-Show-Suspects.is at c.in-Show-Suspects.field-0-is) in
+    let rows = c.in_ok-put_suspects-in-Show-Suspects.ensures.whole in
+    record {
+      keeps = keeps_sink _ _ _ _ _ c.put_suspects.ensures.grows c.put_suspects.ensures.sink_faults;
+      did = rw same (answered c.args.working (Show Suspects) _ _ _ _ (suspects_text rows.rows) c.requires.begun (suspects_answer c.args.working _ c.store-store.ensures rows.rows rows.are) rows.added);
+    }
+
+pub returns-in_err-put_suspects-in-Show-Suspects : goal.returns-in_err-put_suspects-in-Show-Suspects
+returns-in_err-put_suspects-in-Show-Suspects g c =
+    let same = c.in-Show-Suspects.is ∙ ap Show (rw c.in-Show-Suspects.is at c.in-Show-Suspects.field-0-is) in
+    let rows = c.put_suspects.ensures.front in
+    let stopped = c.in_err-put_suspects-in-Show-Suspects.ensures in
+    record {
+      keeps = keeps_sink _ _ _ _ _ c.put_suspects.ensures.grows c.put_suspects.ensures.sink_faults;
+      did = did_err c.args.working _ _ _ c.from_residual-in_err-put_suspects-in-Show-Suspects.result _ c.from_residual-in_err-put_suspects-in-Show-Suspects.ensures.1
+          (rw same (answer_stopped c.args.working (Show Suspects) _ _ _ _ (suspects_text rows.rows) c.requires.begun (suspects_answer c.args.working _ c.store-store.ensures rows.rows rows.are)
+          c.in_err-put_suspects-in-Show-Suspects.field-0.0 rows.front (λ is. stopped.no_shelf (ap Err is)) (λ is. stopped.held (ap Err is)) (λ is. stopped.sink_cause (ap Err is))));
+    }
+
+-- `details`
+pub returns-in_ok-put_details-in-Details : goal.returns-in_ok-put_details-in-Details
+returns-in_ok-put_details-in-Details g c =
+    let rows = c.in_ok-put_details-in-Details.ensures.whole in
+    record {
+      keeps = keeps_sink _ _ _ _ _ c.put_details.ensures.grows c.put_details.ensures.sink_faults;
+      did = rw c.in-Details.is (answered c.args.working (Details c.in-Details.verdict) _ _ _ _ (details_text rows.rows) c.requires.begun (details_answer c.args.working _ c.store-store.ensures c.in-Details.verdict rows.rows rows.are) rows.added);
+    }
+
+pub returns-in_err-put_details-in-Details : goal.returns-in_err-put_details-in-Details
+returns-in_err-put_details-in-Details g c =
+    let rows = c.put_details.ensures.front in
+    let stopped = c.in_err-put_details-in-Details.ensures in
+    record {
+      keeps = keeps_sink _ _ _ _ _ c.put_details.ensures.grows c.put_details.ensures.sink_faults;
+      did = did_err c.args.working _ _ _ c.from_residual-in_err-put_details-in-Details.result _ c.from_residual-in_err-put_details-in-Details.ensures.1
+          (rw c.in-Details.is (answer_stopped c.args.working (Details c.in-Details.verdict) _ _ _ _ (details_text rows.rows) c.requires.begun (details_answer c.args.working _ c.store-store.ensures c.in-Details.verdict rows.rows rows.are)
+          c.in_err-put_details-in-Details.field-0.0 rows.front (λ is. stopped.no_shelf (ap Err is)) (λ is. stopped.held (ap Err is)) (λ is. stopped.sink_cause (ap Err is))));
     }
 
 -- `summary`

@@ -2,7 +2,7 @@ use Rattle.std.proofs.Common.{refl, sym, ap, ◌∙◌, arith}
 use Rattle.std.specs.Io.KnownBytes.{append_known}
 use Rattle.stream_lines.specs.declared.stop.Stop.TheVariants as stops
 use Rattle.aspa_top.proofs.DidLemmas.{did_err, nothing}
-use Rattle.aspa_top.proofs.DumpLemmas.{take_over}
+use Rattle.aspa_top.proofs.TakeLemmas.{take_over}
 use Rattle.aspa_top.proofs.FeedLemmas.{takes_feed}
 use Rattle.aspa_top.proofs.KeepLemmas.{keeps_all}
 use Rattle.aspa_top.proofs.dumps.take.Goals as goal

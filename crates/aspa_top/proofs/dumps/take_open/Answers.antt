@@ -5,7 +5,7 @@ use Rattle.av_text.proofs.AnySpellingLemmas.{names_in_line}
 use Rattle.feed_lines.proofs.NamedLemmas.{at_name}
 use Rattle.stream_lines.specs.Held.{HeldDump}
 use Rattle.aspa_top.proofs.DidLemmas.{did_err}
-use Rattle.aspa_top.proofs.DumpLemmas.{take_done, take_stopped}
+use Rattle.aspa_top.proofs.TakeLemmas.{take_done, take_stopped}
 use Rattle.aspa_top.proofs.KeepLemmas.{keeps_both}
 use Rattle.aspa_top.proofs.dumps.take_open.Goals as goal
 

@@ -21,6 +21,9 @@ returns-in-Open-clause-did g c = rw c.in-Open.is c.open.ensures.did
 pub returns-in-Take-clause-did : goal.returns-in-Take-clause-did
 returns-in-Take-clause-did g c = rw c.in-Take.is c.take.ensures.did
 
+pub returns-in-Until-clause-did : goal.returns-in-Until-clause-did
+returns-in-Until-clause-did g c = rw c.in-Until.is c.take_up_to.ensures.did
+
 pub returns-in-Connect-clause-did : goal.returns-in-Connect-clause-did
 returns-in-Connect-clause-did g c = rw c.in-Connect.is c.connect_feed.ensures.did
 

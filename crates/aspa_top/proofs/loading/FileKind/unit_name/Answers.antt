@@ -8,5 +8,8 @@ returns-in-Payloads-clause-in_line c = rw c.in-Payloads.is (names_in_line _ c.te
 pub returns-in-PayloadLines-clause-in_line : goal.returns-in-PayloadLines-clause-in_line
 returns-in-PayloadLines-clause-in_line c = rw c.in-PayloadLines.is (names_in_line _ c.text-in-PayloadLines.ensures.is_name)
 
+pub returns-in-Validated-clause-in_line : goal.returns-in-Validated-clause-in_line
+returns-in-Validated-clause-in_line c = rw c.in-Validated.is (names_in_line _ c.text-in-Validated.ensures.is_name)
+
 pub returns-in-Slurm-clause-in_line : goal.returns-in-Slurm-clause-in_line
 returns-in-Slurm-clause-in_line c = rw c.in-Slurm.is slurm-in_line
