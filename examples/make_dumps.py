@@ -1,10 +1,11 @@
 #!/usr/bin/env python3
-"""Writes the example dumps and their attestations: neighbours.base64, table.mrt, updates.mrt, own.mrt, paths.mrt and otc.mrt, beside this file.
+"""Writes the example dumps and their attestations: neighbours.base64, table.mrt, updates.mrt, own.mrt, paths.mrt, otc.mrt and leaked.mrt, beside
+this file.
 
 We are AS 64500. Our customer is 64501, our peer 64502, our provider 64503; each has one router that speaks with our collector. own.mrt is a
 table of our own router 192.0.2.254, which speaks with 64501 and, inside our AS, with our router 192.0.2.9. paths.mrt is a table with path
 identifiers (RFC 8050), and one update behind it: 64503 sends us all paths that it has to a prefix (RFC 7911). otc.mrt is a table of routes
-with the attribute Only-to-Customer (RFC 9234).
+with the attribute Only-to-Customer (RFC 9234). leaked.mrt is a table in which some routes were leaked, near us and far away.
 The numbers and addresses are those that are kept for documentation (RFC 5398, RFC 5737, RFC 3849)."""
 import base64
 import ipaddress
@@ -48,6 +49,17 @@ OTC_TABLE = [
     ("2001:db8:20::/48", [(1, [64502, 64520], None, 64502)]),
     ("2001:db8:40::/48", [(0, [64501, 64541, 64540], None, 64541)]),
     ("2001:db8:50::/48", [(1, [64502, 64520], None, b"\xfb\xf6")]),
+]
+
+# the same as in the first one: 64501 passes on to us what it has from its provider 64503; 64540 to 64503 what it has from 64502; and 64540 or
+# 64541, which attest nothing, to 64502 what 64540 has from 64503
+LEAKED_TABLE = [
+    ("198.51.100.0/24", [(0, [64501, 64510]), (2, [64503, 64501, 64510])]),
+    ("203.0.113.0/25", [(0, [64501, 64503, 64530]), (2, [64503, 64530])]),
+    ("203.0.113.128/25", [(0, [64501, 64503, 64530]), (2, [64503, 64530])]),
+    ("2001:db8:20::/48", [(1, [64502, 64520]), (2, [64503, 64540, 64502, 64520])]),
+    ("2001:db8:30::/48", [(0, [64501, 64503])]),
+    ("2001:db8:40::/48", [(1, [64502, 64541, 64540, 64503, 64530])]),
 ]
 
 
@@ -126,6 +138,7 @@ def main():
     (HERE / "updates.mrt").write_bytes(b"".join(news))
     (HERE / "paths.mrt").write_bytes(table(PEERS, PATHS) + update(TIME + 60, 2, ["203.0.113.0/24"], b"", [], 2))
     (HERE / "otc.mrt").write_bytes(table(PEERS, OTC_TABLE))
+    (HERE / "leaked.mrt").write_bytes(table(PEERS, LEAKED_TABLE))
 
 
 if __name__ == "__main__":

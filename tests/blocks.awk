@@ -1,4 +1,4 @@
-# Cuts the code blocks out of a page, and the tables that are marked 'judged', each into three files of the folder OUT: its marker
+# Cuts the code blocks out of a page, and the tables that are marked 'judged' or 'judged with suspects', each into three files of the folder OUT: its marker
 # (N.how), its place (N.place) and its text (N.text). A block is indented by four blanks behind an empty line, or stands between fences.
 function begin() {
     name = sprintf("%s/%s-%03d", OUT, PAGE, ++number)
@@ -52,7 +52,7 @@ kind == "table" && /^\|/ { print > (name ".text"); next }
 }
 {
     end()
-    if (marker == "judged" && /^\|/) {
+    if (marker ~ /^judged/ && /^\|/) {
         begin()
         kind = "table"
         print > (name ".text")

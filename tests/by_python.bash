@@ -10,5 +10,5 @@ by_python() {
     fi
     # `rt ci` has built the program; where it hasn't, the launcher does.
     [ -x "$program" ] || ./aspaview run </dev/null
-    exec python3 "$1" "$program"
+    exec python3 -B "$1" "$program"
 }

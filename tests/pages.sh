@@ -13,6 +13,7 @@
 #   <!-- prints of: COMMAND -->        it is all that this command writes; so with 'prints some of: COMMAND'
 #   <!-- judged -->                    above a table: the lines of the first column, behind the script above, have the verdict of the second,
 #                                      and the witness, if it has one, where a number that is 0 is left out
+#   <!-- judged with suspects -->      the same, and the third column has the ASes of each valley, in their order, with '; ' between two
 #   <!-- not run: REASON -->           it is neither, or can't be run here
 #
 # Behind 'run' and 'shell' ', status N' may stand, where the status isn't 0, or ', not shown', where the page doesn't show what is written; and
@@ -93,10 +94,11 @@ made() {
 sys.stdout.buffer.write(table([("192.0.2.1", peer)], [("192.0.2.0/24", [(0, path)])]))' "$@" </dev/null)
 }
 
-# judged PLACE FILE: the rows of a table, behind the script that was run
+# judged HOW PLACE FILE: the rows of a table, behind the script that was run
 judged() {
-    local place line cell words
-    while IFS='|' read -r _ line cell _; do
+    local how=$1 place line cell valleys words
+    shift
+    while IFS='|' read -r _ line cell valleys _; do
         [[ $line =~ \`(judge .*)\` ]] || continue
         line=${BASH_REMATCH[1]}
         place="$1: $line"
@@ -104,6 +106,12 @@ judged() {
         made "${words[@]:2}" >"$box/made.mrt"
         { cat "$work/last"; printf '%s\n' "$line" "role ${words[2]} ${words[1]}" 'open made made.mrt' 'take made 2' \
             "why 192.0.2.1 ${words[2]} 192.0.2.0/24"; } >"$work/row"
+        if [ "$how" = 'judged with suspects' ]; then
+            { cat "$work/row"; echo suspects; } >"$work/row_with"
+            performs "$place: valleys" 0 "$work/row_with"
+            read -r valleys <<<"$valleys"
+            check "$place: valleys" "$valleys" "$(sed -n 's/ routes 1 paths 1$//p' "$work/out" | paste -sd ';' | sed 's/;/; /g')"
+        fi
         performs "$place" 0 "$work/row"
         read -r cell <<<"${cell//,/}"
         check "$place" "${cell%% *}" "$(tail -n 2 "$work/out" | head -n 1)"
@@ -161,7 +169,7 @@ block() {
         check "$place: some lines" yes "$([ -s "$text" ] && echo yes)"
         check "$place" "$(cat "$text")" "$(in_order "$text")"
         ;;
-    judged) judged "$place" "$text" ;;
+    judged | 'judged with suspects') judged "$how" "$place" "$text" ;;
     'not run: '?*) echo 'nothing was run for the block above' >"$work/out" ;;
     *) check "$place: a comment above the block says what it is" 'run, text, shell, prints, judged or not run' "${how:-none}" ;;
     esac

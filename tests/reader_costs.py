@@ -82,6 +82,7 @@ SLURM = (
     b'{"slurmVersion":2,"validationOutputFilters":{"prefixFilters":[%s],"bgpsecFilters":[],"aspaFilters":[]},'
     b'"locallyAddedAssertions":{"prefixAssertions":[%s],"bgpsecAssertions":[],"aspaAssertions":[%s]}}'
 )
+VALIDATED = b'{"aspas":[%s],"roas":[%s],"metadata":[%s]}'
 DUMP = "open d input\ntake d 100000000\n"
 BMP = "bmp d input pre\ntake d 100000000\n"
 
@@ -111,6 +112,16 @@ def inputs(size):
     yield "SLURM: one assertion of many providers", SLURM % (
         b"", b"", b'{"customerAsn":1,"providerAsns":[%s]}' % b",".join(b"%d" % asn for asn in range(2, 2 + size // 8))
     ), "slurm input\n"
+    yield "validated: one provider each", VALIDATED % (
+        b",".join(b'{"customer":%d,"providers":[1]}' % (2 + at) for at in range(size // 34)), b"", b""
+    ), "validated a input\n"
+    yield "validated: one with many providers", VALIDATED % (
+        b'{"customer":1,"providers":[%s]}' % b",".join(b"%d" % asn for asn in range(2, 2 + size // 8)), b"", b""
+    ), "validated a input\n"
+    yield "validated: a record of a prefix in each element", VALIDATED % (
+        b"", b",".join(b'{"asn":1,"prefix":"::%x:%x/128"}' % (at >> 16, at & 65535) for at in range(size // 32)), b""
+    ), "validated a input\n"
+    yield "validated: what is passed over", VALIDATED % (b"", b"", b",".join([b"{}"] * (size // 3))), "validated a input\n"
     yield "table: a route with a path of its own each", PEERS + fill(size, lambda at: route(at, [64501, 100_000 + at])), DUMP
     yield "table: routes with one path", PEERS + fill(size, lambda at: route(at, [64501, 7])), DUMP
     yield "table: the same, in no order", PEERS + fill(size, lambda at: route(at * 2_654_435_761, [64501, 7])), DUMP
