@@ -48,6 +48,7 @@ impl Changes {
     }
 
     /// Appends an announcement.
+    #[inline(always)]
     pub fn announce(&mut self, key: Key, trail: Trail) -> Result<(), NoMemory>
         ensures ok { OnOk result (self.new ≡ self.old ++ Announce key trail ∷ []) }
         ensures err { OnErr result (self.new ≡ self.old) }
@@ -126,6 +127,7 @@ impl Changes {
 
     // Appends a batch of so many changes.
     #[tactic(auto, using(crate::proofs::BatchLemmas::all_changes_append, crate::proofs::BatchLemmas::length_all_changes))]
+    #[inline(always)]
     fn push(&mut self, batch: Batch, count: usize) -> Result<(), NoMemory>
         requires { count ≡ length (changes_in batch) }
         ensures ok { OnOk result (self.new ≡ self.old ++ changes_in batch) }

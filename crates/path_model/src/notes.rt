@@ -39,6 +39,7 @@ impl Notes {
     }
 
     /// Appends the note of one more announcement.
+    #[inline(always)]
     pub fn note(&mut self, otc: Otc) -> Result<(), NoMemory>
         ensures ok { OnOk result (self.new ≡ self.old ++ otc ∷ []) }
         ensures err { OnErr result (self.new ≡ self.old) }
@@ -48,6 +49,7 @@ impl Notes {
 
     /// Appends the notes of so many announcements that share their attributes.
     #[tactic(auto, using(crate::proofs::NotesLemmas::more_absent))]
+    #[inline(always)]
     pub fn note_all(&mut self, otc: Otc, count: usize) -> Result<(), NoMemory>
         ensures ok { OnOk result (self.new ≡ self.old ++ replicate count otc) }
         ensures err { OnErr result (self.new ≡ self.old) }

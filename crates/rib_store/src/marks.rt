@@ -50,6 +50,7 @@ impl Marks {
 
     // A key that had the case `before`, if it had one, has `after` from now on. It takes a few look-ups, and where these are the same
     // none.
+    #[inline(always)]
     pub(crate) fn follow(
         &mut self,
         cases: &SharedCases,

@@ -23,6 +23,7 @@ impl<'a> Iterator for Rib<'a> {
 
     ghost remaining = { item_count rows_left };
 
+    #[inline(always)]
     fn next(&mut self) -> Option<(Key, Verdict)> {
         match self.rest.next() {
             None => None,

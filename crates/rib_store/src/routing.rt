@@ -87,6 +87,7 @@ impl Routing {
     }
 
     // Performs the changes of one batch.
+    #[inline(always)]
     fn perform_batch<L: Ledger>(
         &mut self,
         batch: Batch,
@@ -114,6 +115,7 @@ impl Routing {
     }
 
     // Performs one change of the routes.
+    #[inline(always)]
     fn perform<L: Ledger>(
         &mut self,
         change: Change,
@@ -301,6 +303,7 @@ fn hint_at(hints: &[Option<u32>], place: usize) -> Option<u32> {
 }
 
 // One route more has the case.
+#[inline(always)]
 fn take<L: Ledger>(
     cases: &mut SharedCases,
     asn: u32,
@@ -324,6 +327,7 @@ fn take<L: Ledger>(
 }
 
 // One route less has the case that a key had, if it had one.
+#[inline(always)]
 fn leave(cases: &mut SharedCases, before: Option<u32>)
     ensures { Leaves cases.old before cases.new }
 {

@@ -69,6 +69,7 @@ impl<'a, V> Iterator for PlainLeft<'a, V> {
 
     ghost remaining = { item_count (λ left. left) };
 
+    #[inline(always)]
     fn next(&mut self) -> Option<(Nlri, &'a V)> {
         match self.kept.take() {
             None => self.rest.next(),
@@ -107,6 +108,7 @@ impl<'a, V> IdentifiedLeft<'a, V> {
     }
 
     // What the next one leads to, if there is one.
+    #[inline(always)]
     pub(crate) fn first(&self) -> Option<Nlri>
         ensures { result ≡ first_nlri self.now }
     {
@@ -124,6 +126,7 @@ impl<'a, V> Iterator for IdentifiedLeft<'a, V> {
 
     ghost remaining = { item_count (λ left. left) };
 
+    #[inline(always)]
     fn next(&mut self) -> Option<(Nlri, &'a V)> {
         match self.next.take() {
             None => None,

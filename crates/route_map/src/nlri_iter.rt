@@ -48,6 +48,7 @@ impl<'a, V> Iterator for NlriIter<'a, V> {
 
     ghost remaining = { item_count (λ left. left) };
 
+    #[inline(always)]
     fn next(&mut self) -> Option<(Nlri, &'a V)> {
         match self.identified.first() {
             None => self.plain.next(),

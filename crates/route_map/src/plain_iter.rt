@@ -29,6 +29,7 @@ impl<'a, V> Iterator for PlainIter<'a, V> {
 
     ghost remaining = { item_count (λ left. left) };
 
+    #[inline(always)]
     fn next(&mut self) -> Option<(Nlri, &'a V)> {
         if let Some((subnet, value)) = self.v4.next() {
             return Some((subnet.nlri(), value));

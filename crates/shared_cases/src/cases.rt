@@ -190,6 +190,7 @@ impl SharedCases {
     }
 
     /// One route less has the case. The last one takes the case along. It takes no memory.
+    #[inline(never)]
     pub fn leave(&mut self, number: u32)
         ensures { Rewrites self.old self.new number (left (at self.old number)) }
     {

@@ -49,6 +49,7 @@ impl<'a, K, V> Iterator for Iter<'a, K, V> {
 
     ghost remaining = { item_count (λ left. left) };
 
+    #[inline(always)]
     fn next(&mut self) -> Option<(&'a K, &'a V)> {
         loop {
             if let ([key, keys @ ..], [value, values @ ..]) = (self.keys, self.values) {
