@@ -1,5 +1,5 @@
 //! Addresses, prefixes, verdicts and leaks written into the room of a line.
-ghost use Rattle.std.specs.Prelude.{◌≡◌, ◌++◌, ◌∷◌, ◌+◌, ◌≤◌, ◌<◌, [], length, decimal};
+ghost use Rattle.std.specs.Prelude.{◌≡◌, ◌++◌, ◌∷◌, ◌+◌, ◌≤◌, ◌<◌, [], length, take, decimal};
 ghost use Rattle.av_text.specs.AddressText.{addr_text, groups_text, octets_text};
 ghost use Rattle.av_text.specs.PrefixText.{prefix_text};
 ghost use Rattle.av_text.specs.VerdictText.{verdict_text};
@@ -124,10 +124,21 @@ pub(crate) fn write_verdict(line: &mut [u8; ROOM], at: usize, verdict: Verdict) 
     ensures within { at ≤ result }
     ensures end { result ≤ at + 7 }
 {
+    let (word, len) = padded(verdict);
+    write_bytes(line, at, word);
+    at + len
+}
+
+// The word for a verdict, with blanks behind it where it is short, and how long it is. So no branch waits for the verdict.
+#[inline(always)]
+fn padded(verdict: Verdict) -> (&'static [u8; 7], usize)
+    ensures word { take result.1 result.0.now ≡ verdict_text verdict }
+    ensures within { result.1 ≤ 7 }
+{
     match verdict {
-        Verdict::Valid => write_bytes(line, at, b"valid"),
-        Verdict::Unknown => write_bytes(line, at, b"unknown"),
-        Verdict::Invalid => write_bytes(line, at, b"invalid"),
+        Verdict::Valid => (b"valid  ", 5),
+        Verdict::Unknown => (b"unknown", 7),
+        Verdict::Invalid => (b"invalid", 7),
     }
 }
 

@@ -27,7 +27,7 @@ AreRouted parts relations r = AreSound (grounds parts relations) r.routes r.case
 
 -- the path of a case that is found so
 abbrev pub path_by : Slots → CaseBy → AnyPath
-path_by cases (Path trail hint) = trail
+path_by cases (Path trail hint) = trail.now
 path_by cases (Number n) = path_or (at cases n)
 
 -- where it is found by its number, it is there, and of this AS

@@ -35,10 +35,10 @@ pub(crate) struct Routing {
 }
 
 // How the case of an announcement is found.
-#[derive(Drop)]
-pub(crate) enum CaseBy {
+#[derive(Clone, Copy)]
+pub(crate) enum CaseBy<'a> {
     // by its path, with a hint
-    Path(Trail, Option<u32>),
+    Path(&'a Trail, Option<u32>),
     // it is the one that has this number
     Number(u32),
 }
@@ -62,7 +62,7 @@ impl Routing {
     #[tactic(auto, using(crate::proofs::BatchLemmas::performed_append, crate::proofs::BatchLemmas::announced_append))]
     pub(crate) fn perform_all<L: Ledger>(
         &mut self,
-        changes: Changes,
+        changes: &Changes,
         table: &Vaps,
         roles: &Roles,
         steps: &mut Steps<L>,
@@ -71,14 +71,14 @@ impl Routing {
         ensures routed { OnOk result (AreRouted table.now roles.now self.new) }
         ensures state { OnOk result (routed_state table.now roles.now self.new
             ≡ record (routed_state table.now roles.now self.old) {
-              routes = performed changes (routed_state table.now roles.now self.old).routes;
+              routes = performed changes.now (routed_state table.now roles.now self.old).routes;
             }) }
-        ensures ticks { steps.new ≤ steps.old + announced changes }
+        ensures ticks { steps.new ≤ steps.old + announced changes.now }
     {
         let mut hints = [None; MOST_HINTS];
         look_ahead(&self.cases, changes.batches(), &mut hints);
         let mut place: usize = 0;
-        for batch in changes.into_batches() {
+        for batch in changes.batches() {
             let hint = hint_at(&hints, place);
             place = place.wrapping_add(1);
             self.perform_batch(batch, hint, table, roles, steps)?;
@@ -90,7 +90,7 @@ impl Routing {
     #[inline(always)]
     fn perform_batch<L: Ledger>(
         &mut self,
-        batch: Batch,
+        batch: &Batch,
         hint: Option<u32>,
         table: &Vaps,
         roles: &Roles,
@@ -100,10 +100,10 @@ impl Routing {
         ensures routed { OnOk result (AreRouted table.now roles.now self.new) }
         ensures state { OnOk result (routed_state table.now roles.now self.new
             ≡ record (routed_state table.now roles.now self.old) {
-              routes = performed (changes_in batch)
+              routes = performed (changes_in batch.now)
                   (routed_state table.now roles.now self.old).routes;
             }) }
-        ensures ticks { steps.new ≤ steps.old + announced (changes_in batch) }
+        ensures ticks { steps.new ≤ steps.old + announced (changes_in batch.now) }
     {
         match batch {
             Batch::One(change) => self.perform(change, hint, table, roles, steps),
@@ -118,7 +118,7 @@ impl Routing {
     #[inline(always)]
     fn perform<L: Ledger>(
         &mut self,
-        change: Change,
+        change: &Change,
         hint: Option<u32>,
         table: &Vaps,
         roles: &Roles,
@@ -128,16 +128,16 @@ impl Routing {
         ensures routed { OnOk result (AreRouted table.now roles.now self.new) }
         ensures state { OnOk result (routed_state table.now roles.now self.new
             ≡ record (routed_state table.now roles.now self.old) {
-              routes = changed change (routed_state table.now roles.now self.old).routes;
+              routes = changed change.now (routed_state table.now roles.now self.old).routes;
             }) }
-        ensures ticks { steps.new ≤ steps.old + announces change }
+        ensures ticks { steps.new ≤ steps.old + announces change.now }
     {
         match change {
-            Change::Remove(key) => self.withdraw(&key, table, roles)?,
+            Change::Remove(key) => self.withdraw(key, table, roles)?,
             Change::Announce(key, trail) => {
                 self.announce(key, CaseBy::Path(trail, hint), table, roles, steps)?;
             }
-            Change::RemovePeer(peer) => self.withdraw_peer(&peer, table, roles)?,
+            Change::RemovePeer(peer) => self.withdraw_peer(peer, table, roles)?,
         }
         Ok(())
     }
@@ -145,10 +145,10 @@ impl Routing {
     // The peer's routes to these prefixes have this path from now on. Its case is found once.
     fn announce_all<L: Ledger>(
         &mut self,
-        peer: Peer,
-        trail: Trail,
+        peer: &Peer,
+        trail: &Trail,
         hint: Option<u32>,
-        nlris: NlriList,
+        nlris: &NlriList,
         table: &Vaps,
         roles: &Roles,
         steps: &mut Steps<L>,
@@ -157,14 +157,14 @@ impl Routing {
         ensures routed { OnOk result (AreRouted table.now roles.now self.new) }
         ensures state { OnOk result (routed_state table.now roles.now self.new
             ≡ record (routed_state table.now roles.now self.old) {
-              routes = performed (announcements peer trail nlris)
+              routes = performed (announcements peer.now trail.now nlris.now)
                   (routed_state table.now roles.now self.old).routes;
             }) }
-        ensures ticks { steps.new ≤ steps.old + announced (announcements peer trail nlris) }
+        ensures ticks { steps.new ≤ steps.old + announced (announcements peer.now trail.now nlris.now) }
     {
         let mut by = CaseBy::Path(trail, hint);
         for nlri in nlris.iter() {
-            let number = self.announce(Key::new(peer, nlri), by, table, roles, steps)?;
+            let number = self.announce(&Key::new(*peer, nlri), by, table, roles, steps)?;
             by = CaseBy::Number(number);
         }
         Ok(())
@@ -173,29 +173,29 @@ impl Routing {
     // The key has this path from now on. The answer is the number of its case.
     fn announce<L: Ledger>(
         &mut self,
-        key: Key,
-        by: CaseBy,
+        key: &Key,
+        by: CaseBy<'_>,
         table: &Vaps,
         roles: &Roles,
         steps: &mut Steps<L>,
     ) -> Result<u32, NoMemory>
         requires routed { AreRouted table.now roles.now self.old }
-        requires found { IsFound self.old.cases key.peer.asn by }
+        requires found { IsFound self.old.cases key.now.peer.asn by.entry }
         ensures routed { OnOk result (AreRouted table.now roles.now self.new) }
         ensures state { OnOk result (routed_state table.now roles.now self.new
             ≡ record (routed_state table.now roles.now self.old) {
-              routes = fin.insert (routed_state table.now roles.now self.old).routes key
-                  (path_by self.old.cases by);
+              routes = fin.insert (routed_state table.now roles.now self.old).routes key.now
+                  (path_by self.old.cases by.entry);
             }) }
         ensures case { IfOk result (λ n.
-            IsStoredAs (at self.new.cases n) key.peer.asn (path_by self.old.cases by)) }
+            IsStoredAs (at self.new.cases n) key.now.peer.asn (path_by self.old.cases by.entry)) }
         ensures ticks { steps.new ≤ steps.old + 1 }
     {
         // it comes with the order of the keys
         let _length = self.routes.len();
         let number = take(&mut self.cases, key.peer.asn, by, table, roles, steps)?;
-        let before = self.routes.insert(key, number)?;
-        self.marks.follow(&self.cases, &key, before, Some(number))?;
+        let before = self.routes.insert(*key, number)?;
+        self.marks.follow(&self.cases, key, before, Some(number))?;
         leave(&mut self.cases, before);
         Ok(number)
     }
@@ -203,8 +203,8 @@ impl Routing {
     // The peer has no routes to these prefixes from now on.
     fn withdraw_all(
         &mut self,
-        peer: Peer,
-        nlris: NlriList,
+        peer: &Peer,
+        nlris: &NlriList,
         table: &Vaps,
         roles: &Roles,
     ) -> Result<(), NoMemory>
@@ -212,12 +212,12 @@ impl Routing {
         ensures routed { OnOk result (AreRouted table.now roles.now self.new) }
         ensures state { OnOk result (routed_state table.now roles.now self.new
             ≡ record (routed_state table.now roles.now self.old) {
-              routes = performed (removals peer nlris)
+              routes = performed (removals peer.now nlris.now)
                   (routed_state table.now roles.now self.old).routes;
             }) }
     {
         for nlri in nlris.iter() {
-            self.withdraw(&Key::new(peer, nlri), table, roles)?;
+            self.withdraw(&Key::new(*peer, nlri), table, roles)?;
         }
         Ok(())
     }
@@ -307,14 +307,14 @@ fn hint_at(hints: &[Option<u32>], place: usize) -> Option<u32> {
 fn take<L: Ledger>(
     cases: &mut SharedCases,
     asn: u32,
-    by: CaseBy,
+    by: CaseBy<'_>,
     table: &Vaps,
     roles: &Roles,
     steps: &mut Steps<L>,
 ) -> Result<u32, NoMemory>
-    requires { IsFound cases.old asn by }
+    requires { IsFound cases.old asn by.entry }
     ensures taken { IfOk result (λ n. Takes (grounds table.now roles.now) asn
-        (path_by cases.old by) cases.old cases.new n) }
+        (path_by cases.old by.entry) cases.old cases.new n) }
     ensures ticks { steps.new ≤ steps.old + 1 }
 {
     match by {

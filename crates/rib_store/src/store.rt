@@ -111,7 +111,7 @@ impl RibStore {
     {
         match self
             .routing
-            .perform_all(changes, &self.table, &self.roles, steps)
+            .perform_all(&changes, &self.table, &self.roles, steps)
         {
             Ok(()) => Ok(()),
             Err(none) => {

@@ -154,21 +154,21 @@ impl SharedCases {
     pub fn take<L: Ledger>(
         &mut self,
         asn: u32,
-        trail: Trail,
+        trail: &Trail,
         hint: Option<u32>,
         table: &Vaps,
         roles: &Roles,
         steps: &mut Steps<L>,
     ) -> Result<u32, NoMemory>
         ensures taken { IfOk result (λ n.
-            Takes (grounds table.now roles.now) asn trail self.old self.new n) }
+            Takes (grounds table.now roles.now) asn trail.now self.old self.new n) }
         ensures ticks { steps.new ≤ steps.old + 1 }
     {
-        if let Some(number) = self.hinted(hint, asn, &trail) {
+        if let Some(number) = self.hinted(hint, asn, trail) {
             self.take_again(number)?;
             return Ok(number);
         }
-        let name = CaseName::new(asn, trail);
+        let name = CaseName::new(asn, trail.copy()?);
         if let Some(number) = self.find(&name) {
             self.take_again(number)?;
             return Ok(number);
