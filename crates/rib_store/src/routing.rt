@@ -78,7 +78,8 @@ impl Routing {
         let mut hints = [None; MOST_HINTS];
         look_ahead(&self.cases, changes.batches(), &mut hints);
         let mut place: usize = 0;
-        for batch in changes.batches() {
+        let batches = changes.batches().iter();
+        for batch in batches {
             let hint = hint_at(&hints, place);
             place = place.wrapping_add(1);
             self.perform_batch(batch, hint, table, roles, steps)?;
@@ -180,7 +181,7 @@ impl Routing {
         steps: &mut Steps<L>,
     ) -> Result<u32, NoMemory>
         requires routed { AreRouted table.now roles.now self.old }
-        requires found { IsFound self.old.cases key.now.peer.asn by.entry }
+        requires found { IsFound self.old.cases key.now.peer.asn by }
         ensures routed { OnOk result (AreRouted table.now roles.now self.new) }
         ensures state { OnOk result (routed_state table.now roles.now self.new
             ≡ record (routed_state table.now roles.now self.old) {
@@ -312,7 +313,7 @@ fn take<L: Ledger>(
     roles: &Roles,
     steps: &mut Steps<L>,
 ) -> Result<u32, NoMemory>
-    requires { IsFound cases.old asn by.entry }
+    requires { IsFound cases.old asn by }
     ensures taken { IfOk result (λ n. Takes (grounds table.now roles.now) asn
         (path_by cases.old by.entry) cases.old cases.new n) }
     ensures ticks { steps.new ≤ steps.old + 1 }
