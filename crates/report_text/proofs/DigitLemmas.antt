@@ -1,6 +1,7 @@
 -- Numbers that are written digit by digit, and parts that are written one behind another.
-use Rattle.std.proofs.Common.{◌≡◌, ℕ, ◌+◌, ◌/◌, ◌%◌, ◌^◌, ◌<◌, ◌≤◌, List, [], ◌∷◌, ◌++◌, length, take, set, decimal, refl, sym, ap, subst, ◌∙◌, append_assoc, arith, length-append}
-use Rattle.std.proofs.lemmas.List.{take_more_set}
+use Rattle.std.proofs.Common.{◌≡◌, ℕ, ◌+◌, ◌/◌, ◌%◌, ◌^◌, ◌<◌, ◌≤◌, List, [], ◌∷◌, ◌++◌, length, take, drop, set, decimal, refl, sym, ap, subst, ◌∙◌, append_assoc, arith, length-append}
+use Rattle.std.proofs.lemmas.List.{length-take-le, take_more_set, take-append-drop, take-append-le}
+use Rattle.std.proofs.Math.Seq.{take-append-add}
 use Rattle.std.proofs.lemmas.Fmt.{decimal_digit, decimal_step, length-decimal-le}
 use Rattle.av_text.specs.AddressText.{parts_text}
 use Rattle.report_text.specs.Writes.{Writes}
@@ -29,6 +30,19 @@ behind {t} {u} {a} {b} {c} {i} {j} {k} first next = record { front = next.front 
 -- the same text, spelled otherwise
 pub respelled : {t u a b : List ℕ} {i j : ℕ} → Writes t a i b j → t ≡ u → Writes u a i b j
 respelled {t} {u} {a} {b} {i} {j} is same = subst (λ (x : List ℕ). Writes x a i b j) same is
+
+-- the first bytes alone of what was written
+pub shorter : {t a b : List ℕ} {i j : ℕ} (len : ℕ) → Writes t a i b j → i ≤ length a → len ≤ length t → Writes (take len t) a i b (i + len)
+shorter {t} {a} {b} {i} {j} len written inside short =
+    let front : length (take i a) ≡ i = length-take-le i a inside in
+    let whole : length (take j b) ≡ i + length t = ap length written.front ∙ length-append (take i a) t ∙ ap (λ (n : ℕ). n + length t) front in
+    record {
+      front = ap (take (i + len)) (sym (take-append-drop j b))
+          ∙ take-append-le (i + len) (take j b) (drop j b) (omega (arith, whole, short))
+          ∙ ap (take (i + len)) written.front
+          ∙ ap (λ (n : ℕ). take (n + len) (take i a ++ t)) (sym front)
+          ∙ take-append-add (take i a) t len;
+    }
 
 -- one byte more
 pub one_more : (line : List ℕ) (at byte : ℕ) → at < length line → Writes (byte ∷ []) line at (set line at byte) (at + 1)
