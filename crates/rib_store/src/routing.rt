@@ -277,10 +277,25 @@ fn look_ahead(cases: &SharedCases, batches: &[Batch], hints: &mut [Option<u32>])
         return;
     }
     for (hint, batch) in hints.iter_mut().zip(batches.iter()) {
-        *hint = hint_of(cases, batch);
+        *hint = near_of(cases, batch);
+    }
+    for (hint, batch) in hints.iter_mut().zip(batches.iter()) {
+        if hint.is_none() {
+            *hint = hint_of(cases, batch);
+        }
     }
     for (hint, _) in hints.iter_mut().zip(batches.iter()) {
         *hint = cases.fetched(*hint);
+    }
+}
+
+// Under which number the case of a batch is likely to stand, where that takes one look.
+#[inline(always)]
+fn near_of(cases: &SharedCases, batch: &Batch) -> Option<u32> {
+    match batch {
+        Batch::One(Change::Announce(key, trail)) => cases.near(key.peer.asn, trail),
+        Batch::AnnounceAll(peer, trail, _) => cases.near(peer.asn, trail),
+        _ => None,
     }
 }
 

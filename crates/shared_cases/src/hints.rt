@@ -14,6 +14,13 @@ impl SharedCases {
         self.names.hint(mixed(asn, trail))
     }
 
+    /// The same hint, where it is found with one look, as most are: got for many cases before [`SharedCases::hint`] is asked for the others,
+    /// it lets the looks wait for memory together.
+    #[inline(always)]
+    pub fn near(&self, asn: u32, trail: &Trail) -> Option<u32> {
+        self.names.near(mixed(asn, trail))
+    }
+
     /// The same hint, if a case stands there. It reads the case at both ends, so that it is at hand for who takes it.
     #[inline(always)]
     pub fn fetched(&self, hint: Option<u32>) -> Option<u32> {

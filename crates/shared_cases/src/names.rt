@@ -67,6 +67,12 @@ impl Names {
         self.words.get(word)
     }
 
+    // The same, where it is found with one look.
+    #[inline(always)]
+    pub(crate) fn near(&self, word: u64) -> Option<u32> {
+        self.words.near(word)
+    }
+
     // One name more. It takes no memory for the path unless another case has its word.
     pub(crate) fn add(&mut self, name: CaseName, number: u32) -> Result<(), NoMemory>
         requires { name ≡ name_of name.asn name.trail }

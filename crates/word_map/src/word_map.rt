@@ -69,6 +69,15 @@ impl WordMap {
         table::look_up(self.slots.as_slice(), &self.over, word)
     }
 
+    /// The number of a word, where that lies at the first of its places, as most do. It reads one slot, so that where many words are looked
+    /// up one after another, memory is waited for once and not for each. `None` says nothing. It takes no memory.
+    #[inline(always)]
+    pub fn near(&self, word: u64) -> Option<u32>
+        ensures { IfSome result (λ number. map.get self.now word ≡ Some number) }
+    {
+        table::look_near(self.slots.as_slice(), &self.over, word)
+    }
+
     /// A word has this number from now on, and the one that it had is answered. Where there is no memory, nothing changed; for the number
     /// 2^32 - 1 there is none.
     pub fn set(&mut self, word: u64, number: u32) -> Result<Option<u32>, NoMemory>
