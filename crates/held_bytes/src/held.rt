@@ -1,6 +1,7 @@
 //! Bytes that are held.
-ghost use Rattle.std.specs.Prelude.{◌≡◌, ◌≤◌, [], ◌++◌, length, take, drop, IfOk};
+ghost use Rattle.std.specs.Prelude.{◌≡◌, ◌≤◌, ◌+◌, ◌-◌, [], ◌++◌, length, take, drop, IfOk};
 
+use crate::Room;
 use av_base::NoMemory;
 use std::alloc::Global;
 use std::marker::Model;
@@ -10,9 +11,12 @@ use std::marker::Model;
 /// A byte that is held is moved at most once for each piece that comes before it is taken, and none where it is taken.
 #[derive(Debug, Drop)]
 pub struct HeldBytes {
+    // what is kept, and room behind it
     bytes: Vec<u8>,
-    // how many of them were taken
+    // how many of these were taken
     at: usize,
+    // where what is kept ends
+    end: usize,
 }
 
 /// A contract sees the taken bytes that are still kept, and those that are left.
@@ -23,11 +27,11 @@ impl Model for HeldBytes {
     ghost Value = { Held };
 
     ghost view = { λ h. record {
-      taken = take h.at h.bytes.items;
-      left = drop h.at h.bytes.items;
+      taken = take h.at (take h.end h.bytes.items);
+      left = drop h.at (take h.end h.bytes.items);
     } };
 
-    ghost invariant = { λ h. h.at ≤ length h.bytes.items };
+    ghost invariant = { λ h. (h.at ≤ h.end) × (h.end ≤ length h.bytes.items) };
 }
 
 impl HeldBytes {
@@ -38,36 +42,52 @@ impl HeldBytes {
         HeldBytes {
             bytes: Vec::new(alloc),
             at: 0,
+            end: 0,
         }
     }
 
     /// Appends a piece of the stream. All that was taken is let go, once for all of it.
-    pub fn feed(mut self, piece: &[u8]) -> Result<HeldBytes, NoMemory>
+    pub fn feed(self, piece: &[u8]) -> Result<HeldBytes, NoMemory>
         ensures { IfOk result (λ held. held ≡ record { taken = []; left = self.left ++ piece.now }) }
     {
-        self.let_go();
-        self.bytes.extend_from_slice(piece)?;
-        Ok(self)
+        let HeldBytes { mut bytes, at, end } = self;
+        let left = let_go(&mut bytes, at, end);
+        bytes.truncate(left);
+        bytes.extend_from_slice(piece)?;
+        let end = bytes.len();
+        Ok(HeldBytes { bytes, at: 0, end })
     }
 
-    // Lets go what was taken.
-    fn let_go(&mut self)
-        ensures { self.new ≡ record { taken = []; left = self.old.left } }
+    /// Gives the buffer out, with room for at least so many bytes behind those that are left. All that was taken is let go, once for all of
+    /// it. The buffer grows, and new bytes of it are cleared, only where it hasn't the room.
+    pub fn into_room(self, count: usize) -> Result<Room, NoMemory>
+        ensures held { IfOk result (λ room. take room.held room.bytes.items ≡ self.left) }
+        ensures room { IfOk result (λ room. room.held + count ≤ length room.bytes.items) }
     {
-        if self.at == 0 {
-            return;
+        let HeldBytes { mut bytes, at, end } = self;
+        let held = let_go(&mut bytes, at, end);
+        let wanted = held.checked_add(count).ok_or(NoMemory)?;
+        if bytes.len() < wanted {
+            bytes.resize(wanted, 0)?;
         }
-        let left = self.bytes.len() - self.at;
-        self.bytes.copy_within(self.at.., 0);
-        self.bytes.truncate(left);
-        self.at = 0;
+        Ok(Room { bytes, held })
+    }
+
+    /// Takes a buffer back, of which the bytes up to `end` are held now. None is moved.
+    pub fn from_room(room: Room, end: usize) -> HeldBytes
+        requires { end ≤ length room.bytes.items }
+        ensures { result ≡ record { taken = []; left = take end room.bytes.items } }
+    {
+        let Room { bytes, held: _ } = room;
+        HeldBytes { bytes, at: 0, end }
     }
 
     /// The bytes that are held and weren't taken.
     pub fn front(&self) -> &[u8]
         ensures { result.now ≡ self.now.left }
     {
-        let (_, left) = self.bytes.as_slice().split_at(self.at);
+        let (kept, _) = self.bytes.as_slice().split_at(self.end);
+        let (_, left) = kept.split_at(self.at);
         left
     }
 
@@ -75,11 +95,12 @@ impl HeldBytes {
     pub fn taken(&self) -> &[u8]
         ensures { result.now ≡ self.now.taken }
     {
-        let (taken, _) = self.bytes.as_slice().split_at(self.at);
+        let (kept, _) = self.bytes.as_slice().split_at(self.end);
+        let (taken, _) = kept.split_at(self.at);
         taken
     }
 
-    /// Takes so many bytes off the front. They are kept until the next `feed`, and none is moved.
+    /// Takes so many bytes off the front. They are kept until the next `feed` or `into_room`, and none is moved.
     pub fn drop_front(&mut self, count: usize)
         requires { count ≤ length self.old.left }
         ensures taken { self.new.taken ≡ self.old.taken ++ take count self.old.left }
@@ -87,4 +108,18 @@ impl HeldBytes {
     {
         self.at += count;
     }
+}
+
+// Moves what is left in front, behind which all is let go, and answers how many bytes that are.
+fn let_go(bytes: &mut Vec<u8>, at: usize, end: usize) -> usize
+    requires order { at ≤ end }
+    requires within { end ≤ length bytes.old.items }
+    ensures count { result ≡ end - at }
+    ensures left { take result bytes.new.items ≡ drop at (take end bytes.old.items) }
+    ensures len { length bytes.new.items ≡ length bytes.old.items }
+{
+    if 0 < at {
+        bytes.copy_within(at..end, 0);
+    }
+    end - at
 }

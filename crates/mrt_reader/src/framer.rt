@@ -1,12 +1,12 @@
 //! Records cut out of a stream that comes in pieces.
-ghost use Rattle.std.specs.Prelude.{◌≡◌, ◌≢◌, ◌↔◌, ◌++◌, [], OnOk, OnErr, IfOk, IsErrOf, IsTrue};
+ghost use Rattle.std.specs.Prelude.{◌≡◌, ◌≢◌, ◌↔◌, ◌≤◌, ◌+◌, ◌++◌, [], length, take, OnOk, OnErr, IfOk, IsErrOf, IsTrue};
 ghost use Rattle.std.specs.Borrow.{sem};
 ghost use Rattle.std.specs.Io.BufRead.{Rests};
 
 use crate::fault::FrameFault;
 use crate::heading::whole_head;
 use av_base::NoMemory;
-use held_bytes::HeldBytes;
+use held_bytes::{HeldBytes, Room};
 use std::alloc::Global;
 use std::marker::Model;
 
@@ -25,7 +25,7 @@ pub struct Record<'a> {
 
 /// The bytes of a stream that came and that no record took yet.
 ///
-/// Feed it only after `next` answered `None`: then less than a record is held, and with the piece less than a record and a piece. Fed
+/// Feed it, or read into its buffer, only after `next` answered `None`: then less than a record is held, and with the piece less than a record and a piece. Fed
 /// before that, or after 26 TooLong, it grows by each piece.
 #[derive(Debug, Drop)]
 pub struct Framer {
@@ -61,6 +61,26 @@ impl Framer {
         let Framer { held } = self;
         let held = held.feed(piece)?;
         Ok(Framer { held })
+    }
+
+    /// Gives the buffer out, with room for at least so many bytes behind those that are held. What was taken before is let go here. The
+    /// buffer grows only where a record that isn't whole is longer than each one before, by at most its bytes and these.
+    pub fn into_room(self, count: usize) -> Result<Room, NoMemory>
+        ensures held { IfOk result (λ room. take room.held room.bytes.items ≡ self) }
+        ensures room { IfOk result (λ room. room.held + count ≤ length room.bytes.items) }
+    {
+        let Framer { held } = self;
+        held.into_room(count)
+    }
+
+    /// Takes a buffer back, of which the bytes up to `end` are held now. It takes no memory and moves no byte.
+    pub fn from_room(room: Room, end: usize) -> Framer
+        requires { end ≤ length room.bytes.items }
+        ensures { result ≡ take end room.bytes.items }
+    {
+        Framer {
+            held: HeldBytes::from_room(room, end),
+        }
     }
 
     /// Takes the first record off and lends its body. It takes no memory and moves no byte.

@@ -13,7 +13,7 @@ use crate::kind::DumpKind;
 use crate::next::Next;
 use crate::reader::Reader;
 use crate::stop::ReadFault;
-use av_base::{PIECE, Shelf};
+use av_base::Shelf;
 use std::alloc::Global;
 use std::marker::Model;
 
@@ -220,7 +220,7 @@ fn fill<F: Shelf>(
     Ok(())
 }
 
-// Reads one piece, and answers false where nothing is left. Its buffer must not be cleared wherever it is called from.
+// Reads one piece into the buffer of what is held, and answers false where nothing is left.
 #[inline(never)]
 fn read_piece<F: Shelf>(
     alloc: Global,
@@ -244,11 +244,10 @@ fn read_piece<F: Shelf>(
         → Rose (F.faults shelf.old) (F.faults shelf.new) }
     ensures faults { F.faults shelf.old ≤ F.faults shelf.new }
 {
-    let mut buffer = [0u8; PIECE];
-    let count = shelf.read(file, &mut buffer)?;
-    if count == 0 {
-        return Ok(false);
-    }
-    reader.feed(alloc, &buffer[..count])?;
-    Ok(true)
+    let mut room = reader.lend(alloc)?;
+    let (_, free) = room.bytes.as_mut_slice().split_at_mut(room.held);
+    let count = shelf.read(file, free)?;
+    let end = room.held + count;
+    reader.give_back(room, end);
+    Ok(0 < count)
 }

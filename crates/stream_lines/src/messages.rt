@@ -1,12 +1,13 @@
 //! The messages of a dump of BMP.
-ghost use Rattle.std.specs.Prelude.{◌≡◌, ◌++◌, [], Some, IfOk};
+ghost use Rattle.std.specs.Prelude.{◌≡◌, ◌<◌, ◌≤◌, [], length, take, Some, IfOk};
 ghost use Rattle.std.specs.FinSet as set;
 ghost use Rattle.stream_lines.specs.Gives.{Gives, IsBreak, Says};
 ghost use Rattle.stream_lines.specs.Units.{Bmp, MessageSays, learnt as learnt_of, message_cause as cause_of_fault, noted};
 
 use crate::next::{Effect, Next};
-use av_base::NoMemory;
+use av_base::{NoMemory, PIECE};
 use bmp_reader::{BmpFault, BmpFrameFault, Body, Framer, PathPeers, View, read_message};
+use held_bytes::Room;
 use path_model::{Peer, Role};
 use report_text::Cause;
 use std::alloc::Global;
@@ -84,14 +85,24 @@ impl Messages {
         Ok(())
     }
 
-    /// Appends a piece of the file.
-    pub(crate) fn feed(&mut self, alloc: Global, piece: &[u8]) -> Result<(), NoMemory>
-        ensures { IfOk result (λ _. self.new
-            ≡ record self.old { framer = self.old.framer ++ piece.now }) }
+    /// Gives the buffer out, with room for a piece of the file. Nothing is held until it is back.
+    pub(crate) fn lend(&mut self, alloc: Global) -> Result<Room, NoMemory>
+        ensures held { IfOk result (λ room.
+            take room.held room.bytes.items ≡ self.old.framer) }
+        ensures room { IfOk result (λ room. room.held < length room.bytes.items) }
+        ensures peers { self.new.peers ≡ self.old.peers }
+        ensures view { self.new.view ≡ self.old.view }
     {
-        let held = mem::replace(&mut self.framer, Framer::new(alloc));
-        self.framer = held.feed(piece)?;
-        Ok(())
+        let framer = mem::replace(&mut self.framer, Framer::new(alloc));
+        framer.into_room(PIECE)
+    }
+
+    /// Takes the buffer back, of which the bytes up to `end` are held now.
+    pub(crate) fn give_back(&mut self, room: Room, end: usize)
+        requires { end ≤ length room.bytes.items }
+        ensures { self.new ≡ record self.old { framer = take end room.bytes.items } }
+    {
+        self.framer = Framer::from_room(room, end);
     }
 }
 

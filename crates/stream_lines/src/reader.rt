@@ -1,5 +1,5 @@
 //! The reader of a dump: of its records, or of its messages.
-ghost use Rattle.std.specs.Prelude.{◌≡◌, ◌↔◌, ◌++◌, [], IfOk, IsTrue};
+ghost use Rattle.std.specs.Prelude.{◌≡◌, ◌↔◌, ◌<◌, ◌≤◌, [], length, take, IfOk, IsTrue};
 ghost use Rattle.stream_lines.specs.Gives.{Gives, HasStamp, IsLast, IsPartial};
 ghost use Rattle.stream_lines.specs.Held.{fresh_of, held_of, known_of};
 ghost use Rattle.stream_lines.specs.Units.{first_known, is_of_records};
@@ -10,6 +10,7 @@ use crate::next::Next;
 use crate::records::Records;
 use av_base::NoMemory;
 use bmp_reader::View;
+use held_bytes::Room;
 use report_text::Cause;
 use std::alloc::Global;
 
@@ -74,14 +75,28 @@ impl Reader {
         }
     }
 
-    /// Appends a piece of the file.
-    pub(crate) fn feed(&mut self, alloc: Global, piece: &[u8]) -> Result<(), NoMemory>
-        ensures held { IfOk result (λ _. held_of self.new ≡ held_of self.old ++ piece.now) }
-        ensures known { IfOk result (λ _. known_of self.new ≡ known_of self.old) }
+    /// Gives the buffer out, with room for a piece of the file. Nothing is held until it is back.
+    pub(crate) fn lend(&mut self, alloc: Global) -> Result<Room, NoMemory>
+        ensures held { IfOk result (λ room.
+            take room.held room.bytes.items ≡ held_of self.old) }
+        ensures room { IfOk result (λ room. room.held < length room.bytes.items) }
+        ensures known { known_of self.new ≡ known_of self.old }
     {
         match self {
-            Reader::Mrt(records) => records.feed(alloc, piece),
-            Reader::Bmp(messages) => messages.feed(alloc, piece),
+            Reader::Mrt(records) => records.lend(alloc),
+            Reader::Bmp(messages) => messages.lend(alloc),
+        }
+    }
+
+    /// Takes the buffer back, of which the bytes up to `end` are held now.
+    pub(crate) fn give_back(&mut self, room: Room, end: usize)
+        requires { end ≤ length room.bytes.items }
+        ensures held { held_of self.new ≡ take end room.bytes.items }
+        ensures known { known_of self.new ≡ known_of self.old }
+    {
+        match self {
+            Reader::Mrt(records) => records.give_back(room, end),
+            Reader::Bmp(messages) => messages.give_back(room, end),
         }
     }
 

@@ -1,10 +1,11 @@
 //! The records of a dump of MRT.
-ghost use Rattle.std.specs.Prelude.{◌≡◌, ◌++◌, [], None, Some, IfOk};
+ghost use Rattle.std.specs.Prelude.{◌≡◌, ◌<◌, ◌≤◌, [], length, take, None, Some, IfOk};
 ghost use Rattle.stream_lines.specs.Gives.{Gives, Says};
 ghost use Rattle.stream_lines.specs.Units.{Mrt, RecordSays, record_cause as cause_of_fault};
 
 use crate::next::{Effect, Next};
-use av_base::NoMemory;
+use av_base::{NoMemory, PIECE};
+use held_bytes::Room;
 use mrt_reader::{Body, BodyFault, Framer, PeerTable, read_body};
 use report_text::Cause;
 use std::alloc::Global;
@@ -64,14 +65,23 @@ impl Records {
         }
     }
 
-    /// Appends a piece of the file.
-    pub(crate) fn feed(&mut self, alloc: Global, piece: &[u8]) -> Result<(), NoMemory>
-        ensures { IfOk result (λ _. self.new
-            ≡ record self.old { framer = self.old.framer ++ piece.now }) }
+    /// Gives the buffer out, with room for a piece of the file. Nothing is held until it is back.
+    pub(crate) fn lend(&mut self, alloc: Global) -> Result<Room, NoMemory>
+        ensures held { IfOk result (λ room.
+            take room.held room.bytes.items ≡ self.old.framer) }
+        ensures room { IfOk result (λ room. room.held < length room.bytes.items) }
+        ensures peers { self.new.peers ≡ self.old.peers }
     {
-        let held = mem::replace(&mut self.framer, Framer::new(alloc));
-        self.framer = held.feed(piece)?;
-        Ok(())
+        let framer = mem::replace(&mut self.framer, Framer::new(alloc));
+        framer.into_room(PIECE)
+    }
+
+    /// Takes the buffer back, of which the bytes up to `end` are held now.
+    pub(crate) fn give_back(&mut self, room: Room, end: usize)
+        requires { end ≤ length room.bytes.items }
+        ensures { self.new ≡ record self.old { framer = take end room.bytes.items } }
+    {
+        self.framer = Framer::from_room(room, end);
     }
 }
 
