@@ -6,6 +6,7 @@ pub mod JudgementLemmas
 pub mod LawLemmas
 pub mod LeaksLemmas
 pub mod NextLemmas
+pub mod PieceLemmas
 pub mod RefusalLemmas
 pub mod ReportedLemmas
 pub mod RowsLemmas

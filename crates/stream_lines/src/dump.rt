@@ -1,9 +1,9 @@
 //! A dump that is open, and what comes next in it.
-ghost use Rattle.std.specs.Prelude.{◌≡◌, ◌<◌, ◌≤◌, ◌≢◌, ◌+◌, ◌^◌, ℕ, [], true, false, length, IfOk, IsErrOf};
+ghost use Rattle.std.specs.Prelude.{◌≡◌, ◌<◌, ◌≤◌, ◌≢◌, ◌+◌, ◌^◌, ℕ, [], true, false, length, take, drop, IfOk, OnErr, IsErrOf};
 ghost use Rattle.std.specs.Option.{option_map};
 ghost use Rattle.std.specs.Io.KnownBytes.{prepend_known, IsAtEnd};
-ghost use Rattle.av_base.specs.Files.{closes, left_of};
-ghost use Rattle.av_base.specs.Told.{Rose};
+ghost use Rattle.av_base.specs.Files.{closes, left_of, reads};
+ghost use Rattle.av_base.specs.Told.{HasCause, Rose, Took};
 ghost use Rattle.stream_lines.specs.Frames.{Leaves};
 ghost use Rattle.stream_lines.specs.Gives.{IsNext, IsPartial, TellsFrom};
 ghost use Rattle.stream_lines.specs.Held.{fresh_of, held_of, known_of};
@@ -13,7 +13,7 @@ use crate::kind::DumpKind;
 use crate::next::Next;
 use crate::reader::Reader;
 use crate::stop::ReadFault;
-use av_base::Shelf;
+use av_base::{Fault, Shelf};
 use std::alloc::Global;
 use std::marker::Model;
 
@@ -245,9 +245,31 @@ fn read_piece<F: Shelf>(
     ensures faults { F.faults shelf.old ≤ F.faults shelf.new }
 {
     let mut room = reader.lend(alloc)?;
-    let (_, free) = room.bytes.as_mut_slice().split_at_mut(room.held);
-    let count = shelf.read(file, free)?;
+    let count = read_behind(&mut room.bytes, room.held, file, shelf)?;
     let end = room.held + count;
     reader.give_back(room, end);
     Ok(0 < count)
+}
+
+// Reads behind the bytes that are held, into all the room that there is, and answers how many came.
+fn read_behind<F: Shelf>(
+    bytes: &mut Vec<u8>,
+    held: usize,
+    file: u32,
+    shelf: &mut F,
+) -> Result<usize, Fault>
+    requires given { file < F.opened shelf.old }
+    requires room { held < length bytes.old.items }
+    ensures within { IfOk result (λ n. held + n ≤ length bytes.new.items) }
+    ensures before { take held bytes.new.items ≡ take held bytes.old.items }
+    ensures came { IfOk result (λ n. Took (left_of (F.files shelf.old) file)
+        (left_of (F.files shelf.new) file) n (drop held bytes.new.items)) }
+    ensures others { IfOk result (λ n. F.files shelf.new
+        ≡ option_map (reads file n) (F.files shelf.old)) }
+    ensures err { OnErr result (F.files shelf.new ≡ F.files shelf.old) }
+    ensures opened { F.opened shelf.new ≡ F.opened shelf.old }
+    ensures cause { HasCause (F.faults shelf.old) (F.faults shelf.new) result }
+{
+    let (_, free) = bytes.as_mut_slice().split_at_mut(held);
+    shelf.read(file, free)
 }
