@@ -21,8 +21,8 @@ pub struct Message<'a> {
 
 /// The bytes of a stream that came and that no message took yet.
 ///
-/// Feed it, or read into its buffer, only after `next` answered `None`: then less than a message is held, and with the piece less than a message and a piece. Fed
-/// before that, or after 45 BmpVersion or 46 BmpLength, it grows by each piece.
+/// Feed it, or read into its buffer, only after `next` answered `None`: then less than a message is held, and with the piece less than a
+/// message and a piece. Fed before that, or after 45 BmpVersion or 46 BmpLength, it grows by each piece.
 #[derive(Debug, Drop)]
 pub struct Framer {
     held: HeldBytes,

@@ -25,8 +25,8 @@ pub struct Record<'a> {
 
 /// The bytes of a stream that came and that no record took yet.
 ///
-/// Feed it, or read into its buffer, only after `next` answered `None`: then less than a record is held, and with the piece less than a record and a piece. Fed
-/// before that, or after 26 TooLong, it grows by each piece.
+/// Feed it, or read into its buffer, only after `next` answered `None`: then less than a record is held, and with the piece less than a
+/// record and a piece. Fed before that, or after 26 TooLong, it grows by each piece.
 #[derive(Debug, Drop)]
 pub struct Framer {
     held: HeldBytes,

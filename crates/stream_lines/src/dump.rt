@@ -220,7 +220,7 @@ fn fill<F: Shelf>(
     Ok(())
 }
 
-// Reads one piece into the buffer of what is held, and answers false where nothing is left.
+// Reads one piece into the buffer of what is held, and answers false where nothing is left. It is called once for many units.
 #[inline(never)]
 fn read_piece<F: Shelf>(
     alloc: Global,
