@@ -39,6 +39,16 @@ impl Changes {
         }
     }
 
+    /// No changes, with room for so many batches.
+    pub fn with_room(alloc: Global, batches: usize) -> Result<Changes, NoMemory>
+        ensures { IfOk result (λ changes. changes ≡ []) }
+    {
+        Ok(Changes {
+            batches: Vec::with_capacity(alloc, batches)?,
+            len: 0,
+        })
+    }
+
     /// Appends a withdrawal.
     pub fn remove(&mut self, key: Key) -> Result<(), NoMemory>
         ensures ok { OnOk result (self.new ≡ self.old ++ Remove key ∷ []) }
