@@ -6,4 +6,5 @@ pub mod Laws
 pub mod NumberIter
 pub mod Numbers
 pub mod Pairs
+pub mod Places
 pub mod Through

@@ -28,4 +28,4 @@ ends_of index x (y ∷ ys) = ends_at y (numbers_or (at index (pair_of x y))) ++ 
 -- what is still to come: the rest of one neighbour's, and those of the others
 abbrev pub ends_left : Through → List (ℕ × ℕ)
 ends_left through =
-    ends_at through.y (numbers_or through.cases) ++ ends_of through.hops.now.entries through.x (numbers_or through.neighbours)
+    ends_at through.y (numbers_or through.cases) ++ ends_of through.hops.now through.x (numbers_or through.neighbours)

@@ -1,5 +1,5 @@
 //! Hops by their ASes.
-ghost use Rattle.std.specs.Prelude.{◌≡◌, ℕ, OnOk, IfOk};
+ghost use Rattle.std.specs.Prelude.{◌≡◌, ℕ, OnOk};
 ghost use Rattle.std.specs.List.Sorted.{IsStrictlySortedBy};
 ghost use Rattle.std.specs.Ordering.{nat_cmp};
 ghost use Rattle.hop_index.specs.Index.{has, HasNothing, Adds, Removes};
@@ -8,10 +8,11 @@ ghost use Rattle.hop_index.specs.Numbers.{has_number};
 ghost use Rattle.hop_index.specs.Through.{end_cmp, has_end, ends_left};
 
 use crate::between::Between;
+use crate::hops::Hops;
+use crate::neighbours;
 use crate::numbers::Numbers;
 use crate::pair::Pair;
 use crate::through::Through;
-use crate::{cases_of_hops, neighbours};
 use av_base::NoMemory;
 use path_model::AsList;
 use std::alloc::Global;
@@ -28,7 +29,7 @@ pub struct HopIndex {
     // the neighbours of each AS, as the hops have them: an AS without hops has no entry
     ends: BTreeMap<u32, Numbers>,
     // the cases of each hop, of which there is one at least
-    hops: BTreeMap<Pair, Numbers>,
+    hops: Hops,
 }
 
 /// A function of its own, so that what lets an index go needn't say how.
@@ -48,9 +49,9 @@ impl Model for HopIndex {
 
     ghost Value = { Entries };
 
-    ghost view = { λ a. a.hops.entries };
+    ghost view = { λ a. a.hops };
 
-    ghost invariant = { λ a. AreKept a.ends.entries a.hops.entries };
+    ghost invariant = { λ a. AreKept a.ends.entries a.hops };
 }
 
 impl HopIndex {
@@ -61,48 +62,37 @@ impl HopIndex {
         HopIndex {
             alloc,
             ends: BTreeMap::new(alloc),
-            hops: BTreeMap::new(alloc),
+            hops: Hops::new(alloc),
         }
     }
 
-    /// The index with the hops of a case more: those between each two neighbours of its chain, in both orders. What it had before of this
-    /// case stays. For a number of 2^32 or above there is no memory. Each hop takes one look-up, and three to five more where it is new.
-    pub fn add(self, case: usize, chain: &AsList) -> Result<HopIndex, NoMemory>
-        ensures { IfOk result (λ index. Adds self case chain.now index) }
+    /// The hops of a case come in: those between each two neighbours of its chain, in both orders. What there was before of this case stays.
+    /// For a number of 2^32 or above there is no memory. Where there was none, nothing is promised of the hops. Each hop takes one look-up,
+    /// and three to six more where it is new.
+    pub fn add(&mut self, case: usize, chain: &AsList) -> Result<(), NoMemory>
+        ensures { OnOk result (Adds self.old case chain.now self.new) }
     {
-        let HopIndex {
-            alloc,
-            mut ends,
-            mut hops,
-        } = self;
         let Ok(number) = u32::try_from(case) else {
             return Err(NoMemory);
         };
-        let chain = chain.as_slice();
-        for k in 1..chain.len() {
-            insert(&mut ends, &mut hops, alloc, chain[k - 1], chain[k], number)?;
+        let alloc = self.alloc;
+        let added = insert_all(&mut self.ends, &mut self.hops, alloc, chain.as_slice(), number);
+        if added.is_err() {
+            self.ends = BTreeMap::new(alloc);
+            self.hops = Hops::new(alloc);
         }
-        Ok(HopIndex { alloc, ends, hops })
+        added
     }
 
-    /// The index without the hops of a case between each two neighbours of a chain, in either order. Hops that weren't there, and those
-    /// of other cases, make no difference. It takes no memory. Each hop takes one look-up, and up to five more with its last case.
-    pub fn remove(self, case: usize, chain: &AsList) -> HopIndex
-        ensures { Removes self case chain.now result }
+    /// The hops of a case between each two neighbours of a chain go, in either order. Hops that weren't there, and those of other cases, make
+    /// no difference. It takes no memory. Each hop takes one look-up, and up to seven more with its last case.
+    pub fn remove(&mut self, case: usize, chain: &AsList)
+        ensures { Removes self.old case chain.now self.new }
     {
-        let HopIndex {
-            alloc,
-            mut ends,
-            mut hops,
-        } = self;
         let Ok(number) = u32::try_from(case) else {
-            return HopIndex { alloc, ends, hops };
+            return;
         };
-        let chain = chain.as_slice();
-        for k in 1..chain.len() {
-            remove(&mut ends, &mut hops, chain[k - 1], chain[k], number);
-        }
-        HopIndex { alloc, ends, hops }
+        remove_all(&mut self.ends, &mut self.hops, chain.as_slice(), number);
     }
 
     /// Each y and case with a hop between `x` and y, in either direction: by rising y and then by rising case, each pair once. It takes
@@ -127,25 +117,53 @@ impl HopIndex {
         ensures rising { IsStrictlySortedBy nat_cmp result }
     {
         Between {
-            cases: cases_of_hops::of(&self.hops, Pair::of(x, y)),
+            cases: self.hops.of(Pair::of(x, y)),
         }
     }
 }
 
+// The hops of a chain, each with one case more.
+fn insert_all(
+    ends: &mut BTreeMap<u32, Numbers>,
+    hops: &mut Hops,
+    alloc: Global,
+    chain: &[u32],
+    case: u32,
+) -> Result<(), NoMemory>
+    ensures added { OnOk result (Adds hops.old case chain.now hops.new) }
+    ensures kept { OnOk result (AreKept ends.old.entries hops.old → AreKept ends.new.entries hops.new) }
+{
+    for k in 1..chain.len() {
+        insert(ends, hops, alloc, chain[k - 1], chain[k], case)?;
+    }
+    Ok(())
+}
+
+// The hops of a chain, each with one case less.
+fn remove_all(ends: &mut BTreeMap<u32, Numbers>, hops: &mut Hops, chain: &[u32], case: u32)
+    ensures removed { Removes hops.old case chain.now hops.new }
+    ensures kept { AreKept ends.old.entries hops.old → AreKept ends.new.entries hops.new }
+{
+    for k in 1..chain.len() {
+        remove(ends, hops, chain[k - 1], chain[k], case);
+    }
+}
+
 // One case more of the hop between two ASes. Where the hop is new, each of them is a neighbour of the other from now on.
+#[inline(always)]
 fn insert(
     ends: &mut BTreeMap<u32, Numbers>,
-    hops: &mut BTreeMap<Pair, Numbers>,
+    hops: &mut Hops,
     alloc: Global,
     x: u32,
     y: u32,
     case: u32,
 ) -> Result<(), NoMemory>
-    ensures added { OnOk result (AddsHop hops.old.entries x y case hops.new.entries) }
-    ensures kept { OnOk result (AreKept ends.old.entries hops.old.entries
-        → AreKept ends.new.entries hops.new.entries) }
+    ensures added { OnOk result (AddsHop hops.old x y case hops.new) }
+    ensures kept { OnOk result (AreKept ends.old.entries hops.old
+        → AreKept ends.new.entries hops.new) }
 {
-    if cases_of_hops::insert(hops, alloc, Pair::of(x, y), case)? {
+    if hops.insert(Pair::of(x, y), case)? {
         neighbours::insert(ends, alloc, x, y)?;
         neighbours::insert(ends, alloc, y, x)?;
     }
@@ -153,18 +171,11 @@ fn insert(
 }
 
 // One case less of the hop between two ASes. Where it was the last one, neither of them is a neighbour of the other from now on.
-fn remove(
-    ends: &mut BTreeMap<u32, Numbers>,
-    hops: &mut BTreeMap<Pair, Numbers>,
-    x: u32,
-    y: u32,
-    case: u32,
-)
-    ensures removed { RemovesHop hops.old.entries x y case hops.new.entries }
-    ensures kept { AreKept ends.old.entries hops.old.entries
-        → AreKept ends.new.entries hops.new.entries }
+fn remove(ends: &mut BTreeMap<u32, Numbers>, hops: &mut Hops, x: u32, y: u32, case: u32)
+    ensures removed { RemovesHop hops.old x y case hops.new }
+    ensures kept { AreKept ends.old.entries hops.old → AreKept ends.new.entries hops.new }
 {
-    if cases_of_hops::remove(hops, Pair::of(x, y), case) {
+    if hops.remove(Pair::of(x, y), case) {
         neighbours::remove(ends, x, y);
         neighbours::remove(ends, y, x);
     }

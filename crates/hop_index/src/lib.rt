@@ -8,9 +8,9 @@
 #![tactic(auto)]
 
 mod between;
-mod cases_of_hops;
 mod chunked;
 mod held;
+mod hops;
 mod index;
 mod laws;
 mod listed;

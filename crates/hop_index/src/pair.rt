@@ -1,6 +1,6 @@
 //! A hop as the pair of its ASes.
 ghost use Rattle.std.specs.Prelude.{◌≡◌};
-ghost use Rattle.hop_index.specs.Pairs.{pair_of};
+ghost use Rattle.hop_index.specs.Pairs.{pair_of, pair_word};
 
 // Two ASes with a hop between them, the lower number first, so that the hop is the same from either of them. The order is by the lower
 // number and then by the higher one. It takes 8 bytes.
@@ -19,5 +19,12 @@ impl Pair {
             low: x.min(y),
             high: x.max(y),
         }
+    }
+
+    // The pair as one word.
+    pub(crate) fn word(self) -> u64
+        ensures { result ≡ pair_word self }
+    {
+        self.low as u64 * 4294967296 + self.high as u64
     }
 }

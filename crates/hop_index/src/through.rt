@@ -2,16 +2,14 @@
 ghost use Rattle.std.specs.Iterator.{YieldsFirstBy, item_count};
 ghost use Rattle.hop_index.specs.Through.{ends_left};
 
-use crate::cases_of_hops;
+use crate::hops::Hops;
 use crate::number_iter::NumberIter;
-use crate::numbers::Numbers;
 use crate::pair::Pair;
-use std::collections::BTreeMap;
 
 /// The other ends of one AS's hops: each AS with a case that has a hop to it, by rising AS and then by rising case.
 #[derive(Drop)]
 pub struct Through<'a> {
-    pub(crate) hops: &'a BTreeMap<Pair, Numbers>,
+    pub(crate) hops: &'a Hops,
     pub(crate) x: u32,
     // the neighbours of x whose cases are still to come; none where no case has a hop of x
     pub(crate) neighbours: Option<NumberIter<'a>>,
@@ -41,7 +39,7 @@ impl<'a> Iterator for Through<'a> {
                 None => return None,
                 Some(y) => {
                     self.y = y;
-                    self.cases = cases_of_hops::of(self.hops, Pair::of(self.x, y));
+                    self.cases = self.hops.of(Pair::of(self.x, y));
                 }
             }
         }

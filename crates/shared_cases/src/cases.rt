@@ -1,13 +1,16 @@
 //! The cases.
-ghost use Rattle.std.specs.Prelude.{◌≡◌, ◌≤◌, ◌+◌, ℕ, true, false, [], length, None, Some, IfOk, IfNone, IfSome, OnOk};
+ghost use Rattle.std.specs.Prelude.{◌≡◌, ◌≤◌, ◌+◌, ◌||◌, ◌&&◌, not, nat_eq, ℕ, true, false, [], length, None, Some, IfOk, IfNone, IfSome, OnOk};
 ghost use Rattle.std.specs.List.Sorted.{IsStrictlySortedBy};
 ghost use Rattle.std.specs.Ordering.{nat_cmp};
+ghost use Rattle.hop_index.specs.Index.{Adds};
 ghost use Rattle.shared_cases.specs.Cases.{at, verdict_or, marked_or, marked_now, AreSameCases, Rewrites, IsAbsent, IsStoredAs, AreDistinct, IsIndexOf, IsShown};
 ghost use Rattle.shared_cases.specs.Differed.{AreNewlyDiffering, AreSettledOrDiffered, HaveDiffered};
 ghost use Rattle.shared_cases.specs.Grounds.{grounds, IsRightCase};
 ghost use Rattle.shared_cases.specs.Names.{name_of};
+ghost use Rattle.shared_cases.specs.Naming.{AddsName};
 ghost use Rattle.shared_cases.specs.Numbers.{has};
 ghost use Rattle.shared_cases.specs.Owning.{SayTheSame};
+ghost use Rattle.shared_cases.specs.Peers.{AddsMember};
 ghost use Rattle.shared_cases.specs.Taking.{is_shared, left, lowered, raised, new_case, Takes};
 ghost use Rattle.shared_cases.specs.Totals.{totals_of};
 
@@ -26,7 +29,6 @@ use ramps::{Judged, judge};
 use slab::Slab;
 use std::alloc::Global;
 use std::marker::Model;
-use std::mem;
 use std::sync::ledger::Ledger;
 use vap_table::Vaps;
 
@@ -197,8 +199,7 @@ impl SharedCases {
         if slots::is_shared(&self.slab, number as usize) {
             self.lower(number);
         } else {
-            let held = mem::replace(self, SharedCases::new(self.alloc));
-            *self = held.remove(number);
+            self.remove(number);
         }
     }
 
@@ -297,47 +298,35 @@ impl SharedCases {
     {
         let asn = name.asn;
         let judged = judge(table, roles.of(asn), asn, &name.trail, steps);
-        let held = mem::replace(self, SharedCases::new(self.alloc));
-        let (cases, number) = held.add(name, judged, roles.has_own(asn))?;
-        let _empty = mem::replace(self, cases);
-        Ok(number)
+        self.add(name, judged, roles.has_own(asn))
     }
 
-    // A new case.
-    fn add(self, name: CaseName, judged: Judged, own: bool) -> Result<(SharedCases, u32), NoMemory>
+    // A new case. Where there was no memory, no case is left.
+    fn add(&mut self, name: CaseName, judged: Judged, own: bool) -> Result<u32, NoMemory>
         requires named { name ≡ name_of name.asn name.trail }
-        requires absent { IsAbsent self name.asn name.trail }
-        ensures vacant { IfOk result (λ r. at self r.1 ≡ None) }
-        ensures added { IfOk result (λ r.
-            Rewrites self r.0 r.1 (Some (new_case name.asn name.trail judged own))) }
+        requires absent { IsAbsent self.old name.asn name.trail }
+        ensures vacant { IfOk result (λ n. at self.old n ≡ None) }
+        ensures added { IfOk result (λ n.
+            Rewrites self.old self.new n (Some (new_case name.asn name.trail judged own))) }
     {
-        let SharedCases {
-            alloc,
-            mut slab,
-            mut names,
-            index,
-            peers,
-            totals,
-            differed,
-        } = self;
-        let asn = name.asn;
-        let totals = totals.plus(Totals::of(judged.verdict(), 1))?;
+        let totals = self.totals.plus(Totals::of(judged.verdict(), 1))?;
         let case = new_case(&name, judged, own)?;
-        let number = slab.insert(case)?;
-        let short = u32::try_from(number).ok().ok_or(NoMemory)?;
-        let index = index.add(number, name.trail.chain())?;
-        let peers = peers.add(asn, number, own)?;
-        names.add(name, short)?;
-        let cases = SharedCases {
-            alloc,
-            slab,
-            names,
-            index,
-            peers,
-            totals,
-            differed,
-        };
-        Ok((cases, short))
+        let number = self.slab.insert(case)?;
+        match find_by(&mut self.names, &mut self.index, &mut self.peers, name, number, own) {
+            Ok(short) => {
+                self.totals = totals;
+                Ok(short)
+            }
+            Err(_) => {
+                self.slab = Slab::new(self.alloc);
+                self.names = Names::new(self.alloc);
+                self.index = HopIndex::new(self.alloc);
+                self.peers = Peers::new(self.alloc);
+                self.totals = Totals::none();
+                self.differed = CaseNumbers::new(self.alloc);
+                Err(NoMemory)
+            }
+        }
     }
 
     // One user less of a case that has more than one.
@@ -351,41 +340,43 @@ impl SharedCases {
     }
 
     // The case goes, if there is one, with its name and its hops.
-    fn remove(self, number: u32) -> SharedCases
-        ensures { Rewrites self result number None }
+    fn remove(&mut self, number: u32)
+        ensures { Rewrites self.old self.new number None }
     {
-        let SharedCases {
-            alloc,
-            mut slab,
-            mut names,
-            index,
-            peers,
-            totals,
-            differed,
-        } = self;
-        let Some(case) = slab.try_remove(number as usize) else {
-            return SharedCases {
-                alloc,
-                slab,
-                names,
-                index,
-                peers,
-                totals,
-                differed,
-            };
+        let Some(case) = self.slab.try_remove(number as usize) else {
+            return;
         };
-        let totals = totals.minus(Totals::of(case.judged.verdict(), case.users));
-        let index = index.remove(number as usize, case.trail.chain());
-        let peers = peers.remove(case.asn, number);
-        names.remove(&CaseName::new(case.asn, case.trail), number);
-        SharedCases {
-            alloc,
-            slab,
-            names,
-            index,
-            peers,
-            totals,
-            differed,
-        }
+        self.totals = self
+            .totals
+            .minus(Totals::of(case.judged.verdict(), case.users));
+        self.index.remove(number as usize, case.trail.chain());
+        self.peers.remove(case.asn, number);
+        self.names
+            .remove(&CaseName::new(case.asn, case.trail), number);
     }
+}
+
+// The case under this number is found by its name, by its hops and by its AS from now on. The number in 32 bits is answered.
+#[inline(always)]
+fn find_by(
+    names: &mut Names,
+    index: &mut HopIndex,
+    peers: &mut Peers,
+    name: CaseName,
+    number: usize,
+    own: bool,
+) -> Result<u32, NoMemory>
+    requires { name ≡ name_of name.asn name.trail }
+    ensures same { IfOk result (λ short. short ≡ number) }
+    ensures hops { OnOk result (Adds index.old number name.trail.chain index.new) }
+    ensures members { OnOk result (AddsMember peers.old.members name.asn number peers.new.members) }
+    ensures defaulted { OnOk result ((a : ℕ) → has peers.new.defaulted a
+        ≡ (has peers.old.defaulted a || (nat_eq a name.asn && not own))) }
+    ensures name { OnOk result (AddsName names.old name.asn name.trail number names.new) }
+{
+    let short = u32::try_from(number).ok().ok_or(NoMemory)?;
+    index.add(number, name.trail.chain())?;
+    peers.add(name.asn, number, own)?;
+    names.add(name, short)?;
+    Ok(short)
 }

@@ -1,5 +1,5 @@
 //! The cases by their peer AS.
-ghost use Rattle.std.specs.Prelude.{◌≡◌, ◌≢◌, ◌↔◌, ◌||◌, ◌&&◌, not, ℕ, nat_eq, [], Some, IfOk, IsTrue, OnOk};
+ghost use Rattle.std.specs.Prelude.{◌≡◌, ◌≢◌, ◌↔◌, ◌||◌, ◌&&◌, not, ℕ, nat_eq, [], Some, IsTrue, OnOk};
 ghost use Rattle.std.specs.Option.{option_copied};
 ghost use Rattle.shared_cases.specs.Numbers.{has};
 ghost use Rattle.shared_cases.specs.Peers.{found, has_cases, AddsMember, RemovesMember, HaveMembers};
@@ -47,50 +47,31 @@ impl Peers {
         }
     }
 
-    // One case of an AS more, which says that the AS has a role of its own, or doesn't.
-    pub(crate) fn add(self, asn: u32, number: usize, own: bool) -> Result<Peers, NoMemory>
-        ensures members { IfOk result (λ peers. AddsMember self.members asn number peers.members) }
-        ensures defaulted { IfOk result (λ peers. (a : ℕ)
-            → has peers.defaulted a ≡ (has self.defaulted a || (nat_eq a asn && not own))) }
+    // One case of an AS more, which says that the AS has a role of its own, or doesn't. Where there was no memory, nothing is promised.
+    pub(crate) fn add(&mut self, asn: u32, number: usize, own: bool) -> Result<(), NoMemory>
+        ensures members { OnOk result
+            (AddsMember self.old.members asn number self.new.members) }
+        ensures defaulted { OnOk result ((a : ℕ)
+            → has self.new.defaulted a ≡ (has self.old.defaulted a || (nat_eq a asn && not own))) }
     {
-        let Peers {
-            alloc,
-            mut members,
-            mut defaulted,
-        } = self;
-        insert(&mut members, alloc, asn, number)?;
-        insert_unless(&mut defaulted, asn, own)?;
-        Ok(Peers {
-            alloc,
-            members,
-            defaulted,
-        })
+        let alloc = self.alloc;
+        let added = insert_both(&mut self.members, &mut self.defaulted, alloc, asn, number, own);
+        if added.is_err() {
+            self.members = BTreeMap::new(alloc);
+            self.defaulted = BTreeSet::new(alloc);
+        }
+        added
     }
 
     // One case of an AS less. It takes no memory.
-    pub(crate) fn remove(self, asn: u32, number: u32) -> Peers
-        ensures members { RemovesMember self.members asn number result.members }
-        ensures defaulted { (a : ℕ) → has result.defaulted a
-            ≡ (has self.defaulted a && has_cases result.members a) }
+    pub(crate) fn remove(&mut self, asn: u32, number: u32)
+        ensures members { RemovesMember self.old.members asn number self.new.members }
+        ensures defaulted { (a : ℕ) → has self.new.defaulted a
+            ≡ (has self.old.defaulted a && has_cases self.new.members a) }
     {
-        let Peers {
-            alloc,
-            mut members,
-            mut defaulted,
-        } = self;
-        if !take_out(&mut members, asn, number) {
-            return Peers {
-                alloc,
-                members,
-                defaulted,
-            };
-        }
-        members.remove(&asn);
-        defaulted.remove(&asn);
-        Peers {
-            alloc,
-            members,
-            defaulted,
+        if take_out(&mut self.members, asn, number) {
+            self.members.remove(&asn);
+            self.defaulted.remove(&asn);
         }
     }
 
@@ -117,6 +98,27 @@ impl Peers {
     {
         self.defaulted.iter()
     }
+}
+
+// Adds a case of an AS, and the AS unless it has a role of its own.
+#[inline(always)]
+fn insert_both(
+    members: &mut BTreeMap<u32, CaseNumbers>,
+    defaulted: &mut BTreeSet<u32>,
+    alloc: Global,
+    asn: u32,
+    number: usize,
+    own: bool,
+) -> Result<(), NoMemory>
+    ensures members { OnOk result (AddsMember members.old.entries asn number members.new.entries) }
+    ensures defaulted { OnOk result ((a : ℕ)
+        → has defaulted.new.keys a ≡ (has defaulted.old.keys a || (nat_eq a asn && not own))) }
+    ensures kept { OnOk result (HaveMembers members.old.entries → HaveMembers members.new.entries) }
+    ensures cases { OnOk result ((a : ℕ) → has_cases members.new.entries a
+        ≡ (has_cases members.old.entries a || nat_eq a asn)) }
+{
+    insert(members, alloc, asn, number)?;
+    insert_unless(defaulted, asn, own)
 }
 
 // Adds a case of an AS.

@@ -16,10 +16,11 @@ fn indexed(alloc: Global) -> Result<HopIndex, NoMemory> {
     let chain = AsList::from_slice(alloc, &CHAIN)?;
     let other = AsList::from_slice(alloc, &OTHER)?;
     let lone = AsList::from_slice(alloc, &[2])?;
-    HopIndex::new(alloc)
-        .add(7, &chain)?
-        .add(5, &other)?
-        .add(9, &lone)
+    let mut index = HopIndex::new(alloc);
+    index.add(7, &chain)?;
+    index.add(5, &other)?;
+    index.add(9, &lone)?;
+    Ok(index)
 }
 
 // Compares the hops of an AS, each its other end and its case.
@@ -56,10 +57,11 @@ fn finds_hops(rt: HostRuntime) -> Result<(), NoMemory> {
 #[test]
 fn forgets_hops(rt: HostRuntime) -> Result<(), NoMemory> {
     let alloc = rt.alloc();
-    let index = indexed(alloc)?.remove(7, &AsList::from_slice(alloc, &CHAIN)?);
+    let mut index = indexed(alloc)?;
+    index.remove(7, &AsList::from_slice(alloc, &CHAIN)?);
     test_hops(&rt, &index, 2, &[(3, 5)]);
     test_hops(&rt, &index, 1, &[]);
-    let index = index.remove(5, &AsList::from_slice(alloc, &OTHER)?);
+    index.remove(5, &AsList::from_slice(alloc, &OTHER)?);
     test_hops(&rt, &index, 3, &[]);
     Ok(())
 }

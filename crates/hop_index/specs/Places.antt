@@ -1,0 +1,23 @@
+-- Hops in a list without gaps, and a map that has the place of each. Private contracts alone cite it.
+use Rattle.std.specs.Prelude.{◌≡◌, ℕ, ◌<◌, ◌^◌, List, map, length, slice_index}
+use Rattle.std.specs.declared.option.Option.TheVariants.{Some}
+use Rattle.std.specs.FinMap as finite
+use Rattle.std.specs.Ordering.{nat_cmp}
+use Rattle.hop_index.specs.declared.pair.Pair.{Pair}
+use Rattle.hop_index.specs.Index.{Entries}
+use Rattle.hop_index.specs.Pairs.{pair_word}
+
+-- the word is at this place
+pub record IsAt (words : List ℕ) (word at : ℕ) : Type 0 where
+  pub within : at < length words
+  pub same : slice_index words at ≡ word
+
+-- the map has exactly the place of each word
+pub record AreInverse (places : finite.FinMap nat_cmp ℕ) (words : List ℕ) : Type 0 where
+  pub found : (word at : ℕ) → finite.get places word ≡ Some at → IsAt words word at
+  pub finds : (at : ℕ) → at < length words → finite.get places (slice_index words at) ≡ Some at
+  pub few : length words < 2 ^ 32
+
+-- the map has exactly the place of each hop, by its pair as a word
+abbrev pub ArePlaced : finite.FinMap nat_cmp ℕ → Entries → Type 0
+ArePlaced places hops = AreInverse places (map (λ hop. pair_word hop.0) hops)
