@@ -1,14 +1,12 @@
 -- One case of a hop more or less.
 use Rattle.std.proofs.Common.{◌≡◌, ◌≢◌, ℕ, nat_eq, Bool, true, false, cond, not, ◌||◌, ◌&&◌, List, [], None, Some, refl, ap, sym, subst, ◌∙◌, inl, inr, ◌⊎◌, true≢false}
 use Rattle.std.specs.declared.option.Option.{Option}
-use Rattle.std.specs.BTreeMap.{is_at}
 use Rattle.std.specs.List.Sorted.{IsStrictlySortedBy}
 use Rattle.std.specs.Ordering.{nat_cmp}
 use Rattle.hop_index.specs.declared.pair.Pair.{Pair}
 use Rattle.hop_index.specs.Index.{Entries, at}
-use Rattle.hop_index.specs.Kept.{stands, is_pair, is_there, AddsCase, RemovesCase, HaveCases, AreRising}
+use Rattle.hop_index.specs.Kept.{stands, is_pair, is_there, Updates, AddsCase, RemovesCase, HaveCases, AreRising}
 use Rattle.hop_index.specs.Numbers.{has_number, numbers_or, found_has}
-use Rattle.hop_index.specs.Pairs.{pair_cmp}
 use Rattle.hop_index.proofs.PairLemmas.{pair_at, same_pair, pair_itself}
 
 or_none : (b : Bool) → b ≡ (b || false)
@@ -22,13 +20,6 @@ or_some false = refl
 and_all : (b : Bool) → b ≡ (b && true)
 and_all true = refl
 and_all false = refl
-
--- what is found of the pair is `now` after the change, and nothing else changed
-abbrev pub Updates : Entries → Pair → Option (List ℕ) → Entries → Type 0
-Updates before pair now after = (q : Pair) → at after q ≡ cond (is_at (pair_cmp pair) q) now (at before q)
-
-pub updates_from : (before same after : Entries) (pair : Pair) (now : Option (List ℕ)) → same ≡ before → Updates same pair now after → Updates before pair now after
-updates_from before same after pair now e = subst (λ (es : Entries). Updates es pair now after) e
 
 module _ (before after : Entries) (pair : Pair) (now : Option (List ℕ)) (updates : Updates before pair now after) where
   told_by : (p : Pair) (b : Bool) → is_pair p pair ≡ b → (b ≡ true × (at after p ≡ now) × (at before p ≡ at before pair)) ⊎ (b ≡ false × (at after p ≡ at before p))

@@ -1,8 +1,9 @@
 -- All hops of a chain.
-use Rattle.std.proofs.Common.{◌≡◌, ℕ, zero, suc, nat_eq, ◌+◌, ◌-◌, ◌<◌, Bool, true, false, not, ◌||◌, ◌&&◌, List, refl, ap, sym, ◌∙◌, arith}
+use Rattle.std.proofs.Common.{◌≡◌, ℕ, zero, suc, nat_eq, ◌+◌, ◌-◌, ◌<◌, ◌^◌, Bool, true, false, not, ◌||◌, ◌&&◌, List, refl, ap, sym, ◌∙◌, arith}
 use Rattle.std.specs.Prelude.{slice_index}
-use Rattle.hop_index.specs.Hops.{joins_at, joins_within}
-use Rattle.hop_index.specs.Index.{Entries, has}
+use Rattle.std.proofs.lemmas.Map.Views.{exact_unsigned_eq}
+use Rattle.hop_index.specs.Hops.{joins_at, joins_within, has_hop}
+use Rattle.hop_index.specs.Index.{Entries, has, Removes}
 use Rattle.hop_index.specs.Kept.{AddsHop, RemovesHop}
 
 one_in : (old same seen here : Bool) → ((old || (same && seen)) || (same && here)) ≡ (old || (same && (seen || here)))
@@ -49,3 +50,13 @@ step_out k case chain before now after lower upper some is_lower is_upper so_far
     ∙ one_out (has before x y n) (nat_eq n case) (joins_within (k - 1) chain x y) ((nat_eq x lower && nat_eq y upper) || (nat_eq x upper && nat_eq y lower))
     ∙ ap (λ (b : Bool). has before x y n && not (nat_eq n case && b))
     (ap (λ (b : Bool). joins_within (k - 1) chain x y || b) (ends_at k chain lower upper x y some is_lower is_upper) ∙ sym (more_within k chain x y some))
+
+-- a case whose number is beyond all others has no hops to go
+pub none_out : (index : Entries) (case : ℕ) (chain : List ℕ) → ((x y n : ℕ) → has index x y n ≡ true → n < 2 ^ 32) → (case < 2 ^ 32 → ⊥) → Removes index case chain index
+none_out index case chain few big x y n = by_tests (has index x y n) refl (nat_eq n case) refl where
+  by_tests : (there : Bool) → has index x y n ≡ there → (same : Bool) → nat_eq n case ≡ same → there ≡ (there && not (same && has_hop chain x y))
+  by_tests false is same told = refl
+  by_tests true is false told = refl
+  by_tests true is true told =
+      let e : n ≡ case = exact_unsigned_eq n case told in
+      absurd (big (omega (arith, few x y n is, e)))

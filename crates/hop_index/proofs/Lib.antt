@@ -1,8 +1,10 @@
 pub mod CaseLemmas
 pub mod HopLemmas
 pub mod IndexLemmas
+pub mod InverseLemmas
 pub mod KeptLemmas
 pub mod ListLemmas
 pub mod NumberLemmas
 pub mod PairLemmas
+pub mod PlaceLemmas
 pub mod ThroughLemmas

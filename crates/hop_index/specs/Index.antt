@@ -8,7 +8,7 @@ use Rattle.hop_index.specs.Hops.{has_hop}
 use Rattle.hop_index.specs.Numbers.{found_has}
 use Rattle.hop_index.specs.Pairs.{pair_of, pair_cmp}
 
--- an index: the two ASes of each hop, in order, with the cases that have it
+-- an index: the two ASes of each hop, once and in no order, with the cases that have it
 abbrev pub Entries : Type 0
 Entries = List (Pair × List ℕ)
 

@@ -1,5 +1,5 @@
 -- How hops are held, and what one hop more or less is there. Private contracts alone cite it.
-use Rattle.std.specs.Prelude.{◌≡◌, ◌≢◌, ℕ, ◌<◌, ◌^◌, nat_eq, Bool, true, false, ◌||◌, ◌&&◌, not, List, []}
+use Rattle.std.specs.Prelude.{◌≡◌, ◌≢◌, ℕ, ◌<◌, ◌^◌, nat_eq, Bool, true, false, cond, ◌||◌, ◌&&◌, not, List, []}
 use Rattle.std.specs.declared.option.Option.{Option}
 use Rattle.std.specs.declared.option.Option.TheVariants.{Some, None}
 use Rattle.std.specs.BTreeMap.{is_at}
@@ -9,7 +9,7 @@ use Rattle.std.specs.Ordering.{nat_cmp}
 use Rattle.hop_index.specs.declared.pair.Pair.{Pair}
 use Rattle.hop_index.specs.Index.{Entries, at, has}
 use Rattle.hop_index.specs.Numbers.{found_has, numbers_or}
-use Rattle.hop_index.specs.Pairs.{pair_of}
+use Rattle.hop_index.specs.Pairs.{pair_of, pair_cmp}
 
 -- each AS that has neighbours, in order, with them
 abbrev pub Ends : Type 0
@@ -49,6 +49,10 @@ stands hops pair = is_there (at hops pair)
 -- the two pairs are the same
 abbrev pub is_pair : Pair → Pair → Bool
 is_pair p q = nat_eq p.low q.low && nat_eq p.high q.high
+
+-- what is found of the hop is `now` after the change, and nothing else changed
+abbrev pub Updates : Entries → Pair → Option (List ℕ) → Entries → Type 0
+Updates before pair now after = (p : Pair) → at after p ≡ cond (is_at (pair_cmp pair) p) now (at before p)
 
 -- `after` has one case of a hop more than `before`
 abbrev pub AddsCase : Entries → Pair → ℕ → Entries → Type 0

@@ -1,5 +1,5 @@
 -- Hops in a list without gaps, and a map that has the place of each. Private contracts alone cite it.
-use Rattle.std.specs.Prelude.{◌≡◌, ℕ, ◌<◌, ◌^◌, List, map, length, slice_index}
+use Rattle.std.specs.Prelude.{◌≡◌, ℕ, ◌<◌, ◌^◌, List, [], map, length, slice_index, slice_index_or}
 use Rattle.std.specs.declared.option.Option.TheVariants.{Some}
 use Rattle.std.specs.FinMap as finite
 use Rattle.std.specs.Ordering.{nat_cmp}
@@ -18,6 +18,15 @@ pub record AreInverse (places : finite.FinMap nat_cmp ℕ) (words : List ℕ) : 
   pub finds : (at : ℕ) → at < length words → finite.get places (slice_index words at) ≡ Some at
   pub few : length words < 2 ^ 32
 
+-- the pairs as words
+abbrev pub words_of : Entries → List ℕ
+words_of hops = map (λ hop. pair_word hop.0) hops
+
+-- the hop at this place, and one without cases behind the end
+abbrev pub hop_at : Entries → ℕ → Pair × List ℕ
+hop_at hops place = slice_index_or hops place (record { low = 0; high = 0 }, [])
+
 -- the map has exactly the place of each hop, by its pair as a word
-abbrev pub ArePlaced : finite.FinMap nat_cmp ℕ → Entries → Type 0
-ArePlaced places hops = AreInverse places (map (λ hop. pair_word hop.0) hops)
+pub record ArePlaced (places : finite.FinMap nat_cmp ℕ) (hops : Entries) : Type 0 where
+  pub inverse : AreInverse places (words_of hops)
+  pub small : (place : ℕ) → place < length hops → (hop_at hops place).0.high < 2 ^ 32

@@ -1,9 +1,8 @@
 //! The cases of each hop, which stands once in a list without gaps and is found by its two ASes. A hop without cases has no entry.
-ghost use Rattle.std.specs.Prelude.{◌≡◌, ◌≢◌, ◌↔◌, ◌<◌, ◌++◌, ◌∷◌, not, ◌||◌, [], length, IfOk, OnOk, OnErr, IfSome, IfNone, IsTrue};
-ghost use Rattle.std.specs.List.{swap_remove};
+ghost use Rattle.std.specs.Prelude.{◌≡◌, ◌≢◌, ◌↔◌, not, ◌||◌, ◌&&◌, [], Some, None, IfOk, OnOk, IsTrue};
 ghost use Rattle.hop_index.specs.declared.pair.Pair.{Pair};
-ghost use Rattle.hop_index.specs.Index.{Entries, at};
-ghost use Rattle.hop_index.specs.Kept.{stands, is_pair, AddsCase, RemovesCase, HaveCases, AreRising};
+ghost use Rattle.hop_index.specs.Index.{at};
+ghost use Rattle.hop_index.specs.Kept.{stands, is_pair, Updates, AddsCase, RemovesCase, HaveCases, AreRising};
 
 use crate::number_iter::NumberIter;
 use crate::numbers::Numbers;
@@ -63,7 +62,9 @@ impl Hops {
                 Ok(false)
             }
             None => {
-                self.push(pair, case)?;
+                let mut cases = Numbers::new(self.alloc);
+                cases.insert(case)?;
+                self.push(pair, cases)?;
                 Ok(true)
             }
         }
@@ -77,16 +78,11 @@ impl Hops {
         ensures kept { HaveCases self.old → HaveCases self.new }
         ensures rising { AreRising self.old → AreRising self.new }
     {
-        let Some(place) = self.by_pair.get(pair.word()) else {
-            return false;
-        };
-        let cases = &mut self.hops[place as usize].1;
-        cases.remove(case);
-        if !cases.is_empty() {
-            return false;
+        let emptied = self.take_out(pair, case);
+        if emptied {
+            self.leave(pair);
         }
-        self.leave(place);
-        true
+        emptied
     }
 
     // The cases of a hop, rising; none where it has no entry.
@@ -100,15 +96,15 @@ impl Hops {
         }
     }
 
-    // A hop that isn't there yet, with its first case.
+    // A hop that isn't there yet comes behind the others, with these cases.
     #[inline(never)]
-    fn push(&mut self, pair: Pair, case: u32) -> Result<(), NoMemory>
+    fn push(&mut self, pair: Pair, cases: Numbers) -> Result<(), NoMemory>
+        requires { at self.old pair ≡ None }
+        ensures { OnOk result (Updates self.old pair (Some cases) self.new) }
     {
         let Ok(place) = u32::try_from(self.hops.len()) else {
             return Err(NoMemory);
         };
-        let mut cases = Numbers::new(self.alloc);
-        cases.insert(case)?;
         self.by_pair.set(pair.word(), place)?;
         if self.hops.push((pair, cases)).is_err() {
             self.by_pair.remove(pair.word());
@@ -117,12 +113,33 @@ impl Hops {
         Ok(())
     }
 
-    // A hop goes, and the last one gets its place. It takes no memory.
-    #[inline(never)]
-    fn leave(&mut self, place: u32)
+    // One case less of a hop, and whether the hop stands there without cases.
+    fn take_out(&mut self, pair: Pair, case: u32) -> bool
+        ensures removed { RemovesCase self.old pair case self.new }
+        ensures stands { (p : Pair) → stands self.new p ≡ stands self.old p }
+        ensures emptied { IsTrue result ↔ (at self.new pair ≡ Some []) }
+        ensures others { (p : Pair) → p ≢ pair → at self.new p ≡ at self.old p }
+        ensures rising { AreRising self.old → AreRising self.new }
     {
-        let (pair, _cases) = self.hops.swap_remove(place as usize);
-        self.by_pair.remove(pair.word());
+        match self.by_pair.get(pair.word()) {
+            None => false,
+            Some(place) => {
+                let cases = &mut self.hops[place as usize].1;
+                cases.remove(case);
+                cases.is_empty()
+            }
+        }
+    }
+
+    // A hop goes, if it is there, and the last one gets its place. It takes no memory.
+    #[inline(never)]
+    fn leave(&mut self, pair: Pair)
+        ensures { Updates self.old pair None self.new }
+    {
+        let Some(place) = self.by_pair.remove(pair.word()) else {
+            return;
+        };
+        self.hops.swap_remove(place as usize);
         if (place as usize) < self.hops.len() {
             let moved = self.hops[place as usize].0;
             self.by_pair.replace(moved.word(), place);

@@ -1,5 +1,5 @@
 //! Hops by their ASes.
-ghost use Rattle.std.specs.Prelude.{◌≡◌, ℕ, OnOk};
+ghost use Rattle.std.specs.Prelude.{◌≡◌, ◌<◌, ◌^◌, ℕ, true, OnOk};
 ghost use Rattle.std.specs.List.Sorted.{IsStrictlySortedBy};
 ghost use Rattle.std.specs.Ordering.{nat_cmp};
 ghost use Rattle.hop_index.specs.Index.{has, HasNothing, Adds, Removes};
@@ -90,9 +90,17 @@ impl HopIndex {
         ensures { Removes self.old case chain.now self.new }
     {
         let Ok(number) = u32::try_from(case) else {
+            self.are_few();
             return;
         };
         remove_all(&mut self.ends, &mut self.hops, chain.as_slice(), number);
+    }
+
+    // No case has a number of 2^32 or above: a law, and the body does nothing.
+    fn are_few(&self)
+        ensures { (x y n : ℕ) → has self.now x y n ≡ true → n < 2 ^ 32 }
+    {
+        let _hops = &self.hops;
     }
 
     /// Each y and case with a hop between `x` and y, in either direction: by rising y and then by rising case, each pair once. It takes

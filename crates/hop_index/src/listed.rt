@@ -12,6 +12,7 @@ ghost use Rattle.sorted_map.specs.Chunk.{HasAt, IsGap};
 use av_base::NoMemory;
 
 // One number more, where it isn't there yet. One above all others goes to the end at once.
+#[inline(always)]
 pub(crate) fn insert(numbers: &mut Vec<u32>, number: u32) -> Result<(), NoMemory>
     requires rising { IsStrictlySortedBy nat_cmp numbers.old.items }
     ensures inserted { OnOk result (numbers.new.items
@@ -39,6 +40,7 @@ pub(crate) fn remove(numbers: &mut Vec<u32>, number: u32)
 }
 
 // One number more, where it isn't there yet, by a search.
+#[inline(never)]
 fn insert_within(numbers: &mut Vec<u32>, number: u32) -> Result<(), NoMemory>
     requires rising { IsStrictlySortedBy nat_cmp numbers.old.items }
     ensures inserted { OnOk result (numbers.new.items

@@ -1,5 +1,5 @@
 //! A hop as the pair of its ASes.
-ghost use Rattle.std.specs.Prelude.{◌≡◌};
+ghost use Rattle.std.specs.Prelude.{◌≡◌, ◌<◌, ◌^◌};
 ghost use Rattle.hop_index.specs.Pairs.{pair_of, pair_word};
 
 // Two ASes with a hop between them, the lower number first, so that the hop is the same from either of them. The order is by the lower
@@ -23,7 +23,8 @@ impl Pair {
 
     // The pair as one word.
     pub(crate) fn word(self) -> u64
-        ensures { result ≡ pair_word self }
+        ensures same { result ≡ pair_word self }
+        ensures small { self.high < 2 ^ 32 }
     {
         self.low as u64 * 4294967296 + self.high as u64
     }

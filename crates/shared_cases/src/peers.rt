@@ -55,12 +55,14 @@ impl Peers {
             → has self.new.defaulted a ≡ (has self.old.defaulted a || (nat_eq a asn && not own))) }
     {
         let alloc = self.alloc;
-        let added = insert_both(&mut self.members, &mut self.defaulted, alloc, asn, number, own);
-        if added.is_err() {
-            self.members = BTreeMap::new(alloc);
-            self.defaulted = BTreeSet::new(alloc);
+        match insert_both(&mut self.members, &mut self.defaulted, alloc, asn, number, own) {
+            Ok(()) => Ok(()),
+            Err(_) => {
+                self.members = BTreeMap::new(alloc);
+                self.defaulted = BTreeSet::new(alloc);
+                Err(NoMemory)
+            }
         }
-        added
     }
 
     // One case of an AS less. It takes no memory.

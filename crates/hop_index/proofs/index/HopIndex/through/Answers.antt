@@ -6,9 +6,9 @@ use Rattle.hop_index.proofs.index.HopIndex.through.Goals as goal
 
 pub returns-clause-exact : goal.returns-clause-exact
 returns-clause-exact c = λ y n.
-    ends_exact c.self.inside.ends.entries c.self.inside.hops.entries c.args.x (numbers_or c.of.result) c.self.invariant.joined
+    ends_exact c.self.inside.ends.entries c.self.inside.hops c.args.x (numbers_or c.of.result) c.self.invariant.joined
     (λ y. ap (λ (ys : List ℕ). has_number ys y) c.of.ensures.whole) y n
     ∙ ap (λ (index : Entries). has index c.args.x y n) c.self.view_is
 
 pub returns-clause-rising : goal.returns-clause-rising
-returns-clause-rising c = ends_rise c.self.inside.hops.entries c.args.x (numbers_or c.of.result) c.self.invariant.rising c.of.ensures.rising
+returns-clause-rising c = ends_rise c.self.inside.hops c.args.x (numbers_or c.of.result) c.self.invariant.rising c.of.ensures.rising
