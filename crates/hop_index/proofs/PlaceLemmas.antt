@@ -38,9 +38,9 @@ Differ hops = (i j : ℕ) → i < length hops → j < length hops → (hop_at ho
 
 differ : (m : FinMap nat_cmp ℕ) (hops : Entries) → AreInverse m (words_of hops) → Differ hops
 differ m hops inverse i j li lj same = same_at i j (
-  sym (inverse.finds i (omega (arith, li, many_words hops)))
-  ∙ ap (get m) (word_at hops i li ∙ ap pair_word same ∙ sym (word_at hops j lj))
-  ∙ inverse.finds j (omega (arith, lj, many_words hops)))
+    sym (inverse.finds i (omega (arith, li, many_words hops)))
+    ∙ ap (get m) (word_at hops i li ∙ ap pair_word same ∙ sym (word_at hops j lj))
+    ∙ inverse.finds j (omega (arith, lj, many_words hops)))
 
 -- the hop stands there with these cases
 abbrev Has : Entries → Pair → List ℕ → Type 0
@@ -61,11 +61,11 @@ has_found [] apart i below = absurd (omega (arith, below))
 has_found (e ∷ es) apart zero below = ap (λ (b : Bool). cond b (Some e.1) (at es e.0)) (pair_at e.0 e.0 ∙ pair_itself e.0)
 has_found (e ∷ es) apart (suc i) below = by_test (is_at (pair_cmp (hop_at es i).0) e.0) refl
     (has_found es (λ j k lj lk same. let s : suc j ≡ suc k = apart (suc j) (suc k) (omega (arith, lj)) (omega (arith, lk)) same in omega (arith, s)) i (omega (arith, below))) where
-  by_test : (b : Bool) → is_at (pair_cmp (hop_at es i).0) e.0 ≡ b → at es (hop_at es i).0 ≡ Some (hop_at es i).1 → cond b (Some e.1) (at es (hop_at es i).0) ≡ Some (hop_at es i).1
-  by_test true is later =
-      let no : zero ≡ suc i = apart zero (suc i) (omega arith) below (same_pair e.0 (hop_at es i).0 (sym (pair_at (hop_at es i).0 e.0) ∙ is)) in
-      absurd (omega (arith, no))
-  by_test false is later = later
+      by_test : (b : Bool) → is_at (pair_cmp (hop_at es i).0) e.0 ≡ b → at es (hop_at es i).0 ≡ Some (hop_at es i).1 → cond b (Some e.1) (at es (hop_at es i).0) ≡ Some (hop_at es i).1
+      by_test true is later =
+          let no : zero ≡ suc i = apart zero (suc i) (omega arith) below (same_pair e.0 (hop_at es i).0 (sym (pair_at (hop_at es i).0 e.0) ∙ is)) in
+          absurd (omega (arith, no))
+      by_test false is later = later
 
 has_at : (hops : Entries) → Differ hops → (p : Pair) (cases : List ℕ) → Has hops p cases → at hops p ≡ Some cases
 has_at hops apart p cases has =
@@ -328,16 +328,16 @@ module _ (m : FinMap nat_cmp ℕ) (hops left : Entries) (placed : ArePlaced m ho
               (place, lt, moved lt ∙ ap (hop_at hops) e ∙ has.2)
         ]
       ])) where
-    gone : Differ hops → (hop_at hops place).0 ≡ pair → (o : Option (List ℕ)) → at left pair ≡ o → o ≡ None
-    gone apart key None is = refl
-    gone apart key (Some v) is =
-        let has = found_has pair v left is in
-        let hop : (hop_at left has.0).0 ≡ pair = ap (λ (hop : Pair × List ℕ). hop.0) has.2 in
-        absurd (elim (cases_ne has.0 place) [
-          | inl e ↦
-              let lt : place < length left = omega (arith, has.1, e) in
-              let same : length left ≡ place = apart (length left) place (omega (arith, fewer)) within
-              (sym (ap (λ (hop : Pair × List ℕ). hop.0) (moved lt)) ∙ ap (λ (i : ℕ). (hop_at left i).0) (sym e) ∙ hop ∙ sym key) in
-              omega (arith, same, lt)
-          | inr ne ↦ ne (apart has.0 place (omega (arith, has.1, fewer)) within (sym (ap (λ (hop : Pair × List ℕ). hop.0) (others has.0 has.1 ne)) ∙ hop ∙ sym key))
-        ])
+        gone : Differ hops → (hop_at hops place).0 ≡ pair → (o : Option (List ℕ)) → at left pair ≡ o → o ≡ None
+        gone apart key None is = refl
+        gone apart key (Some v) is =
+            let has = found_has pair v left is in
+            let hop : (hop_at left has.0).0 ≡ pair = ap (λ (hop : Pair × List ℕ). hop.0) has.2 in
+            absurd (elim (cases_ne has.0 place) [
+              | inl e ↦
+                  let lt : place < length left = omega (arith, has.1, e) in
+                  let same : length left ≡ place = apart (length left) place (omega (arith, fewer)) within
+                  (sym (ap (λ (hop : Pair × List ℕ). hop.0) (moved lt)) ∙ ap (λ (i : ℕ). (hop_at left i).0) (sym e) ∙ hop ∙ sym key) in
+                  omega (arith, same, lt)
+              | inr ne ↦ ne (apart has.0 place (omega (arith, has.1, fewer)) within (sym (ap (λ (hop : Pair × List ℕ). hop.0) (others has.0 has.1 ne)) ∙ hop ∙ sym key))
+            ])

@@ -1,4 +1,4 @@
-//! The cases of each hop, which stands once in a list without gaps and is found by its two ASes. A hop without cases has no entry.
+//! The cases of each hop, which stands once in a list without gaps.
 ghost use Rattle.std.specs.Prelude.{◌≡◌, ◌≢◌, ◌↔◌, not, ◌||◌, ◌&&◌, [], Some, None, IfOk, OnOk, IsTrue};
 ghost use Rattle.hop_index.specs.declared.pair.Pair.{Pair};
 ghost use Rattle.hop_index.specs.Index.{at};

@@ -20,10 +20,11 @@ use std::collections::BTreeMap;
 use std::marker::Model;
 
 /// Which cases have a hop between two ASes, of cases under numbers below 2^32. Each hop of a case is held once, under its two ASes. The
-/// first case of a hop takes 25 to 60 bytes, the entry of the two ASes, and the first hop of an AS 20 to 50 more. The second and third case
-/// of a hop take nothing, and neither do the second and third neighbour of an AS; a fourth takes 40, a list of them whose room doubles
-/// when it is full. More than 512 stand in chunks, 4 bytes each where they come in order and up to 16 else, and some 2300 more. What no
-/// case needs is given back, a list only with the last of its numbers.
+/// first case of a hop takes 24 to 48 bytes, the hop in a list, and 19 to 39 more, its place by the two ASes; the first hop of an AS takes
+/// 20 to 50 more. The second and third case of a hop take nothing, and neither do the second and third neighbour of an AS; a fourth takes
+/// 40, a list of them whose room doubles when it is full. More than 512 stand in chunks, 4 bytes each where they come in order and up to 16
+/// else, and some 2300 more. What no case needs is given back, a list of numbers only with the last of them; the room for hops and their
+/// places stays, and further hops take it.
 pub struct HopIndex {
     alloc: Global,
     // the neighbours of each AS, as the hops have them: an AS without hops has no entry
@@ -76,7 +77,13 @@ impl HopIndex {
             return Err(NoMemory);
         };
         let alloc = self.alloc;
-        let added = insert_all(&mut self.ends, &mut self.hops, alloc, chain.as_slice(), number);
+        let added = insert_all(
+            &mut self.ends,
+            &mut self.hops,
+            alloc,
+            chain.as_slice(),
+            number,
+        );
         if added.is_err() {
             self.ends = BTreeMap::new(alloc);
             self.hops = Hops::new(alloc);

@@ -1,5 +1,5 @@
 -- What cases say of their ASes' roles, and that it is so.
-use Rattle.std.proofs.Common.{◌≡◌, ◌≢◌, ℕ, nat_eq, Bool, true, false, not, is_some, ◌||◌, ◌&&◌, List, None, Some, refl, ap, sym, subst, ◌∙◌, inl, inr, true≢false}
+use Rattle.std.proofs.Common.{◌≡◌, ℕ, nat_eq, Bool, true, false, not, is_some, ◌||◌, ◌&&◌, List, None, Some, refl, ap, sym, subst, ◌∙◌, inl, inr, true≢false}
 use Rattle.std.specs.declared.option.Option.{Option}
 use Rattle.std.specs.Cmp.{nat_eq_equiv}
 use Rattle.std.proofs.lemmas.Bool.{and_from, false_from_ne_true, or_cases, or_left, or_right, or_parts}

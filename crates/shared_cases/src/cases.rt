@@ -298,7 +298,8 @@ impl SharedCases {
     {
         let asn = name.asn;
         let judged = judge(table, roles.of(asn), asn, &name.trail, steps);
-        self.add(name, judged, roles.has_own(asn))
+        let number = self.add(name, judged, roles.has_own(asn))?;
+        Ok(number)
     }
 
     // A new case. Where there was no memory, no case is left.
@@ -312,7 +313,14 @@ impl SharedCases {
         let totals = self.totals.plus(Totals::of(judged.verdict(), 1))?;
         let case = new_case(&name, judged, own)?;
         let number = self.slab.insert(case)?;
-        match find_by(&mut self.names, &mut self.index, &mut self.peers, name, number, own) {
+        match find_by(
+            &mut self.names,
+            &mut self.index,
+            &mut self.peers,
+            name,
+            number,
+            own,
+        ) {
             Ok(short) => {
                 self.totals = totals;
                 Ok(short)

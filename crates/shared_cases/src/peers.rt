@@ -55,7 +55,14 @@ impl Peers {
             → has self.new.defaulted a ≡ (has self.old.defaulted a || (nat_eq a asn && not own))) }
     {
         let alloc = self.alloc;
-        match insert_both(&mut self.members, &mut self.defaulted, alloc, asn, number, own) {
+        match insert_both(
+            &mut self.members,
+            &mut self.defaulted,
+            alloc,
+            asn,
+            number,
+            own,
+        ) {
             Ok(()) => Ok(()),
             Err(_) => {
                 self.members = BTreeMap::new(alloc);

@@ -11,8 +11,12 @@ use Rattle.hop_index.proofs.hops.Hops.insert.Goals as goal
 
 pub index_mut-requires : goal.index_mut-requires
 index_mut-requires c =
-    omega (arith, c.self.inside.hops.ok.0, place_within c.self.inside.by_pair c.self.inside.hops.items c.self.invariant c.args.pair c.word.ensures.small c.in-Some.place
-    (ap (get c.self.inside.by_pair) (sym c.word.ensures.same) ∙ sym c.get.ensures ∙ c.in-Some.is))
+    omega (
+      arith,
+      c.self.inside.hops.ok.0,
+      place_within c.self.inside.by_pair c.self.inside.hops.items c.self.invariant c.args.pair c.word.ensures.small c.in-Some.place
+          (ap (get c.self.inside.by_pair) (sym c.word.ensures.same) ∙ sym c.get.ensures ∙ c.in-Some.is),
+    )
 
 pub invariant_of-self : goal.invariant_of-self
 invariant_of-self c =

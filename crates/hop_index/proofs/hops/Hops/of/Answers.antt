@@ -14,8 +14,12 @@ returns-in-None c =
 
 pub index-requires : goal.index-requires
 index-requires c =
-    omega (arith, c.self.inside.hops.ok.0, place_within c.self.inside.by_pair c.self.inside.hops.items c.self.invariant c.args.pair c.word.ensures.small c.in-Some.place
-    (ap (get c.self.inside.by_pair) (sym c.word.ensures.same) ∙ sym c.get.ensures ∙ c.in-Some.is))
+    omega (
+      arith,
+      c.self.inside.hops.ok.0,
+      place_within c.self.inside.by_pair c.self.inside.hops.items c.self.invariant c.args.pair c.word.ensures.small c.in-Some.place
+          (ap (get c.self.inside.by_pair) (sym c.word.ensures.same) ∙ sym c.get.ensures ∙ c.in-Some.is),
+    )
 
 pub returns-in-Some : goal.returns-in-Some
 returns-in-Some c =

@@ -10,8 +10,12 @@ use Rattle.hop_index.proofs.hops.Hops.take_out.Goals as goal
 
 pub index_mut-requires : goal.index_mut-requires
 index_mut-requires c =
-    omega (arith, c.self.inside.hops.ok.0, place_within c.self.inside.by_pair c.self.inside.hops.items c.self.invariant c.args.pair c.word.ensures.small c.in-Some.place
-    (ap (get c.self.inside.by_pair) (sym c.word.ensures.same) ∙ sym c.get.ensures ∙ c.in-Some.is))
+    omega (
+      arith,
+      c.self.inside.hops.ok.0,
+      place_within c.self.inside.by_pair c.self.inside.hops.items c.self.invariant c.args.pair c.word.ensures.small c.in-Some.place
+          (ap (get c.self.inside.by_pair) (sym c.word.ensures.same) ∙ sym c.get.ensures ∙ c.in-Some.is),
+    )
 
 pub invariant_of-self : goal.invariant_of-self
 invariant_of-self c =
@@ -51,8 +55,8 @@ returns-in-Some-clause-emptied c =
     c.index_mut.result.now c.index_mut.ensures.value c.remove.new.self in
     let here = here_now c.args.self.now _ c.args.pair (Some c.remove.new.self) now.updates in
     (λ h. here ∙ ap Some (c.is_empty.ensures.0 h), λ h. c.is_empty.ensures.1 (some_same _ _ (sym here ∙ h))) where
-  some_same : (v w : List ℕ) → ◌≡◌ {A = Option (List ℕ)} (Some v) (Some w) → v ≡ w
-  some_same v w e = cc
+      some_same : (v w : List ℕ) → ◌≡◌ {A = Option (List ℕ)} (Some v) (Some w) → v ≡ w
+      some_same v w e = cc
 
 pub returns-in-Some-clause-others : goal.returns-in-Some-clause-others
 returns-in-Some-clause-others c =

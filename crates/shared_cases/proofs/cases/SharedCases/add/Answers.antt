@@ -1,5 +1,4 @@
-use Rattle.std.proofs.Common.{◌≡◌, ℕ, [], List, Some, refl, ap, sym, subst, ◌∙◌}
-use Rattle.hop_index.specs.Index.{Adds}
+use Rattle.std.proofs.Common.{ℕ, [], Some, refl, ap, sym, subst, ◌∙◌}
 use Rattle.path_model.specs.declared.verdict.Verdict.{Verdict}
 use Rattle.shared_cases.specs.declared.case.StoredCase.{StoredCase}
 use Rattle.shared_cases.specs.Cases.{Slots, at, Rewrites, IsAbsent}
@@ -39,4 +38,10 @@ invariant_of-self-in-Ok c =
     )
 
 pub invariant_of-self-in-Err : goal.invariant_of-self-in-Err
-invariant_of-self-in-Err c = ?e
+invariant_of-self-in-Err c = (
+  subst (λ (cases : Slots). AreKept cases c.new-in-Err.result c.new-in-Err-2.result c.new-in-Err-3.result c.new-in-Err-4.result) (sym c.new.ensures.empty)
+      (subst (λ (peers : ByPeer). AreKept [] c.new-in-Err.result c.new-in-Err-2.result peers c.new-in-Err-4.result) (sym c.new-in-Err-3.ensures)
+      (none_kept c.new-in-Err.result c.new-in-Err-2.result c.new-in-Err-4.result
+      (none_named c.new-in-Err.result c.new-in-Err.ensures.words c.new-in-Err.ensures.twins) c.new-in-Err-2.ensures)),
+  c.none-self-inside.ensures ∙ ap totals_of (sym c.new.ensures.empty),
+)
