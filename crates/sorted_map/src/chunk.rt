@@ -89,6 +89,7 @@ impl<K: Copy, V> Chunk<K, V> {
 
 impl<K: Ord, V> Chunk<K, V> {
     // Whether all keys are below this one.
+    #[inline(always)]
     pub(crate) fn is_below(&self, key: &K) -> bool
         requires { IsStrictlySortedBy K.cmp (keys_of self.now) }
         ensures { IsTrue result → AreBelow K.cmp key.now self.now }
@@ -156,13 +157,20 @@ impl<K: Ord + Copy, V: Copy> Chunk<K, V> {
         self.values.truncate(at);
     }
 
-    // One entry more at the end. Where there was no memory, nothing changed.
+    // One entry more at the end. Where there was no memory for the value, the key goes again, so that nothing changed.
+    #[inline(always)]
     pub(crate) fn push(&mut self, key: K, value: V) -> Result<(), NoMemory>
         ensures pushed { OnOk result (self.new ≡ self.old ++ (key, value) ∷ []) }
         ensures same { OnErr result (self.new ≡ self.old) }
     {
-        let len = self.len();
-        self.insert_at(len, key, value)
+        self.keys.push(key)?;
+        match self.values.push(value) {
+            Ok(()) => Ok(()),
+            Err(_) => {
+                self.keys.pop();
+                Err(NoMemory)
+            }
+        }
     }
 
     // Gives a key a value, and answers the one that it had. Where there was no memory, nothing changed.

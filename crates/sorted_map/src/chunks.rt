@@ -83,6 +83,7 @@ impl<K: Ord, V> Chunks<K, V> {
     }
 
     // Whether all keys are below this one.
+    #[inline(always)]
     fn are_below(&self, key: &K) -> bool
         requires in_order { AreInOrder K.cmp self.now }
         ensures below { IsTrue result → AreBelow K.cmp key.now (joined self.now) }
@@ -108,6 +109,7 @@ impl<K: Ord, V> Chunks<K, V> {
 
 impl<K: Ord + Copy, V: Copy> Chunks<K, V> {
     // Gives a key a value, and answers the one that it had. Where there was no memory, the entries are the same.
+    #[inline(always)]
     pub(crate) fn put(&mut self, alloc: Global, key: K, value: V) -> Result<Option<V>, NoMemory>
         requires { AreInOrder K.cmp self.old }
         ensures before { IfOk result (λ v. v ≡ value_at K.cmp self.old key) }
@@ -121,7 +123,8 @@ impl<K: Ord + Copy, V: Copy> Chunks<K, V> {
         self.put_within(alloc, key, value)
     }
 
-    // One entry more at the end. A further chunk has its whole room from the start: where keys rise it will be full. The first one grows.
+    // One entry more at the end.
+    #[inline(always)]
     fn append(&mut self, alloc: Global, key: K, value: V) -> Result<(), NoMemory>
         ensures appended { OnOk result (joined self.new ≡ joined self.old ++ (key, value) ∷ []) }
         ensures same { OnErr result (joined self.new ≡ joined self.old) }
@@ -130,12 +133,24 @@ impl<K: Ord + Copy, V: Copy> Chunks<K, V> {
         if len > 0 && self.list[len - 1].len() < MOST {
             return self.list[len - 1].push(key, value);
         }
+        self.append_chunk(alloc, key, value)
+    }
+
+    // One entry more in a chunk behind the others. A further chunk has its whole room from the start: where keys rise it will be full. The
+    // first one grows.
+    #[inline(never)]
+    fn append_chunk(&mut self, alloc: Global, key: K, value: V) -> Result<(), NoMemory>
+        ensures appended { OnOk result (joined self.new ≡ joined self.old ++ (key, value) ∷ []) }
+        ensures same { OnErr result (joined self.new ≡ joined self.old) }
+    {
+        let len = self.list.len();
         let room = if len > 0 { MOST } else { 0 };
         let chunk = Chunk::of_one(alloc, key, value, room)?;
         self.insert_chunk(len, chunk)
     }
 
     // Gives a key a value that doesn't go to the end.
+    #[inline(never)]
     fn put_within(&mut self, alloc: Global, key: K, value: V) -> Result<Option<V>, NoMemory>
         requires in_order { AreInOrder K.cmp self.old }
         requires some { 0 < length self.old }

@@ -85,6 +85,7 @@ impl<K: Ord + Copy, V: Copy> Sorted<K, V> {
     /// Gives a key a value, and answers the one that it had. Where there was no memory, nothing changed. A key above all others goes to the
     /// end at once; else a new one takes its look-up and a move of at most 512 entries, and where it finds its chunk full, that is halved
     /// and the list of chunks moves.
+    #[inline(always)]
     pub fn insert(&mut self, key: K, value: V) -> Result<Option<V>, NoMemory>
         ensures before { IfOk result (λ v. v ≡ lookup (is_at (K.cmp key)) self.old) }
         ensures inserted { OnOk result (self.new ≡ insert_entry K.cmp self.old key value) }

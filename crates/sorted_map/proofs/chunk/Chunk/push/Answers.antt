@@ -1,9 +1,10 @@
-use Rattle.std.proofs.Common.{ap, ◌∙◌}
-use Rattle.std.specs.List.{insert}
-use Rattle.std.proofs.lemmas.Result.{on_ok_weaker}
-use Rattle.std.proofs.lemmas.List.Edits.{insert_end}
+use Rattle.std.proofs.Common.{ap, ◌∙◌, ◌++◌, ◌∷◌, []}
+use Rattle.sorted_map.proofs.ChunkLemmas.{both_appended}
+use Rattle.sorted_map.proofs.ZipLemmas.{zip_same}
 use Rattle.sorted_map.proofs.chunk.Chunk.push.Goals as goal
 
-pub returns-clause-pushed : goal.returns-clause-pushed
-returns-clause-pushed g c = on_ok_weaker c.insert_at.result
-    (λ inserted. inserted ∙ ap (λ n. insert c.args.self.now n (c.args.key, c.args.value)) c.len-len.ensures ∙ insert_end c.args.self.now (c.args.key, c.args.value)) c.insert_at.ensures.inserted
+pub returns-in-Ok-clause-pushed : goal.returns-in-Ok-clause-pushed
+returns-in-Ok-clause-pushed g c =
+    zip_same _ _ _ _ c.in_ok-push.ensures.items c.in-Ok.ensures.items
+    ∙ both_appended c.self.inside.keys.items (c.args.key ∷ []) c.self.inside.values.items (c.args.value ∷ []) c.self.invariant
+    ∙ ap (λ es. es ++ (c.args.key, c.args.value) ∷ []) c.self.view_is

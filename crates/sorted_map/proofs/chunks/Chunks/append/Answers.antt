@@ -1,10 +1,7 @@
-use Rattle.std.proofs.Common.{◌++◌, ◌∷◌, [], ◌∙◌, ◌≡◌, ap, arith, length}
-use Rattle.std.specs.List.{insert}
-use Rattle.std.proofs.lemmas.List.Edits.{insert_end}
+use Rattle.std.proofs.Common.{◌++◌, ◌∷◌, [], ◌∙◌, ap, arith}
 use Rattle.std.proofs.lemmas.Result.{on_ok_weaker}
 use Rattle.sorted_map.specs.Joined.{joined}
 use Rattle.sorted_map.proofs.FirstLemmas.{still, begins_pushed}
-use Rattle.sorted_map.proofs.JoinedLemmas.{joined_pushed}
 use Rattle.sorted_map.proofs.StepLemmas.{joined_last}
 use Rattle.sorted_map.proofs.chunks.Chunks.append.Goals as goal
 
@@ -19,11 +16,3 @@ returns-then-len-lt-MOST-clause-appended g c = on_ok_weaker c.push.result
     (omega (arith, c.if-len-gt0.true, c.len-len.ensures, c.self.inside.list.ok)) (omega (arith, c.len-len.ensures, c.self.inside.list.ok)) c.index_mut.ensures.value pushed
     ∙ ap (λ cs. joined cs ++ (c.args.key, c.args.value) ∷ []) c.self.view_is)
     c.push.ensures.pushed
-
-pub returns-clause-appended : goal.returns-clause-appended
-returns-clause-appended g c = on_ok_weaker c.insert_chunk.result
-    (λ put.
-    let long : c.len-len.result ≡ length c.args.self.now = omega (arith, c.len-len.ensures, c.self.inside.list.ok, ap length c.self.view_is) in
-    ap joined put ∙ ap (λ n. joined (insert c.args.self.now n c.in_ok-chunk.chunk)) long ∙ ap joined (insert_end c.args.self.now c.in_ok-chunk.chunk)
-    ∙ joined_pushed c.args.self.now c.in_ok-chunk.chunk ∙ ap (λ b. joined c.args.self.now ++ b) c.in_ok-chunk.ensures)
-    c.insert_chunk.ensures.inserted
