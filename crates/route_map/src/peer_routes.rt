@@ -91,6 +91,7 @@ impl<V> PeerRoutes<V> {
 impl<V: Copy> PeerRoutes<V> {
     // Gives a prefix with its path identifier, if it has one, a value, and answers the one that it had. Where there was no memory nothing
     // changed.
+    #[inline(always)]
     pub(crate) fn insert(&mut self, nlri: &Nlri, value: V) -> Result<Option<V>, NoMemory>
         ensures before { IfOk result (λ v. v ≡ lookup (is_at (nlri_cmp nlri.now)) self.old) }
         ensures put { OnOk result (self.new ≡ insert_entry nlri_cmp self.old nlri.now value) }

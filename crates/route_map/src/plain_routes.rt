@@ -86,6 +86,7 @@ impl<V> PlainRoutes<V> {
 
 impl<V: Copy> PlainRoutes<V> {
     // Gives a prefix a value, and answers the one that it had. Where there was no memory nothing changed.
+    #[inline(always)]
     pub(crate) fn insert(&mut self, prefix: &Prefix, value: V) -> Result<Option<V>, NoMemory>
         ensures before { IfOk result (λ v. v ≡ value_of self.old (plain prefix.now)) }
         ensures put { OnOk result (self.new ≡ with_value self.old (plain prefix.now) value) }
