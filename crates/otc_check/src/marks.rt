@@ -12,7 +12,7 @@ use std::alloc::Global;
 use std::marker::Model;
 
 /// The attribute Only-to-Customer of each route's last announcement (RFC 9234, section 5). Only routes that have the attribute are held,
-/// each as in a [`RouteMap`] with values of 8 bytes: in a peer with many of them 13 bytes or so for IPv4, and some 700 for a peer's first.
+/// each as in a [`RouteMap`] with values of 8 bytes: in a peer with many of them 13 bytes or so for IPv4, and some 620 for a peer's first.
 #[derive(Drop)]
 pub struct Marks {
     // none is `Absent`

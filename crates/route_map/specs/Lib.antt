@@ -7,4 +7,5 @@ pub mod Merged
 pub mod Numbered
 pub mod OfPeer
 pub mod Packed
+pub mod Slots
 pub mod Updates

@@ -13,6 +13,8 @@
 mod boxed_iter;
 mod boxed_routes;
 mod by_number;
+mod by_peer;
+mod hints;
 mod identified_iter;
 mod identified_routes;
 mod ipv4_nlri;

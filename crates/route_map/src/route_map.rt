@@ -11,13 +11,12 @@ ghost use Rattle.route_map.specs.Held.{found, value_at, without, HaveRoutes, Put
 ghost use Rattle.route_map.specs.OfPeer.{HasNoRouteOf, IsRouteOf};
 ghost use Rattle.route_map.specs.Updates.{Gets, Loses};
 
+use crate::by_peer::ByPeer;
 use crate::iter::Iter;
 use crate::peer_iter::PeerIter;
-use crate::peer_routes::PeerRoutes;
 use av_base::NoMemory;
 use path_model::{Key, Peer};
 use std::alloc::Global;
-use std::collections::BTreeMap;
 use std::marker::Model;
 
 // How many routes there may be: their number is that of a `Vec`'s elements at most.
@@ -25,14 +24,15 @@ const MOST_ROUTES: usize = 0x7fff_ffff_ffff_ffff;
 
 /// A value for each route. With values of 4 bytes an IPv4 route takes 9 bytes and an IPv6 route 28, with a path identifier 16 and 36, where
 /// the routes of a peer come in order. Else they stand in chunks of at most 512 that are less full, and two chunks side by side become one
-/// when routes go: there is room for at most four times the routes, and for a chunk more of each kind. The first route of a peer takes 540
-/// bytes in the whole program (IPv6: 690), and with a path identifier 730 (890). To find a route takes a look-up among the peers, and two
-/// searches among the routes of one.
+/// when routes go: there is room for at most four times the routes, and for a chunk more of each kind. The first route of a peer takes 460
+/// bytes in the whole program (IPv6: 610), and with a path identifier 650 (810); the first of all takes 2 KB more. To find a route takes two
+/// searches among the routes of its peer. The peer is found at once while there are some hundreds of peers at most, and of more many take a
+/// look-up among all peers.
 #[derive(Drop)]
 pub struct RouteMap<V> {
     alloc: Global,
-    // a peer without routes has no entry, as the invariant says
-    peers: BTreeMap<Peer, PeerRoutes<V>>,
+    // a peer without routes isn't there, as the invariant says
+    peers: ByPeer<V>,
     // how many routes there are
     len: usize,
 }
@@ -45,9 +45,9 @@ impl<V> Model for RouteMap<V> {
 
     ghost Value = { List (Key × V) };
 
-    ghost view = { λ m. flat m.peers.entries };
+    ghost view = { λ m. flat m.peers };
 
-    ghost invariant = { λ m. AreHeld m.peers.entries m.len };
+    ghost invariant = { λ m. AreHeld m.peers m.len };
 }
 
 impl<V> RouteMap<V> {
@@ -57,7 +57,7 @@ impl<V> RouteMap<V> {
     {
         RouteMap {
             alloc,
-            peers: BTreeMap::new(alloc),
+            peers: ByPeer::new(alloc),
             len: 0,
         }
     }
@@ -88,13 +88,10 @@ impl<V> RouteMap<V> {
         ensures few { length result < 2 ^ 63 }
         ensures in_order { IsStrictlySortedBy key_cmp (keys_of self.now) }
     {
-        Iter {
-            first: None,
-            others: self.peers.iter(),
-        }
+        self.peers.iter()
     }
 
-    /// The routes of one peer, in key order. It costs one look-up among the peers, and then what these routes cost.
+    /// The routes of one peer, in key order. It costs to find the peer, and then what these routes cost.
     pub fn of_peer(&self, peer: &Peer) -> PeerIter<'_, V>
         ensures { result ≡ filter (λ e. is_of_peer peer.now e.0) self.now }
     {
@@ -109,7 +106,7 @@ impl<V> RouteMap<V> {
     }
 
     /// Some route of one peer, and it isn't said which; `None` exactly where it has none. It is the last one of a family, which takes the
-    /// least time to go: to withdraw this one over and over takes all routes of the peer out at the cost of a look-up among the peers each.
+    /// least time to go: to withdraw this one over and over takes all routes of the peer out at the cost of finding the peer each.
     pub fn one_of(&self, peer: &Peer) -> Option<Key>
         ensures none { IfNone result (HasNoRouteOf self.now peer.now) }
         ensures some { IfSome result (IsRouteOf self.now peer.now) }
@@ -137,7 +134,7 @@ impl<V: Copy> RouteMap<V> {
             return Err(NoMemory);
         }
         let _peers = self.peers.len();
-        let before = put(&mut self.peers, self.alloc, key, value)?;
+        let before = self.peers.put(self.alloc, &key, value)?;
         self.len += usize::from(before.is_none());
         Ok(before)
     }
@@ -145,64 +142,14 @@ impl<V: Copy> RouteMap<V> {
 
 impl<V: Drop> RouteMap<V> {
     /// Takes the value of a route out, where it has one, and answers it. It takes no memory, and what the last route of a peer took is
-    /// given back.
+    /// given back, but for some 180 bytes that the next new peer gets.
     pub fn remove(&mut self, key: &Key) -> Option<V>
         ensures before { result ≡ lookup (is_at (key_cmp key.now)) self.old }
         ensures removed { self.new ≡ remove_entry (is_at (key_cmp key.now)) self.old }
         ensures updates { Loses self.old key.now self.new }
     {
-        let before = take(&mut self.peers, key);
+        let before = self.peers.take(self.alloc, key);
         self.len -= usize::from(before.is_some());
         before
-    }
-}
-
-// Gives a route a value among those of its peer, and answers the one that it had.
-fn put<V: Copy>(
-    peers: &mut BTreeMap<Peer, PeerRoutes<V>>,
-    alloc: Global,
-    key: Key,
-    value: V,
-) -> Result<Option<V>, NoMemory>
-    ensures before { IfOk result (λ v. v ≡ value_at peers.old.entries key) }
-    ensures put { OnOk result (Puts peers.old.entries key value peers.new.entries) }
-    ensures same { OnErr result (peers.new.entries ≡ peers.old.entries) }
-{
-    if let Some(routes) = peers.get_mut(&key.peer) {
-        let before = routes.insert(&key.nlri(), value)?;
-        return Ok(before);
-    }
-    let mut routes = PeerRoutes::new(alloc);
-    routes.insert(&key.nlri(), value)?;
-    peers.insert(key.peer, routes)?;
-    Ok(None)
-}
-
-// Takes a route out from those of its peer, which goes with its last route, and answers what the route had.
-fn take<V: Drop>(peers: &mut BTreeMap<Peer, PeerRoutes<V>>, key: &Key) -> Option<V>
-    ensures before { result ≡ lookup (is_at (key_cmp key.now)) (flat peers.old.entries) }
-    ensures removed { flat peers.new.entries ≡ without key.now (flat peers.old.entries) }
-    ensures kept { HaveRoutes peers.old.entries → HaveRoutes peers.new.entries }
-{
-    let _peers = peers.len();
-    let (before, emptied) = take_out(peers, key);
-    if emptied {
-        peers.remove(&key.peer);
-    }
-    before
-}
-
-// Takes a route out from those of its peer, and answers what it had, and whether the peer stands there without routes now.
-fn take_out<V: Drop>(peers: &mut BTreeMap<Peer, PeerRoutes<V>>, key: &Key) -> (Option<V>, bool)
-    ensures before { result.0 ≡ value_at peers.old.entries key.now }
-    ensures taken { TakesOut peers.old.entries key.now peers.new.entries }
-    ensures emptied { IsTrue result.1 ↔ (found peers.new.entries key.now.peer ≡ Some []) }
-{
-    match peers.get_mut(&key.peer) {
-        None => (None, false),
-        Some(routes) => {
-            let before = routes.remove(&key.nlri());
-            (before, routes.is_empty())
-        }
     }
 }
