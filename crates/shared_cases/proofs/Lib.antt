@@ -1,5 +1,6 @@
 pub mod CaseLemmas
 pub mod FollowLemmas
+pub mod FoundLemmas
 pub mod KeptLemmas
 pub mod ListedLemmas
 pub mod MoveLemmas

@@ -232,11 +232,12 @@ impl SharedCases {
     // These cases are judged anew, once each.
     pub(crate) fn rejudge<L: Ledger>(
         self,
-        touched: &CaseNumbers,
+        touched: &[u32],
         table: &Vaps,
         roles: &Roles,
         steps: &mut Steps<L>,
     ) -> Result<(SharedCases, CaseNumbers), NoMemory>
+        requires { IsStrictlySortedBy nat_cmp touched.now }
         ensures judged { IfOk result (λ r. (n : ℕ) → has touched.now n ≡ true
             → IsRightCase (grounds table.now roles.now) (at r.0 n)) }
         ensures others { IfOk result (λ r. (n : ℕ) → has touched.now n ≡ false
@@ -245,7 +246,6 @@ impl SharedCases {
         ensures own { IfOk result (λ r. SayTheSame self r.0) }
         ensures differed { IfOk result (λ r. HaveDiffered self r.0) }
         ensures newly { IfOk result (λ r. AreNewlyDiffering self r.0 r.1) }
-        ensures rising { IsStrictlySortedBy nat_cmp touched.now }
         ensures ticks { steps.new ≤ steps.old + length touched.now }
     {
         let SharedCases {

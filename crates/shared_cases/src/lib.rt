@@ -15,6 +15,7 @@ mod case;
 mod case_iter;
 mod case_name;
 mod cases;
+mod found;
 mod hints;
 mod moved_rows;
 mod names;

@@ -1,5 +1,5 @@
 //! Cases judged anew, where another table or other roles touch them.
-ghost use Rattle.std.specs.Prelude.{◌≡◌, ◌≤◌, ◌+◌, ◌-◌, ℕ, true, false, length, IfOk, OnOk};
+ghost use Rattle.std.specs.Prelude.{◌≡◌, ◌≤◌, ◌+◌, ◌-◌, ℕ, true, false, nat_eq, ◌||◌, ◌&&◌, length, IfOk, OnOk};
 ghost use Rattle.std.specs.List.Sorted.{IsStrictlySortedBy};
 ghost use Rattle.std.specs.Ordering.{nat_cmp};
 ghost use Rattle.path_model.specs.Authority.{Table};
@@ -52,7 +52,7 @@ impl SharedCases {
             (steps.new - steps.old) }
     {
         let touched = touched_by_moves(self.alloc, &self.index, moves)?;
-        let (cases, newly) = self.rejudge(&touched, table, roles, steps)?;
+        let (cases, newly) = self.rejudge(touched.as_slice(), table, roles, steps)?;
         Ok((cases, newly))
     }
 
@@ -81,7 +81,7 @@ impl SharedCases {
         let touched = touched_by_role(self.alloc, &self.peers, asn, before, roles.of(asn))?;
         let mut cases = self;
         cases.set_own(asn);
-        let (cases, newly) = cases.rejudge(&touched, table, roles, steps)?;
+        let (cases, newly) = cases.rejudge(touched.as_slice(), table, roles, steps)?;
         Ok((cases, newly))
     }
 
@@ -105,7 +105,7 @@ impl SharedCases {
             (grounds table.now roles.now) self (steps.new - steps.old) }
     {
         let touched = touched_by_default(self.alloc, &self.peers, before, roles)?;
-        let (cases, newly) = self.rejudge(&touched, table, roles, steps)?;
+        let (cases, newly) = self.rejudge(touched.as_slice(), table, roles, steps)?;
         Ok((cases, newly))
     }
 
@@ -129,11 +129,12 @@ pub(crate) fn rejudge_all<L: Ledger>(
     alloc: Global,
     slab: &mut Slab<StoredCase>,
     totals: &mut Totals,
-    touched: &CaseNumbers,
+    touched: &[u32],
     table: &Vaps,
     roles: &Roles,
     steps: &mut Steps<L>,
 ) -> Result<CaseNumbers, NoMemory>
+    requires { IsStrictlySortedBy nat_cmp touched.now }
     ensures judged { OnOk result ((n : ℕ) → has touched.now n ≡ true
         → IsRightCase (grounds table.now roles.now) (at slab.new.slots n)) }
     ensures others { OnOk result ((n : ℕ) → has touched.now n ≡ false
@@ -146,19 +147,28 @@ pub(crate) fn rejudge_all<L: Ledger>(
         AreNewlyDiffering slab.old.slots slab.new.slots newly) }
     ensures counted { OnOk result (totals.old ≡ totals_of slab.old.slots
         → totals.new ≡ totals_of slab.new.slots) }
-    ensures rising { IsStrictlySortedBy nat_cmp touched.now }
     ensures ticks { steps.new ≤ steps.old + length touched.now }
 {
     let mut newly = CaseNumbers::new(alloc);
-    for number in touched.iter() {
+    for short in touched {
+        let number = *short as usize;
         let before = share(slab, number);
         let differs = judge_anew(slab, number, table, roles, steps);
         let after = share(slab, number);
         let both = totals.plus(after)?;
         *totals = both.minus(before);
-        if differs {
-            newly.insert(number)?;
-        }
+        tell(&mut newly, number, differs)?;
     }
     Ok(newly)
+}
+
+// A number comes to these, if its case differs.
+fn tell(newly: &mut CaseNumbers, number: usize, differs: bool) -> Result<(), NoMemory>
+    ensures { OnOk result ((n : ℕ)
+        → has newly.new n ≡ (has newly.old n || (nat_eq n number && differs))) }
+{
+    if !differs {
+        return Ok(());
+    }
+    newly.insert(number)
 }

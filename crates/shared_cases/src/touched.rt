@@ -1,94 +1,101 @@
 //! Which cases a change touches.
 ghost use Rattle.std.specs.Prelude.{◌≡◌, ◌↔◌, true, false, ℕ, ◌||◌, ◌⊎◌, IfOk, IsTrue, OnOk};
+ghost use Rattle.std.specs.List.Sorted.{IsStrictlySortedBy};
+ghost use Rattle.std.specs.Ordering.{nat_cmp};
 ghost use Rattle.hop_index.specs.Index.{has as hops_have};
 ghost use Rattle.path_model.specs.Roles.{role_of};
 ghost use Rattle.shared_cases.specs.Numbers.{has};
 ghost use Rattle.shared_cases.specs.Peers.{is_member, HasMovedMember, IsMovedMember};
 ghost use Rattle.shared_cases.specs.Touching.{AreAllOf, IsTouchedAt, IsTouchedBy};
 
+use crate::found::FoundCases;
 use crate::moved_rows::MovedRows;
-use crate::numbers::CaseNumbers;
 use crate::peers::Peers;
 use av_base::NoMemory;
 use hop_index::HopIndex;
 use path_model::{Role, Roles};
 use std::alloc::Global;
+use std::vec::Vec;
 use vap_table::{Moves, RowMove};
 
-// The cases that some move touches. It takes the time of a look-up for each move; where its customer has hops, also of a walk over its
+// The cases that some move touches, rising. It takes the time of a look-up for each move; where its customer has hops, also of a walk over its
 // rows, of a look-up for each AS that is in one row alone or, where these are fewer or there is one row only, for each hop of the customer,
 // and of what is found.
 pub(crate) fn touched_by_moves(
     alloc: Global,
     index: &HopIndex,
     moves: &Moves,
-) -> Result<CaseNumbers, NoMemory>
-    ensures { IfOk result (λ touched. (n : ℕ)
-        → (has touched n ≡ true) ↔ IsTouchedBy index.now moves.now n) }
+) -> Result<Vec<u32>, NoMemory>
+    ensures touched { IfOk result (λ touched. (n : ℕ)
+        → (has touched.items n ≡ true) ↔ IsTouchedBy index.now moves.now n) }
+    ensures rising { IfOk result (λ touched. IsStrictlySortedBy nat_cmp touched.items) }
 {
-    let mut touched = CaseNumbers::new(alloc);
+    let mut found = FoundCases::new(alloc);
     for row_move in moves.as_slice() {
-        touch(alloc, index, row_move, &mut touched)?;
+        touch(alloc, index, row_move, &mut found)?;
     }
-    Ok(touched)
+    found.into_rising()
 }
 
-// The cases of the ASes without a role of their own, where the default was `before` and is another one. Only the ASes with a case that doesn't
-// say that they have one are gone over: it takes the time of two look-ups for each, and of what is found; where the default is the same, none.
+// The cases of the ASes without a role of their own, rising, where the default was `before` and is another one. Only the ASes with a case that
+// doesn't say that they have one are gone over: it takes the time of two look-ups for each, and of what is found; where the default is the
+// same, none.
 pub(crate) fn touched_by_default(
     alloc: Global,
     peers: &Peers,
     before: Role,
     roles: &Roles,
-) -> Result<CaseNumbers, NoMemory>
+) -> Result<Vec<u32>, NoMemory>
     ensures others { IfOk result (λ touched. (asn n : ℕ) → has peers.now.defaulted asn ≡ true
-        → is_member peers.now.members asn n ≡ true → has touched n ≡ false
+        → is_member peers.now.members asn n ≡ true → has touched.items n ≡ false
         → role_of (record roles.now { default = before }) asn ≡ role_of roles.now asn) }
-    ensures only { IfOk result (λ touched. (n : ℕ) → has touched n ≡ true
+    ensures only { IfOk result (λ touched. (n : ℕ) → has touched.items n ≡ true
         → HasMovedMember peers.now.members (record roles.now { default = before }) roles.now n) }
+    ensures rising { IfOk result (λ touched. IsStrictlySortedBy nat_cmp touched.items) }
 {
-    let mut touched = CaseNumbers::new(alloc);
     if is_same_role(before, roles.default()) {
-        return Ok(touched);
+        return Ok(Vec::new(alloc));
     }
+    let mut found = FoundCases::new(alloc);
     for asn in peers.defaulted() {
         if roles.has_own(*asn) {
             continue;
         }
-        touch_members(peers, *asn, &mut touched)?;
+        touch_members(peers, *asn, &mut found)?;
     }
-    Ok(touched)
+    found.into_rising()
 }
 
-// The cases of an AS, if its role is another one. It takes the time of a look-up, and of what is found.
+// The cases of an AS, rising, if its role is another one. It takes the time of a look-up, and of what is found.
 pub(crate) fn touched_by_role(
     alloc: Global,
     peers: &Peers,
     asn: u32,
     before: Role,
     after: Role,
-) -> Result<CaseNumbers, NoMemory>
+) -> Result<Vec<u32>, NoMemory>
     ensures others { IfOk result (λ touched. (n : ℕ) → is_member peers.now.members asn n ≡ true
-        → has touched n ≡ false → before ≡ after) }
-    ensures only { IfOk result (λ touched. (n : ℕ) → has touched n ≡ true
+        → has touched.items n ≡ false → before ≡ after) }
+    ensures only { IfOk result (λ touched. (n : ℕ) → has touched.items n ≡ true
         → IsMovedMember peers.now.members asn before after n) }
+    ensures rising { IfOk result (λ touched. IsStrictlySortedBy nat_cmp touched.items) }
 {
-    let mut touched = CaseNumbers::new(alloc);
     if is_same_role(before, after) {
-        return Ok(touched);
+        return Ok(Vec::new(alloc));
     }
-    touch_members(peers, asn, &mut touched)?;
-    Ok(touched)
+    let mut found = FoundCases::new(alloc);
+    touch_members(peers, asn, &mut found)?;
+    found.into_rising()
 }
 
 // The cases of an AS come to the others.
-fn touch_members(peers: &Peers, asn: u32, touched: &mut CaseNumbers) -> Result<(), NoMemory>
+fn touch_members(peers: &Peers, asn: u32, touched: &mut FoundCases) -> Result<(), NoMemory>
     ensures { OnOk result ((n : ℕ)
         → has touched.new n ≡ (has touched.old n || is_member peers.now.members asn n)) }
 {
     match peers.of(asn) {
         None => Ok(()),
-        Some(numbers) => touched.insert_all(numbers),
+        Some(numbers) => touched.push_all(numbers),
     }
 }
 
@@ -99,7 +106,7 @@ fn touch(
     alloc: Global,
     index: &HopIndex,
     row_move: &RowMove,
-    touched: &mut CaseNumbers,
+    touched: &mut FoundCases,
 ) -> Result<(), NoMemory>
     ensures { OnOk result ((n : ℕ) → (has touched.new n ≡ true)
         ↔ ((has touched.old n ≡ true) ⊎ IsTouchedAt index.now row_move.now n)) }
@@ -123,14 +130,14 @@ fn touch(
 fn touch_ends(
     index: &HopIndex,
     rows: &MovedRows<'_>,
-    touched: &mut CaseNumbers,
+    touched: &mut FoundCases,
 ) -> Result<(), NoMemory>
     ensures { OnOk result ((n : ℕ) → (has touched.new n ≡ true)
         ↔ ((has touched.old n ≡ true) ⊎ IsTouchedAt index.now rows.now n)) }
 {
     for (provider, case) in index.through(rows.customer()) {
         if rows.is_moved(provider) {
-            touched.insert(case)?;
+            touched.push(case)?;
         }
     }
     Ok(())
@@ -141,7 +148,7 @@ fn touch_asked(
     index: &HopIndex,
     rows: &MovedRows<'_>,
     asked: &[u32],
-    touched: &mut CaseNumbers,
+    touched: &mut FoundCases,
 ) -> Result<(), NoMemory>
     requires { AreAllOf asked.now rows.now }
     ensures { OnOk result ((n : ℕ) → (has touched.new n ≡ true)
@@ -160,13 +167,13 @@ fn touch_hop(
     index: &HopIndex,
     customer: u32,
     provider: u32,
-    touched: &mut CaseNumbers,
+    touched: &mut FoundCases,
 ) -> Result<(), NoMemory>
     ensures { OnOk result ((n : ℕ) → has touched.new n
         ≡ (has touched.old n || hops_have index.now customer provider n)) }
 {
     for case in index.between(customer, provider) {
-        touched.insert(case)?;
+        touched.push(case)?;
     }
     Ok(())
 }

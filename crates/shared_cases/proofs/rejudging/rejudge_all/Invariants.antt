@@ -1,4 +1,4 @@
-use Rattle.std.proofs.Common.{◌≡◌, ◌+◌, ◌≤◌, length}
+use Rattle.std.proofs.Common.{◌≡◌, ◌+◌, ◌≤◌, length, drop}
 use Rattle.shared_cases.specs.Grounds.{grounds}
 use Rattle.shared_cases.specs.Numbers.{has}
 use Rattle.shared_cases.specs.Totals.{totals_of}
@@ -6,9 +6,9 @@ use Rattle.shared_cases.proofs.RejudgingLemmas.{IsRejudging}
 use Rattle.shared_cases.proofs.rejudging.rejudge_all.Given as goal
 
 -- each touched case is judged anew or among those to come
-abbrev pub invariant-loop-number : goal.invariant-loop-number
-invariant-loop-number g l = record {
-  so_far : IsRejudging (grounds l.table l.roles) (has l.touched) l.fn.slab.slots l.slab.slots l.number-iterator l.newly;
+abbrev pub invariant-loop-short : goal.invariant-loop-short
+invariant-loop-short g l = record {
+  so_far : IsRejudging (grounds l.table l.roles) (has l.touched) l.fn.slab.slots l.slab.slots (drop l.short-index l.touched) l.newly;
   counted : l.fn.totals ≡ totals_of l.fn.slab.slots → l.totals ≡ totals_of l.slab.slots;
-  ticks : l.steps + length l.number-iterator ≤ l.fn.steps + length l.touched;
+  ticks : l.steps + length (drop l.short-index l.touched) ≤ l.fn.steps + length l.touched;
 }

@@ -6,6 +6,6 @@ use Rattle.shared_cases.proofs.touched.touched_by_default.Given as goal
 
 abbrev pub invariant-loop-asn : goal.invariant-loop-asn
 invariant-loop-asn l = record {
-  others : AreCovered l.peers.members (record l.roles { default = l.fn.before }) l.roles l.peers.defaulted l.touched l.asn-iterator;
-  only : (n : ℕ) → has l.touched n ≡ true → HasMovedMember l.peers.members (record l.roles { default = l.fn.before }) l.roles n;
+  others : AreCovered l.peers.members (record l.roles { default = l.fn.before }) l.roles l.peers.defaulted l.found l.asn-iterator;
+  only : (n : ℕ) → has l.found n ≡ true → HasMovedMember l.peers.members (record l.roles { default = l.fn.before }) l.roles n;
 }

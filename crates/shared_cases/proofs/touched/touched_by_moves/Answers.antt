@@ -12,5 +12,5 @@ loop-row_move-preserved c n =
     let i : ℕ = c.loop-row_move.row_move-index in
     let m : RowMove = c.row_move-item.result in
     let step : drop i moves ≡ m ∷ drop (i + 1) moves = drop_more moves i m c.loop-row_move-test.true ∙ ap (λ (x : RowMove). x ∷ drop (i + 1) moves) (sym c.row_move-item.is) in
-    touched_next c.args.index.now c.args.moves.now (drop (i + 1) moves) m n (has c.loop-row_move.touched n) (has c.touch.new.touched n) (c.in_ok-touch.ensures n)
-    (subst (λ (ms : List RowMove). ((has c.loop-row_move.touched n ≡ true) ⊎ IsTouchedBy c.args.index.now ms n) ↔ IsTouchedBy c.args.index.now c.args.moves.now n) step (c.loop-row_move.invariant n))
+    touched_next c.args.index.now c.args.moves.now (drop (i + 1) moves) m n (has c.loop-row_move.found n) (has c.touch.new.touched n) (c.in_ok-touch.ensures n)
+    (subst (λ (ms : List RowMove). ((has c.loop-row_move.found n ≡ true) ⊎ IsTouchedBy c.args.index.now ms n) ↔ IsTouchedBy c.args.index.now c.args.moves.now n) step (c.loop-row_move.invariant n))
