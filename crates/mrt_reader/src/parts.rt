@@ -7,6 +7,8 @@ use path_model::{Peer, Prefix};
 pub(crate) struct RibParts<'a> {
     pub(crate) prefix: Prefix,
     pub(crate) entries: Entries<'a>,
+    // how many entries there are
+    pub(crate) count: usize,
 }
 
 /// The parts of a TABLE_DUMP record.

@@ -21,7 +21,9 @@ pub(crate) fn read_rib(
 {
     match rib_parts(body, six, paths) {
         Some(parts) => match peers {
-            Some(peers) => routes_of_entries(alloc, peers, &parts.prefix, parts.entries),
+            Some(peers) => {
+                routes_of_entries(alloc, peers, &parts.prefix, parts.entries, parts.count)
+            }
             None => Err(BodyFault::NoPeerTable),
         },
         None => Err(BodyFault::Body),

@@ -1,5 +1,5 @@
 //! The routes of table records.
-ghost use Rattle.std.specs.Prelude.{◌≡◌, [], MatchBool};
+ghost use Rattle.std.specs.Prelude.{◌≡◌, [], IfOk, MatchBool};
 ghost use Rattle.std.specs.List.{AllByRecursion};
 ghost use Rattle.bgp_update.specs.Updates.{without_notes};
 ghost use Rattle.mrt_reader.specs.Bodies.{OrNoMemory};
@@ -11,24 +11,26 @@ use crate::body::Body;
 use crate::entries::Entries;
 use crate::fault::BodyFault;
 use crate::peers::PeerTable;
+use av_base::NoMemory;
 use bgp_attrs::Form;
 use path_model::{Changes, Key, Noted, Notes, Prefix};
 use std::alloc::Global;
 
-// The routes of all entries, with their notes. First the indexes are tested, then each entry is read; an entry without a path is reported at the end,
-// since attributes out of form behind it come first.
+// The routes of all entries, of which there are so many, with their notes. First the indexes are tested, then each entry is read; an entry
+// without a path is reported at the end, since attributes out of form behind it come first.
 pub(crate) fn routes_of_entries(
     alloc: Global,
     peers: &PeerTable,
     prefix: &Prefix,
     entries: Entries<'_>,
+    count: usize,
 ) -> Result<Body, BodyFault>
     ensures { OrNoMemory (EntriesSay peers.now prefix.now (entries_left entries.entry)) result }
 {
     if !are_within(peers, entries) {
         return Err(BodyFault::PeerIndex);
     }
-    let mut noted = no_changes(alloc);
+    let mut noted = room_for(alloc, count)?;
     let mut no_path = false;
     for entry in entries {
         match peers.get(entry.index) {
@@ -59,6 +61,16 @@ pub(crate) fn no_changes(alloc: Global) -> Noted
         changes: Changes::new(alloc),
         notes: Notes::new(alloc),
     }
+}
+
+// No changes, with room for so many routes.
+fn room_for(alloc: Global, count: usize) -> Result<Noted, NoMemory>
+    ensures { IfOk result (λ noted. noted ≡ without_notes []) }
+{
+    Ok(Noted {
+        changes: Changes::with_room(alloc, count)?,
+        notes: Notes::new(alloc),
+    })
 }
 
 // Whether all indexes are those of peers.

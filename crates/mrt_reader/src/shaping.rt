@@ -20,9 +20,10 @@ pub(crate) fn rib_parts(body: &[u8], six: bool, paths: bool) -> Option<RibParts<
     let (_, behind) = body.split_at(4);
     match take_prefix(behind, six) {
         Some(taken) => match counted_entries(taken.1, paths) {
-            Some(entries) => Some(RibParts {
+            Some((entries, count)) => Some(RibParts {
                 prefix: taken.0,
                 entries,
+                count,
             }),
             None => None,
         },
@@ -30,9 +31,9 @@ pub(crate) fn rib_parts(body: &[u8], six: bool, paths: bool) -> Option<RibParts<
     }
 }
 
-// The entries behind their count.
-fn counted_entries(bytes: &[u8], paths: bool) -> Option<Entries<'_>>
-    ensures some { IfSome result (λ found. IsCounted paths bytes.now (entries_left found)) }
+// The entries behind their count, and this.
+fn counted_entries(bytes: &[u8], paths: bool) -> Option<(Entries<'_>, usize)>
+    ensures some { IfSome result (λ x. IsCounted paths bytes.now (entries_left x.0)) }
     ensures none { IfNone result ((es : List Entry) → IsCounted paths bytes.now es → ⊥) }
 {
     match bytes {
@@ -41,7 +42,7 @@ fn counted_entries(bytes: &[u8], paths: bool) -> Option<Entries<'_>>
             if number != usize::from(u16::from_be_bytes([*high, *low])) {
                 return None;
             }
-            Some(found)
+            Some((found, number))
         }
         _ => None,
     }
