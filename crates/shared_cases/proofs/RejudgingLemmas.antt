@@ -125,16 +125,9 @@ module _ (g : Grounds) (touched : ℕ → Bool) (first now next : Slots) (x : �
     told = λ n. newly_next n (decide_eq n x);
   }
 
--- the number comes to those told where the case newly differs, and else none does
+-- the number comes to the others where this is so
 pub told_more : (before after : List ℕ) (x : ℕ) (b : Bool) → b ≡ true → ((n : ℕ) → has after n ≡ (has before n || nat_eq n x)) → (n : ℕ) → has after n ≡ (has before n || (nat_eq n x && b))
 told_more before after x b is more n = more n ∙ ap (λ (c : Bool). has before n || c) (sym (ap (λ (d : Bool). nat_eq n x && d) is ∙ and-true (nat_eq n x)))
-
-pub told_same : (before : List ℕ) (x : ℕ) (b : Bool) → b ≡ false → (n : ℕ) → has before n ≡ (has before n || (nat_eq n x && b))
-told_same before x b isnt n = sym (ap (λ (d : Bool). has before n || (nat_eq n x && d)) isnt ∙ none (has before n) (nat_eq n x)) where
-  none : (a c : Bool) → (a || (c && false)) ≡ a
-  none true c = refl
-  none false true = refl
-  none false false = refl
 
 -- where none are left, all are judged
 judged_of : (g : Grounds) (first now : Slots) (n : ℕ) → (has [] n ≡ true) ⊎ (IsRightCase g (at now n) × HasDiffered (at first n) (at now n)) → IsRightCase g (at now n) × HasDiffered (at first n) (at now n)
