@@ -107,7 +107,8 @@ impl<V: Copy> ByPeer<V> {
     #[inline(never)]
     fn put_first(&mut self, alloc: Global, key: &Key, value: V) -> Result<(), NoMemory>
         requires { found self.old key.now.peer ≡ None }
-        ensures put { OnOk result (self.new ≡ insert_entry peer_cmp self.old key.now.peer ((nlri_of key.now, value) ∷ [])) }
+        ensures put { OnOk result (self.new
+            ≡ insert_entry peer_cmp self.old key.now.peer ((nlri_of key.now, value) ∷ [])) }
         ensures same { OnErr result (self.new ≡ self.old) }
     {
         let mut routes = PeerRoutes::new(alloc);
@@ -243,7 +244,8 @@ fn push<V: Drop>(list: &mut Vec<PeerRoutes<V>>, routes: PeerRoutes<V>) -> Result
 
 // One peer more in the order.
 fn enter(order: &mut BTreeMap<Peer, usize>, peer: Peer, slot: usize) -> Result<(), NoMemory>
-    ensures entered { OnOk result (order.new.entries ≡ insert_entry peer_cmp order.old.entries peer slot) }
+    ensures entered { OnOk result (order.new.entries
+        ≡ insert_entry peer_cmp order.old.entries peer slot) }
     ensures same { OnErr result (order.new.entries ≡ order.old.entries) }
 {
     order.insert(peer, slot)?;
@@ -252,7 +254,8 @@ fn enter(order: &mut BTreeMap<Peer, usize>, peer: Peer, slot: usize) -> Result<(
 
 // Gives a peer that is there another slot.
 fn point(order: &mut BTreeMap<Peer, usize>, peer: &Peer, slot: usize)
-    ensures { IsSome (lookup (is_at (peer_cmp peer.now)) order.old.entries) → order.new.entries ≡ set_value (is_at (peer_cmp peer.now)) order.old.entries slot }
+    ensures { IsSome (lookup (is_at (peer_cmp peer.now)) order.old.entries)
+        → order.new.entries ≡ set_value (is_at (peer_cmp peer.now)) order.old.entries slot }
 {
     if let Some(place) = order.get_mut(peer) {
         *place = slot;
