@@ -9,6 +9,8 @@ ghost use Rattle.report_text.specs.Leaks.{leak_text};
 ghost use Rattle.report_text.specs.Origins.{origin_text};
 ghost use Rattle.report_text.specs.Rows.{row_text};
 ghost use Rattle.report_text.specs.Writes.{Writes};
+ghost use Rattle.path_model.specs.declared.peer.Peer.{Peer as AnyPeer};
+ghost use Rattle.path_model.specs.Key.{key_of};
 
 use crate::detail::put_behind;
 use crate::digits::write_number;
@@ -20,7 +22,7 @@ use crate::origin::word_of;
 use av_base::NoMemory;
 use origin_model::OriginState;
 use otc_check::Leak;
-use path_model::{Key, Peer, Trail, Verdict, Witness};
+use path_model::{Key, Nlri, Peer, Trail, Verdict, Witness};
 use std::marker::Model;
 
 /// Writes lines one after another, and the text of a peer once for all of its lines that follow one another.
@@ -71,6 +73,29 @@ impl PeerLines {
     {
         self.turn_to(&key.peer);
         let end = write_row(&mut self.line, self.front, key, verdict);
+        out.extend_from_slice(&self.line[..end])?;
+        Ok(())
+    }
+
+    /// Appends the row that [`put_row`](crate::put_row) appends for what the peer announced whose text is held, or nothing. What it takes is
+    /// that room in `out` alone.
+    #[inline(always)]
+    pub fn put_row_of(
+        &mut self,
+        out: &mut Vec<u8>,
+        nlri: Nlri,
+        verdict: Verdict,
+    ) -> Result<(), NoMemory>
+        ensures ok { (peer : AnyPeer) → self.old ≡ Some peer → OnOk result
+            (out.new.items ≡ out.old.items ++ row_text (key_of peer nlri) verdict) }
+        ensures err { OnErr result (out.new.items ≡ out.old.items) }
+        ensures same { self.new ≡ self.old }
+    {
+        let Some(peer) = self.peer else {
+            return Ok(());
+        };
+        let key = Key::new(peer, nlri);
+        let end = write_row(&mut self.line, self.front, &key, verdict);
         out.extend_from_slice(&self.line[..end])?;
         Ok(())
     }
@@ -139,8 +164,8 @@ impl PeerLines {
         put_behind(out, &self.line[..end], witness, trail)
     }
 
-    // The text of this peer is held.
-    fn turn_to(&mut self, peer: &Peer)
+    /// The text of this peer is held. It takes no memory.
+    pub fn turn_to(&mut self, peer: &Peer)
         ensures { self.new ≡ Some peer.now }
     {
         if !is_of(self.peer, peer) {

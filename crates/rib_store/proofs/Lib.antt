@@ -26,3 +26,4 @@ pub mod TotalsLemmas
 pub mod TouchedLemmas
 pub mod TrailLemmas
 pub mod VerdictLemmas
+pub mod PeerRowsLemmas

@@ -11,8 +11,13 @@ use Rattle.path_model.specs.Roles.{Relations, role_of}
 use Rattle.path_model.specs.Routes.{Routes}
 use Rattle.path_model.specs.Trail.{Path}
 use Rattle.path_model.proofs.LawLemmas.{one_right}
+use Rattle.path_model.specs.declared.nlri.Nlri.{Nlri}
+use Rattle.path_model.specs.declared.peer.Peer.{Peer}
+use Rattle.route_map.specs.Flat.{flat, of_peer, routes_or}
+use Rattle.rib_store.specs.declared.rib.PeerRows.{PeerRows}
 use Rattle.rib_store.specs.declared.rib.Rib.{Rib}
-use Rattle.shared_cases.specs.Cases.{verdict_or}
+use Rattle.rib_store.specs.declared.rib.RibPeers.{RibPeers}
+use Rattle.shared_cases.specs.Cases.{Slots, at, verdict_or}
 use Rattle.rib_store.specs.Cased.{through}
 use Rattle.rib_store.specs.State.{Marked}
 
@@ -31,6 +36,24 @@ rows_of parts relations routes = map (λ e. (e.0, current_verdict parts relation
 -- each key with the verdict of its case
 abbrev pub rows_left : Rib → List (Key × Verdict)
 rows_left rib = through verdict_or rib.cases.now rib.rest
+
+-- each of what one peer announced with the verdict of its case
+abbrev pub verdicts_of : Slots → List (Nlri × ℕ) → List (Nlri × Verdict)
+verdicts_of cases routes = map {B = Nlri × Verdict} (λ e. (e.0, verdict_or (at cases e.1))) routes
+
+abbrev pub peer_rows_left : PeerRows → List (Nlri × Verdict)
+peer_rows_left rows = verdicts_of rows.cases.now (routes_or rows.rest)
+
+-- and so for each peer
+abbrev pub peers_left : RibPeers → List (Peer × List (Nlri × Verdict))
+peers_left peers = map {B = Peer × List (Nlri × Verdict)} (λ p. (p.0, verdicts_of peers.cases.now p.1)) peers.rest
+
+-- the rows of one peer under their whole keys, and those of all peers
+abbrev pub rows_under : Peer → List (Nlri × Verdict) → List (Key × Verdict)
+rows_under = of_peer
+
+abbrev pub all_rows : List (Peer × List (Nlri × Verdict)) → List (Key × Verdict)
+all_rows = flat
 
 -- the current verdict of each route
 abbrev pub current_verdicts : Parts → Relations → Routes → Marked

@@ -32,7 +32,7 @@ pub use laws::{
     each_state_has_one_report,
 };
 pub use pairs::{Pair, Pairs};
-pub use rib::{Rib, Shown};
+pub use rib::{PeerRows, Rib, RibPeers, Shown};
 pub use shown_rows::ShownRows;
 pub use store::RibStore;
 pub use trails::Trails;

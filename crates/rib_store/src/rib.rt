@@ -1,11 +1,11 @@
 //! The routes with their current verdicts.
 ghost use Rattle.std.specs.Prelude.{◌≡◌};
 ghost use Rattle.std.specs.Iterator.{YieldsFirstBy, item_count};
-ghost use Rattle.rib_store.specs.Rows.{rows_left};
+ghost use Rattle.rib_store.specs.Rows.{rows_left, peer_rows_left, peers_left};
 ghost use Rattle.rib_store.specs.Shown.{standing, standing_in};
 
-use path_model::{Key, Role, Trail, Verdict, Witness};
-use route_map::Iter;
+use path_model::{Key, Nlri, Peer, Role, Trail, Verdict, Witness};
+use route_map::{Iter, NlriIter, Peers};
 use shared_cases::{Case, SharedCases};
 
 /// One row for each route, its key and its current verdict, in key order. It judges nothing, and takes no memory.
@@ -28,6 +28,62 @@ impl<'a> Iterator for Rib<'a> {
         match self.rest.next() {
             None => None,
             Some((key, number)) => Some((key, self.cases.verdict(*number as usize))),
+        }
+    }
+}
+
+/// The peers that have routes, in their order, each with its rows. It judges nothing, and takes no memory.
+#[derive(Drop)]
+pub struct RibPeers<'a> {
+    // the peers that are left
+    pub(crate) rest: Peers<'a, u32>,
+    pub(crate) cases: &'a SharedCases,
+}
+
+impl<'a> Iterator for RibPeers<'a> {
+    type Item = (Peer, PeerRows<'a>);
+
+    ghost next_gives = { YieldsFirstBy (λ e. (e.0, peer_rows_left e.1)) peers_left };
+
+    ghost remaining = { item_count peers_left };
+
+    fn next(&mut self) -> Option<(Peer, PeerRows<'a>)> {
+        match self.rest.next() {
+            None => None,
+            Some((peer, rest)) => Some((
+                peer,
+                PeerRows {
+                    rest,
+                    cases: self.cases,
+                },
+            )),
+        }
+    }
+}
+
+/// One row for each route of a peer: what it announced, and the current verdict, in order.
+#[derive(Drop)]
+pub struct PeerRows<'a> {
+    // the routes that are left, and none where there are none
+    pub(crate) rest: Option<NlriIter<'a, u32>>,
+    pub(crate) cases: &'a SharedCases,
+}
+
+impl<'a> Iterator for PeerRows<'a> {
+    type Item = (Nlri, Verdict);
+
+    ghost next_gives = { YieldsFirstBy (λ row. row) peer_rows_left };
+
+    ghost remaining = { item_count peer_rows_left };
+
+    #[inline(always)]
+    fn next(&mut self) -> Option<(Nlri, Verdict)> {
+        match &mut self.rest {
+            None => None,
+            Some(rest) => match rest.next() {
+                None => None,
+                Some((nlri, number)) => Some((nlri, self.cases.verdict(*number as usize))),
+            },
         }
     }
 }

@@ -9,7 +9,7 @@ ghost use Rattle.rib_store.specs.State.{no_state, AreRows};
 ghost use Rattle.rib_store.specs.Altered.{IsAltered};
 ghost use Rattle.rib_store.specs.Changes.{AreChanges, IsMarked};
 ghost use Rattle.rib_store.specs.ChangesLeft.{changes_left};
-ghost use Rattle.rib_store.specs.Rows.{rows_left};
+ghost use Rattle.rib_store.specs.Rows.{all_rows, peers_left, rows_left};
 ghost use Rattle.rib_store.specs.Shown.{IsShown};
 ghost use Rattle.rib_store.specs.Counts.{AreCounts};
 ghost use Rattle.rib_store.specs.Touched.{announced, IsWithinTouched};
@@ -19,7 +19,7 @@ use crate::counts::Counts;
 use crate::journal::{Journal, Left};
 use crate::marks::Marks;
 use crate::merged::Merged;
-use crate::rib::{Rib, Shown};
+use crate::rib::{Rib, RibPeers, Shown};
 use crate::routing::Routing;
 use crate::trails::Trails;
 use av_base::{NoMemory, Steps};
@@ -250,6 +250,17 @@ impl RibStore {
     {
         Rib {
             rest: self.routing.routes.iter(),
+            cases: &self.routing.cases,
+        }
+    }
+
+    /// The same rows, by their peers: who writes them tells each peer once. It takes no memory.
+    pub fn rows_by_peer(&self) -> RibPeers<'_>
+        ensures rows { AreRows self.now.state (all_rows (peers_left result)) }
+        ensures few { length (all_rows (peers_left result)) < 2 ^ 63 }
+    {
+        RibPeers {
+            rest: self.routing.routes.by_peer(),
             cases: &self.routing.cases,
         }
     }

@@ -11,6 +11,7 @@ ghost use Rattle.route_map.specs.Slots.{resolved, IsInverse};
 use crate::hints::Hints;
 use crate::iter::Iter;
 use crate::peer_routes::PeerRoutes;
+use crate::peers::Peers;
 use av_base::NoMemory;
 use path_model::{Key, Peer};
 use std::alloc::Global;
@@ -70,6 +71,16 @@ impl<V> ByPeer<V> {
         match slot_of(&self.order, &self.peers, &self.hints, peer) {
             None => None,
             Some(slot) => Some(&self.routes[slot]),
+        }
+    }
+
+    // The peers, each with its routes.
+    pub(crate) fn iter_peers(&self) -> Peers<'_, V>
+        ensures { result ≡ self.now }
+    {
+        Peers {
+            others: self.order.iter(),
+            routes: self.routes.as_slice(),
         }
     }
 

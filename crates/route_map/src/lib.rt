@@ -27,11 +27,14 @@ mod left;
 mod nlri_iter;
 mod peer_iter;
 mod peer_routes;
+mod peers;
 mod plain_iter;
 mod plain_routes;
 mod route_map;
 
 pub use iter::Iter;
 pub use keys_by_number::KeysByNumber;
+pub use nlri_iter::NlriIter;
 pub use peer_iter::PeerIter;
+pub use peers::Peers;
 pub use route_map::RouteMap;

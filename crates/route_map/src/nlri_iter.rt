@@ -9,9 +9,9 @@ use crate::plain_iter::PlainIter;
 use path_model::Nlri;
 use std::marker::Model;
 
-// What one peer has routes to, in order, each with its value: those without a path identifier between those with one.
+/// What one peer has routes to, in order, each with its value: those without a path identifier between those with one.
 #[derive(Drop)]
-pub(crate) struct NlriIter<'a, V> {
+pub struct NlriIter<'a, V> {
     plain: PlainLeft<'a, V>,
     identified: IdentifiedLeft<'a, V>,
 }

@@ -77,6 +77,13 @@ impl<V> PeerRoutes<V> {
         }
     }
 
+    // All in order.
+    pub(crate) fn nlris(&self) -> NlriIter<'_, V>
+        ensures { result ≡ self.now }
+    {
+        NlriIter::of(self.plain.iter(), self.identified.iter())
+    }
+
     // All in order, as routes of this peer.
     pub(crate) fn iter_of(&self, peer: Peer) -> PeerIter<'_, V>
         ensures { result ≡ of_peer peer self.now }

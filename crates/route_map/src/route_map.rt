@@ -14,6 +14,7 @@ ghost use Rattle.route_map.specs.Updates.{Gets, Loses};
 use crate::by_peer::ByPeer;
 use crate::iter::Iter;
 use crate::peer_iter::PeerIter;
+use crate::peers::Peers;
 use av_base::NoMemory;
 use path_model::{Key, Peer};
 use std::alloc::Global;
@@ -89,6 +90,15 @@ impl<V> RouteMap<V> {
         ensures in_order { IsStrictlySortedBy key_cmp (keys_of self.now) }
     {
         self.peers.iter()
+    }
+
+    /// All routes by their peers, in key order.
+    pub fn by_peer(&self) -> Peers<'_, V>
+        ensures whole { flat result ≡ self.now }
+        ensures few { length (flat result) < 2 ^ 63 }
+        ensures in_order { IsStrictlySortedBy key_cmp (keys_of (flat result)) }
+    {
+        self.peers.iter_peers()
     }
 
     /// The routes of one peer, in key order. It costs to find the peer, and then what these routes cost.

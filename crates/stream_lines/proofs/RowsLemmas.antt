@@ -1,5 +1,5 @@
 -- Rows that are written line by line.
-use Rattle.std.proofs.Common.{◌≡◌, ℕ, List, ◌∷◌, ◌++◌, sym, ◌∙◌, ap}
+use Rattle.std.proofs.Common.{◌≡◌, ℕ, List, [], ◌∷◌, ◌++◌, refl, sym, ◌∙◌, ap, append_assoc}
 use Rattle.std.specs.Io.KnownBytes.{append_known}
 use Rattle.std.specs.declared.option.Option.{Option}
 use Rattle.av_base.specs.Told.{AppendsBefore}
@@ -8,6 +8,11 @@ use Rattle.path_model.specs.declared.key.Key.{Key}
 use Rattle.path_model.specs.declared.verdict.Verdict.{Verdict}
 use Rattle.report_text.specs.Rows.{row_text}
 use Rattle.stream_lines.specs.Rows.{rows_text}
+
+-- the lines of some rows, and of more
+pub rows_more : (rows more : List (Key × Verdict)) → rows_text (rows ++ more) ≡ rows_text rows ++ rows_text more
+rows_more [] more = refl
+rows_more (row ∷ rows) more = ap (λ (t : List ℕ). row_text row.0 row.1 ++ t) (rows_more rows more) ∙ sym (append_assoc (row_text row.0 row.1) (rows_text rows) (rows_text more))
 
 -- one row more is held, and what is held was perhaps written
 pub rows_next : (old mid new : Option (List ℕ)) (rows left more : List (Key × Verdict)) (key : Key) (verdict : Verdict) (written : Option (List ℕ)) (text_old text_new : List ℕ)
