@@ -102,7 +102,25 @@ impl Analyser {
 }
 
 // An event happens to a store. Where memory is wanting nothing is promised of the store.
+#[inline(always)]
 fn happen<L: Ledger>(
+    alloc: Global,
+    store: &mut RibStore,
+    event: Event,
+    steps: &mut Steps<L>,
+) -> Result<(), NoMemory>
+    ensures state { OnOk result (Happens store.old.state event store.new.state) }
+    ensures ticks { TicksWithin store.old.state event steps.old steps.new }
+{
+    match event {
+        Event::Routes(changes) => store.apply_routes(changes, steps),
+        other => alter(alloc, store, other, steps),
+    }
+}
+
+// The same of any event. It isn't inlined, so that the room that a whole store takes isn't cleared where routes alone change.
+#[inline(never)]
+fn alter<L: Ledger>(
     alloc: Global,
     store: &mut RibStore,
     event: Event,

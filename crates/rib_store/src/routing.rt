@@ -143,7 +143,9 @@ impl Routing {
         Ok(())
     }
 
-    // The peer's routes to these prefixes have this path from now on. Its case is found once.
+    // The peer's routes to these prefixes have this path from now on. Its case is found once. As the two that withdraw many, it isn't inlined,
+    // so that its room isn't cleared at each batch.
+    #[inline(never)]
     fn announce_all<L: Ledger>(
         &mut self,
         peer: &Peer,
@@ -202,6 +204,7 @@ impl Routing {
     }
 
     // The peer has no routes to these prefixes from now on.
+    #[inline(never)]
     fn withdraw_all(
         &mut self,
         peer: &Peer,
@@ -241,6 +244,7 @@ impl Routing {
     }
 
     // The peer has no route from now on. It costs what the peer's routes cost.
+    #[inline(never)]
     fn withdraw_peer(&mut self, peer: &Peer, table: &Vaps, roles: &Roles) -> Result<(), NoMemory>
         requires { AreRouted table.now roles.now self.old }
         ensures routed { OnOk result (AreRouted table.now roles.now self.new) }

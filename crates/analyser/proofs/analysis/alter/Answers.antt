@@ -2,7 +2,7 @@ use Rattle.std.proofs.Common.{ap, refl}
 use Rattle.rib_store.specs.Stored.{Stored}
 use Rattle.analyser.proofs.EventLemmas.{happens_too}
 use Rattle.analyser.proofs.TouchedLemmas.{within_too, table_within, role_within, default_within}
-use Rattle.analyser.proofs.analysis.happen.Goals as goal
+use Rattle.analyser.proofs.analysis.alter.Goals as goal
 
 pub returns-in_ok-store-in-Table-clause-state : goal.returns-in_ok-store-in-Table-clause-state
 returns-in_ok-store-in-Table-clause-state g c =
