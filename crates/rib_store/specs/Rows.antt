@@ -45,8 +45,11 @@ abbrev pub peer_rows_left : PeerRows → List (Nlri × Verdict)
 peer_rows_left rows = verdicts_of rows.cases.now (routes_or rows.rest)
 
 -- and so for each peer
+abbrev pub verdicts_by_peer : Slots → List (Peer × List (Nlri × ℕ)) → List (Peer × List (Nlri × Verdict))
+verdicts_by_peer cases peers = map {B = Peer × List (Nlri × Verdict)} (λ p. (p.0, verdicts_of cases p.1)) peers
+
 abbrev pub peers_left : RibPeers → List (Peer × List (Nlri × Verdict))
-peers_left peers = map {B = Peer × List (Nlri × Verdict)} (λ p. (p.0, verdicts_of peers.cases.now p.1)) peers.rest
+peers_left peers = verdicts_by_peer peers.cases.now peers.rest
 
 -- the rows of one peer under their whole keys, and those of all peers
 abbrev pub rows_under : Peer → List (Nlri × Verdict) → List (Key × Verdict)

@@ -7,6 +7,7 @@ use Rattle.path_model.specs.Key.{key_cmp}
 use Rattle.route_map.specs.Flat.{flat}
 use Rattle.shared_cases.specs.Cases.{verdict_or}
 use Rattle.rib_store.specs.Cased.{Numbered, marked_by, through}
+use Rattle.rib_store.specs.Rows.{verdicts_by_peer}
 use Rattle.rib_store.specs.State.{AreRows}
 use Rattle.rib_store.specs.Stored.{Stored}
 use Rattle.rib_store.proofs.CasedLemmas.{through_length}
@@ -17,8 +18,9 @@ use Rattle.rib_store.proofs.store.RibStore.rows_by_peer.Goals as goal
 
 pub returns-clause-rows : goal.returns-clause-rows
 returns-clause-rows c =
-    subst (λ (rows : List (Key × Verdict)). AreRows c.self.now.state rows) (sym (of_all c.self.inside.routing.cases c.by_peer.result))
-    (subst (λ (s : Stored). AreRows s.state (through verdict_or c.self.inside.routing.cases (flat c.by_peer.result))) c.self.view_is
+    subst (λ (s : Stored). AreRows s.state (flat (verdicts_by_peer c.self.inside.routing.cases c.by_peer.result))) c.self.view_is
+    (subst (λ (rows : List (Key × Verdict)). AreRows (state_by c.self.inside.table c.self.inside.roles c.self.inside.routing.marks.is_marked c.self.inside.routing.cases c.self.inside.routing.routes c.self.inside.routing.marks.notes) rows)
+    (sym (of_all c.self.inside.routing.cases c.by_peer.result))
     (subst (λ (routes : Numbered). AreRows (state_by c.self.inside.table c.self.inside.roles c.self.inside.routing.marks.is_marked c.self.inside.routing.cases c.self.inside.routing.routes c.self.inside.routing.marks.notes) (through verdict_or c.self.inside.routing.cases routes))
     (sym c.by_peer.ensures.whole)
     (stored_rows c.self.inside.table c.self.inside.roles c.self.inside.routing.routes c.self.inside.routing.cases c.self.invariant.stored
