@@ -64,7 +64,7 @@ impl Framer {
     }
 
     /// Gives the buffer out, with room for at least so many bytes behind those that are held. What was taken before is let go here. The
-    /// buffer grows only where a record that isn't whole is longer than each one before, by at most its bytes and these.
+    /// buffer grows only where more of a record that isn't whole is held than at each read before, and its room doubles.
     pub fn into_room(self, count: usize) -> Result<Room, NoMemory>
         ensures held { IfOk result (λ room. take room.held room.bytes.items ≡ self) }
         ensures room { IfOk result (λ room. room.held + count ≤ length room.bytes.items) }

@@ -16,6 +16,9 @@ use bgp_attrs::Form;
 use path_model::{Changes, Key, Noted, Notes, Prefix};
 use std::alloc::Global;
 
+// For how many routes of a record there is room before any was read.
+const MOST_AHEAD: usize = 1024;
+
 // The routes of all entries, of which there are so many, with their notes. First the indexes are tested, then each entry is read; an entry
 // without a path is reported at the end, since attributes out of form behind it come first.
 pub(crate) fn routes_of_entries(
@@ -63,12 +66,12 @@ pub(crate) fn no_changes(alloc: Global) -> Noted
     }
 }
 
-// No changes, with room for so many routes.
+// No changes, with room for so many routes, or for the first of them where they are many: an entry may have no path.
 fn room_for(alloc: Global, count: usize) -> Result<Noted, NoMemory>
     ensures { IfOk result (λ noted. noted ≡ without_notes []) }
 {
     Ok(Noted {
-        changes: Changes::with_room(alloc, count)?,
+        changes: Changes::with_room(alloc, count.min(MOST_AHEAD))?,
         notes: Notes::new(alloc),
     })
 }

@@ -148,7 +148,8 @@ impl<V: Copy> ByPeer<V> {
                     Err(NoMemory)
                 }
                 Ok(()) => {
-                    self.hints.set(alloc, &peer, slot);
+                    self.hints.make_room(alloc);
+                    self.hints.set(&peer, slot);
                     Ok(())
                 }
             },
@@ -158,7 +159,7 @@ impl<V: Copy> ByPeer<V> {
 
 impl<V: Drop> ByPeer<V> {
     // Takes a route out from those of its peer, which goes with its last route, and answers what the route had.
-    pub(crate) fn take(&mut self, alloc: Global, key: &Key) -> Option<V>
+    pub(crate) fn take(&mut self, key: &Key) -> Option<V>
         ensures before { result ≡ lookup (is_at (key_cmp key.now)) (flat self.old) }
         ensures removed { flat self.new ≡ without key.now (flat self.old) }
         ensures kept { HaveRoutes self.old → HaveRoutes self.new }
@@ -166,7 +167,7 @@ impl<V: Drop> ByPeer<V> {
         let _peers = self.len();
         let (before, emptied) = self.take_out(key);
         if emptied {
-            self.remove(alloc, &key.peer);
+            self.remove(&key.peer);
         }
         before
     }
@@ -189,7 +190,7 @@ impl<V: Drop> ByPeer<V> {
 
     // Takes a peer out. What lies in the last slot gets its slot, so that there is no gap.
     #[inline(never)]
-    fn remove(&mut self, alloc: Global, peer: &Peer)
+    fn remove(&mut self, peer: &Peer)
         requires { IsSome (found self.old peer.now) }
         ensures { self.new ≡ remove_entry (is_at (peer_cmp peer.now)) self.old }
     {
@@ -208,7 +209,7 @@ impl<V: Drop> ByPeer<V> {
             self.peers[slot] = last;
             self.routes[slot] = routes;
             point(&mut self.order, &last, slot);
-            self.hints.set(alloc, &last, slot);
+            self.hints.set(&last, slot);
         }
     }
 }

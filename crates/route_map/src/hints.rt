@@ -3,7 +3,7 @@
 use path_model::{Addr, Peer};
 use std::alloc::Global;
 
-// How many hints there are: enough for hundreds of peers that have one each.
+// How many hints there are: of some hundreds of peers most have one each.
 const HINTS: usize = 1024;
 
 // Odd, and near 2^64 divided by the golden ratio.
@@ -33,13 +33,17 @@ impl Hints {
         }
     }
 
-    // This is the peer's slot from now on. A peer in a slot that takes more than two bytes has no hint.
-    pub(crate) fn set(&mut self, alloc: Global, peer: &Peer, slot: usize) {
+    // Room for all of them, if there is memory.
+    pub(crate) fn make_room(&mut self, alloc: Global) {
         if self.slots.is_empty() {
             if let Ok(slots) = Vec::from_elem(alloc, 0, HINTS) {
                 self.slots = slots;
             }
         }
+    }
+
+    // This is the peer's slot from now on. A peer in a slot that takes more than two bytes has no hint. It takes no memory.
+    pub(crate) fn set(&mut self, peer: &Peer, slot: usize) {
         if let Ok(slot) = u16::try_from(slot) {
             if let Some(hint) = self.slots.get_mut(place(peer)) {
                 *hint = slot;

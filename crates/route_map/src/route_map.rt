@@ -27,8 +27,7 @@ const MOST_ROUTES: usize = 0x7fff_ffff_ffff_ffff;
 /// the routes of a peer come in order. Else they stand in chunks of at most 512 that are less full, and two chunks side by side become one
 /// when routes go: there is room for at most four times the routes, and for a chunk more of each kind. The first route of a peer takes 460
 /// bytes in the whole program (IPv6: 610), and with a path identifier 650 (810); the first of all takes 2 KB more. To find a route takes two
-/// searches among the routes of its peer. The peer is found at once while there are some hundreds of peers at most, and of more many take a
-/// look-up among all peers.
+/// searches among the routes of its peer. Of some hundreds of peers most are found at once, and of more many take a look-up among all peers.
 #[derive(Drop)]
 pub struct RouteMap<V> {
     alloc: Global,
@@ -152,13 +151,13 @@ impl<V: Copy> RouteMap<V> {
 
 impl<V: Drop> RouteMap<V> {
     /// Takes the value of a route out, where it has one, and answers it. It takes no memory, and what the last route of a peer took is
-    /// given back, but for some 180 bytes that the next new peer gets.
+    /// given back, but for its slot: some 180 bytes for each of the most peers that there were, and as much again as room, stay.
     pub fn remove(&mut self, key: &Key) -> Option<V>
         ensures before { result ≡ lookup (is_at (key_cmp key.now)) self.old }
         ensures removed { self.new ≡ remove_entry (is_at (key_cmp key.now)) self.old }
         ensures updates { Loses self.old key.now self.new }
     {
-        let before = self.peers.take(self.alloc, key);
+        let before = self.peers.take(key);
         self.len -= usize::from(before.is_some());
         before
     }

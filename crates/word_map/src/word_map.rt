@@ -119,12 +119,14 @@ impl WordMap {
         table::replace(&mut self.slots, &mut self.over, word, number)
     }
 
-    // Fewer words than five eighths of the slots, if there is memory. So few words find none of their slots free.
+    // Fewer words in slots than five eighths of these, if there is memory. So few words find none of their slots free. Those in the ordered map
+    // don't count: more slots would do little for words that were chosen so that they share theirs.
     fn make_room(&mut self) -> Result<(), NoMemory>
         ensures { self.new ≡ self.old }
     {
         let len = self.slots.len();
-        if self.len < len / 2 + len / 8 {
+        let within = self.len.saturating_sub(self.over.len());
+        if within < len / 2 + len / 8 {
             return Ok(());
         }
         let (slots, over) = growing::grown(self.alloc, self.slots.as_slice(), &self.over)?;
