@@ -1,10 +1,9 @@
-use Rattle.std.proofs.Common.{◌≡◌, ◌++◌, ap, ◌∙◌, subst, List, ℕ, arith}
-use Rattle.av_base.specs.Told.{AppendsBefore}
+use Rattle.std.proofs.Common.{ap, ◌∙◌, arith}
 use Rattle.av_base.proofs.PouringLemmas.{Grows-trans}
-use Rattle.av_base.proofs.ToldLemmas.{AppendsBefore-more, AppendsFront-trans}
+use Rattle.av_base.proofs.ToldLemmas.{AppendsBefore-more}
 use Rattle.rib_store.specs.Rows.{all_rows, peer_rows_left, peers_left, rows_under}
 use Rattle.stream_lines.specs.Rows.{rows_text}
-use Rattle.stream_lines.proofs.RowsLemmas.{rows_more}
+use Rattle.stream_lines.proofs.RowsLemmas.{rows_front, rows_more}
 use Rattle.stream_lines.proofs.rows.put_peers.Goals as goal
 
 pub loop-peer-preserved : goal.loop-peer-preserved
@@ -17,10 +16,8 @@ loop-peer-preserved g c = record {
 
 pub returns-in_err-put_each-clause-front : goal.returns-in_err-put_each-clause-front
 returns-in_err-put_each-clause-front g c =
-    AppendsFront-trans (rows_text (all_rows (peers_left c.next.new.self)))
-    (subst (λ (t : List ℕ). AppendsBefore _ _ (rows_text (all_rows (peers_left c.args.peers))) t)
-    (ap (λ ps. rows_text (all_rows ps)) c.in-Some.ensures.steps ∙ rows_more (rows_under c.in-Some.peer (peer_rows_left c.in-Some.rows)) (all_rows (peers_left c.next.new.self))) c.loop-peer.invariant.so_far)
-    c.put_each.ensures.front
+    rows_front (all_rows (peers_left c.loop-peer.peer-iterator)) (rows_under c.in-Some.peer (peer_rows_left c.in-Some.rows)) (all_rows (peers_left c.next.new.self))
+    c.loop-peer.invariant.so_far (ap all_rows c.in-Some.ensures.steps) c.put_each.ensures.front
 
 pub returns-in_err-put_each-clause-grows : goal.returns-in_err-put_each-clause-grows
 returns-in_err-put_each-clause-grows g c = Grows-trans c.loop-peer.invariant.grows c.put_each.ensures.grows
