@@ -37,6 +37,8 @@ takes 'each AS comes once' 50 1
 takes 'each AS comes twice, with other neighbours' 50 2
 takes 'each AS comes five times, with other neighbours' 50 5
 takes 'the same ASes in other orders' 50 50
+takes 'as many hops as make the slots of their words double' 41 1
+takes 'hops whose words share their slots' 21 0
 
 echo "$passed passed, $failed failed"
 [ "$failed" -eq 0 ]
