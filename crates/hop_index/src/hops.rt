@@ -45,8 +45,7 @@ impl Hops {
         }
     }
 
-    // One case more of a hop, where it isn't there yet, and whether the hop had none before. It takes a look-up, and a second one where
-    // the hop is new.
+    // One case more of a hop, where it isn't there yet, and whether the hop had none before. It takes one look-up.
     #[inline(always)]
     pub(crate) fn insert(&mut self, pair: Pair, case: u32) -> Result<bool, NoMemory>
         ensures added { OnOk result (AddsCase self.old pair case self.new) }
@@ -105,7 +104,7 @@ impl Hops {
         let Ok(place) = u32::try_from(self.hops.len()) else {
             return Err(NoMemory);
         };
-        self.by_pair.set(pair.word(), place)?;
+        self.by_pair.put_new(pair.word(), place)?;
         if self.hops.push((pair, cases)).is_err() {
             self.by_pair.remove(pair.word());
             return Err(NoMemory);

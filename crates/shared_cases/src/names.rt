@@ -78,11 +78,13 @@ impl Names {
         requires { name ≡ name_of name.asn name.trail }
         ensures { OnOk result (AddsName self.old name.asn name.trail number self.new) }
     {
-        match self.words.get(name.word) {
-            Some(_) => self.twins.insert(name, number)?,
-            None => self.words.set(name.word, number)?,
-        };
-        Ok(())
+        match self.words.put_if_absent(name.word, number)? {
+            None => Ok(()),
+            Some(_) => {
+                self.twins.insert(name, number)?;
+                Ok(())
+            }
+        }
     }
 
     // One name less. It takes no memory.

@@ -6,7 +6,8 @@
 //!
 //! A word lies in one of 16 slots that it alone determines, or else in an ordered map. Begin reading at [`WordMap`], then at
 //! `specs/Slots.antt`, which says what map slots hold, and at `specs/Whole.antt`, which says what is always so of them. No proof rests on
-//! which slots those are, nor on how many there are.
+//! which slots those are, nor on how many there are: only on a word's own slots being gone over in the same order each time, since a search
+//! ends at the first of them that is blank.
 #![tactic(auto)]
 
 mod growing;

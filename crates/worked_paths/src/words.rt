@@ -76,10 +76,7 @@ impl Both {
     fn remove_without(&mut self, bits: u32) {
         for n in 0..WORDS {
             if n & bits == 0 {
-                let word = self.word(n);
-                let before = self.words.remove(word);
-                let wanted = self.plain.remove(&word);
-                self.count(before == wanted);
+                self.take(n);
             }
         }
     }
@@ -93,6 +90,26 @@ impl Both {
     // Whether both have as many words.
     fn has_as_many(&self) -> bool {
         self.words.len() == self.plain.len()
+    }
+
+    // Gives the n-th word a number if it has none.
+    fn put(&mut self, n: u32) -> Result<(), NoMemory> {
+        let word = self.word(n);
+        let before = self.words.put_if_absent(word, n)?;
+        let wanted = self.plain.get(&word).copied();
+        if wanted.is_none() {
+            self.plain.insert(word, n)?;
+        }
+        self.count(before == wanted);
+        Ok(())
+    }
+
+    // Takes the number of the n-th word.
+    fn take(&mut self, n: u32) {
+        let word = self.word(n);
+        let before = self.words.remove(word);
+        let wanted = self.plain.remove(&word);
+        self.count(before == wanted);
     }
 
     // Looks up each word in both.
@@ -130,14 +147,74 @@ fn words(rt: HostRuntime) -> Result<(), NoMemory> {
     Ok(())
 }
 
+// A thousand words come; then one goes for each that comes, so that the slots are cleared of marks; and those that stand are put once more.
+fn churned(alloc: Global, factor: u64) -> Result<u32, NoMemory> {
+    let mut both = Both::new(alloc, factor);
+    for n in 0..1_000 {
+        both.put(n)?;
+    }
+    for n in 1_000..WORDS {
+        both.take(n - 1_000);
+        both.put(n)?;
+    }
+    both.compare();
+    for n in 0..WORDS {
+        both.put(n)?;
+    }
+    both.compare();
+    Ok(both.alike)
+}
+
+#[test]
+fn churned_words(rt: HostRuntime) -> Result<(), NoMemory> {
+    for factor in [1, 0x1_0000_0000, 0x5851_F42D_4C95_7F2D, COLLIDING] {
+        let alike = churned(rt.alloc(), factor)?;
+        assert!(rt; alike == 14_002, "{factor}: {alike}");
+    }
+    Ok(())
+}
+
+// One of the words that have the same slots.
+fn colliding(n: u64) -> u64 {
+    n.wrapping_mul(COLLIDING)
+}
+
+// 16 words fill the slots that they share, and the next one lies beside these.
+#[test]
+fn full_slots(rt: HostRuntime) -> Result<(), NoMemory> {
+    let mut words = WordMap::new(rt.alloc());
+    for n in 0..17 {
+        assert!(rt; words.set(colliding(n), n as u32)?.is_none());
+    }
+    for n in 0..17 {
+        assert!(rt; words.get(colliding(n)) == Some(n as u32));
+    }
+    assert!(rt; words.near(colliding(0)) == Some(0));
+    assert!(rt; words.near(colliding(1)) == Some(1));
+    assert!(rt; words.near(colliding(2)).is_none());
+    assert!(rt; words.get(colliding(17)).is_none());
+    assert!(rt; words.remove(colliding(3)) == Some(3));
+    assert!(rt; words.get(colliding(3)).is_none());
+    assert!(rt; words.get(colliding(15)) == Some(15));
+    assert!(rt; words.put_if_absent(colliding(16), 7)? == Some(16));
+    assert!(rt; words.put_if_absent(colliding(17), 17)?.is_none());
+    assert!(rt; words.get(colliding(17)) == Some(17));
+    assert!(rt; words.remove(colliding(16)) == Some(16));
+    assert!(rt; words.get(colliding(16)).is_none());
+    assert!(rt; words.len() == 16);
+    Ok(())
+}
+
 // For the greatest number there is no memory, and no number is put where there is none.
 #[test]
 fn refuses_numbers(rt: HostRuntime) -> Result<(), NoMemory> {
     let mut words = WordMap::new(rt.alloc());
     assert!(rt; words.set(7, u32::MAX).is_err());
     assert!(rt; words.replace(7, 1).is_none());
+    assert!(rt; words.put_if_absent(7, u32::MAX).is_err());
     assert!(rt; words.set(7, u32::MAX - 1)?.is_none());
     assert!(rt; words.get(7) == Some(u32::MAX - 1));
+    assert!(rt; words.put_if_absent(7, u32::MAX)? == Some(u32::MAX - 1));
     assert!(rt; words.len() == 1);
     Ok(())
 }
