@@ -69,7 +69,7 @@ module _ (places : Places) (words : List ℕ) (x : ℕ) (row : List ℕ) (within
 -- the same by what the calls that lengthen the list say
 module _ (places places' : Places) (words words' row : List ℕ) (x place len : ℕ) (within : AreWithin places words) (at_end : place ≡ length words) (counted : len ≡ length row)
     (put : places' ≡ map.insert places x place) (lengthened : words' ≡ (words ++ len ∷ []) ++ row) where
-  whole : (places', words') ≡ (map.insert places x (length words), words ++ length row ∷ row)
+  whole : ◌≡◌ {A = Quick} (places', words') (map.insert places x (length words), words ++ length row ∷ row)
   whole i = ((put ∙ ap (map.insert places x) at_end) i, (lengthened ∙ append_assoc words (len ∷ []) row ∙ ap (λ (n : ℕ). words ++ n ∷ row) counted) i)
 
   pub all_put : (q : ℕ) → quick_row (places', words') q ≡ cond (is_at (nat_cmp x) q) (Some row) (quick_row (places, words) q)

@@ -1,8 +1,7 @@
-use Rattle.std.proofs.Common.{◌≡◌, ℕ, Some, cond, List, [], ◌∷◌, ◌++◌, length, nat_cmp, ap, sym, subst, ◌∙◌, append_assoc}
-use Rattle.std.specs.declared.option.Option.{Option}
+use Rattle.std.proofs.Common.{◌≡◌, ℕ, Some, cond, List, [], ◌∷◌, ◌++◌, length, nat_cmp, ap, sym, subst, ◌∙◌, append_assoc, arith}
 use Rattle.std.specs.BTreeMap.{is_at}
 use Rattle.std.specs.FinMap as map
-use Rattle.vap_table.specs.Quick.{Places, Quick, AreWithin, quick_row}
+use Rattle.vap_table.specs.Quick.{Quick, AreWithin, quick_row}
 use Rattle.vap_table.proofs.QuickLemmas.{all_within, all_put, all_put_within}
 use Rattle.vap_table.proofs.quick_rows.QuickRows.put.Goals as goal
 
@@ -22,14 +21,18 @@ invariant_of-self-in_err-before c =
 
 pub invariant_of-self-2 : goal.invariant_of-self-2
 invariant_of-self-2 c =
-    all_put_within c.self.inside.places c.set.new.self c.self.inside.words.items c.extend_from_slice.new.self.items c.args.row.now c.args.customer c.in-Ok.place c.in-Ok-try_from.len c.self.invariant ?at_end ?counted
+    let at_end : c.in-Ok.place ≡ length c.self.inside.words.items = omega (arith, c.in-Ok.ensures.1, c.len.ensures, c.self.inside.words.ok.0) in
+    let counted : c.in-Ok-try_from.len ≡ length c.args.row.now = omega (arith, c.in-Ok-try_from.ensures.1) in
+    all_put_within c.self.inside.places c.set.new.self c.self.inside.words.items c.extend_from_slice.new.self.items c.args.row.now c.args.customer c.in-Ok.place c.in-Ok-try_from.len c.self.invariant at_end counted
     (c.in_ok-before.ensures.ok ∙ ap (λ (x : ℕ). map.insert c.self.inside.places x c.in-Ok.place) c.from.ensures)
     (c.in_ok-extend_from_slice.ensures.items ∙ ap (λ (xs : List ℕ). xs ++ c.args.row.now) c.in_ok-push.ensures.items)
 
 pub returns : goal.returns
 returns c = λ q.
+    let at_end : c.in-Ok.place ≡ length c.self.inside.words.items = omega (arith, c.in-Ok.ensures.1, c.len.ensures, c.self.inside.words.ok.0) in
+    let counted : c.in-Ok-try_from.len ≡ length c.args.row.now = omega (arith, c.in-Ok-try_from.ensures.1) in
     ap (λ (quick : Quick). quick_row quick q) c.count_gone.ensures
-    ∙ all_put c.self.inside.places c.set.new.self c.self.inside.words.items c.extend_from_slice.new.self.items c.args.row.now c.args.customer c.in-Ok.place c.in-Ok-try_from.len c.self.invariant ?at_end ?counted
+    ∙ all_put c.self.inside.places c.set.new.self c.self.inside.words.items c.extend_from_slice.new.self.items c.args.row.now c.args.customer c.in-Ok.place c.in-Ok-try_from.len c.self.invariant at_end counted
     (c.in_ok-before.ensures.ok ∙ ap (λ (x : ℕ). map.insert c.self.inside.places x c.in-Ok.place) c.from.ensures)
     (c.in_ok-extend_from_slice.ensures.items ∙ ap (λ (xs : List ℕ). xs ++ c.args.row.now) c.in_ok-push.ensures.items) q
     ∙ ap (λ (quick : Quick). cond (is_at (nat_cmp c.args.customer) q) (Some c.args.row.now) (quick_row quick q)) c.self.view_is

@@ -1,4 +1,4 @@
-use Rattle.std.proofs.Common.{ℕ, None, cond, nat_cmp, ap, sym, subst, ◌∙◌}
+use Rattle.std.proofs.Common.{None, cond, nat_cmp, ap, sym, subst, ◌∙◌}
 use Rattle.std.specs.BTreeMap.{is_at}
 use Rattle.std.specs.FinMap as map
 use Rattle.vap_table.specs.Quick.{Places, Quick, AreWithin, quick_row}
