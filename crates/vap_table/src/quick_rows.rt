@@ -16,7 +16,7 @@ use word_map::WordMap;
 const FEW: usize = 1024;
 
 /// The row of each customer that has one, all in one list: 4 bytes for each provider and 4 more, or up to four times that where many rows went
-/// or there is room for more, and 20 to 40 for the place of the row in that list.
+/// or there is room for more, and 19 to 39 for the place of the row in that list.
 #[derive(Drop)]
 pub(crate) struct QuickRows {
     // where the row of each customer begins
