@@ -6,12 +6,12 @@ pub mod CurrentLemmas
 pub mod EntriesLemmas
 pub mod IdleLemmas
 pub mod LastsLemmas
-pub mod MarksLemmas
 pub mod MemberLemmas
 pub mod MovesLemmas
 pub mod NamingLemmas
 pub mod PatchLemmas
 pub mod PlacesLemmas
+pub mod QuickLemmas
 pub mod ShownLemmas
 pub mod SourcesLemmas
 pub mod SteppingLemmas

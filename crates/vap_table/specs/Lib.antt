@@ -6,9 +6,9 @@ pub mod Current
 pub mod Entries
 pub mod Lasts
 pub mod Laws
-pub mod Marks
 pub mod Moves
 pub mod Naming
+pub mod Quick
 pub mod Shown
 pub mod Sources
 pub mod Stepping

@@ -10,8 +10,8 @@
 //! assertions there are of it, and which numbers they hold. [`Vaps::tally`] lends it. A change takes the rows that it replaces off the
 //! tally and adds the new ones (`tallying`, `turning`, `gathering`, `tallied`, `stepping`), and the current row is read off the tally
 //! (`shown`). So other sources are looked at only for another moment, and for a customer with an attestation that has an end. `current`
-//! keeps the rows that the first source doesn't have as they are, and `refreshing` does so customer by customer. [`Vaps::entries`] lends
-//! the current rows one after another (`entries`).
+//! keeps the rows that the first source doesn't have as they are, and `refreshing` does so customer by customer. All current rows stand once
+//! more in one list (`quick_rows`), for the look-ups of judgements. [`Vaps::entries`] lends the current rows one after another (`entries`).
 #![tactic(auto)]
 
 mod change;
@@ -27,8 +27,8 @@ mod listing;
 mod moves;
 mod naming;
 mod parts;
+mod quick_rows;
 mod refreshing;
-mod row_holders;
 mod searching;
 mod shown;
 mod sources;

@@ -114,6 +114,7 @@ impl Vaps {
         let (names, before) = named(&parts, &current, &lasts, &change)?;
         let (parts, tallies, lasts) = followed(parts, tallies, lasts, change, &names)?;
         let (current, moves) = refreshed(&parts, current, &tallies, before, &names.all)?;
+        let current = current.trimmed(&parts)?;
         let vaps = Vaps {
             parts,
             current,
@@ -123,7 +124,7 @@ impl Vaps {
         Ok((vaps, moves))
     }
 
-    /// The current row of a customer, strictly ascending; `None` exactly where it is silent.
+    /// The current row of a customer, strictly ascending; `None` exactly where it is silent. It costs two ordered look-ups at most.
     pub fn row(&self, customer: u32) -> Option<&AsList>
         ensures { IsCurrentRow self.now customer (option_copied result) }
     {
@@ -162,9 +163,6 @@ impl Vaps {
     fn kept(&self, customer: u32) -> Option<&AsList>
         ensures { option_copied result ≡ table_of self.now customer }
     {
-        if !self.current.customers.may_hold(customer) {
-            return None;
-        }
         self.current.row(&self.parts, customer)
     }
 }
@@ -172,12 +170,12 @@ impl Vaps {
 impl Table for Vaps {
     ghost rows = { table_of };
 
-    /// It costs two ordered look-ups and a binary search at most.
+    /// It costs a look-up in no order and a binary search.
     fn authority(&self, customer: u32, provider: u32) -> Authority {
-        match self.kept(customer) {
+        match self.current.quick.row(customer) {
             None => Authority::Silent,
             Some(row) => {
-                if holds(row.as_slice(), provider) {
+                if holds(row, provider) {
                     Authority::Provides
                 } else {
                     Authority::Refuses
