@@ -14,3 +14,4 @@ pub mod RoleLemmas
 pub mod RowLemmas
 pub mod TotalsLemmas
 pub mod TouchLemmas
+pub mod VerdictLemmas

@@ -158,11 +158,12 @@ module _ (old new : Slots) (n : ℕ) (t next s : Totals) (was : t ≡ totals_of 
       (alone judgement.verdict 1 ∙ ap (plus no_users) (sym one) ∙ ap (λ (o : Option StoredCase). plus (share_of o) s) (sym vacant))
 
 -- a case is judged anew
-pub rejudged_totals : (old new : Slots) (n : ℕ) (t more next before after : Totals) → ((m : ℕ) → m ≢ n → at new m ≡ at old m)
-    → before ≡ share_of (at old n) → after ≡ share_of (at new n) → more ≡ plus t after → next ≡ minus more before → t ≡ totals_of old → next ≡ totals_of new
-rejudged_totals old new n t more next before after others before_is after_is more_is next_is was =
-    next_is ∙ ap (λ (u : Totals). minus u before) more_is ∙ ap (λ (u : Totals). minus (plus t u) before) after_is ∙ ap (minus (plus t (share_of (at new n)))) before_is
-    ∙ totals_moved old new n (at new n) (record { here = refl; others = others }) t was
+pub rejudged_totals : (old new : Slots) (n : ℕ) (t more next before after : Totals) (was is : Verdict) (users : ℕ) → ((m : ℕ) → m ≢ n → at new m ≡ at old m)
+    → share_of (at old n) ≡ users_of was users → share_of (at new n) ≡ users_of is users → before ≡ users_of was users → after ≡ users_of is users
+    → more ≡ plus t after → next ≡ minus more before → t ≡ totals_of old → next ≡ totals_of new
+rejudged_totals old new n t more next before after was is users others old_share new_share before_is after_is more_is next_is counted =
+    next_is ∙ ap (λ (u : Totals). minus u before) more_is ∙ ap (λ (u : Totals). minus (plus t u) before) (after_is ∙ sym new_share)
+    ∙ ap (minus (plus t (share_of (at new n)))) (before_is ∙ sym old_share) ∙ totals_moved old new n (at new n) (record { here = refl; others = others }) t counted
 
 -- what changes neither verdicts nor users changes no totals
 module _ (done : Option StoredCase → Option StoredCase) (users : (is : Verdict → Bool) (c : Option StoredCase) → users_if is (done c) ≡ users_if is c) where

@@ -13,3 +13,4 @@ pub mod Taking
 pub mod Totals
 pub mod Touched
 pub mod Touching
+pub mod Verdicts

@@ -3,7 +3,7 @@ ghost use Rattle.std.specs.Prelude.{◌≡◌, ◌≤◌, ◌+◌, ◌||◌, ◌
 ghost use Rattle.std.specs.List.Sorted.{IsStrictlySortedBy};
 ghost use Rattle.std.specs.Ordering.{nat_cmp};
 ghost use Rattle.hop_index.specs.Index.{Adds};
-ghost use Rattle.shared_cases.specs.Cases.{at, verdict_or, marked_or, marked_now, AreSameCases, Rewrites, IsAbsent, IsStoredAs, AreDistinct, IsIndexOf, IsShown};
+ghost use Rattle.shared_cases.specs.Cases.{at, marked_now, AreSameCases, Rewrites, IsAbsent, IsStoredAs, AreDistinct, IsIndexOf, IsShown};
 ghost use Rattle.shared_cases.specs.Differed.{AreNewlyDiffering, AreSettledOrDiffered, HaveDiffered};
 ghost use Rattle.shared_cases.specs.Grounds.{grounds, IsRightCase};
 ghost use Rattle.shared_cases.specs.Names.{name_of};
@@ -12,7 +12,7 @@ ghost use Rattle.shared_cases.specs.Numbers.{has};
 ghost use Rattle.shared_cases.specs.Owning.{SayTheSame};
 ghost use Rattle.shared_cases.specs.Peers.{AddsMember};
 ghost use Rattle.shared_cases.specs.Taking.{is_shared, left, lowered, raised, new_case, Takes};
-ghost use Rattle.shared_cases.specs.Totals.{totals_of};
+ghost use Rattle.shared_cases.specs.Verdicts.{SetsVerdict};
 
 use crate::case::{Case, StoredCase, new_case};
 use crate::case_name::CaseName;
@@ -22,6 +22,7 @@ use crate::peers::Peers;
 use crate::rejudging::rejudge_all;
 use crate::slots;
 use crate::totals::Totals;
+use crate::verdicts::Verdicts;
 use av_base::{NoMemory, Steps};
 use hop_index::HopIndex;
 use path_model::{Roles, Trail, Verdict};
@@ -32,7 +33,7 @@ use std::marker::Model;
 use std::sync::ledger::Ledger;
 use vap_table::Vaps;
 
-/// The cases that routes share, each under a number below 2^32 for as long as some route has it. A case takes 110 to 150 bytes, 4 more for
+/// The cases that routes share, each under a number below 2^32 for as long as some route has it. A case takes 111 to 152 bytes, 4 more for
 /// each AS of its path where that has more than seven, and what its hops take in the index; one that got another verdict since the last
 /// mark, 4 to 16 bytes more; and an AS some 60, and 4 to 9 more where it has no role of its own. Room for names stays once it was taken.
 pub struct SharedCases {
@@ -43,6 +44,8 @@ pub struct SharedCases {
     pub(crate) peers: Peers,
     // how many routes have them, by their verdicts
     pub(crate) totals: Totals,
+    // the verdict of each
+    pub(crate) verdicts: Verdicts,
     // those that got another verdict since the last mark; some may be gone
     pub(crate) differed: CaseNumbers,
 }
@@ -57,6 +60,7 @@ impl Drop for SharedCases {
             index: _index,
             peers: _peers,
             totals: _totals,
+            verdicts: _verdicts,
             differed: _differed,
         } = self;
     }
@@ -67,13 +71,14 @@ impl Model for SharedCases {
     ghost use Rattle.shared_cases.specs.Cases.{Slots};
     ghost use Rattle.shared_cases.specs.Kept.{AreKept};
     ghost use Rattle.shared_cases.specs.Totals.{totals_of};
+    ghost use Rattle.shared_cases.specs.Verdicts.{AreVerdictsOf};
 
     ghost Value = { Slots };
 
     ghost view = { λ a. a.slab.slots };
 
     ghost invariant = { λ a. AreKept a.slab.slots a.names a.index a.peers a.differed
-        × (a.totals ≡ totals_of a.slab.slots) };
+        × (a.totals ≡ totals_of a.slab.slots) × AreVerdictsOf a.slab.slots a.verdicts };
 }
 
 impl SharedCases {
@@ -88,6 +93,7 @@ impl SharedCases {
             index: HopIndex::new(alloc),
             peers: Peers::new(alloc),
             totals: Totals::none(),
+            verdicts: Verdicts::new(alloc),
             differed: CaseNumbers::new(alloc),
         }
     }
@@ -98,33 +104,6 @@ impl SharedCases {
     {
         let case = self.slab.get(number)?;
         Some(Case::of(case))
-    }
-
-    /// The verdict of a case, or `Invalid` where there is no case.
-    pub fn verdict(&self, number: usize) -> Verdict
-        ensures { result ≡ verdict_or (at self.now number) }
-    {
-        match self.slab.get(number) {
-            None => Verdict::Invalid,
-            Some(case) => case.judged.verdict(),
-        }
-    }
-
-    /// The verdict of a case at the last mark or when it came, or `Invalid` where there is no case.
-    pub fn marked(&self, number: usize) -> Verdict
-        ensures { result ≡ marked_or (at self.now number) }
-    {
-        match self.slab.get(number) {
-            None => Verdict::Invalid,
-            Some(case) => case.marked,
-        }
-    }
-
-    /// How many routes have cases with each verdict. No case is visited.
-    pub fn totals(&self) -> Totals
-        ensures { result ≡ totals_of self.now }
-    {
-        self.totals
     }
 
     /// The hops of the cases.
@@ -215,6 +194,7 @@ impl SharedCases {
             index,
             peers,
             totals,
+            verdicts,
             differed,
         } = self;
         slots::mark_all(&mut slab, &differed);
@@ -225,6 +205,7 @@ impl SharedCases {
             index,
             peers,
             totals,
+            verdicts,
             differed: CaseNumbers::new(alloc),
         }
     }
@@ -255,9 +236,19 @@ impl SharedCases {
             index,
             peers,
             mut totals,
+            mut verdicts,
             mut differed,
         } = self;
-        let newly = rejudge_all(alloc, &mut slab, &mut totals, touched, table, roles, steps)?;
+        let newly = rejudge_all(
+            alloc,
+            &mut slab,
+            &mut totals,
+            &mut verdicts,
+            touched,
+            table,
+            roles,
+            steps,
+        )?;
         differed.insert_all(&newly)?;
         let cases = SharedCases {
             alloc,
@@ -266,6 +257,7 @@ impl SharedCases {
             index,
             peers,
             totals,
+            verdicts,
             differed,
         };
         Ok((cases, newly))
@@ -310,15 +302,18 @@ impl SharedCases {
         ensures added { IfOk result (λ n.
             Rewrites self.old self.new n (Some (new_case name.asn name.trail judged own))) }
     {
-        let totals = self.totals.plus(Totals::of(judged.verdict(), 1))?;
+        let verdict = judged.verdict();
+        let totals = self.totals.plus(Totals::of(verdict, 1))?;
         let case = new_case(&name, judged, own)?;
         let number = self.slab.insert(case)?;
         match find_by(
             &mut self.names,
             &mut self.index,
             &mut self.peers,
+            &mut self.verdicts,
             name,
             number,
+            verdict,
             own,
         ) {
             Ok(short) => {
@@ -331,6 +326,7 @@ impl SharedCases {
                 self.index = HopIndex::new(self.alloc);
                 self.peers = Peers::new(self.alloc);
                 self.totals = Totals::none();
+                self.verdicts = Verdicts::new(self.alloc);
                 self.differed = CaseNumbers::new(self.alloc);
                 Err(NoMemory)
             }
@@ -357,6 +353,7 @@ impl SharedCases {
         self.totals = self
             .totals
             .minus(Totals::of(case.judged.verdict(), case.users));
+        self.verdicts.clear(number as usize);
         self.index.remove(number as usize, case.trail.chain());
         self.peers.remove(case.asn, number);
         self.names
@@ -364,14 +361,17 @@ impl SharedCases {
     }
 }
 
-// The case under this number is found by its name, by its hops and by its AS from now on. The number in 32 bits is answered.
+// The case under this number is found by its name, by its hops and by its AS from now on, and its verdict stands there. The number in 32
+// bits is answered.
 #[inline(always)]
 fn find_by(
     names: &mut Names,
     index: &mut HopIndex,
     peers: &mut Peers,
+    verdicts: &mut Verdicts,
     name: CaseName,
     number: usize,
+    verdict: Verdict,
     own: bool,
 ) -> Result<u32, NoMemory>
     requires { name ≡ name_of name.asn name.trail }
@@ -381,10 +381,12 @@ fn find_by(
     ensures defaulted { OnOk result ((a : ℕ) → has peers.new.defaulted a
         ≡ (has peers.old.defaulted a || (nat_eq a name.asn && not own))) }
     ensures name { OnOk result (AddsName names.old name.asn name.trail number names.new) }
+    ensures verdict { OnOk result (SetsVerdict verdicts.old verdicts.new number verdict) }
 {
     let short = u32::try_from(number).ok().ok_or(NoMemory)?;
     index.add(number, name.trail.chain())?;
     peers.add(name.asn, number, own)?;
     names.add(name, short)?;
+    verdicts.set(number, verdict)?;
     Ok(short)
 }

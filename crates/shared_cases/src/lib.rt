@@ -6,7 +6,7 @@
 //! routes have which verdict, and [`SharedCases::iter`] goes over the cases (`specs/Listed.antt`). Begin reading in `specs/Cases.antt`, then in `specs/Taking.antt` and in `specs/Touched.antt`.
 //!
 //! A case has a number as long as some route has it. It is found by its name (`case_name`, `names`; `hints` looks for the cases of many names
-//! ahead of their use), by its hops (the crate `hop_index`) and by its AS (`peers`, which also keeps whose cases follow the default role, as `specs/Owning.antt` says); each case that gets another
+//! ahead of their use), by its hops (the crate `hop_index`) and by its AS (`peers`, which also keeps whose cases follow the default role, as `specs/Owning.antt` says), and its verdict stands in a list of bytes too (`verdicts`); each case that gets another
 //! verdict than the marked one is told once to the caller (`specs/Differed.antt`), and its number is kept until the next mark;
 //! `specs/Kept.antt` says what keeps these together.
 #![tactic(auto)]
@@ -27,6 +27,7 @@ mod slots;
 mod totals;
 mod touched;
 mod unmatched;
+mod verdicts;
 
 pub use case::Case;
 pub use case_iter::CaseIter;

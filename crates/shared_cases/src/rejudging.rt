@@ -13,13 +13,15 @@ ghost use Rattle.shared_cases.specs.Numbers.{has};
 ghost use Rattle.shared_cases.specs.Owning.{owned_of, SayTheSame};
 ghost use Rattle.shared_cases.specs.Totals.{totals_of};
 ghost use Rattle.shared_cases.specs.Touched.{AreWithinTouched, IsRoleMove};
+ghost use Rattle.shared_cases.specs.Verdicts.{AreVerdictsOf};
 
 use crate::SharedCases;
 use crate::case::StoredCase;
 use crate::numbers::CaseNumbers;
-use crate::slots::{judge_anew, set_all_own, share};
+use crate::slots::{judge_anew, set_all_own};
 use crate::totals::Totals;
 use crate::touched::{touched_by_default, touched_by_moves, touched_by_role};
+use crate::verdicts::Verdicts;
 use av_base::{NoMemory, Steps};
 use path_model::{Role, Roles};
 use slab::Slab;
@@ -124,11 +126,13 @@ impl SharedCases {
     }
 }
 
-// These cases are judged anew, and the answer is which of them differ from now on and hadn't before. The totals go along.
+// These cases are judged anew, and the answer is which of them differ from now on and hadn't before. The totals and the verdicts
+// go along.
 pub(crate) fn rejudge_all<L: Ledger>(
     alloc: Global,
     slab: &mut Slab<StoredCase>,
     totals: &mut Totals,
+    verdicts: &mut Verdicts,
     touched: &[u32],
     table: &Vaps,
     roles: &Roles,
@@ -147,17 +151,18 @@ pub(crate) fn rejudge_all<L: Ledger>(
         AreNewlyDiffering slab.old.slots slab.new.slots newly) }
     ensures counted { OnOk result (totals.old ≡ totals_of slab.old.slots
         → totals.new ≡ totals_of slab.new.slots) }
+    ensures verdicts { OnOk result (AreVerdictsOf slab.old.slots verdicts.old
+        → AreVerdictsOf slab.new.slots verdicts.new) }
     ensures ticks { steps.new ≤ steps.old + length touched.now }
 {
     let mut newly = CaseNumbers::new(alloc);
     for short in touched {
         let number = *short as usize;
-        let before = share(slab, number);
-        let differs = judge_anew(slab, number, table, roles, steps);
-        let after = share(slab, number);
-        let both = totals.plus(after)?;
-        *totals = both.minus(before);
-        tell(&mut newly, number, differs)?;
+        let anew = judge_anew(slab, number, table, roles, steps);
+        let both = totals.plus(Totals::of(anew.after, anew.users))?;
+        *totals = both.minus(Totals::of(anew.before, anew.users));
+        verdicts.set(number, anew.after)?;
+        tell(&mut newly, number, anew.newly)?;
     }
     Ok(newly)
 }

@@ -1,12 +1,12 @@
 //! What is done to cases under their numbers.
 ghost use Rattle.std.specs.Prelude.{◌≡◌, ◌≢◌, ◌≤◌, ◌+◌, ◌↔◌, ◌&&◌, not, true, false, ℕ, IsTrue, OnOk, OnErr};
-ghost use Rattle.shared_cases.specs.Cases.{at, has_differed, marked_now, same_verdict, Rewrites, IsSameCase, IsStoredAs};
+ghost use Rattle.shared_cases.specs.Cases.{at, has_differed, marked_now, same_verdict, verdict_or, Rewrites, IsSameCase, IsStoredAs};
 ghost use Rattle.shared_cases.specs.Differed.{HasDiffered};
 ghost use Rattle.shared_cases.specs.Grounds.{grounds, IsRightCase};
 ghost use Rattle.shared_cases.specs.Numbers.{has};
 ghost use Rattle.shared_cases.specs.Owning.{owned, says_own};
 ghost use Rattle.shared_cases.specs.Taking.{is_shared, lowered, raised};
-ghost use Rattle.shared_cases.specs.Totals.{one_user, share_of};
+ghost use Rattle.shared_cases.specs.Totals.{one_user, share_of, users_of};
 
 use crate::case::StoredCase;
 use crate::numbers::CaseNumbers;
@@ -33,16 +33,6 @@ fn is_same_trail(one: &Trail, other: &Trail) -> bool
     ensures { IsTrue result ↔ (one.now ≡ other.now) }
 {
     one.is_set() == other.is_set() && one.chain().as_slice() == other.chain().as_slice()
-}
-
-// The routes of the case, by its verdict; none where there is no case.
-pub(crate) fn share(slab: &Slab<StoredCase>, number: usize) -> Totals
-    ensures { result ≡ share_of (at slab.now.slots number) }
-{
-    match slab.get(number) {
-        None => Totals::none(),
-        Some(case) => Totals::of(case.judged.verdict(), case.users),
-    }
 }
 
 // One of its routes, by its verdict; none where there is no case.
@@ -133,32 +123,65 @@ pub(crate) fn set_all_own(slab: &mut Slab<StoredCase>, numbers: &CaseNumbers)
     }
 }
 
-// It is judged anew, and the answer is whether it differs from now on and hadn't before.
+// What is known of a case that was judged anew.
+#[derive(Drop)]
+pub(crate) struct Anew {
+    // its verdict before, and its verdict from now on; `Invalid` where there is no case
+    pub(crate) before: Verdict,
+    pub(crate) after: Verdict,
+    // how many routes have it
+    pub(crate) users: u32,
+    // whether it differs from now on and hadn't before
+    pub(crate) newly: bool,
+}
+
+// It is judged anew.
 pub(crate) fn judge_anew<L: Ledger>(
     slab: &mut Slab<StoredCase>,
     number: usize,
     table: &Vaps,
     roles: &Roles,
     steps: &mut Steps<L>,
-) -> bool
+) -> Anew
     ensures judged { IsRightCase (grounds table.now roles.now) (at slab.new.slots number) }
     ensures same { IsSameCase (at slab.old.slots number) (at slab.new.slots number) }
     ensures own { says_own (at slab.new.slots number) ≡ says_own (at slab.old.slots number) }
     ensures differed { HasDiffered (at slab.old.slots number) (at slab.new.slots number) }
-    ensures newly { result ≡ (has_differed (at slab.new.slots number)
+    ensures before { share_of (at slab.old.slots number) ≡ users_of result.before result.users }
+    ensures after { share_of (at slab.new.slots number) ≡ users_of result.after result.users }
+    ensures verdict { result.after ≡ verdict_or (at slab.new.slots number) }
+    ensures newly { result.newly ≡ (has_differed (at slab.new.slots number)
         && not (has_differed (at slab.old.slots number))) }
     ensures others { (n : ℕ) → n ≢ number → at slab.new.slots n ≡ at slab.old.slots n }
     ensures ticks { steps.new ≤ steps.old + 1 }
 {
     let Some(case) = slab.get_mut(number) else {
-        return false;
+        return Anew {
+            before: Verdict::Invalid,
+            after: Verdict::Invalid,
+            users: 0,
+            newly: false,
+        };
     };
+    let before = case.judged.verdict();
     case.judged = judge(table, roles.of(case.asn), case.asn, &case.trail, steps);
+    let after = case.judged.verdict();
+    let users = case.users;
     if case.differed {
-        return false;
+        return Anew {
+            before,
+            after,
+            users,
+            newly: false,
+        };
     }
-    case.differed = !is_same_verdict(case.marked, case.judged.verdict());
-    case.differed
+    case.differed = !is_same_verdict(case.marked, after);
+    Anew {
+        before,
+        after,
+        users,
+        newly: case.differed,
+    }
 }
 
 // Whether two verdicts are the same.

@@ -2,6 +2,7 @@ use Rattle.std.proofs.Common.{◌≡◌, ◌+◌, ◌≤◌, length, drop}
 use Rattle.shared_cases.specs.Grounds.{grounds}
 use Rattle.shared_cases.specs.Numbers.{has}
 use Rattle.shared_cases.specs.Totals.{totals_of}
+use Rattle.shared_cases.specs.Verdicts.{AreVerdictsOf}
 use Rattle.shared_cases.proofs.RejudgingLemmas.{IsRejudging}
 use Rattle.shared_cases.proofs.rejudging.rejudge_all.Given as goal
 
@@ -9,6 +10,7 @@ use Rattle.shared_cases.proofs.rejudging.rejudge_all.Given as goal
 abbrev pub invariant-loop-short : goal.invariant-loop-short
 invariant-loop-short g l = record {
   so_far : IsRejudging (grounds l.table l.roles) (has l.touched) l.fn.slab.slots l.slab.slots (drop l.short-index l.touched) l.newly;
+  verdicts : AreVerdictsOf l.fn.slab.slots l.fn.verdicts → AreVerdictsOf l.slab.slots l.verdicts;
   counted : l.fn.totals ≡ totals_of l.fn.slab.slots → l.totals ≡ totals_of l.slab.slots;
   ticks : l.steps + length (drop l.short-index l.touched) ≤ l.fn.steps + length l.touched;
 }

@@ -30,4 +30,4 @@ returns-clause-differed g c =
     let case : StoredCase = c.in-Some.case.now in
     let differs : Bool = not (same_verdict case.marked c.judge-case.result.verdict) in
     differed_written c.args.slab.now.slots c.args.number case (record case { judged = c.judge-case.result; differed = not c.is_same_verdict.result }) (sym c.get_mut.ensures.value ∙ ap option_copied_mut c.in-Some.is)
-    (ap not (c.is_same_verdict.ensures ∙ ap (same_verdict case.marked) c.verdict.ensures) ∙ sym (ap (λ (b : Bool). b || differs) c.if-case.false))
+    (ap not (c.is_same_verdict.ensures ∙ ap (same_verdict case.marked) c.verdict-after.ensures) ∙ sym (ap (λ (b : Bool). b || differs) c.if-case.false))

@@ -6,11 +6,13 @@ use Rattle.shared_cases.specs.Kept.{AreKept}
 use Rattle.shared_cases.specs.Peers.{ByPeer}
 use Rattle.shared_cases.specs.Taking.{new_case}
 use Rattle.shared_cases.specs.Totals.{totals_of, users_of}
+use Rattle.shared_cases.specs.Verdicts.{SetsVerdict}
 use Rattle.shared_cases.proofs.CaseLemmas.{case_come}
 use Rattle.shared_cases.proofs.KeptLemmas.{none_kept, rewritten_kept}
 use Rattle.shared_cases.proofs.NamingLemmas.{none_named}
 use Rattle.shared_cases.proofs.OwnLemmas.{newly_among, still_among}
 use Rattle.shared_cases.proofs.TotalsLemmas.{totals_come}
+use Rattle.shared_cases.proofs.VerdictLemmas.{none_verdicts, rewritten_verdicts}
 use Rattle.shared_cases.proofs.cases.SharedCases.add.Goals as goal
 
 pub invariant_of-self-in-Ok : goal.invariant_of-self-in-Ok
@@ -34,14 +36,17 @@ invariant_of-self-in-Ok c =
           (at c.self.inside.slab.slots m) was),
       totals_come c.self.inside.slab.slots c.insert.new.self.slots n c.self.inside.totals c.in_ok-totals.totals c.of.result c.self.invariant.1
           c.args.name.asn c.args.name.trail c.args.judged c.args.own writes c.in_ok-number.ensures.was_vacant
-          (c.of.ensures ∙ ap (λ (verdict : Verdict). users_of verdict 1) c.verdict.ensures) c.in_ok-totals.ensures,
+          (c.of.ensures ∙ ap (λ (verdict : Verdict). users_of verdict 1) c.verdict-verdict.ensures) c.in_ok-totals.ensures,
+      rewritten_verdicts c.self.inside.slab.slots c.insert.new.self.slots n (Some case) c.self.inside.verdicts c.find_by.new.verdicts writes
+          (subst (λ (verdict : Verdict). SetsVerdict c.self.inside.verdicts c.find_by.new.verdicts n verdict) c.verdict-verdict.ensures c.in-Ok.ensures.verdict) c.self.invariant.2,
     )
 
 pub invariant_of-self-in-Err : goal.invariant_of-self-in-Err
 invariant_of-self-in-Err c = (
-  subst (λ (cases : Slots). AreKept cases c.new-in-Err.result c.new-in-Err-2.result c.new-in-Err-3.result c.new-in-Err-4.result) (sym c.new.ensures.empty)
-      (subst (λ (peers : ByPeer). AreKept [] c.new-in-Err.result c.new-in-Err-2.result peers c.new-in-Err-4.result) (sym c.new-in-Err-3.ensures)
-      (none_kept c.new-in-Err.result c.new-in-Err-2.result c.new-in-Err-4.result
+  subst (λ (cases : Slots). AreKept cases c.new-in-Err.result c.new-in-Err-2.result c.new-in-Err-3.result c.new-in-Err-5.result) (sym c.new.ensures.empty)
+      (subst (λ (peers : ByPeer). AreKept [] c.new-in-Err.result c.new-in-Err-2.result peers c.new-in-Err-5.result) (sym c.new-in-Err-3.ensures)
+      (none_kept c.new-in-Err.result c.new-in-Err-2.result c.new-in-Err-5.result
       (none_named c.new-in-Err.result c.new-in-Err.ensures.words c.new-in-Err.ensures.twins) c.new-in-Err-2.ensures)),
   c.none-self-inside.ensures ∙ ap totals_of (sym c.new.ensures.empty),
+  none_verdicts c.new.result.slots c.new-in-Err-4.result c.new.ensures.empty c.new-in-Err-4.ensures,
 )

@@ -2,6 +2,7 @@ use Rattle.std.proofs.Common.{◌≡◌, ℕ, subst, ◌∙◌}
 use Rattle.shared_cases.specs.Cases.{Slots, at, marked_now}
 use Rattle.shared_cases.proofs.KeptLemmas.{all_marked, marked_all_kept}
 use Rattle.shared_cases.proofs.TotalsLemmas.{marked_totals}
+use Rattle.shared_cases.proofs.VerdictLemmas.{marked_verdicts}
 use Rattle.shared_cases.proofs.cases.SharedCases.mark.Goals as goal
 
 pub invariant_of-result : goal.invariant_of-result
@@ -11,6 +12,7 @@ invariant_of-result c =
     c.mark_all.ensures.marked c.mark_all.ensures.others in (
       marked_all_kept c.self.inside.slab.slots c.mark_all.new.slab.slots c.self.inside.names c.self.inside.index c.self.inside.peers c.self.inside.differed c.new.result c.self.invariant.0 marked,
       c.self.invariant.1 ∙ marked_totals c.self.inside.slab.slots c.mark_all.new.slab.slots marked,
+      marked_verdicts c.self.inside.slab.slots c.mark_all.new.slab.slots c.self.inside.verdicts c.self.invariant.2 marked,
     )
 
 pub returns : goal.returns

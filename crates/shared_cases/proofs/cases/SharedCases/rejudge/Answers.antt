@@ -11,6 +11,7 @@ invariant_of-cases g c = (
       (all_differed c.self.inside.slab.slots c.rejudge_all.new.slab.slots c.args.touched.now c.in_ok-newly.ensures.others c.self.invariant.0.settled c.in_ok-newly.ensures.differed)
       c.in_ok-newly.ensures.newly c.in_ok-insert_all.ensures.members,
   c.in_ok-newly.ensures.counted c.self.invariant.1,
+  c.in_ok-newly.ensures.verdicts c.self.invariant.2,
 )
 
 pub returns-clause-differed : goal.returns-clause-differed

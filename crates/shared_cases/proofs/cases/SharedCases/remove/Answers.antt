@@ -12,6 +12,7 @@ use Rattle.shared_cases.proofs.CaseLemmas.{case_gone}
 use Rattle.shared_cases.proofs.KeptLemmas.{rewritten_kept}
 use Rattle.shared_cases.proofs.OwnLemmas.{left_among}
 use Rattle.shared_cases.proofs.TotalsLemmas.{totals_gone}
+use Rattle.shared_cases.proofs.VerdictLemmas.{rewritten_verdicts}
 use Rattle.shared_cases.proofs.cases.SharedCases.remove.Goals as goal
 
 pub invariant_of-self-2 : goal.invariant_of-self-2
@@ -30,4 +31,5 @@ invariant_of-self-2 c =
           (at c.self.inside.slab.slots m) (λ asn. indexed.members asn m ∙ ap (λ (o : Option StoredCase). is_of_peer o asn) (writes.others m other)) was),
       totals_gone c.self.inside.slab.slots c.try_remove.new.self.slots c.args.number c.self.inside.totals c.minus-self-inside.result c.of.result c.self.invariant.1
           c.in-Some.case writes here (c.of.ensures ∙ ap (λ (verdict : Verdict). users_of verdict c.in-Some.case.users) c.verdict.ensures) c.minus-self-inside.ensures,
+      rewritten_verdicts c.self.inside.slab.slots c.try_remove.new.self.slots c.args.number None c.self.inside.verdicts c.clear.new.self writes c.clear.ensures c.self.invariant.2,
     )

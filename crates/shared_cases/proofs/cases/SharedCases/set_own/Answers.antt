@@ -6,6 +6,7 @@ use Rattle.shared_cases.specs.Peers.{Members, found}
 use Rattle.shared_cases.proofs.KeptLemmas.{owned_kept}
 use Rattle.shared_cases.proofs.OwnLemmas.{owned_all, owned_none}
 use Rattle.shared_cases.proofs.TotalsLemmas.{owned_totals}
+use Rattle.shared_cases.proofs.VerdictLemmas.{owned_verdicts}
 use Rattle.shared_cases.proofs.cases.SharedCases.set_own.Goals as goal
 
 pub invariant_of-self-in-Some : goal.invariant_of-self-in-Some
@@ -17,6 +18,7 @@ invariant_of-self-in-Some c =
       owned_kept c.args.asn c.self.inside.slab.slots c.set_all_own.new.slab.slots c.self.inside.names c.self.inside.index c.self.inside.peers c.set_own.new.self c.self.inside.differed
           c.self.invariant.0 own c.set_own.ensures.members c.set_own.ensures.defaulted,
       c.self.invariant.1 ∙ owned_totals c.args.asn c.self.inside.slab.slots c.set_all_own.new.slab.slots own,
+      owned_verdicts c.args.asn c.self.inside.slab.slots c.set_all_own.new.slab.slots c.self.inside.verdicts c.self.invariant.2 own,
     )
 
 pub returns-in-Some : goal.returns-in-Some
@@ -33,6 +35,7 @@ invariant_of-self-in-None c = (
       (ap (λ (members : Members). found members c.args.asn) (sym c.set_own.ensures.members) ∙ sym c.of.ensures ∙ ap option_copied c.in-None.is))
       c.set_own.ensures.members c.set_own.ensures.defaulted,
   c.self.invariant.1,
+  c.self.invariant.2,
 )
 
 pub returns-in-None : goal.returns-in-None
