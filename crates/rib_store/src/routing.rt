@@ -16,6 +16,7 @@ ghost use Rattle.rib_store.specs.Touched.{announces, announced};
 
 use crate::marks::Marks;
 use av_base::{NoMemory, Steps};
+use hop_index::HopsAhead;
 use path_model::{Batch, Change, Changes, Key, NlriList, Peer, Roles, Trail};
 use route_map::RouteMap;
 use shared_cases::SharedCases;
@@ -290,6 +291,39 @@ fn look_ahead(cases: &SharedCases, batches: &[Batch], hints: &mut [Option<u32>])
     }
     for (hint, _) in hints.iter_mut().zip(batches.iter()) {
         *hint = cases.fetched(*hint);
+    }
+    read_hops_ahead(cases, batches, hints);
+}
+
+// Reads the hops of the cases that have no hint, for they will have one case more.
+fn read_hops_ahead(cases: &SharedCases, batches: &[Batch], hints: &mut [Option<u32>]) {
+    let mut hops = HopsAhead::none();
+    for (hint, batch) in hints.iter().zip(batches.iter()) {
+        if hint.is_none() {
+            look_up_hops(cases, batch, &mut hops);
+        }
+    }
+    let read = cases.read_hops(&hops);
+    // it never is, but what was read must have a use
+    if read == usize::MAX {
+        clear(hints);
+    }
+}
+
+// No hints.
+fn clear(hints: &mut [Option<u32>]) {
+    for hint in hints.iter_mut() {
+        *hint = None;
+    }
+}
+
+// Looks up the hops of a batch's path.
+#[inline(always)]
+fn look_up_hops(cases: &SharedCases, batch: &Batch, hops: &mut HopsAhead) {
+    match batch {
+        Batch::One(Change::Announce(_, trail)) => cases.look_up_hops(trail, hops),
+        Batch::AnnounceAll(_, trail, _) => cases.look_up_hops(trail, hops),
+        _ => {}
     }
 }
 
