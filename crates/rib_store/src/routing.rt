@@ -77,7 +77,7 @@ impl Routing {
         ensures ticks { steps.new ≤ steps.old + announced changes.now }
     {
         let mut hints = [None; MOST_HINTS];
-        look_ahead(&self.cases, changes.batches(), &mut hints);
+        look_ahead(&self.routes, &self.cases, changes.batches(), &mut hints);
         let mut place: usize = 0;
         let batches = changes.batches().iter();
         for batch in batches {
@@ -276,13 +276,23 @@ impl Routing {
 }
 
 // Gets hints for the first batches, all before the first is used.
-fn look_ahead(cases: &SharedCases, batches: &[Batch], hints: &mut [Option<u32>]) {
+fn look_ahead(
+    routes: &RouteMap<u32>,
+    cases: &SharedCases,
+    batches: &[Batch],
+    hints: &mut [Option<u32>],
+) {
     // one alone would be looked up twice
     if batches.len() < 2 {
         return;
     }
     for (hint, batch) in hints.iter_mut().zip(batches.iter()) {
-        *hint = near_of(cases, batch);
+        *hint = latest_of(routes, cases, batch);
+    }
+    for (hint, batch) in hints.iter_mut().zip(batches.iter()) {
+        if hint.is_none() {
+            *hint = near_of(cases, batch);
+        }
     }
     for (hint, batch) in hints.iter_mut().zip(batches.iter()) {
         if hint.is_none() {
@@ -324,6 +334,17 @@ fn look_up_hops(cases: &SharedCases, batch: &Batch, hops: &mut HopsAhead) {
         Batch::One(Change::Announce(_, trail)) => cases.look_up_hops(trail, hops),
         Batch::AnnounceAll(_, trail, _) => cases.look_up_hops(trail, hops),
         _ => {}
+    }
+}
+
+// The number of the case of a batch, where the last route of its peer has that too, as half of a table's do.
+#[inline(always)]
+fn latest_of(routes: &RouteMap<u32>, cases: &SharedCases, batch: &Batch) -> Option<u32> {
+    match batch {
+        Batch::One(Change::Announce(key, trail)) => {
+            cases.hinted(routes.latest(key).copied(), key.peer.asn, trail)
+        }
+        _ => None,
     }
 }
 

@@ -46,9 +46,9 @@ impl SharedCases {
         hops.read(&self.index)
     }
 
-    // The hint, if it is the number of the case of this AS and path.
+    /// The hint, if it is the number of the case of this AS and path.
     #[inline(always)]
-    pub(crate) fn hinted(&self, hint: Option<u32>, asn: u32, trail: &Trail) -> Option<u32>
+    pub fn hinted(&self, hint: Option<u32>, asn: u32, trail: &Trail) -> Option<u32>
         ensures { IfSome result (λ n. IsStoredAs (at self.now n) asn trail.now) }
     {
         let number = hint?;
