@@ -11,8 +11,8 @@ use std::collections::BTreeMap;
 use std::marker::Model;
 
 /// A number below 2^32 - 1 for each of some words. A word takes 19 to 39 bytes, and 12 to 27 more where it lies in the ordered map; while the
-/// slots double, half as much again. A word lies in one of 16 slots, or else in that map: so whoever picks the words gains no more than the
-/// time of it.
+/// slots double, half as much again, and while they are cleared of what removed words left in them, as much again. A word lies in one of 16
+/// slots, or else in that map: so whoever picks the words gains no more than the time of it.
 #[derive(Debug, Drop)]
 pub struct WordMap {
     alloc: Global,
@@ -22,6 +22,8 @@ pub struct WordMap {
     over: BTreeMap<u64, u32>,
     // how many words there are, in both
     len: usize,
+    // how many words went since the slots are these, less the marked slots that were taken again; no promise rests on it
+    marks: usize,
 }
 
 impl Model for WordMap {
@@ -51,6 +53,7 @@ impl WordMap {
             slots: Vec::new(alloc),
             over: BTreeMap::new(alloc),
             len: 0,
+            marks: 0,
         }
     }
 
@@ -61,7 +64,8 @@ impl WordMap {
         self.len
     }
 
-    /// The number of a word; `None` exactly where it has none. It takes no memory.
+    /// The number of a word; `None` exactly where it has none. It goes over the word's slots up to the one that has it, or to one that is
+    /// blank, and asks the ordered map only where there is neither. It takes no memory.
     #[inline(always)]
     pub fn get(&self, word: u64) -> Option<u32>
         ensures { result ≡ map.get self.now word }
@@ -69,8 +73,9 @@ impl WordMap {
         table::look_up(self.slots.as_slice(), &self.over, word)
     }
 
-    /// The number of a word, where that lies at the first of its places, as most do. It reads one slot, so that where many words are looked
-    /// up one after another, memory is waited for once and not for each. `None` says nothing. It takes no memory.
+    /// The number of a word, where that lies at the first or second of its places, as four of five do. It reads both slots before it decides
+    /// anything, so that where many words are looked up one after another, memory is waited for once and not for each. `None` says nothing.
+    /// It takes no memory.
     #[inline(always)]
     pub fn near(&self, word: u64) -> Option<u32>
         ensures { IfSome result (λ number. map.get self.now word ≡ Some number) }
@@ -79,7 +84,7 @@ impl WordMap {
     }
 
     /// A word has this number from now on, and the one that it had is answered. Where there is no memory, nothing changed; for the number
-    /// 2^32 - 1 there is none.
+    /// 2^32 - 1 there is none. It costs what [`WordMap::replace`] costs, and [`WordMap::put_new`] where the word has none.
     pub fn set(&mut self, word: u64, number: u32) -> Result<Option<u32>, NoMemory>
         ensures before { IfOk result (λ before. before ≡ map.get self.old word) }
         ensures ok { OnOk result (self.new ≡ map.insert self.old word number) }
@@ -92,9 +97,44 @@ impl WordMap {
         if let Some(before) = self.replace(word, number) {
             return Ok(Some(before));
         }
-        self.make_room()?;
-        self.add(word, number)?;
+        self.put_new(word, number)?;
         Ok(None)
+    }
+
+    /// A word that has no number has this one from now on; where it has one, that is answered, and nothing changed. Where there is no memory,
+    /// nothing changed; for the number 2^32 - 1 there is none. It costs what [`WordMap::get`] costs, and [`WordMap::put_new`] where the word has
+    /// none.
+    #[inline(always)]
+    pub fn put_if_absent(&mut self, word: u64, number: u32) -> Result<Option<u32>, NoMemory>
+        ensures before { IfOk result (λ before. before ≡ map.get self.old word) }
+        ensures some { IfOk result (λ before. IfSome before (λ _. self.new ≡ self.old)) }
+        ensures none { IfOk result (λ before. IfNone before
+            (self.new ≡ map.insert self.old word number)) }
+        ensures err { OnErr result (self.new ≡ self.old) }
+        ensures small { IfOk result (λ before. IfNone before (number < 2 ^ 32 - 1)) }
+    {
+        if let Some(before) = self.get(word) {
+            return Ok(Some(before));
+        }
+        self.put_new(word, number)?;
+        Ok(None)
+    }
+
+    /// A word that has no number has this one from now on; it isn't looked up. Where there is no memory, nothing changed; for the number
+    /// 2^32 - 1 there is none. It takes the first free slot of the word. Where the slots double, or are cleared of what removed words left in
+    /// them, it goes over all; that is a few steps for each word that was put or removed.
+    #[inline(never)]
+    pub fn put_new(&mut self, word: u64, number: u32) -> Result<(), NoMemory>
+        requires { map.get self.old word ≡ None }
+        ensures ok { OnOk result (self.new ≡ map.insert self.old word number) }
+        ensures err { OnErr result (self.new ≡ self.old) }
+        ensures small { OnOk result (number < 2 ^ 32 - 1) }
+    {
+        if number == u32::MAX {
+            return Err(NoMemory);
+        }
+        self.make_room()?;
+        self.add(word, number)
     }
 
     /// A word has no number from now on, and the one that it had is answered. It takes no memory.
@@ -103,7 +143,9 @@ impl WordMap {
         ensures removed { self.new ≡ map.remove self.old word }
     {
         let before = table::take_out(&mut self.slots, &mut self.over, word);
-        self.len -= usize::from(before.is_some());
+        let gone = usize::from(before.is_some());
+        self.len -= gone;
+        self.marks = self.marks.saturating_add(gone);
         before
     }
 
@@ -120,18 +162,39 @@ impl WordMap {
     }
 
     // Fewer words in slots than five eighths of these, if there is memory. So few words find none of their slots free. Those in the ordered map
-    // don't count: more slots would do little for words that were chosen so that they share theirs.
+    // don't count: more slots would do little for words that were chosen so that they share theirs. Where a quarter is marked, and as many more
+    // as there are words in that map, all are placed anew among as many slots: so a search soon comes to a blank one, and that costs a few
+    // steps for each word that went.
     fn make_room(&mut self) -> Result<(), NoMemory>
         ensures { self.new ≡ self.old }
     {
         let len = self.slots.len();
-        let within = self.len.saturating_sub(self.over.len());
-        if within < len / 2 + len / 8 {
-            return Ok(());
+        let over = self.over.len();
+        let within = self.len.saturating_sub(over);
+        if within >= len / 2 + len / 8 {
+            return self.place_anew(growing::doubled(len));
         }
-        let (slots, over) = growing::grown(self.alloc, self.slots.as_slice(), &self.over)?;
+        if self.marks >= over.saturating_add(len / 4) {
+            // where there is no memory for it, the marks stay
+            let _ = self.place_anew(len);
+        }
+        Ok(())
+    }
+
+    // The words among so many slots, without marks.
+    #[inline(never)]
+    fn place_anew(&mut self, len: usize) -> Result<(), NoMemory>
+        ensures { self.new ≡ self.old }
+    {
+        let (slots, over) = growing::placed_anew(
+            self.alloc,
+            len,
+            self.slots.as_slice(),
+            &self.over,
+        )?;
         self.slots = slots;
         self.over = over;
+        self.marks = 0;
         Ok(())
     }
 
@@ -144,8 +207,9 @@ impl WordMap {
         if self.len == usize::MAX {
             return Err(NoMemory);
         }
-        table::put_new(&mut self.slots, &mut self.over, word, number)?;
+        let marked = table::put_new(&mut self.slots, &mut self.over, word, number)?;
         self.len += 1;
+        self.marks = self.marks.saturating_sub(usize::from(marked));
         Ok(())
     }
 }
