@@ -95,6 +95,33 @@ impl Hops {
         }
     }
 
+    // The place of a hop, where it is found with one look, or 2^32 - 1. Nothing is promised of it.
+    #[inline(always)]
+    pub(crate) fn near(&self, pair: Pair) -> u32 {
+        match self.by_pair.near(pair.word()) {
+            None => u32::MAX,
+            Some(place) => place,
+        }
+    }
+
+    // Reads how the cases of the hop at a place are held. The number says nothing.
+    #[inline(always)]
+    pub(crate) fn head(&self, place: u32) -> usize {
+        match self.hops.get(place as usize) {
+            None => 0,
+            Some((_, cases)) => cases.head(),
+        }
+    }
+
+    // Reads the last case of the hop at a place. The number says nothing.
+    #[inline(always)]
+    pub(crate) fn last(&self, place: u32) -> usize {
+        match self.hops.get(place as usize) {
+            None => 0,
+            Some((_, cases)) => cases.read_last(),
+        }
+    }
+
     // A hop that isn't there yet comes behind the others, with these cases.
     #[inline(never)]
     fn push(&mut self, pair: Pair, cases: Numbers) -> Result<(), NoMemory>

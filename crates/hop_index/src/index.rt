@@ -135,6 +135,24 @@ impl HopIndex {
             cases: self.hops.of(Pair::of(x, y)),
         }
     }
+
+    // The place of the hop between two ASes, where it is found with one look, or 2^32 - 1. Nothing is promised of it.
+    #[inline(always)]
+    pub(crate) fn near(&self, x: u32, y: u32) -> u32 {
+        self.hops.near(Pair::of(x, y))
+    }
+
+    // Reads how the cases of the hop at a place are held.
+    #[inline(always)]
+    pub(crate) fn head(&self, place: u32) -> usize {
+        self.hops.head(place)
+    }
+
+    // Reads the last case of the hop at a place.
+    #[inline(always)]
+    pub(crate) fn last(&self, place: u32) -> usize {
+        self.hops.last(place)
+    }
 }
 
 // The hops of a chain, each with one case more.

@@ -7,6 +7,7 @@
 //! and beside them the neighbours of each AS. Both are sets of numbers ([`Numbers`]), which the layer above uses too.
 #![tactic(auto)]
 
+mod ahead;
 mod between;
 mod chunked;
 mod held;
@@ -20,6 +21,7 @@ mod numbers;
 mod pair;
 mod through;
 
+pub use ahead::HopsAhead;
 pub use between::Between;
 pub use index::HopIndex;
 pub use laws::{ends_reach_cases, hops_join_neighbours, removal_undoes_addition};

@@ -74,6 +74,32 @@ impl Numbers {
         }
     }
 
+    // Reads how they are held. The number says nothing.
+    #[inline(always)]
+    pub(crate) fn head(&self) -> usize {
+        match &self.held {
+            Held::Many(_) => 1,
+            Held::Listed(_) => 2,
+            _ => 0,
+        }
+    }
+
+    // Reads the last one of many. The number says nothing.
+    #[inline(always)]
+    pub(crate) fn read_last(&self) -> usize {
+        match &self.held {
+            Held::Listed(numbers) => match numbers.last() {
+                None => 0,
+                Some(number) => *number as usize,
+            },
+            Held::Many(numbers) => match numbers.last() {
+                None => 0,
+                Some((number, _)) => *number as usize,
+            },
+            _ => 0,
+        }
+    }
+
     /// The numbers, rising.
     pub fn iter(&self) -> NumberIter<'_>
         ensures whole { result ≡ self.now }

@@ -16,6 +16,7 @@ ghost use Rattle.rib_store.specs.Touched.{announces, announced};
 
 use crate::marks::Marks;
 use av_base::{NoMemory, Steps};
+use hop_index::HopsAhead;
 use path_model::{Batch, Change, Changes, Key, NlriList, Peer, Roles, Trail};
 use route_map::RouteMap;
 use shared_cases::SharedCases;
@@ -76,7 +77,7 @@ impl Routing {
         ensures ticks { steps.new ≤ steps.old + announced changes.now }
     {
         let mut hints = [None; MOST_HINTS];
-        look_ahead(&self.cases, changes.batches(), &mut hints);
+        look_ahead(&self.routes, &self.cases, changes.batches(), &mut hints);
         let mut place: usize = 0;
         let batches = changes.batches().iter();
         for batch in batches {
@@ -275,13 +276,23 @@ impl Routing {
 }
 
 // Gets hints for the first batches, all before the first is used.
-fn look_ahead(cases: &SharedCases, batches: &[Batch], hints: &mut [Option<u32>]) {
+fn look_ahead(
+    routes: &RouteMap<u32>,
+    cases: &SharedCases,
+    batches: &[Batch],
+    hints: &mut [Option<u32>],
+) {
     // one alone would be looked up twice
     if batches.len() < 2 {
         return;
     }
     for (hint, batch) in hints.iter_mut().zip(batches.iter()) {
-        *hint = near_of(cases, batch);
+        *hint = latest_of(routes, cases, batch);
+    }
+    for (hint, batch) in hints.iter_mut().zip(batches.iter()) {
+        if hint.is_none() {
+            *hint = near_of(cases, batch);
+        }
     }
     for (hint, batch) in hints.iter_mut().zip(batches.iter()) {
         if hint.is_none() {
@@ -290,6 +301,50 @@ fn look_ahead(cases: &SharedCases, batches: &[Batch], hints: &mut [Option<u32>])
     }
     for (hint, _) in hints.iter_mut().zip(batches.iter()) {
         *hint = cases.fetched(*hint);
+    }
+    read_hops_ahead(cases, batches, hints);
+}
+
+// Reads the hops of the cases that have no hint, for they will have one case more.
+fn read_hops_ahead(cases: &SharedCases, batches: &[Batch], hints: &mut [Option<u32>]) {
+    let mut hops = HopsAhead::none();
+    for (hint, batch) in hints.iter().zip(batches.iter()) {
+        if hint.is_none() {
+            look_up_hops(cases, batch, &mut hops);
+        }
+    }
+    let read = cases.read_hops(&hops);
+    // it never is, but what was read must have a use
+    if read == usize::MAX {
+        clear(hints);
+    }
+}
+
+// No hints.
+fn clear(hints: &mut [Option<u32>]) {
+    for hint in hints.iter_mut() {
+        *hint = None;
+    }
+}
+
+// Looks up the hops of a batch's path.
+#[inline(always)]
+fn look_up_hops(cases: &SharedCases, batch: &Batch, hops: &mut HopsAhead) {
+    match batch {
+        Batch::One(Change::Announce(_, trail)) => cases.look_up_hops(trail, hops),
+        Batch::AnnounceAll(_, trail, _) => cases.look_up_hops(trail, hops),
+        _ => {}
+    }
+}
+
+// The number of the case of a batch, where the last route of its peer has that too, as half of a table's do.
+#[inline(always)]
+fn latest_of(routes: &RouteMap<u32>, cases: &SharedCases, batch: &Batch) -> Option<u32> {
+    match batch {
+        Batch::One(Change::Announce(key, trail)) => {
+            cases.hinted(routes.latest(key).copied(), key.peer.asn, trail)
+        }
+        _ => None,
     }
 }
 

@@ -74,6 +74,21 @@ impl<V> ByPeer<V> {
         }
     }
 
+    // The value of a peer's last route of a key's family, where the peer is found by its hint. Nothing is promised of it.
+    #[inline(always)]
+    pub(crate) fn latest(&self, key: &Key) -> Option<&V> {
+        let hint = self.hints.slot(&key.peer);
+        match self.peers.get(hint) {
+            None => None,
+            Some(held) => {
+                if *held != key.peer {
+                    return None;
+                }
+                self.routes.get(hint)?.latest(&key.prefix)
+            }
+        }
+    }
+
     // The peers, each with its routes.
     pub(crate) fn iter_peers(&self) -> Peers<'_, V>
         ensures { result ≡ self.now }

@@ -11,7 +11,7 @@ use crate::nlri_iter::NlriIter;
 use crate::peer_iter::PeerIter;
 use crate::plain_routes::PlainRoutes;
 use av_base::NoMemory;
-use path_model::{Nlri, Peer};
+use path_model::{Nlri, Peer, Prefix};
 use std::alloc::Global;
 use std::marker::Model;
 
@@ -75,6 +75,12 @@ impl<V> PeerRoutes<V> {
             None => None,
             Some(nlri) => Some(nlri),
         }
+    }
+
+    // The value of the last one of a prefix's family, without a path identifier. Nothing is promised of it.
+    #[inline(always)]
+    pub(crate) fn latest(&self, prefix: &Prefix) -> Option<&V> {
+        self.plain.latest(prefix)
     }
 
     // All in order.

@@ -6,7 +6,7 @@ use crate::ipv4_plain::Ipv4Plain;
 use crate::ipv6_plain::Ipv6Plain;
 use crate::plain_iter::PlainIter;
 use av_base::NoMemory;
-use path_model::{Nlri, Prefix};
+use path_model::{Addr, Nlri, Prefix};
 use sorted_map::Sorted;
 use std::alloc::Global;
 use std::marker::Model;
@@ -70,6 +70,21 @@ impl<V> PlainRoutes<V> {
         match self.v4.last() {
             None => None,
             Some((subnet, _)) => Some(subnet.nlri()),
+        }
+    }
+
+    // The value of the last one of a prefix's family. Nothing is promised of it.
+    #[inline(always)]
+    pub(crate) fn latest(&self, prefix: &Prefix) -> Option<&V> {
+        match prefix.addr() {
+            Addr::V4(_) => match self.v4.last() {
+                None => None,
+                Some((_, value)) => Some(value),
+            },
+            Addr::V6(_) => match self.v6.last() {
+                None => None,
+                Some((_, value)) => Some(value),
+            },
         }
     }
 

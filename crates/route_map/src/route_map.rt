@@ -82,6 +82,13 @@ impl<V> RouteMap<V> {
         }
     }
 
+    /// The value of the last route that the key's peer has in its family, if that is at hand: where routes come in order, of the one that came
+    /// just before. It is a hint, and nothing is promised of it.
+    #[inline(always)]
+    pub fn latest(&self, key: &Key) -> Option<&V> {
+        self.peers.latest(key)
+    }
+
     /// All routes, in key order.
     pub fn iter(&self) -> Iter<'_, V>
         ensures whole { result ≡ self.now }

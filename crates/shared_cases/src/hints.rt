@@ -4,6 +4,7 @@ ghost use Rattle.shared_cases.specs.Cases.{at, IsStoredAs};
 
 use crate::case_name::mixed;
 use crate::{SharedCases, slots};
+use hop_index::HopsAhead;
 use path_model::Trail;
 
 impl SharedCases {
@@ -33,9 +34,21 @@ impl SharedCases {
         }
     }
 
-    // The hint, if it is the number of the case of this AS and path.
+    /// Looks up the hops of a path that no case may have yet, ahead of the case's coming. Nothing is promised of them.
     #[inline(always)]
-    pub(crate) fn hinted(&self, hint: Option<u32>, asn: u32, trail: &Trail) -> Option<u32>
+    pub fn look_up_hops(&self, trail: &Trail, hops: &mut HopsAhead) {
+        hops.look_up(&self.index, trail.chain());
+    }
+
+    /// Reads hops that were looked up. The number says nothing.
+    #[inline(always)]
+    pub fn read_hops(&self, hops: &HopsAhead) -> usize {
+        hops.read(&self.index)
+    }
+
+    /// The hint, if it is the number of the case of this AS and path.
+    #[inline(always)]
+    pub fn hinted(&self, hint: Option<u32>, asn: u32, trail: &Trail) -> Option<u32>
         ensures { IfSome result (λ n. IsStoredAs (at self.now n) asn trail.now) }
     {
         let number = hint?;
