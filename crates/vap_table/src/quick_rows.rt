@@ -52,7 +52,7 @@ impl QuickRows {
         }
     }
 
-    /// The row of a customer, if it has one. No order is searched.
+    /// The row of a customer, if it has one. It costs a look-up in a map of words.
     #[inline(always)]
     pub(crate) fn row(&self, customer: u32) -> Option<&[u32]>
         ensures { option_copied result ≡ quick_row self.now customer }

@@ -170,7 +170,7 @@ impl Vaps {
 impl Table for Vaps {
     ghost rows = { table_of };
 
-    /// It costs a look-up in no order and a binary search.
+    /// It costs a look-up in a map of words and a binary search.
     fn authority(&self, customer: u32, provider: u32) -> Authority {
         match self.current.quick.row(customer) {
             None => Authority::Silent,
