@@ -1,5 +1,5 @@
 //! What verdicts the cases have.
-ghost use Rattle.std.specs.Prelude.{◌≡◌, [], OnOk};
+ghost use Rattle.std.specs.Prelude.{◌≡◌, ◌≤◌, [], length, OnOk};
 ghost use Rattle.path_model.specs.declared.verdict.Verdict.TheVariants.{Invalid};
 ghost use Rattle.shared_cases.specs.Cases.{at, marked_or, verdict_or};
 ghost use Rattle.shared_cases.specs.Totals.{totals_of};
@@ -50,6 +50,7 @@ impl Verdicts {
     }
 
     // A number has this one from now on. Memory is taken only for a number behind the last one.
+    #[inline(always)]
     pub(crate) fn set(&mut self, number: usize, verdict: Verdict) -> Result<(), NoMemory>
         ensures { OnOk result (SetsVerdict self.old self.new number verdict) }
     {
@@ -57,7 +58,17 @@ impl Verdicts {
             self.verdicts[number] = verdict;
             return Ok(());
         }
-        self.verdicts.resize(number, Verdict::Invalid)?;
+        self.append(number, verdict)
+    }
+
+    // The same of a number behind the last one: those between them, if there are some, have none.
+    fn append(&mut self, number: usize, verdict: Verdict) -> Result<(), NoMemory>
+        requires { length self.old ≤ number }
+        ensures { OnOk result (SetsVerdict self.old self.new number verdict) }
+    {
+        if number > self.verdicts.len() {
+            self.verdicts.resize(number, Verdict::Invalid)?;
+        }
         self.verdicts.push(verdict)?;
         Ok(())
     }
