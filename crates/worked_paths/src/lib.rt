@@ -35,6 +35,8 @@ mod listed_routes;
 #[cfg(test)]
 mod long_chains;
 #[cfg(test)]
+mod many_peers;
+#[cfg(test)]
 #[cfg(test)]
 mod plain;
 #[cfg(test)]
