@@ -37,7 +37,6 @@ mod long_chains;
 #[cfg(test)]
 mod many_peers;
 #[cfg(test)]
-#[cfg(test)]
 mod plain;
 #[cfg(test)]
 mod quiet;
