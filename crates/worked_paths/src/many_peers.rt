@@ -1,14 +1,14 @@
-//! A map of routes of 65,535 peers, as many as a table can name, with one route each, two at each address, so that peers are found with and without their hints, and
-//! the last one moves where another one goes: all are added, each second one goes and comes again, and all go. What is wanted is worked out
-//! from the peers' numbers.
+//! A map of routes of 65,535 peers, as many as a table can name, with one route each, two at each address, so that peers are found with and
+//! without their hints, and the last one moves where another one goes: all are added, each second one goes and comes again, and all go. What
+//! is wanted is worked out from the peers' numbers, which are 1 to 65,535: number 0 has no bit, so that it never gets a route.
 use av_base::NoMemory;
 use path_model::{Addr, Key, Peer, Prefix};
 use route_map::RouteMap;
 use std::alloc::Global;
 use std::cmp::Ordering;
 
-// How many peers there are.
-const PEERS: u32 = 65_535;
+// How many numbers there are, with number 0.
+const PEERS: u32 = 65_536;
 
 // The peer of this number. Two stand at each address, by turns of IPv4 and of IPv6.
 fn peer(number: u32) -> Peer {
@@ -118,17 +118,17 @@ fn is_above(before: Option<Key>, found: &Key) -> bool {
 fn many_peers(rt: HostRuntime) -> Result<(), NoMemory> {
     let mut routes = RouteMap::new(rt.alloc());
     let all = u32::MAX;
-    assert!(rt; add(&mut routes, all)? == 65_534, "peer 0 has no bit");
-    assert!(rt; held(&routes) == (65_534, 1), "{:?}", held(&routes));
-    assert!(rt; in_order(&routes) == 65_534);
-    assert!(rt; withdraw(&mut routes, 1) == 32_767);
-    assert!(rt; held(&routes) == (32_767, 32_768), "{:?}", held(&routes));
+    assert!(rt; add(&mut routes, all)? == 65_535, "number 0 has no bit");
+    assert!(rt; held(&routes) == (65_535, 1), "{:?}", held(&routes));
+    assert!(rt; in_order(&routes) == 65_535);
+    assert!(rt; withdraw(&mut routes, 1) == 32_768);
+    assert!(rt; held(&routes) == (32_767, 32_769), "{:?}", held(&routes));
     assert!(rt; in_order(&routes) == 32_767);
-    assert!(rt; add(&mut routes, 3)? == 32_767);
-    assert!(rt; held(&routes) == (65_534, 1), "{:?}", held(&routes));
-    assert!(rt; in_order(&routes) == 65_534);
-    assert!(rt; withdraw(&mut routes, all) == 65_534);
-    assert!(rt; held(&routes) == (0, 65_535), "{:?}", held(&routes));
+    assert!(rt; add(&mut routes, 3)? == 32_768);
+    assert!(rt; held(&routes) == (65_535, 1), "{:?}", held(&routes));
+    assert!(rt; in_order(&routes) == 65_535);
+    assert!(rt; withdraw(&mut routes, all) == 65_535);
+    assert!(rt; held(&routes) == (0, 65_536), "{:?}", held(&routes));
     assert!(rt; routes.len() == 0);
     Ok(())
 }
