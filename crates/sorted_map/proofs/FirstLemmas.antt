@@ -6,7 +6,7 @@ use Rattle.std.specs.List.{AllWithin, insert, remove}
 use Rattle.std.specs.List.Sorted.{IsPartitionedBy}
 use Rattle.std.specs.Ordering.{is_ge}
 use Rattle.std.proofs.lemmas.List.{append-nil}
-use Rattle.std.proofs.lemmas.Option.{same_Some}
+use Rattle.std.proofs.lemmas.Option.{get_or_from_slice_get, same_Some}
 use Rattle.sorted_map.specs.Chunk.{begins_by, BeginsWith}
 use Rattle.sorted_map.specs.Joined.{joined, AreFirsts, AreInOrder, HaveEntries, IsPlace}
 use Rattle.sorted_map.proofs.JoinedLemmas.{placed, parted}
@@ -142,6 +142,13 @@ module _ {K V : Type 0} where
       last_joined (d ∷ cs) c have.1 (last ∙ ap (λ (n : ℕ). slice_get (b ∷ d ∷ cs) n) more)
       ∙ sym (last_behind b (joined (d ∷ cs)) (joined_some d cs have.1.0))
 
+module _ {K : Type 0} (R : K → K → Ordering) (k : K) where
+  -- where the key is at least this one, it is at least all before it
+  all_begun : (fs : List K) (n : ℕ) (f : K) → IsPartitionedBy (λ y. is_ge (R k y)) fs → length fs ≡ suc n → slice_get fs n ≡ Some f → is_ge (R k f) ≡ true
+      → AllWithin (λ y. is_ge (R k y) ≡ true) fs 0 (length fs)
+  all_begun fs n f parted long last told j d low high =
+      parted j n d (omega (arith, long, high)) (omega (arith, long)) (ap (λ (y : K). is_ge (R k y)) (get_or_from_slice_get fs n f d last) ∙ told)
+
 module _ {K V : Type 0} {R : K → K → Ordering} (total : IsTotalOrder R) (k : K) where
   begun_at : (fs : List K) (cs : List (List (K × V))) (i : ℕ) (f : K) (d : List (K × V)) → AreFirsts fs cs → i < length cs → is_ge (R k (get_or fs i f)) ≡ begins_by R k (get_or cs i d)
   begun_at [] [] i f d firsts within = absurd (omega (arith, within))
@@ -169,3 +176,11 @@ module _ {K V : Type 0} {R : K → K → Ordering} (total : IsTotalOrder R) (k :
       let many = as_many fs cs firsts in
       placed total k cs n i sorted (have_entries fs cs firsts) (omega (arith, some, within, is, many)) (omega (arith, is)) (λ more. omega (arith, more, is))
       (of_firsts true fs cs 0 n firsts (omega (arith, within, many)) low) (of_firsts false fs cs n (length cs) firsts (omega arith) (subst (λ (m : ℕ). AllWithin (λ f. is_ge (R k f) ≡ false) fs n m) many high))
+
+  -- a key that is at least the last first key
+  pub placed_last : (fs : List K) (cs : List (List (K × V))) (f : K) → AreFirsts fs cs → AreInOrder R cs → slice_get fs (length fs - 1) ≡ Some f → is_ge (R k f) ≡ true → IsPlace R k cs (length cs - 1)
+  placed_last [] cs f firsts sorted last told = absurd cc
+  placed_last (x ∷ xs) cs f firsts sorted last told =
+      let many = as_many (x ∷ xs) cs firsts in
+      placed_by_firsts (x ∷ xs) cs (length (x ∷ xs)) (length cs - 1) firsts sorted (omega (arith, many)) (omega arith) (omega (arith, many))
+      (all_begun R k (x ∷ xs) (length (x ∷ xs) - 1) f (parted_firsts (x ∷ xs) cs firsts sorted) (omega arith) last told) (λ j d low high. absurd (omega (arith, low, high)))

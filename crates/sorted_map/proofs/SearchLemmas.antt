@@ -52,6 +52,17 @@ module _ {K : Type 0} {R : K → K → Ordering} (total : IsTotalOrder R) where
       has_at xs i (sorted_tail R x xs sorted) (omega (arith, within)) (λ d. here d),
     )
 
+    eq_is : (o : Ordering) → is_eq o ≡ true → o ≡ Equal
+    eq_is Less is = absurd cc
+    eq_is Equal is = refl
+    eq_is Greater is = absurd cc
+
+    -- a key that is the last one
+    pub has_last : (ks : List K) (z : K) → IsStrictlySortedBy R ks → slice_get ks (length ks - 1) ≡ Some z → is_eq (R k z) ≡ true → HasAt R k ks (length ks - 1)
+    has_last [] z sorted last here = absurd cc
+    has_last (x ∷ xs) z sorted last here = has_at (x ∷ xs) (length (x ∷ xs) - 1) sorted (omega arith)
+        (λ d. ap (λ (y : K). R y k) (get_or_from_slice_get (x ∷ xs) (length (x ∷ xs) - 1) z d last) ∙ flipped Equal k z (eq_is (R k z) here))
+
     all_below : (ks : List K) → AllWithin (λ y. R y k ≡ Greater) ks 0 (length ks) → AllByRecursion (λ y. R k y ≡ Less) ks
     all_below [] above = tt
     all_below (x ∷ xs) above = (flipped Greater x k (above 0 x (omega arith) (omega arith)), all_below xs (λ j d low high. above (suc j) d (omega arith) (omega (arith, high))))

@@ -234,5 +234,21 @@ fn search<K: Ord>(keys: &[K], key: &K) -> Result<usize, usize>
     ensures found { IfOk result (HasAt K.cmp key.now keys.now) }
     ensures absent { IfErr result (IsGap K.cmp key.now keys.now) }
 {
+    if is_last(keys, key) {
+        return Ok(keys.len() - 1);
+    }
     keys.binary_search(key)
+}
+
+// Whether the key is the last one.
+#[inline(always)]
+fn is_last<K: Ord>(keys: &[K], key: &K) -> bool
+    requires { IsStrictlySortedBy K.cmp keys.now }
+    ensures here { IsTrue result → HasAt K.cmp key.now keys.now (length keys.now - 1) }
+    ensures within { IsTrue result → 0 < length keys.now }
+{
+    match keys.last() {
+        None => false,
+        Some(last) => key.cmp(last).is_eq(),
+    }
 }

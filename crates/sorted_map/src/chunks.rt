@@ -77,9 +77,34 @@ impl<K: Ord, V> Chunks<K, V> {
         requires some { 0 < length self.now }
         ensures { IsPlace K.cmp key.now self.now result }
     {
+        if self.is_in_last(key) {
+            return self.list.len() - 1;
+        }
+        self.place_among(key)
+    }
+
+    // The same by a search. It isn't inlined, for keys often come and go at the end.
+    #[inline(never)]
+    fn place_among(&self, key: &K) -> usize
+        requires in_order { AreInOrder K.cmp self.now }
+        requires some { 0 < length self.now }
+        ensures { IsPlace K.cmp key.now self.now result }
+    {
         self.firsts
             .partition_point(|first| key.cmp(first).is_ge())
             .saturating_sub(1)
+    }
+
+    // Whether a key belongs to the last chunk.
+    #[inline(always)]
+    fn is_in_last(&self, key: &K) -> bool
+        requires { AreInOrder K.cmp self.now }
+        ensures { IsTrue result → IsPlace K.cmp key.now self.now (length self.now - 1) }
+    {
+        match self.firsts.last() {
+            None => false,
+            Some(first) => key.cmp(first).is_ge(),
+        }
     }
 
     // Whether all keys are below this one.

@@ -5,7 +5,7 @@ use Rattle.std.specs.List.Sorted.{IsPartitionedBy}
 use Rattle.std.proofs.lemmas.List.Sorted.{IsPartitionPoint-from_clause}
 use Rattle.sorted_map.specs.Joined.{AreInOrder, IsPlace}
 use Rattle.sorted_map.proofs.FirstLemmas.{parted_firsts, placed_by_firsts}
-use Rattle.sorted_map.proofs.chunks.Chunks.place.Goals as goal
+use Rattle.sorted_map.proofs.chunks.Chunks.place_among.Goals as goal
 
 pub returns : goal.returns
 returns g c =
