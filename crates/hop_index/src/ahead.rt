@@ -23,10 +23,13 @@ impl HopsAhead {
         }
     }
 
-    /// The hops of a chain come, where they are found with one look, as most are.
+    /// The hops of a chain come that are found with one look, as most are, as long as there is room.
     pub fn look_up(&mut self, index: &HopIndex, chain: &AsList) {
         let mut last = None;
         for asn in chain.as_slice() {
+            if self.len == MOST {
+                return;
+            }
             if let Some(before) = last {
                 self.put(index.near(before, *asn));
             }
@@ -34,12 +37,12 @@ impl HopsAhead {
         }
     }
 
-    // One place more, while there is room.
+    // One place more, while there is room. No branch waits for the look that gave it.
     #[inline(always)]
-    fn put(&mut self, place: u32) {
+    fn put(&mut self, place: Option<u32>) {
         if let Some(slot) = self.places.get_mut(self.len) {
-            *slot = place;
-            self.len = self.len.wrapping_add(1);
+            *slot = place.unwrap_or(u32::MAX);
+            self.len = self.len.wrapping_add(usize::from(place.is_some()));
         }
     }
 

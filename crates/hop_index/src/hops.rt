@@ -95,13 +95,10 @@ impl Hops {
         }
     }
 
-    // The place of a hop, where it is found with one look, or 2^32 - 1. Nothing is promised of it.
+    // The place of a hop, where it is found with one look. Nothing is promised of it.
     #[inline(always)]
-    pub(crate) fn near(&self, pair: Pair) -> u32 {
-        match self.by_pair.near(pair.word()) {
-            None => u32::MAX,
-            Some(place) => place,
-        }
+    pub(crate) fn near(&self, pair: Pair) -> Option<u32> {
+        self.by_pair.near(pair.word())
     }
 
     // Reads how the cases of the hop at a place are held. The number says nothing.

@@ -136,9 +136,9 @@ impl HopIndex {
         }
     }
 
-    // The place of the hop between two ASes, where it is found with one look, or 2^32 - 1. Nothing is promised of it.
+    // The place of the hop between two ASes, where it is found with one look. Nothing is promised of it.
     #[inline(always)]
-    pub(crate) fn near(&self, x: u32, y: u32) -> u32 {
+    pub(crate) fn near(&self, x: u32, y: u32) -> Option<u32> {
         self.hops.near(Pair::of(x, y))
     }
 

@@ -12,6 +12,7 @@
 //! verdict (`counts`) the cases keep.
 #![tactic(auto)]
 
+mod ahead;
 mod cases;
 mod counts;
 mod journal;

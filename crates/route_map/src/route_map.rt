@@ -82,7 +82,7 @@ impl<V> RouteMap<V> {
         }
     }
 
-    /// The value of the last route that the key's peer has in its family, if that is at hand: where routes come in order, of the one that came
+    /// The value of the last route without a path identifier that the key's peer has in its family, if that is at hand: where routes come in order, of the one that came
     /// just before. It is a hint, and nothing is promised of it.
     #[inline(always)]
     pub fn latest(&self, key: &Key) -> Option<&V> {
