@@ -1,5 +1,5 @@
 -- The routes of one peer: those without a path identifier in their places among those with one.
-use Rattle.std.proofs.Common.{◌≡◌, ◌≢◌, ℕ, Bool, true, false, cond, T, ◌&&◌, List, [], ◌∷◌, None, Some, refl, ap, sym, subst, ◌∙◌, true≢false}
+use Rattle.std.proofs.Common.{◌≡◌, ◌≢◌, ℕ, Bool, true, false, cond, T, ◌&&◌, ◌+◌, List, [], ◌∷◌, length, None, Some, arith, refl, ap, sym, subst, ◌∙◌, true≢false}
 use Rattle.std.specs.Prelude.{is_some}
 use Rattle.std.specs.declared.option.Option.{Option}
 use Rattle.std.specs.declared.cmp.Ordering.{Ordering}
@@ -11,7 +11,7 @@ use Rattle.std.specs.FinMap.Entries.{below_all, is_sorted, same_entries}
 use Rattle.std.specs.List.{AllByRecursion}
 use Rattle.std.specs.List.Sorted.{IsStrictlySortedBy}
 use Rattle.std.specs.Map.{keys_of, lookup, remove_entry}
-use Rattle.std.specs.Ordering.{match_ordering, is_lt}
+use Rattle.std.specs.Ordering.{match_ordering, is_eq, is_lt}
 use Rattle.std.proofs.lemmas.Map.{lookup-none}
 use Rattle.std.proofs.lemmas.Map.Keys.{sorted_head, sorted_tail}
 use Rattle.path_model.specs.declared.nlri.Nlri.{Nlri}
@@ -20,7 +20,7 @@ use Rattle.path_model.specs.Order.{nlri_total}
 use Rattle.path_model.proofs.MapLemmas.{get_entries}
 use Rattle.path_model.proofs.OrderLemmas.{nlri_exact}
 use Rattle.route_map.specs.Merged.{identified, merged, plain, AreIdentified, AreTwo}
-use Rattle.sorted_map.proofs.BlockLemmas.{all_more, all_inserted, all_removed, lookup_inserted, lookup_removed, sorted_inserted, sorted_removed}
+use Rattle.sorted_map.proofs.BlockLemmas.{all_more, all_inserted, all_removed, of_keys, new_entries, length_inserted, lookup_inserted, lookup_removed, sorted_inserted, sorted_removed}
 
 both_of : (a b : Bool) → T a → T b → T (a && b)
 both_of true b p q = q
@@ -204,6 +204,22 @@ module _ {V : Type 0} where
           ∙ sym (lookup_removed nlri_total k q (merged es fs) all_sorted))
 
   -- ---- whether there are any
+  -- ---- as many as both
+  pub length_merged : (es fs : List (Nlri × V)) → AreTwo es fs → length (merged es fs) ≡ length es + length fs
+  length_merged [] fs two = omega arith
+  length_merged (e ∷ es) fs two =
+      let rest : AreTwo es fs = record {
+        plain = two.plain.1;
+        identified = two.identified;
+        plain_in_order = sorted_tail nlri_cmp e.0 (keys_of es) two.plain_in_order;
+        identified_in_order = two.identified_in_order;
+      } in
+      let here : lookup (is_at (nlri_cmp e.0)) es ≡ None = lookup-none (is_at (nlri_cmp e.0)) es
+      (all_more (λ f. nlri_cmp e.0 f.0 ≡ Less) (λ f. is_at (nlri_cmp e.0) f.0 ≡ false) (λ f. ap is_eq) es (of_keys (λ y. nlri_cmp e.0 y ≡ Less) es (sorted_head nlri_cmp e.0 (keys_of es) two.plain_in_order))) in
+      let none : lookup (is_at (nlri_cmp e.0)) (merged es fs) ≡ None = lookup_merged e.0 es fs ∙ ap (λ (o : Option V). either o (lookup (is_at (nlri_cmp e.0)) fs)) here ∙ no_identified es fs rest e.0 two.plain.0 in
+      let one : new_entries (lookup (is_at (nlri_cmp e.0)) (merged es fs)) ≡ 1 = ap (λ (o : Option V). new_entries o) none in
+      omega (arith, one, length_inserted nlri_total e.0 e.1 (merged es fs) (all_sorted es fs rest), length_merged es fs rest)
+
   pub two_nothing : AreTwo {V = V} [] []
   unfolding IsStrictlySortedBy
   two_nothing = record { plain = tt; identified = tt; plain_in_order = tt; identified_in_order = tt }

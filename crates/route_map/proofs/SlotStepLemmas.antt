@@ -6,10 +6,13 @@ use Rattle.std.specs.BTreeMap.{insert_entry, is_at}
 use Rattle.std.specs.List.Sorted.{IsStrictlySortedBy}
 use Rattle.std.specs.Map.{keys_of, lookup, remove_entry, set_value}
 use Rattle.std.specs.Option.{IsSome}
-use Rattle.std.proofs.lemmas.List.{length-set, set-get_or}
+use Rattle.std.proofs.Math.Seq.{get_or-append_seam}
+use Rattle.std.proofs.lemmas.List.{get_or_append_left, length-set, set-get_or}
+use Rattle.std.proofs.lemmas.Map.{none_passes_from_lookup}
 use Rattle.path_model.specs.declared.peer.Peer.{Peer}
 use Rattle.path_model.specs.Key.{peer_cmp}
 use Rattle.route_map.specs.Slots.{AreSlots, IsInverse, resolved}
+use Rattle.sorted_map.proofs.BlockLemmas.{remove_first}
 use Rattle.route_map.proofs.InverseLemmas.{within_got, inverse_pushed, inverse_popped, inverse_swapped, last_there}
 use Rattle.route_map.proofs.ResolvedLemmas.{keys_resolved, lookup_resolved, resolved_pushed, resolved_set, resolved_removed, resolved_moved, resolved_more, AllBelow, LeavesFree}
 use Rattle.route_map.proofs.SlotLemmas.{held_all, within_all, others_elsewhere, leaves_free, left_within}
@@ -30,6 +33,10 @@ module _ {X : Type 0} (d : X) (es : List (Peer × ℕ)) (xs : List X) (seen : Li
   -- a peer that has no slot isn't found,
   pub none_found : lookup (is_at (peer_cmp p)) es ≡ None → lookup (is_at (peer_cmp p)) seen ≡ None
   none_found none = looked_up ∙ ap (option_map (λ n. get_or xs n d)) none
+
+  -- and none is there to go,
+  pub none_gone : lookup (is_at (peer_cmp p)) es ≡ None → seen ≡ remove_entry (is_at (peer_cmp p)) seen
+  none_gone none = sym (remove_first (is_at (peer_cmp p)) [] seen (none_passes_from_lookup (is_at (peer_cmp p)) seen (none_found none)))
 
   -- and the other way round
   pub no_slot : lookup (is_at (peer_cmp p)) seen ≡ None → lookup (is_at (peer_cmp p)) es ≡ None
@@ -107,6 +114,10 @@ module _ {X : Type 0} (es rs : List (Peer × ℕ)) (ps fs : List Peer) (xs gs : 
     pub slots_popped : AreSlots rs fs gs
     slots_popped = record { inverse = subst (λ (hs : List (Peer × ℕ)). IsInverse hs fs) (sym gone) (inverse_popped es fs z whole sorted p i here last); each = as_many }
 
+    pub found_popped : (d : X) (seen : List (Peer × X)) → resolved d es xs ≡ seen → Some x ≡ lookup (is_at (peer_cmp p)) seen
+    found_popped d seen view = sym (slot_found d es xs seen view p i x found (slot_within es ps xs slots p i found)
+        (sym (ap (λ (ys : List X). get_or ys i x) parts ∙ ap (λ (n : ℕ). get_or (gs ++ x ∷ []) n x) (last ∙ sym as_many) ∙ get_or-append_seam gs x [] x)))
+
     pub view_popped : (d : X) (seen : List (Peer × X)) → resolved d es xs ≡ seen → resolved d rs gs ≡ remove_entry (is_at (peer_cmp p)) seen
     view_popped d seen view = ap (λ (hs : List (Peer × ℕ)). resolved d hs gs) gone
         ∙ sym (resolved_more d (remove_entry (is_at (peer_cmp p)) es) gs x (subst (λ (m : ℕ). AllBelow m (remove_entry (is_at (peer_cmp p)) es)) (sym as_many)
@@ -114,6 +125,10 @@ module _ {X : Type 0} (es rs : List (Peer × ℕ)) (ps fs : List Peer) (xs gs : 
         ∙ left d seen view
 
   -- one before it
+  pub found_swapped : i < length fs → (y : X) → y ≡ get_or gs i y → (d : X) (seen : List (Peer × X)) → resolved d es xs ≡ seen → Some y ≡ lookup (is_at (peer_cmp p)) seen
+  found_swapped before y there d seen view = sym (slot_found d es xs seen view p i y found (slot_within es ps xs slots p i found)
+      (there ∙ sym (get_or_append_left gs (x ∷ []) y i (omega (arith, before, as_many))) ∙ sym (ap (λ (ys : List X). get_or ys i y) parts)))
+
   module _ (before : i < length fs) (es2 : List (Peer × ℕ)) (pointed : IsSome (lookup (is_at (peer_cmp z)) rs) → es2 ≡ set_value (is_at (peer_cmp z)) rs i) where
     entries : es2 ≡ set_value (is_at (peer_cmp z)) (remove_entry (is_at (peer_cmp p)) es) i
     entries = pointed (subst (λ (hs : List (Peer × ℕ)). IsSome (lookup (is_at (peer_cmp z)) hs)) (sym gone) (last_there es fs z whole sorted p i here before))

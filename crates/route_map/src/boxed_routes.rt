@@ -1,5 +1,5 @@
 //! The values of one peer's routes with a path identifier, in a box of their own.
-ghost use Rattle.std.specs.Prelude.{◌≡◌, ◌↔◌, [], IfNone, IfOk, IfSome, OnOk, OnErr, IsTrue, option_copied};
+ghost use Rattle.std.specs.Prelude.{◌≡◌, ◌↔◌, [], length, IfNone, IfOk, IfSome, OnOk, OnErr, IsTrue, option_copied};
 ghost use Rattle.route_map.specs.Merged.{boxed_or, identified, value_of, with_value, without_nlri, HasNlri};
 
 use crate::boxed_iter::BoxedIter;
@@ -45,6 +45,16 @@ impl<V> BoxedRoutes<V> {
         match &self.routes {
             None => true,
             Some(routes) => routes.is_empty(),
+        }
+    }
+
+    // How many there are.
+    pub(crate) fn len(&self) -> usize
+        ensures { result ≡ length self.now }
+    {
+        match &self.routes {
+            None => 0,
+            Some(routes) => routes.len(),
         }
     }
 

@@ -17,6 +17,7 @@ use path_model::{Key, Peer};
 use std::alloc::Global;
 use std::collections::BTreeMap;
 use std::marker::Model;
+use std::mem;
 
 // The routes of each peer, in slots, by the peers' order. Most often a peer is found by its hint alone.
 #[derive(Drop)]
@@ -203,29 +204,25 @@ impl<V: Drop> ByPeer<V> {
         }
     }
 
-    // Takes a peer out. What lies in the last slot gets its slot, so that there is no gap.
+    // Takes a peer out with its routes, if it is there, and answers them. What lies in the last slot gets its slot, so that there is no gap.
     #[inline(never)]
-    fn remove(&mut self, peer: &Peer)
-        requires { IsSome (found self.old peer.now) }
-        ensures { self.new ≡ remove_entry (is_at (peer_cmp peer.now)) self.old }
+    pub(crate) fn remove(&mut self, peer: &Peer) -> Option<PeerRoutes<V>>
+        ensures taken { result ≡ found self.old peer.now }
+        ensures removed { self.new ≡ remove_entry (is_at (peer_cmp peer.now)) self.old }
     {
         let _order = self.order.len();
-        let Some(slot) = slot_of(&self.order, &self.peers, &self.hints, peer) else {
-            return;
-        };
+        let slot = slot_of(&self.order, &self.peers, &self.hints, peer)?;
         self.order.remove(peer);
-        let Some(last) = self.peers.pop() else {
-            return;
-        };
-        let Some(routes) = self.routes.pop() else {
-            return;
-        };
+        let last = self.peers.pop()?;
+        let routes = self.routes.pop()?;
         if slot < self.peers.len() {
             self.peers[slot] = last;
-            self.routes[slot] = routes;
+            let taken = mem::replace(&mut self.routes[slot], routes);
             point(&mut self.order, &last, slot);
             self.hints.set(&last, slot);
+            return Some(taken);
         }
+        Some(routes)
     }
 }
 

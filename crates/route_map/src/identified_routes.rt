@@ -1,5 +1,5 @@
 //! The values of one peer's routes with a path identifier.
-ghost use Rattle.std.specs.Prelude.{◌≡◌, ◌↔◌, [], IfNone, IfOk, IfSome, OnOk, OnErr, IsTrue, option_copied};
+ghost use Rattle.std.specs.Prelude.{◌≡◌, ◌↔◌, [], length, IfNone, IfOk, IfSome, OnOk, OnErr, IsTrue, option_copied};
 ghost use Rattle.route_map.specs.Merged.{identified, value_of, with_value, without_nlri, HasNlri};
 
 use crate::identified_iter::IdentifiedIter;
@@ -46,6 +46,13 @@ impl<V> IdentifiedRoutes<V> {
         ensures { IsTrue result ↔ (self.now ≡ []) }
     {
         self.v4.len() == 0 && self.v6.len() == 0
+    }
+
+    // How many there are.
+    pub(crate) fn len(&self) -> usize
+        ensures { result ≡ length self.now }
+    {
+        self.v4.len() + self.v6.len()
     }
 
     // The value of a prefix.

@@ -3,8 +3,9 @@
 //!
 //! The layers above see the list of its entries in key order and use the words of std's maps: **[`RouteMap::insert`] makes
 //! `insert_entry key_cmp` of that list and [`RouteMap::remove`] `remove_entry`, [`RouteMap::get`] looks up in it, and [`RouteMap::iter`]
-//! gives it**; [`RouteMap::of_peer`] gives a part of it. Begin reading at [`RouteMap`], and then at `specs/Flat.antt`, which says how the
-//! routes of the peers make one list. The values are of any type that is `Copy`, or for all but `insert` of any type.
+//! gives it**; [`RouteMap::of_peer`] gives a part of it, and [`RouteMap::take_peer`] takes that part out. Begin reading at [`RouteMap`],
+//! and then at `specs/Flat.antt`, which says how the routes of the peers make one list. The values are of any type that is `Copy`, or for
+//! all but `insert` of any type.
 //!
 //! Where the values are numbers, [`KeysByNumber`] is the way back: it finds the keys that have a number, of the peers of one AS. The layer
 //! above keeps it in step by [`KeysByNumber::follow`], and `specs/Keys.antt` says what it is that a key has a number.
@@ -27,6 +28,7 @@ mod left;
 mod nlri_iter;
 mod peer_iter;
 mod peer_routes;
+mod peer_table;
 mod peers;
 mod plain_iter;
 mod plain_routes;
@@ -36,5 +38,6 @@ pub use iter::Iter;
 pub use keys_by_number::KeysByNumber;
 pub use nlri_iter::NlriIter;
 pub use peer_iter::PeerIter;
+pub use peer_table::PeerTable;
 pub use peers::Peers;
 pub use route_map::RouteMap;

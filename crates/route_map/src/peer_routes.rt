@@ -1,5 +1,5 @@
 //! The values of one peer's routes.
-ghost use Rattle.std.specs.Prelude.{◌≡◌, ◌↔◌, [], IfNone, IfOk, IfSome, OnOk, OnErr, IsTrue, option_copied};
+ghost use Rattle.std.specs.Prelude.{◌≡◌, ◌↔◌, ◌<◌, ◌^◌, [], length, IfNone, IfOk, IfSome, OnOk, OnErr, IsTrue, option_copied};
 ghost use Rattle.std.specs.BTreeMap.{insert_entry, is_at};
 ghost use Rattle.std.specs.Map.{lookup, remove_entry};
 ghost use Rattle.path_model.specs.Key.{nlri_cmp};
@@ -51,6 +51,14 @@ impl<V> PeerRoutes<V> {
         ensures { IsTrue result ↔ (self.now ≡ []) }
     {
         self.plain.is_empty() && self.identified.is_empty()
+    }
+
+    // How many there are.
+    pub(crate) fn len(&self) -> usize
+        requires { length self.now < 2 ^ 63 }
+        ensures { result ≡ length self.now }
+    {
+        self.plain.len() + self.identified.len()
     }
 
     // The value of a prefix with its path identifier, if it has one.

@@ -1,5 +1,5 @@
 //! The values of one peer's routes without a path identifier.
-ghost use Rattle.std.specs.Prelude.{◌≡◌, ◌↔◌, [], IfNone, IfOk, IfSome, OnOk, OnErr, IsTrue, option_copied};
+ghost use Rattle.std.specs.Prelude.{◌≡◌, ◌↔◌, [], length, IfNone, IfOk, IfSome, OnOk, OnErr, IsTrue, option_copied};
 ghost use Rattle.route_map.specs.Merged.{plain, value_of, with_value, without_nlri, HasNlri};
 
 use crate::ipv4_plain::Ipv4Plain;
@@ -47,6 +47,13 @@ impl<V> PlainRoutes<V> {
         ensures { IsTrue result ↔ (self.now ≡ []) }
     {
         self.v4.len() == 0 && self.v6.len() == 0
+    }
+
+    // How many there are.
+    pub(crate) fn len(&self) -> usize
+        ensures { result ≡ length self.now }
+    {
+        self.v4.len() + self.v6.len()
     }
 
     // The value of a prefix.

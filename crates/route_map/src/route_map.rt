@@ -1,5 +1,5 @@
 //! The values of all routes.
-ghost use Rattle.std.specs.Prelude.{◌≡◌, ◌↔◌, ◌<◌, ◌^◌, [], Some, length, IfSome, IfNone, IfOk, OnOk, OnErr, IsTrue, option_copied};
+ghost use Rattle.std.specs.Prelude.{◌≡◌, ◌↔◌, ◌<◌, ◌^◌, [], Some, length, IfSome, IfNone, IfOk, OnOk, OnErr, IsTrue, option_copied, not};
 ghost use Rattle.std.specs.BTreeMap.{insert_entry, is_at};
 ghost use Rattle.std.specs.List.{filter};
 ghost use Rattle.std.specs.List.Sorted.{IsStrictlySortedBy};
@@ -14,6 +14,7 @@ ghost use Rattle.route_map.specs.Updates.{Gets, Loses};
 use crate::by_peer::ByPeer;
 use crate::iter::Iter;
 use crate::peer_iter::PeerIter;
+use crate::peer_table::PeerTable;
 use crate::peers::Peers;
 use av_base::NoMemory;
 use path_model::{Key, Peer};
@@ -157,6 +158,21 @@ impl<V: Copy> RouteMap<V> {
 }
 
 impl<V: Drop> RouteMap<V> {
+    /// Takes all routes of a peer out, and answers them. It takes no memory, and however many they are the time of a few searches among the
+    /// peers: to let the answer go costs what its routes cost. The peer's slot stays, as where `remove` takes its last route out.
+    pub fn take_peer(&mut self, peer: &Peer) -> PeerTable<V>
+        ensures taken { result ≡ filter (λ e. is_of_peer peer.now e.0) self.old }
+        ensures left { self.new ≡ filter (λ e. not (is_of_peer peer.now e.0)) self.old }
+    {
+        let _peers = self.peers.len();
+        let taken = PeerTable {
+            peer: *peer,
+            routes: self.peers.remove(peer),
+        };
+        self.len -= taken.len();
+        taken
+    }
+
     /// Takes the value of a route out, where it has one, and answers it. It takes no memory, and what the last route of a peer took is
     /// given back, but for its slot: some 180 bytes for each of the most peers that there were, and as much again as room, stay.
     pub fn remove(&mut self, key: &Key) -> Option<V>
