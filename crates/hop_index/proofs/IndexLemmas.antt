@@ -4,7 +4,7 @@ use Rattle.std.specs.Prelude.{slice_index}
 use Rattle.std.proofs.lemmas.Map.Views.{exact_unsigned_eq}
 use Rattle.hop_index.specs.Hops.{joins_at, joins_within, has_hop}
 use Rattle.hop_index.specs.Index.{Entries, has, Removes}
-use Rattle.hop_index.specs.Kept.{AddsHop, RemovesHop}
+use Rattle.hop_index.specs.Kept.{is_hop}
 
 one_in : (old same seen here : Bool) → ((old || (same && seen)) || (same && here)) ≡ (old || (same && (seen || here)))
 one_in true same seen here = refl
@@ -30,25 +30,25 @@ ends_at k chain lower upper x y some is_lower is_upper =
     ∙ ap (λ (b : ℕ). (nat_eq x (slice_index chain (k - 1)) && nat_eq y b) || (nat_eq x b && nat_eq y (slice_index chain (k - 1)))) (is_upper ∙ ap (slice_index chain) next)
 
 -- the hop that ends at the place k went in
-pub step_in : (k case : ℕ) (chain : List ℕ) (before now after : Entries) (lower upper : ℕ) → 0 < k → lower ≡ slice_index chain (k - 1) → upper ≡ slice_index chain k
-    → ((x y n : ℕ) → has now x y n ≡ (has before x y n || (nat_eq n case && joins_within (k - 1) chain x y)))
-    → AddsHop now lower upper case after
-    → (x y n : ℕ) → has after x y n ≡ (has before x y n || (nat_eq n case && joins_within (k + 1 - 1) chain x y))
+pub step_in : (k case : ℕ) (chain : List ℕ) (before now after : ℕ → ℕ → ℕ → Bool) (lower upper : ℕ) → 0 < k → lower ≡ slice_index chain (k - 1) → upper ≡ slice_index chain k
+    → ((x y n : ℕ) → now x y n ≡ (before x y n || (nat_eq n case && joins_within (k - 1) chain x y)))
+    → ((x y n : ℕ) → after x y n ≡ (now x y n || is_hop x y n lower upper case))
+    → (x y n : ℕ) → after x y n ≡ (before x y n || (nat_eq n case && joins_within (k + 1 - 1) chain x y))
 step_in k case chain before now after lower upper some is_lower is_upper so_far one x y n =
     one x y n ∙ ap (λ (b : Bool). b || (nat_eq n case && ((nat_eq x lower && nat_eq y upper) || (nat_eq x upper && nat_eq y lower)))) (so_far x y n)
-    ∙ one_in (has before x y n) (nat_eq n case) (joins_within (k - 1) chain x y) ((nat_eq x lower && nat_eq y upper) || (nat_eq x upper && nat_eq y lower))
-    ∙ ap (λ (b : Bool). has before x y n || (nat_eq n case && b))
+    ∙ one_in (before x y n) (nat_eq n case) (joins_within (k - 1) chain x y) ((nat_eq x lower && nat_eq y upper) || (nat_eq x upper && nat_eq y lower))
+    ∙ ap (λ (b : Bool). before x y n || (nat_eq n case && b))
     (ap (λ (b : Bool). joins_within (k - 1) chain x y || b) (ends_at k chain lower upper x y some is_lower is_upper) ∙ sym (more_within k chain x y some))
 
 -- it went out
-pub step_out : (k case : ℕ) (chain : List ℕ) (before now after : Entries) (lower upper : ℕ) → 0 < k → lower ≡ slice_index chain (k - 1) → upper ≡ slice_index chain k
-    → ((x y n : ℕ) → has now x y n ≡ (has before x y n && not (nat_eq n case && joins_within (k - 1) chain x y)))
-    → RemovesHop now lower upper case after
-    → (x y n : ℕ) → has after x y n ≡ (has before x y n && not (nat_eq n case && joins_within (k + 1 - 1) chain x y))
+pub step_out : (k case : ℕ) (chain : List ℕ) (before now after : ℕ → ℕ → ℕ → Bool) (lower upper : ℕ) → 0 < k → lower ≡ slice_index chain (k - 1) → upper ≡ slice_index chain k
+    → ((x y n : ℕ) → now x y n ≡ (before x y n && not (nat_eq n case && joins_within (k - 1) chain x y)))
+    → ((x y n : ℕ) → after x y n ≡ (now x y n && not (is_hop x y n lower upper case)))
+    → (x y n : ℕ) → after x y n ≡ (before x y n && not (nat_eq n case && joins_within (k + 1 - 1) chain x y))
 step_out k case chain before now after lower upper some is_lower is_upper so_far one x y n =
     one x y n ∙ ap (λ (b : Bool). b && not (nat_eq n case && ((nat_eq x lower && nat_eq y upper) || (nat_eq x upper && nat_eq y lower)))) (so_far x y n)
-    ∙ one_out (has before x y n) (nat_eq n case) (joins_within (k - 1) chain x y) ((nat_eq x lower && nat_eq y upper) || (nat_eq x upper && nat_eq y lower))
-    ∙ ap (λ (b : Bool). has before x y n && not (nat_eq n case && b))
+    ∙ one_out (before x y n) (nat_eq n case) (joins_within (k - 1) chain x y) ((nat_eq x lower && nat_eq y upper) || (nat_eq x upper && nat_eq y lower))
+    ∙ ap (λ (b : Bool). before x y n && not (nat_eq n case && b))
     (ap (λ (b : Bool). joins_within (k - 1) chain x y || b) (ends_at k chain lower upper x y some is_lower is_upper) ∙ sym (more_within k chain x y some))
 
 -- a case whose number is beyond all others has no hops to go

@@ -12,7 +12,7 @@ or_both : (a b c : Bool) → ((a || b) || c) ≡ (a || (b || c))
 or_both true b c = refl
 or_both false b c = refl
 
-and_both : (a b c : Bool) → ((a && not b) && not c) ≡ (a && not (b || c))
+pub and_both : (a b c : Bool) → ((a && not b) && not c) ≡ (a && not (b || c))
 and_both true true c = refl
 and_both true false c = refl
 and_both false b c = refl

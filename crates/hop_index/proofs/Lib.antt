@@ -1,4 +1,5 @@
 pub mod CaseLemmas
+pub mod GoneLemmas
 pub mod HopLemmas
 pub mod IndexLemmas
 pub mod InverseLemmas

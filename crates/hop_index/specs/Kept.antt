@@ -6,7 +6,9 @@ use Rattle.std.specs.BTreeMap.{is_at}
 use Rattle.std.specs.List.Sorted.{IsStrictlySortedBy}
 use Rattle.std.specs.Map.{lookup}
 use Rattle.std.specs.Ordering.{nat_cmp}
+use Rattle.hop_index.specs.declared.gone.GoneHop.{GoneHop}
 use Rattle.hop_index.specs.declared.pair.Pair.{Pair}
+use Rattle.hop_index.specs.Gone.{has_gone}
 use Rattle.hop_index.specs.Index.{Entries, at, has}
 use Rattle.hop_index.specs.Numbers.{found_has, numbers_or}
 use Rattle.hop_index.specs.Pairs.{pair_of, pair_cmp}
@@ -83,6 +85,10 @@ AddsHop before u v case after = (x y n : ℕ) → has after x y n ≡ (has befor
 -- `after` has the hops of `before` but for that of one case between u and v
 abbrev pub RemovesHop : Entries → ℕ → ℕ → ℕ → Entries → Type 0
 RemovesHop before u v case after = (x y n : ℕ) → has after x y n ≡ (has before x y n && not (is_hop x y n u v case))
+
+-- `after` has the hop of one case between u and v beside those of `before`, of hops that go together
+abbrev pub GathersHop : List GoneHop → ℕ → ℕ → ℕ → List GoneHop → Type 0
+GathersHop before u v case after = (x y n : ℕ) → has_gone after x y n ≡ (has_gone before x y n || is_hop x y n u v case)
 
 -- two ASes are beside each other exactly where their hop has cases
 abbrev pub AreJoined : Ends → Entries → Type 0

@@ -1,3 +1,4 @@
+pub mod Gone
 pub mod Held
 pub mod Hops
 pub mod Index

@@ -1,11 +1,14 @@
 //! Hops that are read ahead of their use. Nothing is promised of what is read; it is at hand afterwards for who needs it.
 use crate::HopIndex;
+use crate::gone::GoneHop;
+use crate::hops::Hops;
+use crate::pair::Pair;
 use path_model::AsList;
 
 // How many hops are read together.
 const MOST: usize = 64;
 
-/// The places of hops whose cases will get more, so that where many cases come one after another memory is waited for once and not for
+/// The places of hops whose cases will get more, or fewer, so that where many come one after another memory is waited for once and not for
 /// each hop: first all are looked up, then all are read. At most 64 are kept. Nothing is promised of them.
 #[derive(Drop)]
 pub struct HopsAhead {
@@ -31,7 +34,7 @@ impl HopsAhead {
                 return;
             }
             if let Some(before) = last {
-                self.put(index.near(before, *asn));
+                self.put(index.hops().near(Pair::of(before, *asn)));
             }
             last = Some(*asn);
         }
@@ -48,24 +51,63 @@ impl HopsAhead {
 
     /// Reads what stands at the places. The number answered says nothing: it is made of all that was read.
     pub fn read(&self, index: &HopIndex) -> usize {
-        self.read_heads(index).wrapping_add(self.read_ends(index))
+        self.read_from(index.hops())
+    }
+
+    // Hops that will go come that are found with one look, each once where they stand by their two ASes, as long as there is room. The
+    // number of those that were gone over is answered; nothing is promised of it.
+    fn look_up_gone(&mut self, hops: &Hops, gone: &[GoneHop]) -> usize {
+        let mut over: usize = 0;
+        let mut last = None;
+        for hop in gone {
+            if self.len == MOST {
+                return over;
+            }
+            if last != Some(hop.pair) {
+                self.put(hops.near(hop.pair));
+            }
+            last = Some(hop.pair);
+            over = over.wrapping_add(1);
+        }
+        over
+    }
+
+    // Reads what stands at the places.
+    fn read_from(&self, hops: &Hops) -> usize {
+        self.read_heads(hops).wrapping_add(self.read_ends(hops))
     }
 
     // Reads how the cases of each are held.
-    fn read_heads(&self, index: &HopIndex) -> usize {
+    fn read_heads(&self, hops: &Hops) -> usize {
         let mut sum: usize = 0;
         for place in self.places.iter().take(self.len) {
-            sum = sum.wrapping_add(index.head(*place));
+            sum = sum.wrapping_add(hops.head(*place));
         }
         sum
     }
 
     // Reads the last case of each.
-    fn read_ends(&self, index: &HopIndex) -> usize {
+    fn read_ends(&self, hops: &Hops) -> usize {
         let mut sum: usize = 0;
         for place in self.places.iter().take(self.len) {
-            sum = sum.wrapping_add(index.last(*place));
+            sum = sum.wrapping_add(hops.last(*place));
         }
         sum
     }
+}
+
+// Reads hops that will go, from a place on, and answers the place of the first one that it didn't. Nothing is promised of that.
+#[inline(never)]
+pub(crate) fn read_gone(hops: &Hops, gone: &[GoneHop], from: usize) -> usize {
+    let Some(rest) = gone.get(from..) else {
+        return usize::MAX;
+    };
+    let mut ahead = HopsAhead::none();
+    let unread = from.wrapping_add(ahead.look_up_gone(hops, rest));
+    let read = ahead.read_from(hops);
+    // it never is, but what was read must have a use
+    if read == usize::MAX {
+        return from;
+    }
+    unread
 }

@@ -2,17 +2,19 @@
 ghost use Rattle.std.specs.Prelude.{◌≡◌, ◌<◌, ◌^◌, ℕ, true, OnOk};
 ghost use Rattle.std.specs.List.Sorted.{IsStrictlySortedBy};
 ghost use Rattle.std.specs.Ordering.{nat_cmp};
+ghost use Rattle.hop_index.specs.Gone.{RemovesEach};
 ghost use Rattle.hop_index.specs.Index.{has, HasNothing, Adds, Removes};
 ghost use Rattle.hop_index.specs.Kept.{AddsHop, RemovesHop, AreKept};
 ghost use Rattle.hop_index.specs.Numbers.{has_number};
 ghost use Rattle.hop_index.specs.Through.{end_cmp, has_end, ends_left};
 
 use crate::between::Between;
+use crate::gone::{GoneHop, GoneHops};
 use crate::hops::Hops;
-use crate::neighbours;
 use crate::numbers::Numbers;
 use crate::pair::Pair;
 use crate::through::Through;
+use crate::{ahead, neighbours};
 use av_base::NoMemory;
 use path_model::AsList;
 use std::alloc::Global;
@@ -103,6 +105,17 @@ impl HopIndex {
         remove_all(&mut self.ends, &mut self.hops, chain.as_slice(), number);
     }
 
+    /// The hops of many cases go, in either order. Hops that weren't there, and those of other cases, make no difference. It costs the time of
+    /// sorting them, and of each what [`HopIndex::remove`] costs; but those between the same two ASes go one after another, in the order in
+    /// which they were pushed, and up to 64 hops are read ahead, so that memory is waited for less often. While they are sorted they take 12
+    /// bytes each more; where there is no memory for that, they go in the order in which they were pushed.
+    pub fn remove_each(&mut self, gone: GoneHops)
+        ensures { RemovesEach self.old gone self.new }
+    {
+        let hops = gone.into_sorted();
+        remove_gone(&mut self.ends, &mut self.hops, hops.as_slice());
+    }
+
     // No case has a number of 2^32 or above: a law, and the body does nothing.
     fn are_few(&self)
         ensures { (x y n : ℕ) → has self.now x y n ≡ true → n < 2 ^ 32 }
@@ -136,22 +149,10 @@ impl HopIndex {
         }
     }
 
-    // The place of the hop between two ASes, where it is found with one look. Nothing is promised of it.
+    // The hops, for who reads them ahead of their use.
     #[inline(always)]
-    pub(crate) fn near(&self, x: u32, y: u32) -> Option<u32> {
-        self.hops.near(Pair::of(x, y))
-    }
-
-    // Reads how the cases of the hop at a place are held.
-    #[inline(always)]
-    pub(crate) fn head(&self, place: u32) -> usize {
-        self.hops.head(place)
-    }
-
-    // Reads the last case of the hop at a place.
-    #[inline(always)]
-    pub(crate) fn last(&self, place: u32) -> usize {
-        self.hops.last(place)
+    pub(crate) fn hops(&self) -> &Hops {
+        &self.hops
     }
 }
 
@@ -179,6 +180,22 @@ fn remove_all(ends: &mut BTreeMap<u32, Numbers>, hops: &mut Hops, chain: &[u32],
 {
     for k in 1..chain.len() {
         remove(ends, hops, chain[k - 1], chain[k], case);
+    }
+}
+
+// Each of these hops, with one case less. They are read ahead of their use.
+fn remove_gone(ends: &mut BTreeMap<u32, Numbers>, hops: &mut Hops, gone: &[GoneHop])
+    ensures removed { RemovesEach hops.old gone.now hops.new }
+    ensures kept { AreKept ends.old.entries hops.old → AreKept ends.new.entries hops.new }
+{
+    // the first of them that isn't read yet
+    let mut unread = 0;
+    for k in 0..gone.len() {
+        if k >= unread {
+            unread = ahead::read_gone(hops, gone, k);
+        }
+        let hop = gone[k];
+        remove(ends, hops, hop.pair.low, hop.pair.high, hop.case);
     }
 }
 

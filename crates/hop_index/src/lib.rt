@@ -10,6 +10,7 @@
 mod ahead;
 mod between;
 mod chunked;
+mod gone;
 mod held;
 mod hops;
 mod index;
@@ -23,6 +24,7 @@ mod through;
 
 pub use ahead::HopsAhead;
 pub use between::Between;
+pub use gone::GoneHops;
 pub use index::HopIndex;
 pub use laws::{ends_reach_cases, hops_join_neighbours, removal_undoes_addition};
 pub use number_iter::NumberIter;

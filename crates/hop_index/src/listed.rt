@@ -1,5 +1,5 @@
 //! Some numbers in one list, which rises.
-ghost use Rattle.std.specs.Prelude.{◌≡◌, length, IsTrue, IfOk, IfErr, OnOk, OnErr};
+ghost use Rattle.std.specs.Prelude.{◌≡◌, ◌<◌, ◌-◌, length, IsTrue, IfOk, IfErr, OnOk, OnErr};
 ghost use Rattle.std.specs.BTreeMap.{is_at};
 ghost use Rattle.std.specs.BTreeSet.{insert_key};
 ghost use Rattle.std.specs.List.{AllByRecursion};
@@ -67,12 +67,28 @@ fn are_below(numbers: &[u32], number: u32) -> bool
     }
 }
 
-// The place of the number, or the one where it would go.
+// The place of the number, or the one where it would go. The last one is found at once.
 fn search(numbers: &[u32], number: u32) -> Result<usize, usize>
     requires rising { IsStrictlySortedBy nat_cmp numbers.now }
     ensures within { IsSearchInRange result (length numbers.now) }
     ensures found { IfOk result (HasAt nat_cmp number numbers.now) }
     ensures absent { IfErr result (IsGap nat_cmp number numbers.now) }
 {
+    if is_last(numbers, number) {
+        return Ok(numbers.len() - 1);
+    }
     numbers.binary_search(&number)
+}
+
+// Whether the number is the last one.
+#[inline(always)]
+fn is_last(numbers: &[u32], number: u32) -> bool
+    requires rising { IsStrictlySortedBy nat_cmp numbers.now }
+    ensures here { IsTrue result → HasAt nat_cmp number numbers.now (length numbers.now - 1) }
+    ensures within { IsTrue result → 0 < length numbers.now }
+{
+    match numbers.last() {
+        None => false,
+        Some(last) => number.cmp(last).is_eq(),
+    }
 }
