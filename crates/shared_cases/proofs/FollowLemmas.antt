@@ -6,7 +6,7 @@ use Rattle.std.specs.Ordering.{nat_cmp}
 use Rattle.path_model.specs.declared.role.Role.{Role}
 use Rattle.path_model.specs.Authority.{Table}
 use Rattle.path_model.specs.Roles.{Relations, role_of}
-use Rattle.hop_index.specs.Index.{Entries}
+use Rattle.hop_index.specs.Index.{Entries, has as hops_have}
 use Rattle.vap_table.specs.declared.moves.RowMove.{RowMove}
 use Rattle.vap_table.specs.Moves.{AreMoves}
 use Rattle.shared_cases.specs.declared.case.StoredCase.{StoredCase}
@@ -31,7 +31,7 @@ followed_by : (old new : Grounds) (before after : Option StoredCase) (b : Bool) 
 followed_by old new before after true judged same keeps said right = (judged refl, said right.1)
 followed_by old new before after false judged same keeps said right = (same refl (keeps refl right), said right.1)
 
-module _ (cases after : Slots) (names : Names) (index : Entries) (peers : Members) (kept : AreIndexed cases names index peers) (touched : List ℕ) where
+module _ (cases after : Slots) (names : Names) (index : Entries) (peers : Members) (kept : AreIndexed cases names (hops_have index) peers) (touched : List ℕ) where
   -- ---- another table
   module _ (old new : Table) (roles : Relations) (moves : List RowMove) (are : AreMoves old new moves) (found : (n : ℕ) → (has touched n ≡ true) ↔ IsTouchedBy index moves n) where
     pub table_followed : ((n : ℕ) → has touched n ≡ true → IsRightCase (by_table new roles) (at after n)) → ((n : ℕ) → has touched n ≡ false → at after n ≡ at cases n)

@@ -4,17 +4,16 @@ use Rattle.std.specs.declared.option.Option.{Option}
 use Rattle.std.proofs.lemmas.Bool.{false_from_ne_true, or_left, or_right, or_parts}
 use Rattle.path_model.specs.declared.verdict.Verdict.{Verdict}
 use Rattle.path_model.specs.declared.verdict.Verdict.TheVariants.{Valid, Unknown, Invalid}
-use Rattle.hop_index.specs.Index.{Entries, HasNothing}
 use Rattle.shared_cases.specs.declared.case.StoredCase.{StoredCase}
 use Rattle.shared_cases.specs.declared.names.Names.{Names}
 use Rattle.shared_cases.specs.Cases.{Slots, at, differs, has_differed, same_verdict, Rewrites, IsSettled, IsSameCase, AreSameCases, marked_now}
 use Rattle.shared_cases.specs.Differed.{AreNewlyDiffering, AreSettledOrDiffered, HasDiffered, HaveDiffered}
-use Rattle.shared_cases.specs.Kept.{AreIndexed, AreKept}
+use Rattle.shared_cases.specs.Kept.{AreIndexed, AreKept, Hops}
 use Rattle.shared_cases.specs.Naming.{AreNamed}
 use Rattle.shared_cases.specs.Numbers.{has}
 use Rattle.shared_cases.specs.Owning.{owned_of, IsOwnOrAmong, SayTheSame}
 use Rattle.shared_cases.specs.Peers.{ByPeer, Members}
-use Rattle.shared_cases.specs.Taking.{lowered, raised}
+use Rattle.shared_cases.specs.Taking.{lowered_by, raised}
 use Rattle.shared_cases.proofs.CaseLemmas.{rewritten, same_names}
 use Rattle.shared_cases.proofs.NamingLemmas.{IsSameName}
 use Rattle.shared_cases.proofs.NumberLemmas.{decide_eq, has_cases, has_first, has_later}
@@ -35,8 +34,8 @@ each_listed : (old new : Slots) (n : ℕ) (v : Option StoredCase) (differed ases
 each_listed old new n v differed ases writes were here m = each_at (IsListed differed ases) old new n m v writes here (were m) (decide_eq m n)
 
 -- no cases
-pub none_kept : (names : Names) (index : Entries) (differed : List ℕ) → AreNamed [] names → HasNothing index → AreKept [] names index (record { members = []; defaulted = [] }) differed
-none_kept names index differed named nothing = record {
+pub none_kept : (names : Names) (hops : Hops) (differed : List ℕ) → AreNamed [] names → ((x y n : ℕ) → hops x y n ≡ false) → AreKept [] names hops (record { members = []; defaulted = [] }) differed
+none_kept names hops differed named nothing = record {
   indexed = record { named = named; indexed = nothing; members = λ asn n. refl };
   settled = λ n hasnt. tt;
   listed = λ n has_it. absurd (true≢false (sym has_it));
@@ -44,28 +43,28 @@ none_kept names index differed named nothing = record {
 }
 
 -- a case that is settled and hasn't differed comes or goes
-pub rewritten_kept : (old new : Slots) (n : ℕ) (v : Option StoredCase) (names names' : Names) (index index' : Entries) (peers peers' : ByPeer) (differed : List ℕ) → AreKept old names index peers differed
-    → Rewrites old new n v → has_differed v ≡ false → IsSettled v → AreIndexed new names' index' peers'.members
-    → IsOwnOrAmong peers'.defaulted v → ((m : ℕ) → m ≢ n → IsOwnOrAmong peers.defaulted (at old m) → IsOwnOrAmong peers'.defaulted (at old m)) → AreKept new names' index' peers' differed
-rewritten_kept old new n v names names' index index' peers peers' differed kept writes hasnt settled indexed among stay =
+pub rewritten_kept : (old new : Slots) (n : ℕ) (v : Option StoredCase) (names names' : Names) (hops hops' : Hops) (peers peers' : ByPeer) (differed : List ℕ) → AreKept old names hops peers differed
+    → Rewrites old new n v → has_differed v ≡ false → IsSettled v → AreIndexed new names' hops' peers'.members
+    → IsOwnOrAmong peers'.defaulted v → ((m : ℕ) → m ≢ n → IsOwnOrAmong peers.defaulted (at old m) → IsOwnOrAmong peers'.defaulted (at old m)) → AreKept new names' hops' peers' differed
+rewritten_kept old new n v names names' hops hops' peers peers' differed kept writes hasnt settled indexed among stay =
     let each = each_listed old new n v differed peers'.defaulted writes (λ m other. (kept.settled m, kept.listed m, stay m other (kept.defaulted m)))
     ((λ is. settled), (λ has_it. absurd (true≢false (sym has_it ∙ hasnt))), among) in
     record { indexed = indexed; settled = λ m. (each m).0; listed = λ m. (each m).1; defaulted = λ m. (each m).2 }
 
-module _ (old new : Slots) (n : ℕ) (names : Names) (index : Entries) (peers : ByPeer) (differed : List ℕ) (kept : AreKept old names index peers differed) where
+module _ (old new : Slots) (n : ℕ) (names : Names) (hops : Hops) (peers : ByPeer) (differed : List ℕ) (kept : AreKept old names hops peers differed) where
   -- a case with another number of users
   rewrite_kept : (v : Option StoredCase) → Rewrites old new n v → IsSameName (at old n) v → (IsListed differed peers.defaulted n (at old n) → IsListed differed peers.defaulted n v)
-      → AreKept new names index peers differed
+      → AreKept new names hops peers differed
   rewrite_kept v writes same keeps =
       let each = each_listed old new n v differed peers.defaulted writes (λ m other. (kept.settled m, kept.listed m, kept.defaulted m)) (keeps (kept.settled n, kept.listed n, kept.defaulted n)) in
       record {
-        indexed = rewritten old new n v names index peers.members writes same kept.indexed;
+        indexed = rewritten old new n v names hops peers.members writes same kept.indexed;
         settled = λ m. (each m).0;
         listed = λ m. (each m).1;
         defaulted = λ m. (each m).2;
       }
 
-  pub raised_kept : Rewrites old new n (raised (at old n)) → AreKept new names index peers differed
+  pub raised_kept : Rewrites old new n (raised (at old n)) → AreKept new names hops peers differed
   raised_kept writes = rewrite_kept (raised (at old n)) writes (same (at old n)) (keeps (at old n)) where
     same : (c : Option StoredCase) → IsSameName c (raised c)
     same None = tt
@@ -75,13 +74,13 @@ module _ (old new : Slots) (n : ℕ) (names : Names) (index : Entries) (peers : 
     keeps None is = is
     keeps (Some c) is = is
 
-  pub lowered_kept : Rewrites old new n (lowered (at old n)) → AreKept new names index peers differed
-  lowered_kept writes = rewrite_kept (lowered (at old n)) writes (same (at old n)) (keeps (at old n)) where
-    same : (c : Option StoredCase) → IsSameName c (lowered c)
+  pub lowered_kept : (k : ℕ) → Rewrites old new n (lowered_by k (at old n)) → AreKept new names hops peers differed
+  lowered_kept k writes = rewrite_kept (lowered_by k (at old n)) writes (same (at old n)) (keeps (at old n)) where
+    same : (c : Option StoredCase) → IsSameName c (lowered_by k c)
     same None = tt
     same (Some c) = (refl, refl)
 
-    keeps : (c : Option StoredCase) → IsListed differed peers.defaulted n c → IsListed differed peers.defaulted n (lowered c)
+    keeps : (c : Option StoredCase) → IsListed differed peers.defaulted n c → IsListed differed peers.defaulted n (lowered_by k c)
     keeps None is = is
     keeps (Some c) is = is
 
@@ -137,9 +136,9 @@ marked_by c d false marked others settled listed =
     others refl ∙ sym (settled_marked c hasnt (settled hasnt))
 
 -- each case has its verdict as the marked one: those that have differed are marked, and the others had
-pub all_marked : (old new : Slots) (names : Names) (index : Entries) (peers : ByPeer) (differed : List ℕ) → AreKept old names index peers differed
+pub all_marked : (old new : Slots) (names : Names) (hops : Hops) (peers : ByPeer) (differed : List ℕ) → AreKept old names hops peers differed
     → ((n : ℕ) → has differed n ≡ true → at new n ≡ marked_now (at old n)) → ((n : ℕ) → has differed n ≡ false → at new n ≡ at old n) → (n : ℕ) → at new n ≡ marked_now (at old n)
-all_marked old new names index peers differed kept marked others n = marked_by (at old n) (at new n) (has differed n) (marked n) (others n) (kept.settled n) (kept.listed n)
+all_marked old new names hops peers differed kept marked others n = marked_by (at old n) (at new n) (has differed n) (marked n) (others n) (kept.settled n) (kept.listed n)
 
 marked_same : (c : Option StoredCase) → IsSameName c (marked_now c)
 marked_same None = tt
@@ -149,10 +148,10 @@ marked_among : (ases : List ℕ) (c : Option StoredCase) → IsOwnOrAmong ases c
 marked_among ases None is = tt
 marked_among ases (Some c) is = is
 
-pub marked_all_kept : (old new : Slots) (names : Names) (index : Entries) (peers : ByPeer) (differed differed' : List ℕ) → AreKept old names index peers differed
-    → ((n : ℕ) → at new n ≡ marked_now (at old n)) → AreKept new names index peers differed'
-marked_all_kept old new names index peers differed differed' kept marked = record {
-  indexed = same_names old new names index peers.members (λ n. subst (λ (o : Option StoredCase). IsSameName (at old n) o) (sym (marked n)) (marked_same (at old n))) kept.indexed;
+pub marked_all_kept : (old new : Slots) (names : Names) (hops : Hops) (peers : ByPeer) (differed differed' : List ℕ) → AreKept old names hops peers differed
+    → ((n : ℕ) → at new n ≡ marked_now (at old n)) → AreKept new names hops peers differed'
+marked_all_kept old new names hops peers differed differed' kept marked = record {
+  indexed = same_names old new names hops peers.members (λ n. subst (λ (o : Option StoredCase). IsSameName (at old n) o) (sym (marked n)) (marked_same (at old n))) kept.indexed;
   settled = λ n hasnt. subst (λ (o : Option StoredCase). IsSettled o) (sym (marked n)) (settled_now (at old n)).1;
   listed = λ n has_it. absurd (true≢false (sym has_it ∙ ap has_differed (marked n) ∙ (settled_now (at old n)).0));
   defaulted = λ n. subst (IsOwnOrAmong peers.defaulted) (sym (marked n)) (marked_among peers.defaulted (at old n) (kept.defaulted n));
@@ -215,22 +214,22 @@ listed_by false true old_listed newly told kept is = or_right old_listed newly t
 listed_by was false old_listed newly told kept is = absurd (true≢false (sym is))
 
 -- cases that were judged anew
-pub rejudged_kept : (old new : Slots) (names : Names) (index : Entries) (peers : ByPeer) (differed differed' newly : List ℕ) → AreKept old names index peers differed
-    → AreSameCases old new → SayTheSame old new → HaveDiffered old new → AreNewlyDiffering old new newly → ((n : ℕ) → has differed' n ≡ (has differed n || has newly n)) → AreKept new names index peers differed'
-rejudged_kept old new names index peers differed differed' newly kept same say have told more = record {
-  indexed = same_names old new names index peers.members (λ n. same_case_name (at old n) (at new n) (same n)) kept.indexed;
+pub rejudged_kept : (old new : Slots) (names : Names) (hops : Hops) (peers : ByPeer) (differed differed' newly : List ℕ) → AreKept old names hops peers differed
+    → AreSameCases old new → SayTheSame old new → HaveDiffered old new → AreNewlyDiffering old new newly → ((n : ℕ) → has differed' n ≡ (has differed n || has newly n)) → AreKept new names hops peers differed'
+rejudged_kept old new names hops peers differed differed' newly kept same say have told more = record {
+  indexed = same_names old new names hops peers.members (λ n. same_case_name (at old n) (at new n) (same n)) kept.indexed;
   settled = λ n hasnt. settled_by (at old n) (at new n) (have n) hasnt;
   listed = λ n has_it. more n ∙ listed_by (has_differed (at old n)) (has_differed (at new n)) (has differed n) (has newly n) (told n) (kept.listed n) has_it;
   defaulted = λ n. same_among peers.defaulted (at old n) (at new n) (same n) (say n) (kept.defaulted n);
 }
 
 -- cases of an AS with a role of its own, which say so from now on
-pub owned_kept : (asn : ℕ) (old new : Slots) (names : Names) (index : Entries) (peers peers' : ByPeer) (differed : List ℕ) → AreKept old names index peers differed
+pub owned_kept : (asn : ℕ) (old new : Slots) (names : Names) (hops : Hops) (peers peers' : ByPeer) (differed : List ℕ) → AreKept old names hops peers differed
     → ((n : ℕ) → at new n ≡ owned_of asn (at old n)) → peers'.members ≡ peers.members → ((a : ℕ) → has peers'.defaulted a ≡ (has peers.defaulted a && not (nat_eq a asn)))
-    → AreKept new names index peers' differed
-owned_kept asn old new names index peers peers' differed kept own same less = record {
-  indexed = subst (λ (members : Members). AreIndexed new names index members) (sym same)
-      (same_names old new names index peers.members (λ n. subst (λ (o : Option StoredCase). IsSameName (at old n) o) (sym (own n)) (owned_name asn (at old n))) kept.indexed);
+    → AreKept new names hops peers' differed
+owned_kept asn old new names hops peers peers' differed kept own same less = record {
+  indexed = subst (λ (members : Members). AreIndexed new names hops members) (sym same)
+      (same_names old new names hops peers.members (λ n. subst (λ (o : Option StoredCase). IsSameName (at old n) o) (sym (own n)) (owned_name asn (at old n))) kept.indexed);
   settled = λ n hasnt. subst (λ (o : Option StoredCase). IsSettled o) (sym (own n))
       (owned_settled asn (at old n) (kept.settled n (sym (owned_differed asn (at old n)) ∙ ap has_differed (sym (own n)) ∙ hasnt)));
   listed = λ n has_it. kept.listed n (sym (owned_differed asn (at old n)) ∙ ap has_differed (sym (own n)) ∙ has_it);

@@ -1,7 +1,9 @@
 pub mod CaseLemmas
+pub mod FitLemmas
 pub mod FollowLemmas
 pub mod FoundLemmas
 pub mod KeptLemmas
+pub mod LeavingLemmas
 pub mod ListedLemmas
 pub mod MoveLemmas
 pub mod NameLemmas

@@ -1,5 +1,5 @@
 -- How totals follow the cases.
-use Rattle.std.proofs.Common.{◌≡◌, ◌≢◌, ℕ, zero, suc, ◌+◌, ◌-◌, ◌<◌, Bool, true, [], ◌∷◌, None, Some, refl, ap, sym, ◌∙◌, arith, zero-add, ltb-true, true≢false}
+use Rattle.std.proofs.Common.{◌≡◌, ◌≢◌, ℕ, zero, suc, ◌+◌, ◌-◌, ◌≤◌, Bool, [], ◌∷◌, None, Some, refl, ap, sym, ◌∙◌, arith, zero-add}
 use Rattle.std.specs.declared.option.Option.{Option}
 use Rattle.std.specs.List.{sum_by}
 use Rattle.std.proofs.lemmas.List.Sums.{sum_by-cons}
@@ -11,8 +11,8 @@ use Rattle.shared_cases.specs.declared.case.StoredCase.{StoredCase}
 use Rattle.shared_cases.specs.declared.totals.Totals.{Totals}
 use Rattle.shared_cases.specs.Cases.{Slots, at, Rewrites, marked_now}
 use Rattle.shared_cases.specs.Owning.{owned_of}
-use Rattle.shared_cases.specs.Taking.{is_shared, lowered, new_case, raised}
-use Rattle.shared_cases.specs.Totals.{is_valid, is_unknown, is_invalid, users_if, users_with, totals_of, no_users, users_of, share_of, one_user, plus, minus}
+use Rattle.shared_cases.specs.Taking.{lowered_by, new_case, raised, users_or}
+use Rattle.shared_cases.specs.Totals.{is_valid, is_unknown, is_invalid, users_if, users_with, totals_of, no_users, users_of, share_of, one_user, some_users, plus, minus}
 
 -- ---- sums over the cases, number by number
 
@@ -73,12 +73,11 @@ raised_share : (c : Option StoredCase) → share_of (raised c) ≡ plus (share_o
 raised_share None = refl
 raised_share (Some c) = split_users c.judged.verdict c.users 1
 
-lowered_share : (c : Option StoredCase) → is_shared c ≡ true → share_of c ≡ plus (share_of (lowered c)) (one_user c)
-lowered_share None shared = absurd (true≢false (sym shared))
-lowered_share (Some c) shared =
-    let many : 1 < c.users = ltb-true 1 c.users shared in
-    let fewer : c.users ≡ c.users - 1 + 1 = omega (arith, many) in
-    ap (users_of c.judged.verdict) fewer ∙ split_users c.judged.verdict (c.users - 1) 1
+lowered_share : (k : ℕ) (c : Option StoredCase) → k ≤ users_or c → share_of c ≡ plus (share_of (lowered_by k c)) (some_users k c)
+lowered_share k None few = refl
+lowered_share k (Some c) few =
+    let fewer : c.users ≡ c.users - k + k = omega arith in
+    ap (users_of c.judged.verdict) fewer ∙ split_users c.judged.verdict (c.users - k) k
 
 valid_share : (c : Option StoredCase) → (share_of c).valid ≡ users_if is_valid c
 valid_share None = refl
@@ -143,9 +142,9 @@ module _ (old new : Slots) (n : ℕ) (t next s : Totals) (was : t ≡ totals_of 
   pub raised_totals : Rewrites old new n (raised (at old n)) → s ≡ one_user (at old n) → next ≡ plus t s → next ≡ totals_of new
   raised_totals writes one is = is ∙ totals_more old new n (raised (at old n)) writes t was s (raised_share (at old n) ∙ ap (plus (share_of (at old n))) (sym one))
 
-  pub lowered_totals : Rewrites old new n (lowered (at old n)) → is_shared (at old n) ≡ true → s ≡ one_user (at old n) → next ≡ minus t s → next ≡ totals_of new
-  lowered_totals writes shared one is =
-      is ∙ totals_less old new n (lowered (at old n)) writes t was s (lowered_share (at old n) shared ∙ ap (plus (share_of (lowered (at old n)))) (sym one))
+  pub lowered_totals : (k : ℕ) → Rewrites old new n (lowered_by k (at old n)) → k ≤ users_or (at old n) → s ≡ some_users k (at old n) → next ≡ minus t s → next ≡ totals_of new
+  lowered_totals k writes few some is =
+      is ∙ totals_less old new n (lowered_by k (at old n)) writes t was s (lowered_share k (at old n) few ∙ ap (plus (share_of (lowered_by k (at old n)))) (sym some))
 
   pub totals_gone : (c : StoredCase) → Rewrites old new n None → at old n ≡ Some c → s ≡ users_of c.judged.verdict c.users → next ≡ minus t s → next ≡ totals_of new
   totals_gone c writes here all is =

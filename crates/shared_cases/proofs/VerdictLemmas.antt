@@ -5,7 +5,7 @@ use Rattle.path_model.specs.declared.verdict.Verdict.{Verdict}
 use Rattle.shared_cases.specs.declared.case.StoredCase.{StoredCase}
 use Rattle.shared_cases.specs.Cases.{Slots, at, marked_now, verdict_or, Rewrites}
 use Rattle.shared_cases.specs.Owning.{owned_of}
-use Rattle.shared_cases.specs.Taking.{lowered, raised}
+use Rattle.shared_cases.specs.Taking.{lowered_by, raised}
 use Rattle.shared_cases.specs.Verdicts.{verdict_at, AreVerdictsOf, SetsVerdict}
 use Rattle.shared_cases.proofs.NumberLemmas.{decide_eq}
 
@@ -35,9 +35,9 @@ raised_verdicts = one_done raised same where
   same None = refl
   same (Some c) = refl
 
-pub lowered_verdicts : (old new : Slots) (verdicts : List Verdict) → AreVerdictsOf old verdicts → (n : ℕ) → Rewrites old new n (lowered (at old n)) → AreVerdictsOf new verdicts
-lowered_verdicts = one_done lowered same where
-  same : (c : Option StoredCase) → verdict_or (lowered c) ≡ verdict_or c
+pub lowered_verdicts : (k : ℕ) (old new : Slots) (verdicts : List Verdict) → AreVerdictsOf old verdicts → (n : ℕ) → Rewrites old new n (lowered_by k (at old n)) → AreVerdictsOf new verdicts
+lowered_verdicts k = one_done (lowered_by k) same where
+  same : (c : Option StoredCase) → verdict_or (lowered_by k c) ≡ verdict_or c
   same None = refl
   same (Some c) = refl
 

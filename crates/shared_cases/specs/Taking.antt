@@ -1,5 +1,6 @@
--- One user more of a case, and one less.
-use Rattle.std.specs.Prelude.{◌≡◌, ℕ, nat_lt, ◌+◌, ◌-◌, Bool, false, if◌then◌else◌, ◌⊎◌}
+-- One user more of a case, one less, and many less.
+use Rattle.std.specs.Prelude.{◌≡◌, ℕ, zero, suc, nat_eq, nat_lt, ◌+◌, ◌-◌, Bool, false, List, if◌then◌else◌, ◌⊎◌}
+use Rattle.std.specs.List.{sum_by}
 use Rattle.std.specs.declared.option.Option.{Option}
 use Rattle.std.specs.declared.option.Option.TheVariants.{Some, None}
 use Rattle.path_model.specs.Trail.{Path}
@@ -27,6 +28,15 @@ lowered (Some c) = Some (record c { users = c.users - 1 })
 abbrev pub left : Option StoredCase → Option StoredCase
 left c = if is_shared c then lowered c else None
 
+-- how often a number stands in a list
+abbrev pub times : ℕ → List ℕ → ℕ
+times n numbers = sum_by (λ m. if nat_eq m n then 1 else 0) numbers
+
+-- what is left of a case after so many of its users, one after another
+abbrev pub left_times : ℕ → Option StoredCase → Option StoredCase
+left_times zero c = c
+left_times (suc k) c = left (left_times k c)
+
 -- a new case: it has one user, its verdict is the marked one, and it hasn't differed; and whether its AS has a role of its own
 abbrev pub new_case : ℕ → Path → Judgement → Bool → StoredCase
 new_case asn path judgement own =
@@ -48,3 +58,20 @@ pub record Adds (g : Grounds) (asn : ℕ) (path : Path) (before after : Slots) (
 -- one user more of the case of this AS and path, which has the number n
 abbrev pub Takes : Grounds → ℕ → Path → Slots → Slots → ℕ → Type 0
 Takes g asn path before after n = Joins asn path before after n ⊎ Adds g asn path before after n
+
+-- ---- many users less at once; private contracts alone cite this part
+
+-- how many users a case has
+abbrev pub users_or : Option StoredCase → ℕ
+users_or None = 0
+users_or (Some c) = c.users
+
+-- a case with so many users less
+abbrev pub lowered_by : ℕ → Option StoredCase → Option StoredCase
+lowered_by k None = None
+lowered_by k (Some c) = Some (record c { users = c.users - k })
+
+-- `before` has one number so many times more than `after`, and each other as often
+abbrev pub TakesOut : List ℕ → ℕ → ℕ → List ℕ → Type 0
+TakesOut before number count after =
+    (n : ℕ) → times n before ≡ times n after + (if nat_eq number n then count else 0)

@@ -54,7 +54,7 @@ users_of verdict users = record {
   invalid = if is_invalid verdict then users else 0;
 }
 
--- the routes of one case, and one of them
+-- the routes of one case, one of them, and so many of them
 abbrev pub share_of : Option StoredCase → Totals
 share_of None = no_users
 share_of (Some c) = users_of c.judged.verdict c.users
@@ -62,6 +62,10 @@ share_of (Some c) = users_of c.judged.verdict c.users
 abbrev pub one_user : Option StoredCase → Totals
 one_user None = no_users
 one_user (Some c) = users_of c.judged.verdict 1
+
+abbrev pub some_users : ℕ → Option StoredCase → Totals
+some_users k None = no_users
+some_users k (Some c) = users_of c.judged.verdict k
 
 abbrev pub plus : Totals → Totals → Totals
 plus a b = record { valid = a.valid + b.valid; unknown = a.unknown + b.unknown; invalid = a.invalid + b.invalid }

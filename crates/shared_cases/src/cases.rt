@@ -2,16 +2,17 @@
 ghost use Rattle.std.specs.Prelude.{◌≡◌, ◌≤◌, ◌+◌, ◌||◌, ◌&&◌, not, nat_eq, ℕ, true, false, [], length, None, Some, IfOk, IfNone, IfSome, OnOk};
 ghost use Rattle.std.specs.List.Sorted.{IsStrictlySortedBy};
 ghost use Rattle.std.specs.Ordering.{nat_cmp};
-ghost use Rattle.hop_index.specs.Index.{Adds};
+ghost use Rattle.hop_index.specs.Index.{has as hops_have, Adds};
 ghost use Rattle.shared_cases.specs.Cases.{at, marked_now, AreSameCases, Rewrites, IsAbsent, IsStoredAs, AreDistinct, IsIndexOf, IsShown};
 ghost use Rattle.shared_cases.specs.Differed.{AreNewlyDiffering, AreSettledOrDiffered, HaveDiffered};
 ghost use Rattle.shared_cases.specs.Grounds.{grounds, IsRightCase};
+ghost use Rattle.shared_cases.specs.Kept.{FitTogether};
 ghost use Rattle.shared_cases.specs.Names.{name_of};
 ghost use Rattle.shared_cases.specs.Naming.{AddsName};
 ghost use Rattle.shared_cases.specs.Numbers.{has};
 ghost use Rattle.shared_cases.specs.Owning.{SayTheSame};
 ghost use Rattle.shared_cases.specs.Peers.{AddsMember};
-ghost use Rattle.shared_cases.specs.Taking.{is_shared, left, lowered, raised, new_case, Takes};
+ghost use Rattle.shared_cases.specs.Taking.{raised, new_case, Takes};
 ghost use Rattle.shared_cases.specs.Verdicts.{SetsVerdict};
 
 use crate::case::{Case, StoredCase, new_case};
@@ -67,18 +68,16 @@ impl Drop for SharedCases {
 }
 
 impl Model for SharedCases {
-    ghost use Rattle.std.specs.Prelude.{◌≡◌};
+    ghost use Rattle.hop_index.specs.Index.{has as hops_have};
     ghost use Rattle.shared_cases.specs.Cases.{Slots};
-    ghost use Rattle.shared_cases.specs.Kept.{AreKept};
-    ghost use Rattle.shared_cases.specs.Totals.{totals_of};
-    ghost use Rattle.shared_cases.specs.Verdicts.{AreVerdictsOf};
+    ghost use Rattle.shared_cases.specs.Kept.{FitTogether};
 
     ghost Value = { Slots };
 
     ghost view = { λ a. a.slab.slots };
 
-    ghost invariant = { λ a. AreKept a.slab.slots a.names a.index a.peers a.differed
-        × (a.totals ≡ totals_of a.slab.slots) × AreVerdictsOf a.slab.slots a.verdicts };
+    ghost invariant = { λ a. FitTogether a.slab.slots a.names (hops_have a.index) a.peers a.differed
+        a.totals a.verdicts };
 }
 
 impl SharedCases {
@@ -168,18 +167,6 @@ impl SharedCases {
         slots::raise(&mut self.slab, number as usize)?;
         self.totals = totals;
         Ok(())
-    }
-
-    /// One route less has the case. The last one takes the case along. It takes no memory.
-    #[inline(never)]
-    pub fn leave(&mut self, number: u32)
-        ensures { Rewrites self.old self.new number (left (at self.old number)) }
-    {
-        if slots::is_shared(&self.slab, number as usize) {
-            self.lower(number);
-        } else {
-            self.remove(number);
-        }
     }
 
     /// The present verdicts are the marked ones from now on. It takes no memory, and the time of the cases that got another verdict since the
@@ -321,43 +308,19 @@ impl SharedCases {
                 Ok(short)
             }
             Err(_) => {
-                self.slab = Slab::new(self.alloc);
-                self.names = Names::new(self.alloc);
-                self.index = HopIndex::new(self.alloc);
-                self.peers = Peers::new(self.alloc);
-                self.totals = Totals::none();
-                self.verdicts = Verdicts::new(self.alloc);
-                self.differed = CaseNumbers::new(self.alloc);
+                start_anew(
+                    self.alloc,
+                    &mut self.slab,
+                    &mut self.names,
+                    &mut self.index,
+                    &mut self.peers,
+                    &mut self.totals,
+                    &mut self.verdicts,
+                    &mut self.differed,
+                );
                 Err(NoMemory)
             }
         }
-    }
-
-    // One user less of a case that has more than one.
-    fn lower(&mut self, number: u32)
-        requires { is_shared (at self.old number) ≡ true }
-        ensures { Rewrites self.old self.new number (lowered (at self.old number)) }
-    {
-        let one = slots::one_user(&self.slab, number as usize);
-        self.totals = self.totals.minus(one);
-        slots::lower(&mut self.slab, number as usize);
-    }
-
-    // The case goes, if there is one, with its name and its hops.
-    fn remove(&mut self, number: u32)
-        ensures { Rewrites self.old self.new number None }
-    {
-        let Some(case) = self.slab.try_remove(number as usize) else {
-            return;
-        };
-        self.totals = self
-            .totals
-            .minus(Totals::of(case.judged.verdict(), case.users));
-        self.verdicts.clear(number as usize);
-        self.index.remove(number as usize, case.trail.chain());
-        self.peers.remove(case.asn, number);
-        self.names
-            .remove(&CaseName::new(case.asn, case.trail), number);
     }
 }
 
@@ -389,4 +352,28 @@ fn find_by(
     names.add(name, short)?;
     verdicts.set(number, verdict)?;
     Ok(short)
+}
+
+// No case is left.
+#[inline(never)]
+pub(crate) fn start_anew(
+    alloc: Global,
+    slab: &mut Slab<StoredCase>,
+    names: &mut Names,
+    index: &mut HopIndex,
+    peers: &mut Peers,
+    totals: &mut Totals,
+    verdicts: &mut Verdicts,
+    differed: &mut CaseNumbers,
+)
+    ensures { FitTogether slab.new.slots names.new (hops_have index.new) peers.new differed.new
+        totals.new verdicts.new }
+{
+    *slab = Slab::new(alloc);
+    *names = Names::new(alloc);
+    *index = HopIndex::new(alloc);
+    *peers = Peers::new(alloc);
+    *totals = Totals::none();
+    *verdicts = Verdicts::new(alloc);
+    *differed = CaseNumbers::new(alloc);
 }

@@ -1,22 +1,26 @@
 //! Cases that routes share: a peer AS with a path, judged once for all routes that have it.
 //!
-//! The layer above uses one contract for each event: [`SharedCases::take`] and [`SharedCases::leave`] count the routes of a case, and
-//! [`SharedCases::follow_table`], [`SharedCases::follow_role`] and [`SharedCases::follow_default`] judge anew exactly once what another
-//! table or other roles touch, so that **every case that had its right judgement has it again**. [`SharedCases::totals`] says how many
-//! routes have which verdict, and [`SharedCases::iter`] goes over the cases (`specs/Listed.antt`). Begin reading in `specs/Cases.antt`, then in `specs/Taking.antt` and in `specs/Touched.antt`.
+//! The layer above uses one contract for each event: [`SharedCases::take`] and [`SharedCases::leave`] count the routes of a case,
+//! [`SharedCases::leave_all`] those that leave at once, and [`SharedCases::follow_table`], [`SharedCases::follow_role`] and
+//! [`SharedCases::follow_default`] judge anew exactly once what another table or other roles touch, so that **every case that had its right
+//! judgement has it again**. [`SharedCases::totals`] says how many routes have which verdict, and [`SharedCases::iter`] goes over the cases
+//! (`specs/Listed.antt`). Begin reading in `specs/Cases.antt`, then in `specs/Taking.antt` and in `specs/Touched.antt`.
 //!
 //! A case has a number as long as some route has it. It is found by its name (`case_name`, `names`; `hints` looks for the cases of many names
-//! ahead of their use), by its hops (the crate `hop_index`) and by its AS (`peers`, which also keeps whose cases follow the default role, as `specs/Owning.antt` says), and its verdict stands in a list of bytes too (`verdicts`); each case that gets another
-//! verdict than the marked one is told once to the caller (`specs/Differed.antt`), and its number is kept until the next mark;
+//! ahead of their use, and `ahead` reads cases so), by its hops (the crate `hop_index`) and by its AS (`peers`, which also keeps whose cases
+//! follow the default role, as `specs/Owning.antt` says), and its verdict stands in a list of bytes too (`verdicts`); each case that gets
+//! another verdict than the marked one is told once to the caller (`specs/Differed.antt`), and its number is kept until the next mark;
 //! `specs/Kept.antt` says what keeps these together.
 #![tactic(auto)]
 
+mod ahead;
 mod case;
 mod case_iter;
 mod case_name;
 mod cases;
 mod found;
 mod hints;
+mod leaving;
 mod moved_rows;
 mod names;
 mod number_iter;

@@ -15,13 +15,13 @@ ghost use Rattle.shared_cases.specs.Totals.{totals_of};
 ghost use Rattle.shared_cases.specs.Touched.{AreWithinTouched, IsRoleMove};
 ghost use Rattle.shared_cases.specs.Verdicts.{AreVerdictsOf};
 
-use crate::SharedCases;
 use crate::case::StoredCase;
 use crate::numbers::CaseNumbers;
 use crate::slots::{judge_anew, set_all_own};
 use crate::totals::Totals;
 use crate::touched::{touched_by_default, touched_by_moves, touched_by_role};
 use crate::verdicts::Verdicts;
+use crate::{SharedCases, ahead};
 use av_base::{NoMemory, Steps};
 use path_model::{Role, Roles};
 use slab::Slab;
@@ -156,7 +156,14 @@ pub(crate) fn rejudge_all<L: Ledger>(
     ensures ticks { steps.new ≤ steps.old + length touched.now }
 {
     let mut newly = CaseNumbers::new(alloc);
+    let mut at: usize = 0;
+    // the place of the first one that isn't at hand
+    let mut unread: usize = 0;
     for short in touched {
+        if at == unread {
+            unread = ahead::read_from(slab, touched, at);
+        }
+        at = at.wrapping_add(1);
         let number = *short as usize;
         let anew = judge_anew(slab, number, table, roles, steps);
         let both = totals.plus(Totals::of(anew.after, anew.users))?;

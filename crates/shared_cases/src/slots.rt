@@ -5,8 +5,8 @@ ghost use Rattle.shared_cases.specs.Differed.{HasDiffered};
 ghost use Rattle.shared_cases.specs.Grounds.{grounds, IsRightCase};
 ghost use Rattle.shared_cases.specs.Numbers.{has};
 ghost use Rattle.shared_cases.specs.Owning.{owned, says_own};
-ghost use Rattle.shared_cases.specs.Taking.{is_shared, lowered, raised};
-ghost use Rattle.shared_cases.specs.Totals.{one_user, share_of, users_of};
+ghost use Rattle.shared_cases.specs.Taking.{is_shared, lowered_by, raised, users_or};
+ghost use Rattle.shared_cases.specs.Totals.{one_user, share_of, some_users, users_of};
 
 use crate::case::StoredCase;
 use crate::numbers::CaseNumbers;
@@ -68,14 +68,29 @@ pub(crate) fn is_shared(slab: &Slab<StoredCase>, number: usize) -> bool
     }
 }
 
-// One user less, where there is one.
-pub(crate) fn lower(slab: &mut Slab<StoredCase>, number: usize)
-    ensures { Rewrites slab.old.slots slab.new.slots number (lowered (at slab.old.slots number)) }
+// How many users it has; none where there is no case.
+#[inline(always)]
+pub(crate) fn users(slab: &Slab<StoredCase>, number: usize) -> u32
+    ensures { result ≡ users_or (at slab.now.slots number) }
+{
+    match slab.get(number) {
+        None => 0,
+        Some(case) => case.users,
+    }
+}
+
+// So many users less, where there are as many. They are answered, by the verdict of the case.
+#[inline(always)]
+pub(crate) fn lower_by(slab: &mut Slab<StoredCase>, number: usize, count: u32) -> Totals
+    ensures lowered { Rewrites slab.old.slots slab.new.slots number
+        (lowered_by count (at slab.old.slots number)) }
+    ensures less { result ≡ some_users count (at slab.old.slots number) }
 {
     let Some(case) = slab.get_mut(number) else {
-        return;
+        return Totals::none();
     };
-    case.users = case.users.saturating_sub(1);
+    case.users = case.users.saturating_sub(count);
+    Totals::of(case.judged.verdict(), count)
 }
 
 // Its verdict becomes the marked one, and it hasn't differed.

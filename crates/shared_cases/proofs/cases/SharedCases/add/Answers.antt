@@ -1,18 +1,16 @@
-use Rattle.std.proofs.Common.{ℕ, [], Some, refl, ap, sym, subst, ◌∙◌}
+use Rattle.std.proofs.Common.{ℕ, Some, refl, ap, sym, subst, ◌∙◌}
 use Rattle.path_model.specs.declared.verdict.Verdict.{Verdict}
+use Rattle.hop_index.specs.Index.{has as hops_have}
 use Rattle.shared_cases.specs.declared.case.StoredCase.{StoredCase}
 use Rattle.shared_cases.specs.Cases.{Slots, at, Rewrites, IsAbsent}
-use Rattle.shared_cases.specs.Kept.{AreKept}
-use Rattle.shared_cases.specs.Peers.{ByPeer}
 use Rattle.shared_cases.specs.Taking.{new_case}
-use Rattle.shared_cases.specs.Totals.{totals_of, users_of}
+use Rattle.shared_cases.specs.Totals.{users_of}
 use Rattle.shared_cases.specs.Verdicts.{SetsVerdict}
 use Rattle.shared_cases.proofs.CaseLemmas.{case_come}
-use Rattle.shared_cases.proofs.KeptLemmas.{none_kept, rewritten_kept}
-use Rattle.shared_cases.proofs.NamingLemmas.{none_named}
+use Rattle.shared_cases.proofs.KeptLemmas.{rewritten_kept}
 use Rattle.shared_cases.proofs.OwnLemmas.{newly_among, still_among}
 use Rattle.shared_cases.proofs.TotalsLemmas.{totals_come}
-use Rattle.shared_cases.proofs.VerdictLemmas.{none_verdicts, rewritten_verdicts}
+use Rattle.shared_cases.proofs.VerdictLemmas.{rewritten_verdicts}
 use Rattle.shared_cases.proofs.cases.SharedCases.add.Goals as goal
 
 pub invariant_of-self-in-Ok : goal.invariant_of-self-in-Ok
@@ -24,8 +22,8 @@ invariant_of-self-in-Ok c =
       others = c.in_ok-number.ensures.updates.others;
     } in (
       rewritten_kept c.self.inside.slab.slots c.insert.new.self.slots n (Some case) c.self.inside.names c.find_by.new.names
-          c.self.inside.index c.find_by.new.index c.self.inside.peers c.find_by.new.peers c.self.inside.differed c.self.invariant.0 writes refl refl
-          (case_come c.self.inside.slab.slots c.insert.new.self.slots c.self.inside.names c.find_by.new.names c.self.inside.index c.find_by.new.index
+          (hops_have c.self.inside.index) (hops_have c.find_by.new.index) c.self.inside.peers c.find_by.new.peers c.self.inside.differed c.self.invariant.0 writes refl refl
+          (case_come c.self.inside.slab.slots c.insert.new.self.slots c.self.inside.names c.find_by.new.names (hops_have c.self.inside.index) (hops_have c.find_by.new.index)
           c.self.inside.peers.members c.find_by.new.peers.members n case c.self.invariant.0.indexed c.in_ok-number.ensures.was_vacant writes
           c.in-Ok.ensures.name
           (subst (λ (cases : Slots). IsAbsent cases c.args.name.asn c.args.name.trail) (sym c.self.view_is) c.requires.absent)
@@ -40,13 +38,3 @@ invariant_of-self-in-Ok c =
       rewritten_verdicts c.self.inside.slab.slots c.insert.new.self.slots n (Some case) c.self.inside.verdicts c.find_by.new.verdicts writes
           (subst (λ (verdict : Verdict). SetsVerdict c.self.inside.verdicts c.find_by.new.verdicts n verdict) c.verdict-verdict.ensures c.in-Ok.ensures.verdict) c.self.invariant.2,
     )
-
-pub invariant_of-self-in-Err : goal.invariant_of-self-in-Err
-invariant_of-self-in-Err c = (
-  subst (λ (cases : Slots). AreKept cases c.new-in-Err.result c.new-in-Err-2.result c.new-in-Err-3.result c.new-in-Err-5.result) (sym c.new.ensures.empty)
-      (subst (λ (peers : ByPeer). AreKept [] c.new-in-Err.result c.new-in-Err-2.result peers c.new-in-Err-5.result) (sym c.new-in-Err-3.ensures)
-      (none_kept c.new-in-Err.result c.new-in-Err-2.result c.new-in-Err-5.result
-      (none_named c.new-in-Err.result c.new-in-Err.ensures.words c.new-in-Err.ensures.twins) c.new-in-Err-2.ensures)),
-  c.none-self-inside.ensures ∙ ap totals_of (sym c.new.ensures.empty),
-  none_verdicts c.new.result.slots c.new-in-Err-4.result c.new.ensures.empty c.new-in-Err-4.ensures,
-)

@@ -1,5 +1,6 @@
 use Rattle.std.proofs.Common.{◌≡◌, ℕ, true, false, List, ◌-◌, subst, arith}
 use Rattle.attestations.specs.ComputedTable.{table_of}
+use Rattle.hop_index.specs.Index.{has as hops_have}
 use Rattle.shared_cases.specs.Cases.{Slots, at}
 use Rattle.shared_cases.specs.Grounds.{grounds, IsRightCase}
 use Rattle.shared_cases.specs.Kept.{AreIndexed}
@@ -11,7 +12,7 @@ use Rattle.shared_cases.proofs.cases.SharedCases.follow_role.Goals as goal
 pub returns-in_err-cases-clause-ticks : goal.returns-in_err-cases-clause-ticks
 returns-in_err-cases-clause-ticks g c = λ old move.
     roles_touch c.args.self c.args.self c.self.inside.names c.self.inside.index c.self.inside.peers.members
-    (subst (λ (cases : Slots). AreIndexed cases c.self.inside.names c.self.inside.index c.self.inside.peers.members) c.self.view_is c.self.invariant.0.indexed)
+    (subst (λ (cases : Slots). AreIndexed cases c.self.inside.names (hops_have c.self.inside.index) c.self.inside.peers.members) c.self.view_is c.self.invariant.0.indexed)
     c.in_ok-touched.touched.items (table_of c.args.table.now) old c.args.roles.now
     (role_only c.self.inside.peers.members c.args.asn c.in_ok-touched.touched.items c.args.before c.of.result old c.args.roles.now move c.of.ensures c.in_ok-touched.ensures.only)
     (c.rejudge.new.steps - c.args.steps.now) c.in_ok-touched.ensures.rising (omega (arith, c.rejudge.ensures.ticks))
@@ -22,7 +23,7 @@ returns-clause-same g c = same_through c.args.asn c.args.self c.set_own.new.self
 pub returns-clause-judged : goal.returns-clause-judged
 returns-clause-judged g c = λ old move.
     role_followed c.args.self c.in_ok-cases.cases c.self.inside.names c.self.inside.index c.self.inside.peers.members
-    (subst (λ (cases : Slots). AreIndexed cases c.self.inside.names c.self.inside.index c.self.inside.peers.members) c.self.view_is c.self.invariant.0.indexed)
+    (subst (λ (cases : Slots). AreIndexed cases c.self.inside.names (hops_have c.self.inside.index) c.self.inside.peers.members) c.self.view_is c.self.invariant.0.indexed)
     c.in_ok-touched.touched.items (table_of c.args.table.now) c.args.asn c.args.before old c.args.roles.now move
     (role_others c.self.inside.peers.members c.args.asn c.in_ok-touched.touched.items c.args.before c.of.result old c.args.roles.now move c.of.ensures c.in_ok-touched.ensures.others)
     c.set_own.new.self c.set_own.ensures (subst (λ (xs : List ℕ). (n : ℕ) → has xs n ≡ true → IsRightCase (grounds c.args.table.now c.args.roles.now) (at c.in_ok-cases.cases n)) c.as_slice.ensures.value c.in_ok-cases.ensures.judged) (subst (λ (xs : List ℕ). (n : ℕ) → has xs n ≡ false → at c.in_ok-cases.cases n ≡ at c.set_own.new.self n) c.as_slice.ensures.value c.in_ok-cases.ensures.others) c.in_ok-cases.ensures.same c.in_ok-cases.ensures.own
@@ -36,7 +37,7 @@ returns-clause-newly g c = newly_through c.args.asn c.args.self c.set_own.new.se
 pub returns-clause-ticks : goal.returns-clause-ticks
 returns-clause-ticks g c = λ old move.
     roles_touch c.args.self c.args.self c.self.inside.names c.self.inside.index c.self.inside.peers.members
-    (subst (λ (cases : Slots). AreIndexed cases c.self.inside.names c.self.inside.index c.self.inside.peers.members) c.self.view_is c.self.invariant.0.indexed)
+    (subst (λ (cases : Slots). AreIndexed cases c.self.inside.names (hops_have c.self.inside.index) c.self.inside.peers.members) c.self.view_is c.self.invariant.0.indexed)
     c.in_ok-touched.touched.items (table_of c.args.table.now) old c.args.roles.now
     (role_only c.self.inside.peers.members c.args.asn c.in_ok-touched.touched.items c.args.before c.of.result old c.args.roles.now move c.of.ensures c.in_ok-touched.ensures.only)
     (c.rejudge.new.steps - c.args.steps.now) c.in_ok-touched.ensures.rising (omega (arith, c.rejudge.ensures.ticks))

@@ -1,5 +1,6 @@
 use Rattle.std.proofs.Common.{◌≡◌, ℕ, ap, sym, subst, ◌∙◌}
 use Rattle.std.specs.Option.{option_copied}
+use Rattle.hop_index.specs.Index.{has as hops_have}
 use Rattle.shared_cases.specs.Cases.{Slots, at}
 use Rattle.shared_cases.specs.Owning.{owned_of}
 use Rattle.shared_cases.specs.Peers.{Members, found}
@@ -15,7 +16,7 @@ invariant_of-self-in-Some c =
     owned_all c.args.asn c.self.inside.slab.slots c.self.inside.peers.members (c.self.invariant.0.indexed.members c.args.asn) c.set_all_own.new.slab.slots c.in-Some.numbers.now
     (ap (λ (members : Members). found members c.args.asn) (sym c.set_own.ensures.members) ∙ sym c.of.ensures ∙ ap option_copied c.in-Some.is)
     c.set_all_own.ensures.owned c.set_all_own.ensures.others in (
-      owned_kept c.args.asn c.self.inside.slab.slots c.set_all_own.new.slab.slots c.self.inside.names c.self.inside.index c.self.inside.peers c.set_own.new.self c.self.inside.differed
+      owned_kept c.args.asn c.self.inside.slab.slots c.set_all_own.new.slab.slots c.self.inside.names (hops_have c.self.inside.index) c.self.inside.peers c.set_own.new.self c.self.inside.differed
           c.self.invariant.0 own c.set_own.ensures.members c.set_own.ensures.defaulted,
       c.self.invariant.1 ∙ owned_totals c.args.asn c.self.inside.slab.slots c.set_all_own.new.slab.slots own,
       owned_verdicts c.args.asn c.self.inside.slab.slots c.set_all_own.new.slab.slots c.self.inside.verdicts c.self.invariant.2 own,
@@ -29,7 +30,7 @@ returns-in-Some c = subst (λ (cases : Slots). (n : ℕ) → at c.set_all_own.ne
 
 pub invariant_of-self-in-None : goal.invariant_of-self-in-None
 invariant_of-self-in-None c = (
-  owned_kept c.args.asn c.self.inside.slab.slots c.self.inside.slab.slots c.self.inside.names c.self.inside.index c.self.inside.peers c.set_own.new.self c.self.inside.differed
+  owned_kept c.args.asn c.self.inside.slab.slots c.self.inside.slab.slots c.self.inside.names (hops_have c.self.inside.index) c.self.inside.peers c.set_own.new.self c.self.inside.differed
       c.self.invariant.0
       (owned_none c.args.asn c.self.inside.slab.slots c.self.inside.peers.members (c.self.invariant.0.indexed.members c.args.asn)
       (ap (λ (members : Members). found members c.args.asn) (sym c.set_own.ensures.members) ∙ sym c.of.ensures ∙ ap option_copied c.in-None.is))

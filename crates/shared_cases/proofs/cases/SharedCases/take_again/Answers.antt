@@ -1,3 +1,4 @@
+use Rattle.hop_index.specs.Index.{has as hops_have}
 use Rattle.shared_cases.proofs.KeptLemmas.{raised_kept}
 use Rattle.shared_cases.proofs.TotalsLemmas.{raised_totals}
 use Rattle.shared_cases.proofs.VerdictLemmas.{raised_verdicts}
@@ -5,7 +6,7 @@ use Rattle.shared_cases.proofs.cases.SharedCases.take_again.Goals as goal
 
 pub invariant_of-self-2 : goal.invariant_of-self-2
 invariant_of-self-2 c = (
-  raised_kept c.self.inside.slab.slots c.raise.new.slab.slots c.args.number c.self.inside.names c.self.inside.index c.self.inside.peers c.self.inside.differed c.self.invariant.0 c.in_ok-raise.ensures.raised,
+  raised_kept c.self.inside.slab.slots c.raise.new.slab.slots c.args.number c.self.inside.names (hops_have c.self.inside.index) c.self.inside.peers c.self.inside.differed c.self.invariant.0 c.in_ok-raise.ensures.raised,
   raised_totals c.self.inside.slab.slots c.raise.new.slab.slots c.args.number c.self.inside.totals c.in_ok-totals.totals c.one_user.result c.self.invariant.1
       c.in_ok-raise.ensures.raised c.one_user.ensures c.in_ok-totals.ensures,
   raised_verdicts c.self.inside.slab.slots c.raise.new.slab.slots c.self.inside.verdicts c.self.invariant.2 c.args.number c.in_ok-raise.ensures.raised,

@@ -1,0 +1,48 @@
+use Rattle.std.proofs.Common.{ℕ, ◌-◌, List, length, refl, ap, sym, ◌∙◌, arith}
+use Rattle.std.proofs.lemmas.List.{nil_from_length}
+use Rattle.hop_index.specs.Index.{has as hops_have}
+use Rattle.shared_cases.specs.Cases.{at}
+use Rattle.shared_cases.specs.Kept.{staying}
+use Rattle.shared_cases.specs.Taking.{left_times, times, TakesOut}
+use Rattle.shared_cases.proofs.FitLemmas.{fit_same, staying_all}
+use Rattle.shared_cases.proofs.LeavingLemmas.{left_step, takes_both, takes_last}
+use Rattle.shared_cases.proofs.leaving.leave_each.Goals as goal
+
+pub loop-number-init : goal.loop-number-init
+loop-number-init c = record {
+  kept = λ differed fit.
+      fit_same c.args.slab.now.slots c.args.names.now (hops_have c.args.index.now) (staying c.args.index.now c.new-gone.result) c.args.peers.now differed c.args.totals.now c.args.verdicts.now
+      (staying_all c.args.index.now c.new-gone.result c.new-gone.ensures.none) fit;
+  left = λ n. refl;
+}
+
+pub leave_many-requires : goal.leave_many-requires
+leave_many-requires c = omega (arith, c.in-Some.ensures.cases.1, c.ahead_of-rest.ensures.fewer)
+
+pub loop-number-preserved : goal.loop-number-preserved
+loop-number-preserved c =
+    let x : ℕ = c.in-Some.number.now in
+    let left : List ℕ = c.loop-number.left.now in
+    let front : List ℕ = c.in-Some.front.now in
+    let rest : List ℕ = c.ahead_of-rest.result.now in
+    let takes : TakesOut left x (length left - length rest) rest = takes_both left front rest x 1 (length front - length rest) (length left - length rest)
+    (takes_last left front x c.in-Some.ensures.cases.0) c.ahead_of-rest.ensures.ahead (omega (arith, c.in-Some.ensures.cases.1, c.ahead_of-rest.ensures.fewer)) in
+    record {
+      kept = λ differed fit.
+          fit_same c.leave_many.new.slab.slots c.leave_many.new.names (staying c.loop-number.index c.leave_many.new.gone) (staying c.settled-gone.new.index c.settled-gone.result) c.leave_many.new.peers differed
+          c.leave_many.new.totals c.leave_many.new.verdicts c.settled-gone.ensures
+          (c.in_ok-leave_many.ensures.kept c.loop-number.index differed (c.loop-number.invariant.kept differed fit));
+      left = λ n. left_step c.loop-number.slab.slots c.leave_many.new.slab.slots x (length left - length rest) left rest takes c.in_ok-leave_many.ensures.left n ∙ c.loop-number.invariant.left n;
+    }
+
+pub loop-number-smaller : goal.loop-number-smaller
+loop-number-smaller c = omega (arith, c.in-Some.ensures.cases.1, c.ahead_of-rest.ensures.fewer)
+
+pub returns-clause-kept : goal.returns-clause-kept
+returns-clause-kept c = λ differed fit.
+    fit_same c.loop-number.slab.slots c.loop-number.names (staying c.loop-number.index c.loop-number.gone) (hops_have c.remove_each.new.self) c.loop-number.peers differed
+    c.loop-number.totals c.loop-number.verdicts c.remove_each.ensures (c.loop-number.invariant.kept differed fit)
+
+pub returns-clause-left : goal.returns-clause-left
+returns-clause-left c = λ n.
+    sym (ap (λ (xs : List ℕ). left_times (times n xs) (at c.loop-number.slab.slots n)) (nil_from_length c.loop-number.left.now c.in_default.ensures.cases)) ∙ c.loop-number.invariant.left n
