@@ -97,7 +97,7 @@ left_used (Some c) u counted used = by (nat_lt 1 c.users) refl where
   by true t = refl
   by false t = absurd (omega (arith, ltb-false 1 c.users t, counted.0, used))
 
-left_counted : (c : Option StoredCase) (u : ℕ) → IsCounted c (u + 1) → IsCounted (left c) u
+pub left_counted : (c : Option StoredCase) (u : ℕ) → IsCounted c (u + 1) → IsCounted (left c) u
 left_counted None u counted = absurd (omega (arith, counted))
 left_counted (Some c) u counted = by (nat_lt 1 c.users) refl where
   by : (b : Bool) → nat_lt 1 c.users ≡ b → IsCounted (cond b (lowered (Some c)) None) u

@@ -27,3 +27,4 @@ pub mod TouchedLemmas
 pub mod TrailLemmas
 pub mod VerdictLemmas
 pub mod PeerRowsLemmas
+pub mod SessionLemmas

@@ -18,7 +18,7 @@ use Rattle.rib_store.proofs.KeyLemmas.{same_key}
 abbrev pub stays : Peer → Key → Bool
 stays peer key = not (is_of_peer peer key)
 
-alike : (peer : Peer) (q x : Key) → key_cmp q x ≡ Equal → stays peer x ≡ stays peer q
+pub alike : (peer : Peer) (q x : Key) → key_cmp q x ≡ Equal → stays peer x ≡ stays peer q
 alike peer q x e = ap (stays peer) (sym (key_exact q x e))
 
 pub one_gone : (routes : Routes) (peer : Peer) (key : Key) → is_of_peer peer key ≡ true → fin.retain_keys (fin.remove routes key) (stays peer) ≡ fin.retain_keys routes (stays peer)

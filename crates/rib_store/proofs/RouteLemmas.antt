@@ -30,7 +30,7 @@ raised_path : (c : Option StoredCase) → path_or (raised c) ≡ path_or c
 raised_path None = refl
 raised_path (Some c) = refl
 
-lowered_path : (c : Option StoredCase) → path_or (lowered c) ≡ path_or c
+pub lowered_path : (c : Option StoredCase) → path_or (lowered c) ≡ path_or c
 lowered_path None = refl
 lowered_path (Some c) = refl
 

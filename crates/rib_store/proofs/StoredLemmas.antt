@@ -28,7 +28,7 @@ lowered_as : (c : Option StoredCase) (asn : ℕ) → IsOfAs c asn → IsOfAs (lo
 lowered_as None asn is = tt
 lowered_as (Some c) asn is = is
 
-left_as : (c : Option StoredCase) (asn : ℕ) → IsOfAs c asn → IsOfAs (left c) asn
+pub left_as : (c : Option StoredCase) (asn : ℕ) → IsOfAs c asn → IsOfAs (left c) asn
 left_as c asn is = by (is_shared c) where
   by : (b : Bool) → IsOfAs (cond b (lowered c) None) asn
   by true = lowered_as c asn is
@@ -38,7 +38,7 @@ lowered_judged : (g : Grounds) (c : Option StoredCase) → IsJudged g c → IsJu
 lowered_judged g None right = (tt, tt)
 lowered_judged g (Some c) right = right
 
-left_judged : (g : Grounds) (c : Option StoredCase) → IsJudged g c → IsJudged g (left c)
+pub left_judged : (g : Grounds) (c : Option StoredCase) → IsJudged g c → IsJudged g (left c)
 left_judged g c right = by (is_shared c) where
   by : (b : Bool) → IsJudged g (cond b (lowered c) None)
   by true = lowered_judged g c right

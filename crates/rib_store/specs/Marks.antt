@@ -30,6 +30,11 @@ abbrev pub AreKeysOfRoutes : Option Entries → Numbered → Type 0
 AreKeysOfRoutes None routes = ⊤
 AreKeysOfRoutes (Some index) routes = IsReverse index routes
 
+-- nothing was marked, and the keys of the cases aren't held
+pub record AreIdle (marks : Marks) : Type 0 where
+  pub unmarked : marks.is_marked ≡ false
+  pub no_keys : marks.keys ≡ None
+
 pub record AreMarks (routes : Numbered) (cases : Slots) (marks : Marks) : Type 0 where
   pub noted : AreNoted marks.is_marked routes cases marks.notes marks.pending.keys
   pub keys : AreKeysOfRoutes marks.keys routes

@@ -9,12 +9,13 @@
 //! route, `marks` notes what was marked of the keys whose route changed since or whose case got another verdict (`specs/Marks.antt`), `rib`
 //! lists the routes with their verdicts, `trails` with their paths and `shown_rows` as they stand, `pairs` lists the distinct pairs of a peer
 //! AS and a path (`specs/Pairs.antt`), and `journal` what changed since verdicts were marked, from the notes. How many routes have which
-//! verdict (`counts`) the cases keep.
+//! verdict (`counts`) the cases keep; `grounds` lends what they rest on, and `ahead` gets what changes need ahead of its use.
 #![tactic(auto)]
 
 mod ahead;
 mod cases;
 mod counts;
+mod grounds;
 mod journal;
 mod laws;
 mod marks;

@@ -1,5 +1,5 @@
 //! What was marked, beside what the cases tell of it.
-ghost use Rattle.std.specs.Prelude.{◌≡◌, ◌||◌, ℕ, nat_eq, true, false, [], None, Some, IfOk, OnOk};
+ghost use Rattle.std.specs.Prelude.{◌≡◌, ◌||◌, ℕ, nat_eq, true, false, [], None, Some, IsTrue, IfOk, OnOk};
 ghost use Rattle.std.specs.BTreeMap.{is_at};
 ghost use Rattle.std.specs.Map.{lookup};
 ghost use Rattle.std.specs.Option.{option_map};
@@ -8,7 +8,7 @@ ghost use Rattle.path_model.specs.Key.{key_cmp};
 ghost use Rattle.route_map.specs.Keys.{has_key, IsReverse};
 ghost use Rattle.shared_cases.specs.Cases.{at, marked_or};
 ghost use Rattle.shared_cases.specs.Numbers.{has as numbers_have};
-ghost use Rattle.rib_store.specs.Marks.{is_key_of, AreCovered, AreKeysOfRoutes, AreOfPeers, Defers, FollowsIn, IsCaseAt, NotesCases, TellsMarks};
+ghost use Rattle.rib_store.specs.Marks.{is_key_of, AreCovered, AreIdle, AreKeysOfRoutes, AreOfPeers, Defers, FollowsIn, IsCaseAt, NotesCases, TellsMarks};
 ghost use Rattle.rib_store.specs.Steps.{kept_note, or_noted, Notes, NotesMove};
 
 use crate::journal::mark_of;
@@ -46,6 +46,13 @@ impl Marks {
             pending: BTreeSet::new(alloc),
             keys: None,
         }
+    }
+
+    // Whether nothing was marked, so that no key has to be noted, and the keys of the cases aren't held either.
+    pub(crate) fn are_idle(&self) -> bool
+        ensures { IsTrue result → AreIdle self.now }
+    {
+        !self.is_marked && self.keys.is_none()
     }
 
     // A key that had the case `before`, if it had one, has `after` from now on. It takes a few look-ups, and where these are the same

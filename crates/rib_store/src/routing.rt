@@ -1,6 +1,7 @@
 //! Changes of the routes, one by one.
 ghost use Rattle.std.specs.Prelude.{◌≡◌, ◌≤◌, ◌+◌, [], not, IfNone, IfOk, IfSome, OnOk};
 ghost use Rattle.std.specs.FinMap as fin;
+ghost use Rattle.std.specs.Map.{values_of};
 ghost use Rattle.attestations.specs.CurrentTable.{Parts};
 ghost use Rattle.path_model.specs.Roles.{Relations};
 ghost use Rattle.path_model.specs.Batches.{announcements, changes_in, removals};
@@ -9,6 +10,7 @@ ghost use Rattle.shared_cases.specs.Cases.{at, IsStoredAs};
 ghost use Rattle.shared_cases.specs.Grounds.{grounds};
 ghost use Rattle.shared_cases.specs.Taking.{Takes};
 ghost use Rattle.rib_store.specs.Cased.{routes_by};
+ghost use Rattle.rib_store.specs.Marks.{AreIdle};
 ghost use Rattle.rib_store.specs.OfPeer.{HasNoRouteOf, IsRouteOf};
 ghost use Rattle.rib_store.specs.Routing.{routed_state, AreRouted, path_by, IsFound};
 ghost use Rattle.rib_store.specs.Steps.{Leaves};
@@ -18,7 +20,7 @@ use crate::ahead::{MOST_HINTS, hint_at, look_ahead};
 use crate::marks::Marks;
 use av_base::{NoMemory, Steps};
 use path_model::{Batch, Change, Changes, Key, NlriList, Peer, Roles, Trail};
-use route_map::RouteMap;
+use route_map::{PeerTable, RouteMap};
 use shared_cases::SharedCases;
 use std::alloc::Global;
 use std::sync::ledger::Ledger;
@@ -60,6 +62,7 @@ impl Routing {
     #[tactic(auto, using(crate::proofs::BatchLemmas::performed_append, crate::proofs::BatchLemmas::announced_append))]
     pub(crate) fn perform_all<L: Ledger>(
         &mut self,
+        alloc: Global,
         changes: &Changes,
         table: &Vaps,
         roles: &Roles,
@@ -80,7 +83,7 @@ impl Routing {
         for batch in batches {
             let hint = hint_at(&hints, place);
             place = place.wrapping_add(1);
-            self.perform_batch(batch, hint, table, roles, steps)?;
+            self.perform_batch(alloc, batch, hint, table, roles, steps)?;
         }
         Ok(())
     }
@@ -89,6 +92,7 @@ impl Routing {
     #[inline(always)]
     fn perform_batch<L: Ledger>(
         &mut self,
+        alloc: Global,
         batch: &Batch,
         hint: Option<u32>,
         table: &Vaps,
@@ -105,7 +109,7 @@ impl Routing {
         ensures ticks { steps.new ≤ steps.old + announced (changes_in batch.now) }
     {
         match batch {
-            Batch::One(change) => self.perform(change, hint, table, roles, steps),
+            Batch::One(change) => self.perform(alloc, change, hint, table, roles, steps),
             Batch::RemoveAll(peer, nlris) => self.withdraw_all(peer, nlris, table, roles),
             Batch::AnnounceAll(peer, trail, nlris) => {
                 self.announce_all(peer, trail, hint, nlris, table, roles, steps)
@@ -117,6 +121,7 @@ impl Routing {
     #[inline(always)]
     fn perform<L: Ledger>(
         &mut self,
+        alloc: Global,
         change: &Change,
         hint: Option<u32>,
         table: &Vaps,
@@ -136,7 +141,7 @@ impl Routing {
             Change::Announce(key, trail) => {
                 self.announce(key, CaseBy::Path(trail, hint), table, roles, steps)?;
             }
-            Change::RemovePeer(peer) => self.withdraw_peer(peer, table, roles)?,
+            Change::RemovePeer(peer) => self.withdraw_peer(alloc, peer, table, roles)?,
         }
         Ok(())
     }
@@ -241,9 +246,56 @@ impl Routing {
         Ok(())
     }
 
-    // The peer has no route from now on. It costs what the peer's routes cost.
+    // The peer has no route from now on. It costs what the peer's routes cost. Where nothing was marked they are taken out whole; else each is
+    // noted as it goes.
     #[inline(never)]
-    fn withdraw_peer(&mut self, peer: &Peer, table: &Vaps, roles: &Roles) -> Result<(), NoMemory>
+    fn withdraw_peer(
+        &mut self,
+        alloc: Global,
+        peer: &Peer,
+        table: &Vaps,
+        roles: &Roles,
+    ) -> Result<(), NoMemory>
+        requires { AreRouted table.now roles.now self.old }
+        ensures routed { OnOk result (AreRouted table.now roles.now self.new) }
+        ensures state { OnOk result (routed_state table.now roles.now self.new
+            ≡ record (routed_state table.now roles.now self.old) {
+              routes = fin.retain_keys (routed_state table.now roles.now self.old).routes
+                  (λ key. not (is_of_peer peer.now key));
+            }) }
+    {
+        if self.marks.are_idle() {
+            self.take_peer(alloc, peer, table, roles)
+        } else {
+            self.withdraw_each(peer, table, roles)
+        }
+    }
+
+    // The same where nothing was marked. Each case is left once, whatever number of the routes has it.
+    fn take_peer(
+        &mut self,
+        alloc: Global,
+        peer: &Peer,
+        table: &Vaps,
+        roles: &Roles,
+    ) -> Result<(), NoMemory>
+        requires routed { AreRouted table.now roles.now self.old }
+        requires idle { AreIdle self.old.marks }
+        ensures routed { OnOk result (AreRouted table.now roles.now self.new) }
+        ensures state { OnOk result (routed_state table.now roles.now self.new
+            ≡ record (routed_state table.now roles.now self.old) {
+              routes = fin.retain_keys (routed_state table.now roles.now self.old).routes
+                  (λ key. not (is_of_peer peer.now key));
+            }) }
+    {
+        let taken = self.routes.take_peer(peer);
+        let numbers = numbers_of(alloc, taken)?;
+        self.cases.leave_all(numbers)?;
+        Ok(())
+    }
+
+    // The same, one route after another.
+    fn withdraw_each(&mut self, peer: &Peer, table: &Vaps, roles: &Roles) -> Result<(), NoMemory>
         requires { AreRouted table.now roles.now self.old }
         ensures routed { OnOk result (AreRouted table.now roles.now self.new) }
         ensures state { OnOk result (routed_state table.now roles.now self.new
@@ -305,4 +357,15 @@ fn leave(cases: &mut SharedCases, before: Option<u32>)
         None => {}
         Some(number) => cases.leave(number),
     }
+}
+
+// The numbers of these routes' cases, and the routes go.
+fn numbers_of(alloc: Global, routes: PeerTable<u32>) -> Result<Vec<u32>, NoMemory>
+    ensures { IfOk result (λ numbers. numbers.items ≡ values_of routes) }
+{
+    let mut numbers = Vec::with_capacity(alloc, routes.len())?;
+    for (_, number) in routes.iter() {
+        numbers.push(*number)?;
+    }
+    Ok(numbers)
 }

@@ -97,9 +97,10 @@ impl RibStore {
         }
     }
 
-    /// Performs changes of the routes, from the first to the last. The end of a peer's session costs what the peer's routes cost. It judges
-    /// at most once for each announcement, and not where another route has the case already. Where there is no memory, the routes are given
-    /// up, and nothing is promised of the state.
+    /// Performs changes of the routes, from the first to the last. The end of a peer's session costs what the peer's routes cost; while
+    /// nothing was ever marked also a sort of the numbers of their cases, with up to 8 bytes a route and what [`SharedCases::leave_all`]
+    /// takes. It judges at most once for each announcement, and not where another route has the case already. Where there is no memory,
+    /// the routes are given up, and nothing is promised of the state.
     pub fn apply_routes<L: Ledger>(
         &mut self,
         changes: Changes,
@@ -111,7 +112,7 @@ impl RibStore {
     {
         match self
             .routing
-            .perform_all(&changes, &self.table, &self.roles, steps)
+            .perform_all(self.alloc, &changes, &self.table, &self.roles, steps)
         {
             Ok(()) => Ok(()),
             Err(none) => {
@@ -385,19 +386,5 @@ impl RibStore {
                 marks,
             },
         }
-    }
-
-    /// All that attests.
-    pub fn table(&self) -> &Vaps
-        ensures { result.now ≡ self.now.state.parts }
-    {
-        &self.table
-    }
-
-    /// The roles of the peers.
-    pub fn roles(&self) -> &Roles
-        ensures { result.now ≡ self.now.state.roles }
-    {
-        &self.roles
     }
 }

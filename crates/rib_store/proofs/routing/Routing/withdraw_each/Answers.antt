@@ -4,7 +4,7 @@ use Rattle.path_model.specs.Routes.{Routes}
 use Rattle.rib_store.specs.Routing.{routed_state}
 use Rattle.rib_store.specs.State.{State}
 use Rattle.rib_store.proofs.OfPeerLemmas.{one_gone, all_gone, one_fewer, stays}
-use Rattle.rib_store.proofs.routing.Routing.withdraw_peer.Goals as goal
+use Rattle.rib_store.proofs.routing.Routing.withdraw_each.Goals as goal
 
 pub loop-key-smaller : goal.loop-key-smaller
 loop-key-smaller c = subst (λ (m : Routes). fin.len m < fin.len (routed_state c.args.table.now c.args.roles.now c.loop-key.self).routes) (sym (ap (λ (s : State). s.routes) c.in_ok-withdraw.ensures.state))

@@ -2,7 +2,7 @@ use Rattle.std.proofs.Common.{◌≡◌}
 use Rattle.std.specs.FinMap as fin
 use Rattle.rib_store.specs.Routing.{routed_state, AreRouted}
 use Rattle.rib_store.proofs.OfPeerLemmas.{stays}
-use Rattle.rib_store.proofs.routing.Routing.withdraw_peer.Given as goal
+use Rattle.rib_store.proofs.routing.Routing.withdraw_each.Given as goal
 
 abbrev pub invariant-loop-key : goal.invariant-loop-key
 invariant-loop-key l = record {
