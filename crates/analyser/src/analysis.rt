@@ -65,7 +65,8 @@ impl Analyser {
     }
 
     /// The analysis once all routes are gone, in one event: the session of each peer that has routes ends. All that attests, the roles and the
-    /// marked verdicts stay. It judges nothing, and takes the time of the routes that go, with the memory of one change for each of their peers.
+    /// marked verdicts stay. It judges nothing, and takes the time of the routes that go, with the memory of one change for each of their peers
+    /// and what the end of one session takes ([`RibStore::apply_routes`]).
     pub fn clear<L: Ledger>(self, alloc: Global, steps: &mut Steps<L>) -> Result<Analyser, NoMemory>
         ensures cleared { IfOk result (λ next. next ≡ record self { routes = fin.empty }) }
         ensures ticks { steps.new ≤ steps.old }
