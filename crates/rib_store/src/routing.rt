@@ -364,8 +364,6 @@ fn numbers_of(alloc: Global, routes: PeerTable<u32>) -> Result<Vec<u32>, NoMemor
     ensures { IfOk result (λ numbers. numbers.items ≡ values_of routes) }
 {
     let mut numbers = Vec::with_capacity(alloc, routes.len())?;
-    for (_, number) in routes.iter() {
-        numbers.push(*number)?;
-    }
+    routes.push_values(&mut numbers)?;
     Ok(numbers)
 }

@@ -1,5 +1,6 @@
 //! The values of one peer's routes with a path identifier, in a box of their own.
-ghost use Rattle.std.specs.Prelude.{◌≡◌, ◌↔◌, [], length, IfNone, IfOk, IfSome, OnOk, OnErr, IsTrue, option_copied};
+ghost use Rattle.std.specs.Prelude.{◌≡◌, ◌↔◌, ◌++◌, [], length, IfNone, IfOk, IfSome, OnOk, OnErr, IsTrue, option_copied};
+ghost use Rattle.std.specs.Map.{values_of};
 ghost use Rattle.route_map.specs.Merged.{boxed_or, identified, value_of, with_value, without_nlri, HasNlri};
 
 use crate::boxed_iter::BoxedIter;
@@ -93,6 +94,16 @@ impl<V> BoxedRoutes<V> {
 }
 
 impl<V: Copy> BoxedRoutes<V> {
+    // Appends all values, in order, by the slices of the chunks. Where there was no memory, some may have been appended.
+    pub(crate) fn push_values(&self, into: &mut Vec<V>) -> Result<(), NoMemory>
+        ensures { OnOk result (into.new.items ≡ into.old.items ++ values_of self.now) }
+    {
+        match &self.routes {
+            None => Ok(()),
+            Some(routes) => routes.push_values(into),
+        }
+    }
+
     // Gives a prefix a value, and answers the one that it had. Where there was no memory nothing changed.
     pub(crate) fn insert(
         &mut self,

@@ -5,7 +5,7 @@
 //! `insert_entry key_cmp` of that list and [`RouteMap::remove`] `remove_entry`, [`RouteMap::get`] looks up in it, and [`RouteMap::iter`]
 //! gives it**; [`RouteMap::of_peer`] gives a part of it, and [`RouteMap::take_peer`] takes that part out. Begin reading at [`RouteMap`],
 //! and then at `specs/Flat.antt`, which says how the routes of the peers make one list. The values are of any type that is `Copy`, or for
-//! all but `insert` of any type.
+//! all but `insert` and [`PeerTable::push_values`] of any type.
 //!
 //! Where the values are numbers, [`KeysByNumber`] is the way back: it finds the keys that have a number, of the peers of one AS. The layer
 //! above keeps it in step by [`KeysByNumber::follow`], and `specs/Keys.antt` says what it is that a key has a number.

@@ -1,7 +1,7 @@
 //! The values of one peer's routes.
-ghost use Rattle.std.specs.Prelude.{◌≡◌, ◌↔◌, ◌<◌, ◌^◌, [], length, IfNone, IfOk, IfSome, OnOk, OnErr, IsTrue, option_copied};
+ghost use Rattle.std.specs.Prelude.{◌≡◌, ◌↔◌, ◌<◌, ◌^◌, ◌++◌, [], length, IfNone, IfOk, IfSome, OnOk, OnErr, IsTrue, option_copied};
 ghost use Rattle.std.specs.BTreeMap.{insert_entry, is_at};
-ghost use Rattle.std.specs.Map.{lookup, remove_entry};
+ghost use Rattle.std.specs.Map.{lookup, remove_entry, values_of};
 ghost use Rattle.path_model.specs.Key.{nlri_cmp};
 ghost use Rattle.route_map.specs.Flat.{of_peer};
 ghost use Rattle.route_map.specs.Merged.{HasNlri};
@@ -110,6 +110,30 @@ impl<V> PeerRoutes<V> {
 }
 
 impl<V: Copy> PeerRoutes<V> {
+    // Appends all values, in order: by the slices of the chunks where none has a path identifier or each has one, and else one by one. Where
+    // there was no memory, some may have been appended.
+    pub(crate) fn push_values(&self, into: &mut Vec<V>) -> Result<(), NoMemory>
+        ensures { OnOk result (into.new.items ≡ into.old.items ++ values_of self.now) }
+    {
+        if self.identified.is_empty() {
+            return self.plain.push_values(into);
+        }
+        if self.plain.is_empty() {
+            return self.identified.push_values(into);
+        }
+        self.push_each(into)
+    }
+
+    // The same, one by one.
+    fn push_each(&self, into: &mut Vec<V>) -> Result<(), NoMemory>
+        ensures { OnOk result (into.new.items ≡ into.old.items ++ values_of self.now) }
+    {
+        for (_, value) in self.nlris() {
+            into.push(*value)?;
+        }
+        Ok(())
+    }
+
     // Gives a prefix with its path identifier, if it has one, a value, and answers the one that it had. Where there was no memory nothing
     // changed.
     #[inline(always)]

@@ -1,11 +1,12 @@
 //! The routes of one peer, taken out of a map.
-ghost use Rattle.std.specs.Prelude.{◌≡◌, length};
+ghost use Rattle.std.specs.Prelude.{◌≡◌, ◌++◌, length, OnOk};
 ghost use Rattle.std.specs.List.Sorted.{IsStrictlySortedBy};
-ghost use Rattle.std.specs.Map.{keys_of};
+ghost use Rattle.std.specs.Map.{keys_of, values_of};
 ghost use Rattle.path_model.specs.Key.{key_cmp};
 
 use crate::peer_iter::PeerIter;
 use crate::peer_routes::PeerRoutes;
+use av_base::NoMemory;
 use path_model::Peer;
 use std::marker::Model;
 
@@ -53,6 +54,20 @@ impl<V> PeerTable<V> {
                 routes: None,
             },
             Some(routes) => routes.iter_of(self.peer),
+        }
+    }
+}
+
+impl<V: Copy> PeerTable<V> {
+    /// Appends all values, in key order. No key is made: it takes a step for each chunk of at most 512 routes and one copy of its values, but
+    /// where some of the routes have a path identifier and others none, a step for each route. It takes memory only where `into` has no
+    /// room. Where there was none, some values may have been appended.
+    pub fn push_values(&self, into: &mut Vec<V>) -> Result<(), NoMemory>
+        ensures { OnOk result (into.new.items ≡ into.old.items ++ values_of self.now) }
+    {
+        match &self.routes {
+            None => Ok(()),
+            Some(routes) => routes.push_values(into),
         }
     }
 }

@@ -1,5 +1,6 @@
 //! The values of one peer's routes without a path identifier.
-ghost use Rattle.std.specs.Prelude.{◌≡◌, ◌↔◌, [], length, IfNone, IfOk, IfSome, OnOk, OnErr, IsTrue, option_copied};
+ghost use Rattle.std.specs.Prelude.{◌≡◌, ◌↔◌, ◌++◌, [], length, IfNone, IfOk, IfSome, OnOk, OnErr, IsTrue, option_copied};
+ghost use Rattle.std.specs.Map.{values_of};
 ghost use Rattle.route_map.specs.Merged.{plain, value_of, with_value, without_nlri, HasNlri};
 
 use crate::ipv4_plain::Ipv4Plain;
@@ -107,6 +108,15 @@ impl<V> PlainRoutes<V> {
 }
 
 impl<V: Copy> PlainRoutes<V> {
+    // Appends all values, in order, by the slices of the chunks. Where there was no memory, some may have been appended.
+    pub(crate) fn push_values(&self, into: &mut Vec<V>) -> Result<(), NoMemory>
+        ensures { OnOk result (into.new.items ≡ into.old.items ++ values_of self.now) }
+    {
+        self.v4.push_values(into)?;
+        self.v6.push_values(into)?;
+        Ok(())
+    }
+
     // Gives a prefix a value, and answers the one that it had. Where there was no memory nothing changed.
     #[inline(always)]
     pub(crate) fn insert(&mut self, prefix: &Prefix, value: V) -> Result<Option<V>, NoMemory>

@@ -1,12 +1,19 @@
 -- Keys and their values side by side, and as entries.
 use Rattle.std.proofs.Common.{◌≡◌, ℕ, zero, suc, ◌≤◌, List, [], ◌∷◌, length, take, drop, arith, refl, ap, ◌∙◌}
 use Rattle.std.specs.List.{zip, insert, remove}
+use Rattle.std.specs.Map.{values_of}
 
 module _ {K V : Type 0} where
   pub zip_length : (ks : List K) (vs : List V) → length vs ≡ length ks → length (zip ks vs) ≡ length ks
   zip_length [] vs same = refl
   zip_length (x ∷ xs) [] same = absurd (omega (arith, same))
   zip_length (x ∷ xs) (y ∷ ys) same = ap suc (zip_length xs ys (omega (arith, same)))
+
+  pub values_are : (ks : List K) (vs : List V) → length vs ≡ length ks → values_of (zip ks vs) ≡ vs
+  values_are [] [] same = refl
+  values_are [] (y ∷ ys) same = absurd (omega (arith, same))
+  values_are (x ∷ xs) [] same = refl
+  values_are (x ∷ xs) (y ∷ ys) same = ap (λ (zs : List V). y ∷ zs) (values_are xs ys (omega (arith, same)))
 
   pub zip_drop : (i : ℕ) (ks : List K) (vs : List V) → length vs ≡ length ks → zip (drop i ks) (drop i vs) ≡ drop i (zip ks vs)
   zip_drop zero ks vs same = refl

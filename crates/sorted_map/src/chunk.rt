@@ -4,7 +4,7 @@ ghost use Rattle.std.specs.Prelude.{option_copied, option_map, slice_get};
 ghost use Rattle.std.specs.BTreeMap.{insert_entry, is_at};
 ghost use Rattle.std.specs.List.{insert};
 ghost use Rattle.std.specs.List.Sorted.{IsStrictlySortedBy, IsSearchInRange};
-ghost use Rattle.std.specs.Map.{keys_of, lookup, remove_entry};
+ghost use Rattle.std.specs.Map.{keys_of, lookup, remove_entry, values_of};
 ghost use Rattle.sorted_map.specs.Chunk.{AreBelow, BeginsWith, HasAt, IsGap};
 
 use av_base::NoMemory;
@@ -47,6 +47,13 @@ impl<K, V> Chunk<K, V> {
             keys: Vec::new(alloc),
             values: Vec::new(alloc),
         }
+    }
+
+    // The values, in the order of their keys.
+    pub(crate) fn values(&self) -> &[V]
+        ensures { result.now ≡ values_of self.now }
+    {
+        &self.values
     }
 
     // The last entry.

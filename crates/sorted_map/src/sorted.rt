@@ -1,8 +1,8 @@
 //! The map.
-ghost use Rattle.std.specs.Prelude.{◌≡◌, ◌-◌, ◌<◌, ◌^◌, [], length, slice_get, IfOk, OnOk, OnErr, option_copied, option_map};
+ghost use Rattle.std.specs.Prelude.{◌≡◌, ◌-◌, ◌<◌, ◌^◌, ◌++◌, [], length, slice_get, IfOk, OnOk, OnErr, option_copied, option_map};
 ghost use Rattle.std.specs.BTreeMap.{insert_entry, is_at};
 ghost use Rattle.std.specs.List.Sorted.{IsStrictlySortedBy};
-ghost use Rattle.std.specs.Map.{keys_of, lookup, remove_entry};
+ghost use Rattle.std.specs.Map.{keys_of, lookup, remove_entry, values_of};
 
 use crate::chunks::Chunks;
 use crate::iter::Iter;
@@ -78,6 +78,19 @@ impl<K: Ord, V> Sorted<K, V> {
         ensures { result ≡ self.now }
     {
         Iter::of(self.chunks.as_slice())
+    }
+}
+
+impl<K: Ord, V: Copy> Sorted<K, V> {
+    /// Appends all values, by rising key. It takes a step for each chunk, and one copy of the bytes of its values; no key is read. It takes
+    /// memory only where `into` has no room. Where there was none, some values may have been appended.
+    pub fn push_values(&self, into: &mut Vec<V>) -> Result<(), NoMemory>
+        ensures { OnOk result (into.new.items ≡ into.old.items ++ values_of self.now) }
+    {
+        for chunk in self.chunks.as_slice() {
+            into.extend_from_slice(chunk.values())?;
+        }
+        Ok(())
     }
 }
 

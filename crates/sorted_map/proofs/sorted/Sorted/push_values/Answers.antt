@@ -1,0 +1,16 @@
+use Rattle.std.proofs.Common.{ap, ◌∙◌, ◌++◌}
+use Rattle.std.specs.Map.{values_of}
+use Rattle.sorted_map.specs.Joined.{joined}
+use Rattle.sorted_map.proofs.StepLemmas.{values_pushed, values_over}
+use Rattle.sorted_map.proofs.sorted.Sorted.push_values.Goals as goal
+
+pub loop-chunk-init : goal.loop-chunk-init
+loop-chunk-init g c = ap (λ es. c.args.into.now.items ++ values_of es) (ap joined c.as_slice-chunk-items.ensures ∙ c.self.view_is)
+
+pub loop-chunk-preserved : goal.loop-chunk-preserved
+loop-chunk-preserved g c =
+    values_pushed c.loop-chunk.into.items _ c.as_slice-chunk-items.result.now c.loop-chunk.chunk-index c.loop-chunk.invariant c.values.result.now c.extend_from_slice.new.self.items c.chunk-item.result c.loop-chunk-test.true c.chunk-item.is
+    c.values.ensures c.in_ok-extend_from_slice.ensures.items
+
+pub returns : goal.returns
+returns g c = values_over c.loop-chunk.into.items _ c.as_slice-chunk-items.result.now c.loop-chunk.chunk-index c.loop-chunk.invariant c.loop-chunk-test.false
