@@ -162,6 +162,13 @@ def rows(folder, size):
     return "", f"aspa a {file}\n"
 
 
+def cleared(folder, size):
+    """Customers asserted one by one where as many routes with a path each were taken and are gone."""
+    routes = b"".join(route(i, 0, [PEER, 7, 100_000 + i]) for i in range(size))
+    dump = write(folder, "dump", peer_table(1) + routes)
+    return f"open d {dump}\ntake d {ALL}\nclear\n", "".join(f"assert {1_000_000 + i} 1\n" for i in range(size))
+
+
 # What is measured, for which sizes, and by how much the time may grow where the size doubles.
 KINDS = (
     ("changes where so many peers of an AS have a path each", changes, (4_000, 8_000, 16_000), LINEAR),
@@ -176,6 +183,7 @@ KINDS = (
     ("moments, each the end of one of as many attestations", moments, (10_000, 20_000, 40_000), LINEAR),
     ("attestations of one customer, one provider each", attestations, (25_000, 50_000, 100_000), LINEAR),
     ("customers with a hundred times as many providers", rows, (25, 50, 100), ROW),
+    ("customers asserted where as many paths were", cleared, (20_000, 40_000, 80_000), LINEAR),
 )
 
 

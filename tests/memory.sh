@@ -1,6 +1,6 @@
 #!/usr/bin/env bash
-# Tests of the memory that the built program takes for dumps of long paths, which are what takes the most for each byte of a dump: at most 40
-# bytes a byte. The last line is 'N passed, M failed', and the status is 0 where none failed.
+# Tests of the memory that the built program takes for dumps of long paths and one change of an attestation behind them, which are what takes
+# the most for each byte of a dump: at most 40 bytes a byte. The last line is 'N passed, M failed', and the status is 0 where none failed.
 set -u
 cd "$(dirname "$0")/.." || exit
 program=$PWD/crates/aspaview/out/aspaview
@@ -14,7 +14,8 @@ failed=0
 takes() {
     local given status routes used
     python3 tests/newases.py "$2" "$work/dump" "$3"
-    printf '%s\n' "open d $work/dump" 'take d 100000000' 'summary' >"$work/script"
+    # the assertion lists the hops of all paths
+    printf '%s\n' "open d $work/dump" 'take d 100000000' 'assert 1 2' 'summary' >"$work/script"
     given=$(stat -c %s "$work/dump")
     read -r status routes used < <(python3 -c '
 import os, subprocess, sys

@@ -134,6 +134,9 @@ def inputs(size):
     yield "updates: paths of ASes never seen before", fill(
         size, lambda at: announcement([64501, *range(100_000 + 16_000 * at, 116_000 + 16_000 * at)], prefix(at))
     ), DUMP
+    yield "updates: the same, and an assertion that lists their hops", fill(
+        size, lambda at: announcement([64501, *range(100_000 + 16_000 * at, 116_000 + 16_000 * at)], prefix(at))
+    ), DUMP + "assert 1 2\n"
     yield "BMP: a route with a path of its own each", fill(size, lambda at: monitoring([64501, 100_000 + at], prefix(at))), BMP
     yield "BMP: a peer in each Peer Up, with a role and path identifiers", fill(size, peer_up), BMP
     yield "feed: a customer in each PDU", fill(size, lambda at: pdu(1 + at)), "feed"

@@ -4,7 +4,7 @@ use Rattle.std.specs.declared.option.Option.{Option}
 use Rattle.std.specs.List.Sorted.{IsStrictlySortedBy}
 use Rattle.std.specs.Ordering.{nat_cmp}
 use Rattle.hop_index.specs.declared.pair.Pair.{Pair}
-use Rattle.hop_index.specs.Index.{Entries, at}
+use Rattle.hop_index.specs.Lists.{Lists, at}
 use Rattle.hop_index.specs.Kept.{stands, is_pair, is_there, Updates, AddsCase, RemovesCase, HaveCases, AreRising}
 use Rattle.hop_index.specs.Numbers.{has_number, numbers_or, found_has}
 use Rattle.hop_index.proofs.PairLemmas.{pair_at, same_pair, pair_itself}
@@ -21,7 +21,7 @@ and_all : (b : Bool) → b ≡ (b && true)
 and_all true = refl
 and_all false = refl
 
-module _ (before after : Entries) (pair : Pair) (now : Option (List ℕ)) (updates : Updates before pair now after) where
+module _ (before after : Lists) (pair : Pair) (now : Option (List ℕ)) (updates : Updates before pair now after) where
   told_by : (p : Pair) (b : Bool) → is_pair p pair ≡ b → (b ≡ true × (at after p ≡ now) × (at before p ≡ at before pair)) ⊎ (b ≡ false × (at after p ≡ at before p))
   told_by p true is = inl (
     refl,

@@ -4,9 +4,9 @@ use Rattle.std.proofs.Math.Bool.{or-false}
 use Rattle.std.proofs.lemmas.List.Folds.{list_any-append, list_any_more}
 use Rattle.hop_index.specs.declared.gone.GoneHop.{GoneHop}
 use Rattle.hop_index.specs.declared.pair.Pair.{Pair}
-use Rattle.hop_index.specs.Gone.{is_gone, has_gone, RemovesEach}
-use Rattle.hop_index.specs.Index.{Entries, has}
-use Rattle.hop_index.specs.Kept.{is_pair, is_hop, GathersHop, RemovesHop}
+use Rattle.hop_index.specs.Gone.{is_gone, has_gone}
+use Rattle.hop_index.specs.Lists.{Lists, has}
+use Rattle.hop_index.specs.Kept.{is_pair, is_hop, GathersHop, RemovesHop, RemovesEach}
 use Rattle.hop_index.specs.Pairs.{pair_of}
 use Rattle.hop_index.proofs.KeptLemmas.{and_both}
 use Rattle.hop_index.proofs.PairLemmas.{pairs_told}
@@ -35,7 +35,7 @@ module _ (u v case : ℕ) where
       ∙ ap (λ (b : Bool). has_gone gone x y n || b) (or-false (is_gone x y n (hop_of pair)) ∙ ap (λ (p : Pair). is_gone x y n (hop_of p)) same ∙ is_same x y n)
 
 -- and one of them has gone
-pub one_gone : (before now after : Entries) (gone : List GoneHop) (i : ℕ) (d : GoneHop) → i < length gone → RemovesEach before (take i gone) now
+pub one_gone : (before now after : Lists) (gone : List GoneHop) (i : ℕ) (d : GoneHop) → i < length gone → RemovesEach before (take i gone) now
     → RemovesHop now (get_or gone i d).pair.low (get_or gone i d).pair.high (get_or gone i d).case after → RemovesEach before (take (i + 1) gone) after
 one_gone before now after gone i d within so_far one x y n =
     one x y n ∙ ap (λ (b : Bool). b && not (is_gone x y n (get_or gone i d))) (so_far x y n)

@@ -3,7 +3,7 @@ use Rattle.std.proofs.Common.{◌≡◌, ℕ, zero, suc, nat_eq, ◌+◌, ◌-�
 use Rattle.std.specs.Prelude.{slice_index}
 use Rattle.std.proofs.lemmas.Map.Views.{exact_unsigned_eq}
 use Rattle.hop_index.specs.Hops.{joins_at, joins_within, has_hop}
-use Rattle.hop_index.specs.Index.{Entries, has, Removes}
+use Rattle.hop_index.specs.Lists.{Lists, has, Removes}
 use Rattle.hop_index.specs.Kept.{is_hop}
 
 one_in : (old same seen here : Bool) → ((old || (same && seen)) || (same && here)) ≡ (old || (same && (seen || here)))
@@ -17,12 +17,12 @@ one_out true false seen here = refl
 one_out true true true here = refl
 one_out true true false here = refl
 
-more_within : (k : ℕ) (chain : List ℕ) (x y : ℕ) → 0 < k → joins_within (k + 1 - 1) chain x y ≡ (joins_within (k - 1) chain x y || joins_at chain (k - 1) x y)
+pub more_within : (k : ℕ) (chain : List ℕ) (x y : ℕ) → 0 < k → joins_within (k + 1 - 1) chain x y ≡ (joins_within (k - 1) chain x y || joins_at chain (k - 1) x y)
 more_within zero chain x y some = absurd (omega arith)
 more_within (suc n) chain x y some = let e : suc n + 1 - 1 ≡ suc n = omega arith in let f : suc n - 1 ≡ n = omega arith in rw (e, f) refl
 
 -- the hop that ends at the place k
-ends_at : (k : ℕ) (chain : List ℕ) (lower upper x y : ℕ) → 0 < k → lower ≡ slice_index chain (k - 1) → upper ≡ slice_index chain k
+pub ends_at : (k : ℕ) (chain : List ℕ) (lower upper x y : ℕ) → 0 < k → lower ≡ slice_index chain (k - 1) → upper ≡ slice_index chain k
     → ((nat_eq x lower && nat_eq y upper) || (nat_eq x upper && nat_eq y lower)) ≡ joins_at chain (k - 1) x y
 ends_at k chain lower upper x y some is_lower is_upper =
     let next : k ≡ k - 1 + 1 = omega arith in
@@ -52,7 +52,7 @@ step_out k case chain before now after lower upper some is_lower is_upper so_far
     (ap (λ (b : Bool). joins_within (k - 1) chain x y || b) (ends_at k chain lower upper x y some is_lower is_upper) ∙ sym (more_within k chain x y some))
 
 -- a case whose number is beyond all others has no hops to go
-pub none_out : (index : Entries) (case : ℕ) (chain : List ℕ) → ((x y n : ℕ) → has index x y n ≡ true → n < 2 ^ 32) → (case < 2 ^ 32 → ⊥) → Removes index case chain index
+pub none_out : (index : Lists) (case : ℕ) (chain : List ℕ) → ((x y n : ℕ) → has index x y n ≡ true → n < 2 ^ 32) → (case < 2 ^ 32 → ⊥) → Removes index case chain index
 none_out index case chain few big x y n = by_tests (has index x y n) refl (nat_eq n case) refl where
   by_tests : (there : Bool) → has index x y n ≡ there → (same : Bool) → nat_eq n case ≡ same → there ≡ (there && not (same && has_hop chain x y))
   by_tests false is same told = refl

@@ -3,7 +3,7 @@ use Rattle.std.proofs.Common.{◌≡◌, ℕ, nat_eq, ◌<◌, ◌^◌, Bool, tr
 use Rattle.std.proofs.lemmas.Bool.{and_parts, or_cases}
 use Rattle.std.proofs.lemmas.Map.Views.{exact_unsigned_eq}
 use Rattle.hop_index.specs.declared.pair.Pair.{Pair}
-use Rattle.hop_index.specs.Index.{Entries, has}
+use Rattle.hop_index.specs.Lists.{Lists, has}
 use Rattle.hop_index.specs.Kept.{Ends, AddsNeighbour, RemovesNeighbour, HaveNeighbours, stands, is_pair, AddsCase, RemovesCase, HaveCases, AreRising, AreKept}
 use Rattle.hop_index.specs.Pairs.{pair_of}
 use Rattle.hop_index.proofs.PairLemmas.{pairs_told}
@@ -17,7 +17,7 @@ and_both true true c = refl
 and_both true false c = refl
 and_both false b c = refl
 
-module _ (ends : Ends) (hops hops' : Entries) (u v case : ℕ) (pair : Pair) (same : pair ≡ pair_of u v) (kept : AreKept ends hops) where
+module _ (ends : Ends) (hops hops' : Lists) (u v case : ℕ) (pair : Pair) (same : pair ≡ pair_of u v) (kept : AreKept ends hops) where
   told : (x y : ℕ) → is_pair (pair_of x y) pair ≡ ((nat_eq x u && nat_eq y v) || (nat_eq x v && nat_eq y u))
   told x y = ap (is_pair (pair_of x y)) same ∙ pairs_told x y u v
 

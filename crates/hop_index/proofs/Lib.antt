@@ -1,11 +1,17 @@
+pub mod BesideLemmas
 pub mod CaseLemmas
+pub mod CompactLemmas
 pub mod GoneLemmas
 pub mod HopLemmas
 pub mod IndexLemmas
 pub mod InverseLemmas
 pub mod KeptLemmas
+pub mod LeastLemmas
 pub mod ListLemmas
+pub mod ListingLemmas
+pub mod LooseLemmas
 pub mod NumberLemmas
 pub mod PairLemmas
 pub mod PlaceLemmas
 pub mod ThroughLemmas
+pub mod WordLemmas

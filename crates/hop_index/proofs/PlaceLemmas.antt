@@ -1,5 +1,5 @@
 -- What is found of hops in a list without gaps: by the map of their places, and as one of them comes, changes or goes.
-use Rattle.std.proofs.Common.{◌≡◌, ◌≢◌, ℕ, zero, suc, nat_eq, ◌+◌, ◌-◌, ◌<◌, ◌≤◌, ◌^◌, Bool, true, false, cond, List, [], ◌∷◌, ◌++◌, map, length, get_or, set, Some, None, refl, ap, sym, subst, ◌∙◌, arith, true≢false, inl, inr, ◌⊎◌}
+use Rattle.std.proofs.Common.{◌≡◌, ◌≢◌, ℕ, zero, suc, ◌+◌, ◌-◌, ◌<◌, ◌≤◌, ◌^◌, Bool, true, false, cond, List, [], ◌∷◌, ◌++◌, length, get_or, set, Some, None, refl, ap, sym, subst, ◌∙◌, arith, true≢false, inl, inr, ◌⊎◌}
 use Rattle.std.specs.declared.option.Option.{Option}
 use Rattle.std.specs.BTreeMap.{is_at}
 use Rattle.std.specs.FinMap.{FinMap, empty, get, insert, remove}
@@ -10,7 +10,7 @@ use Rattle.std.proofs.lemmas.List.{length-append, length-map, length-set, get_or
 use Rattle.std.proofs.Math.ListN.{get_or-append}
 use Rattle.std.proofs.Math.Seq.{get_or-append_seam, map-set_same}
 use Rattle.hop_index.specs.declared.pair.Pair.{Pair}
-use Rattle.hop_index.specs.Index.{Entries, at}
+use Rattle.hop_index.specs.Lists.{Lists, at}
 use Rattle.hop_index.specs.Kept.{is_pair, Updates}
 use Rattle.hop_index.specs.Pairs.{pair_cmp, pair_word}
 use Rattle.hop_index.specs.Places.{AreInverse, ArePlaced, hop_at, words_of}
@@ -18,10 +18,10 @@ use Rattle.hop_index.proofs.InverseLemmas.{added_inverse, cases_ne, kept_last, l
 use Rattle.hop_index.proofs.PairLemmas.{pair_at, pair_itself, same_pair}
 
 -- ---- one list
-word_at : (hops : Entries) (i : ℕ) → i < length hops → get_or (words_of hops) i 0 ≡ pair_word (hop_at hops i).0
+word_at : (hops : Lists) (i : ℕ) → i < length hops → get_or (words_of hops) i 0 ≡ pair_word (hop_at hops i).0
 word_at hops i below = get_or-map (λ (hop : Pair × List ℕ). pair_word hop.0) hops i (record { low = 0; high = 0 }, []) 0 below
 
-many_words : (hops : Entries) → length (words_of hops) ≡ length hops
+many_words : (hops : Lists) → length (words_of hops) ≡ length hops
 many_words hops = length-map hops (λ (hop : Pair × List ℕ). pair_word hop.0)
 
 same_word : (p q : Pair) → p.high < 2 ^ 32 → q.high < 2 ^ 32 → pair_word p ≡ pair_word q → p ≡ q
@@ -33,20 +33,20 @@ same_word p q sp sq e =
     ap of_low low ∙ ap of_high high
 
 -- no hop stands there twice
-abbrev Differ : Entries → Type 0
+abbrev Differ : Lists → Type 0
 Differ hops = (i j : ℕ) → i < length hops → j < length hops → (hop_at hops i).0 ≡ (hop_at hops j).0 → i ≡ j
 
-differ : (m : FinMap nat_cmp ℕ) (hops : Entries) → AreInverse m (words_of hops) → Differ hops
+differ : (m : FinMap nat_cmp ℕ) (hops : Lists) → AreInverse m (words_of hops) → Differ hops
 differ m hops inverse i j li lj same = same_at i j (
     sym (inverse.finds i (omega (arith, li, many_words hops)))
     ∙ ap (get m) (word_at hops i li ∙ ap pair_word same ∙ sym (word_at hops j lj))
     ∙ inverse.finds j (omega (arith, lj, many_words hops)))
 
 -- the hop stands there with these cases
-abbrev Has : Entries → Pair → List ℕ → Type 0
+abbrev Has : Lists → Pair → List ℕ → Type 0
 Has hops p cases = (i : ℕ) × (i < length hops) × (hop_at hops i ≡ (p, cases))
 
-found_has : (p : Pair) (cases : List ℕ) (hops : Entries) → at hops p ≡ Some cases → Has hops p cases
+found_has : (p : Pair) (cases : List ℕ) (hops : Lists) → at hops p ≡ Some cases → Has hops p cases
 found_has p cases [] h = absurd (true≢false (let both : ◌≡◌ {A = Option (List ℕ)} None (Some cases) = h in absurd cc))
 found_has p cases (e ∷ es) h = by_test (is_at (pair_cmp p) e.0) refl h (found_has p cases es) where
   by_test : (b : Bool) → is_at (pair_cmp p) e.0 ≡ b → cond b (Some e.1) (at es p) ≡ Some cases → (at es p ≡ Some cases → Has es p cases) → Has (e ∷ es) p cases
@@ -56,7 +56,7 @@ found_has p cases (e ∷ es) h = by_test (is_at (pair_cmp p) e.0) refl h (found_
       (0, omega arith, ap (λ (q : Pair). (q, e.1)) key ∙ ap (λ (v : List ℕ). (p, v)) value)
   by_test false is there later = let r = later there in (suc r.0, omega (arith, r.1), r.2)
 
-has_found : (hops : Entries) → Differ hops → (i : ℕ) → i < length hops → at hops (hop_at hops i).0 ≡ Some (hop_at hops i).1
+has_found : (hops : Lists) → Differ hops → (i : ℕ) → i < length hops → at hops (hop_at hops i).0 ≡ Some (hop_at hops i).1
 has_found [] apart i below = absurd (omega (arith, below))
 has_found (e ∷ es) apart zero below = ap (λ (b : Bool). cond b (Some e.1) (at es e.0)) (pair_at e.0 e.0 ∙ pair_itself e.0)
 has_found (e ∷ es) apart (suc i) below = by_test (is_at (pair_cmp (hop_at es i).0) e.0) refl
@@ -67,11 +67,11 @@ has_found (e ∷ es) apart (suc i) below = by_test (is_at (pair_cmp (hop_at es i
           absurd (omega (arith, no))
       by_test false is later = later
 
-has_at : (hops : Entries) → Differ hops → (p : Pair) (cases : List ℕ) → Has hops p cases → at hops p ≡ Some cases
+has_at : (hops : Lists) → Differ hops → (p : Pair) (cases : List ℕ) → Has hops p cases → at hops p ≡ Some cases
 has_at hops apart p cases has =
     ap (at hops) (sym (ap (λ (hop : Pair × List ℕ). hop.0) has.2)) ∙ has_found hops apart has.0 has.1 ∙ ap (λ (hop : Pair × List ℕ). Some hop.1) has.2
 
-module _ (m : FinMap nat_cmp ℕ) (hops : Entries) (placed : ArePlaced m hops) (pair : Pair) (small : pair.high < 2 ^ 32) where
+module _ (m : FinMap nat_cmp ℕ) (hops : Lists) (placed : ArePlaced m hops) (pair : Pair) (small : pair.high < 2 ^ 32) where
   -- the place of a hop
   pub place_within : (place : ℕ) → get m (pair_word pair) ≡ Some place → place < length hops
   place_within place e = omega (arith, (placed.inverse.found (pair_word pair) place e).within, many_words hops)
@@ -101,14 +101,14 @@ module _ (m : FinMap nat_cmp ℕ) (hops : Entries) (placed : ArePlaced m hops) (
     by_place None is = refl
     by_place (Some place) is = let both : ◌≡◌ {A = Option (List ℕ)} None (Some (hop_at hops place).1) = sym absent ∙ place_found place is in absurd cc
 
-pub map_absent : (m : FinMap nat_cmp ℕ) (hops before : Entries) → ArePlaced m hops → hops ≡ before → (pair : Pair) → pair.high < 2 ^ 32 → at before pair ≡ None → get m (pair_word pair) ≡ None
-map_absent m hops before placed view pair small absent = map_none m hops placed pair small (ap (λ (es : Entries). at es pair) view ∙ absent)
+pub map_absent : (m : FinMap nat_cmp ℕ) (hops before : Lists) → ArePlaced m hops → hops ≡ before → (pair : Pair) → pair.high < 2 ^ 32 → at before pair ≡ None → get m (pair_word pair) ≡ None
+map_absent m hops before placed view pair small absent = map_none m hops placed pair small (ap (λ (es : Lists). at es pair) view ∙ absent)
 
 -- no hops
-pub none_placed : (m : FinMap nat_cmp ℕ) (hops : Entries) → m ≡ empty → hops ≡ [] → ArePlaced m hops
+pub none_placed : (m : FinMap nat_cmp ℕ) (hops : Lists) → m ≡ empty → hops ≡ [] → ArePlaced m hops
 none_placed m hops em eh = record {
   inverse = none_inverse m (words_of hops) em (ap words_of eh);
-  small = λ place below. absurd (omega (arith, below, ap (λ (es : Entries). length es) eh));
+  small = λ place below. absurd (omega (arith, below, ap (λ (es : Lists). length es) eh));
 }
 
 -- ---- from one list to another
@@ -121,16 +121,16 @@ told_at : (pair p : Pair) (b : Bool) → is_at (pair_cmp pair) p ≡ b → (b �
 told_at pair p true is = inl (refl, same_pair p pair (sym (pair_at pair p) ∙ is))
 told_at pair p false is = inr (refl, λ e. true≢false (sym (pair_itself pair) ∙ ap (λ (q : Pair). is_pair q pair) (sym e) ∙ sym (pair_at pair p) ∙ is))
 
-updated : (before after : Entries) (pair : Pair) (now : Option (List ℕ)) → at after pair ≡ now → ((p : Pair) → p ≢ pair → at after p ≡ at before p) → Updates before pair now after
+updated : (before after : Lists) (pair : Pair) (now : Option (List ℕ)) → at after pair ≡ now → ((p : Pair) → p ≢ pair → at after p ≡ at before p) → Updates before pair now after
 updated before after pair now here others p = elim (told_at pair p (is_at (pair_cmp pair) p) refl) [
   | inl h ↦ ap (at after) h.1 ∙ here ∙ ap (λ (b : Bool). cond b now (at before p)) (sym h.0)
   | inr h ↦ others p h.1 ∙ ap (λ (b : Bool). cond b now (at before p)) (sym h.0)
 ]
 
-pub same_when_absent : (hops : Entries) (pair : Pair) → at hops pair ≡ None → Updates hops pair None hops
+pub same_when_absent : (hops : Lists) (pair : Pair) → at hops pair ≡ None → Updates hops pair None hops
 same_when_absent hops pair absent = updated hops hops pair None absent (λ p other. refl)
 
-same_found : (before after : Entries) → Differ before → Differ after → (p : Pair) → ((v : List ℕ) → Has after p v → Has before p v) → ((v : List ℕ) → Has before p v → Has after p v)
+same_found : (before after : Lists) → Differ before → Differ after → (p : Pair) → ((v : List ℕ) → Has after p v → Has before p v) → ((v : List ℕ) → Has before p v → Has after p v)
     → at after p ≡ at before p
 same_found before after apart apart' p back on = same_option (at after p) (at before p)
     (λ v e. has_at before apart p v (back v (found_has p v after e)))
@@ -140,7 +140,7 @@ first_of : (p q : Pair) (v w : List ℕ) → ◌≡◌ {A = Pair × List ℕ} (p
 first_of p q v w e = ap (λ (hop : Pair × List ℕ). hop.0) e
 
 -- a hop has other cases
-module _ (m : FinMap nat_cmp ℕ) (hops : Entries) (placed : ArePlaced m hops) (pair : Pair) (place : ℕ) (cases : List ℕ) (within : place < length hops) (is : (hop_at hops place).0 ≡ pair) where
+module _ (m : FinMap nat_cmp ℕ) (hops : Lists) (placed : ArePlaced m hops) (pair : Pair) (place : ℕ) (cases : List ℕ) (within : place < length hops) (is : (hop_at hops place).0 ≡ pair) where
   same_words : words_of (set hops place (pair, cases)) ≡ words_of hops
   same_words = map-set_same (λ (hop : Pair × List ℕ). pair_word hop.0) hops place (pair, cases) (record { low = 0; high = 0 }, []) (ap pair_word (sym is))
 
@@ -179,12 +179,12 @@ module _ (m : FinMap nat_cmp ℕ) (hops : Entries) (placed : ArePlaced m hops) (
       ]))
 
 -- the same of what is read at the place
-pub record HasChanged (m : FinMap nat_cmp ℕ) (hops before : Entries) (pair : Pair) (place : ℕ) (x : Pair × List ℕ) (cases : List ℕ) : Type 0 where
+pub record HasChanged (m : FinMap nat_cmp ℕ) (hops before : Lists) (pair : Pair) (place : ℕ) (x : Pair × List ℕ) (cases : List ℕ) : Type 0 where
   pub placed : ArePlaced m (set hops place (x.0, cases))
   pub updates : Updates before pair (Some cases) (set hops place (x.0, cases))
   pub was : at before pair ≡ Some x.1
 
-pub changed : (m : FinMap nat_cmp ℕ) (hops before : Entries) → ArePlaced m hops → hops ≡ before → (pair : Pair) → pair.high < 2 ^ 32 → (place : ℕ) → get m (pair_word pair) ≡ Some place
+pub changed : (m : FinMap nat_cmp ℕ) (hops before : Lists) → ArePlaced m hops → hops ≡ before → (pair : Pair) → pair.high < 2 ^ 32 → (place : ℕ) → get m (pair_word pair) ≡ Some place
     → (x : Pair × List ℕ) → x ≡ get_or hops place x → (cases : List ℕ) → HasChanged m hops before pair place x cases
 changed m hops before placed view pair small place there x read cases =
     let within : place < length hops = place_within m hops placed pair small place there in
@@ -194,13 +194,13 @@ changed m hops before placed view pair small place there x read cases =
     record {
       placed = subst (λ (k : Pair). ArePlaced m (set hops place (k, cases))) same (placed_set m hops placed pair place cases within key);
       updates = subst (λ (k : Pair). Updates before pair (Some cases) (set hops place (k, cases))) same
-          (subst (λ (es : Entries). Updates es pair (Some cases) (set hops place (pair, cases))) view (updates_set m hops placed pair place cases within key));
-      was = subst (λ (es : Entries). at es pair ≡ Some x.1) view
+          (subst (λ (es : Lists). Updates es pair (Some cases) (set hops place (pair, cases))) view (updates_set m hops placed pair place cases within key));
+      was = subst (λ (es : Lists). at es pair ≡ Some x.1) view
           (place_found m hops placed pair small place there ∙ ap (λ (hop : Pair × List ℕ). Some hop.1) (sym is));
     }
 
 -- a hop comes at the end
-module _ (m : FinMap nat_cmp ℕ) (hops : Entries) (placed : ArePlaced m hops) (pair : Pair) (cases : List ℕ) (small : pair.high < 2 ^ 32) (absent : get m (pair_word pair) ≡ None)
+module _ (m : FinMap nat_cmp ℕ) (hops : Lists) (placed : ArePlaced m hops) (pair : Pair) (cases : List ℕ) (small : pair.high < 2 ^ 32) (absent : get m (pair_word pair) ≡ None)
     (few : length hops < 2 ^ 32 - 1) where
   more_words : words_of (hops ++ (pair, cases) ∷ []) ≡ words_of hops ++ pair_word pair ∷ []
   more_words = map-append (λ (hop : Pair × List ℕ). pair_word hop.0) hops ((pair, cases) ∷ [])
@@ -243,7 +243,7 @@ module _ (m : FinMap nat_cmp ℕ) (hops : Entries) (placed : ArePlaced m hops) (
       (λ v has. (has.0, omega (arith, has.1, many_more), other_more has.0 has.1 ∙ has.2)))
 
 -- a hop goes, and the last one gets its place
-module _ (m : FinMap nat_cmp ℕ) (hops left : Entries) (placed : ArePlaced m hops) (pair : Pair) (small : pair.high < 2 ^ 32) (place : ℕ) (x : Pair × List ℕ)
+module _ (m : FinMap nat_cmp ℕ) (hops left : Lists) (placed : ArePlaced m hops) (pair : Pair) (small : pair.high < 2 ^ 32) (place : ℕ) (x : Pair × List ℕ)
     (there : get m (pair_word pair) ≡ Some place) (items : left ≡ swap_remove hops place x) where
   within : place < length hops
   within = place_within m hops placed pair small place there

@@ -1,9 +1,8 @@
 -- Hops of cases that go together.
-use Rattle.std.specs.Prelude.{◌≡◌, ℕ, nat_eq, Bool, ◌||◌, ◌&&◌, not, List}
+use Rattle.std.specs.Prelude.{◌≡◌, ℕ, nat_eq, Bool, ◌||◌, ◌&&◌, List}
 use Rattle.std.specs.List.{list_any}
 use Rattle.hop_index.specs.declared.gone.GoneHop.{GoneHop}
 use Rattle.hop_index.specs.Hops.{has_hop}
-use Rattle.hop_index.specs.Index.{Entries, has}
 
 -- this is the hop of the case n between x and y, in one direction or the other
 abbrev pub is_gone : ℕ → ℕ → ℕ → GoneHop → Bool
@@ -19,7 +18,3 @@ has_gone gone x y n = list_any (is_gone x y n) gone
 abbrev pub Gathers : List GoneHop → ℕ → List ℕ → List GoneHop → Type 0
 Gathers before case chain after =
     (x y n : ℕ) → has_gone after x y n ≡ (has_gone before x y n || (nat_eq n case && has_hop chain x y))
-
--- the index `after` has the hops of `before` but for these
-abbrev pub RemovesEach : Entries → List GoneHop → Entries → Type 0
-RemovesEach before gone after = (x y n : ℕ) → has after x y n ≡ (has before x y n && not (has_gone gone x y n))

@@ -9,7 +9,9 @@ use Rattle.std.specs.Ordering.{nat_cmp}
 use Rattle.hop_index.specs.declared.gone.GoneHop.{GoneHop}
 use Rattle.hop_index.specs.declared.pair.Pair.{Pair}
 use Rattle.hop_index.specs.Gone.{has_gone}
-use Rattle.hop_index.specs.Index.{Entries, at, has}
+use Rattle.hop_index.specs.Lists.{Lists, at, has}
+use Rattle.hop_index.specs.Hops.{has_hop}
+use Rattle.hop_index.specs.Loose.{Chains, chain_at}
 use Rattle.hop_index.specs.Numbers.{found_has, numbers_or}
 use Rattle.hop_index.specs.Pairs.{pair_of, pair_cmp}
 
@@ -45,7 +47,7 @@ is_there None = false
 is_there (Some cases) = true
 
 -- the hop has an entry
-abbrev pub stands : Entries → Pair → Bool
+abbrev pub stands : Lists → Pair → Bool
 stands hops pair = is_there (at hops pair)
 
 -- the two pairs are the same
@@ -53,25 +55,25 @@ abbrev pub is_pair : Pair → Pair → Bool
 is_pair p q = nat_eq p.low q.low && nat_eq p.high q.high
 
 -- what is found of the hop is `now` after the change, and nothing else changed
-abbrev pub Updates : Entries → Pair → Option (List ℕ) → Entries → Type 0
+abbrev pub Updates : Lists → Pair → Option (List ℕ) → Lists → Type 0
 Updates before pair now after = (p : Pair) → at after p ≡ cond (is_at (pair_cmp pair) p) now (at before p)
 
 -- `after` has one case of a hop more than `before`
-abbrev pub AddsCase : Entries → Pair → ℕ → Entries → Type 0
+abbrev pub AddsCase : Lists → Pair → ℕ → Lists → Type 0
 AddsCase before pair case after =
     (p : Pair) (n : ℕ) → found_has (at after p) n ≡ (found_has (at before p) n || (is_pair p pair && nat_eq n case))
 
 -- `after` has one case of a hop less than `before`
-abbrev pub RemovesCase : Entries → Pair → ℕ → Entries → Type 0
+abbrev pub RemovesCase : Lists → Pair → ℕ → Lists → Type 0
 RemovesCase before pair case after =
     (p : Pair) (n : ℕ) → found_has (at after p) n ≡ (found_has (at before p) n && not (is_pair p pair && nat_eq n case))
 
 -- no hop stands there without cases
-abbrev pub HaveCases : Entries → Type 0
+abbrev pub HaveCases : Lists → Type 0
 HaveCases hops = (p : Pair) → at hops p ≢ Some []
 
 -- the cases of each hop rise
-abbrev pub AreRising : Entries → Type 0
+abbrev pub AreRising : Lists → Type 0
 AreRising hops = (p : Pair) → IsStrictlySortedBy nat_cmp (numbers_or (at hops p))
 
 -- the hop of the case n between x and y is that of this case between u and v
@@ -79,11 +81,11 @@ abbrev pub is_hop : ℕ → ℕ → ℕ → ℕ → ℕ → ℕ → Bool
 is_hop x y n u v case = nat_eq n case && ((nat_eq x u && nat_eq y v) || (nat_eq x v && nat_eq y u))
 
 -- `after` has the hop of one case between u and v beside those of `before`
-abbrev pub AddsHop : Entries → ℕ → ℕ → ℕ → Entries → Type 0
+abbrev pub AddsHop : Lists → ℕ → ℕ → ℕ → Lists → Type 0
 AddsHop before u v case after = (x y n : ℕ) → has after x y n ≡ (has before x y n || is_hop x y n u v case)
 
 -- `after` has the hops of `before` but for that of one case between u and v
-abbrev pub RemovesHop : Entries → ℕ → ℕ → ℕ → Entries → Type 0
+abbrev pub RemovesHop : Lists → ℕ → ℕ → ℕ → Lists → Type 0
 RemovesHop before u v case after = (x y n : ℕ) → has after x y n ≡ (has before x y n && not (is_hop x y n u v case))
 
 -- `after` has the hop of one case between u and v beside those of `before`, of hops that go together
@@ -91,13 +93,21 @@ abbrev pub GathersHop : List GoneHop → ℕ → ℕ → ℕ → List GoneHop �
 GathersHop before u v case after = (x y n : ℕ) → has_gone after x y n ≡ (has_gone before x y n || is_hop x y n u v case)
 
 -- two ASes are beside each other exactly where their hop has cases
-abbrev pub AreJoined : Ends → Entries → Type 0
+abbrev pub AreJoined : Ends → Lists → Type 0
 AreJoined ends hops = (x y : ℕ) → are_beside ends x y ≡ stands hops (pair_of x y)
 
 -- the neighbours of each AS and the cases of each hop, which are numbers below 2^32
-pub record AreKept (ends : Ends) (hops : Entries) : Type 0 where
+pub record AreKept (ends : Ends) (hops : Lists) : Type 0 where
   pub joined : AreJoined ends hops
   pub neighbours : HaveNeighbours ends
   pub cases : HaveCases hops
   pub rising : AreRising hops
   pub few : (x y n : ℕ) → has hops x y n ≡ true → n < 2 ^ 32
+
+-- the lists `after` have the hops of `before` but for these
+abbrev pub RemovesEach : Lists → List GoneHop → Lists → Type 0
+RemovesEach before gone after = (x y n : ℕ) → has after x y n ≡ (has before x y n && not (has_gone gone x y n))
+
+-- the lists have the hops of these chains and no others
+abbrev pub HaveChains : Chains → Lists → Type 0
+HaveChains chains lists = (x y n : ℕ) → has lists x y n ≡ has_hop (chain_at chains n) x y

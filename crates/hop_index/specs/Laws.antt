@@ -3,7 +3,7 @@ use Rattle.std.specs.Prelude.{◌≡◌, ◌↔◌, ℕ, nat_eq, Bool, true, ◌
 use Rattle.std.specs.List.{list_any}
 use Rattle.hop_index.specs.Hops.{AreNeighbours, has_hop}
 use Rattle.hop_index.specs.Index.{Entries, has, HasNoneOf, Adds, Removes}
-use Rattle.hop_index.specs.Through.{has_end}
+use Rattle.hop_index.specs.Ends.{has_end}
 
 -- the test tells where two ASes stand beside each other
 abbrev pub HopsJoinNeighbours : Type 0

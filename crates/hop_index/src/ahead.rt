@@ -2,11 +2,16 @@
 use crate::HopIndex;
 use crate::gone::GoneHop;
 use crate::hops::Hops;
+use crate::lists::HopLists;
+use crate::loose::Loose;
 use crate::pair::Pair;
 use path_model::AsList;
 
 // How many hops are read together.
 const MOST: usize = 64;
+
+// How many chains are gone over together where their hops come to lists: at the beginning few of them are there.
+const MOST_CHAINS: usize = 16;
 
 /// The places of hops whose cases will get more, or fewer, so that where many come one after another memory is waited for once and not for
 /// each hop: first all are looked up, then all are read. At most 64 are kept. Nothing is promised of them.
@@ -28,16 +33,35 @@ impl HopsAhead {
 
     /// The hops of a chain come that are found with one look, as most are, as long as there is room.
     pub fn look_up(&mut self, index: &HopIndex, chain: &AsList) {
+        if let Some(hops) = index.hops() {
+            self.look_up_chain(hops, chain.as_slice());
+        }
+    }
+
+    // The hops of a chain come that are found with one look, as long as there is room.
+    fn look_up_chain(&mut self, hops: &Hops, chain: &[u32]) {
         let mut last = None;
-        for asn in chain.as_slice() {
+        for asn in chain {
             if self.len == MOST {
                 return;
             }
             if let Some(before) = last {
-                self.put(index.hops().near(Pair::of(before, *asn)));
+                self.put(hops.near(Pair::of(before, *asn)));
             }
             last = Some(*asn);
         }
+    }
+
+    // The hops of some chains from a case on come, as long as there is room. The number of the case behind them is answered; nothing is promised of
+    // it.
+    fn look_up_loose(&mut self, hops: &Hops, loose: &Loose, from: usize) -> usize {
+        for case in from..loose.len() {
+            if self.len == MOST || case.wrapping_sub(from) == MOST_CHAINS {
+                return case;
+            }
+            self.look_up_chain(hops, loose.get(case));
+        }
+        loose.len()
     }
 
     // One place more, while there is room. No branch waits for the look that gave it.
@@ -51,7 +75,10 @@ impl HopsAhead {
 
     /// Reads what stands at the places. The number answered says nothing: it is made of all that was read.
     pub fn read(&self, index: &HopIndex) -> usize {
-        self.read_from(index.hops())
+        match index.hops() {
+            None => 0,
+            Some(hops) => self.read_from(hops),
+        }
     }
 
     // Hops that will go come that are found with one look, each once where they stand by their two ASes, as long as there is room. The
@@ -105,6 +132,20 @@ pub(crate) fn read_gone(hops: &Hops, gone: &[GoneHop], from: usize) -> usize {
     let mut ahead = HopsAhead::none();
     let unread = from.wrapping_add(ahead.look_up_gone(hops, rest));
     let read = ahead.read_from(hops);
+    // it never is, but what was read must have a use
+    if read == usize::MAX {
+        return from;
+    }
+    unread
+}
+
+// Reads the hops of chains that will come to lists, from a case on, and answers the number of the first one that it didn't. Nothing is promised
+// of that.
+#[inline(never)]
+pub(crate) fn read_loose(lists: &HopLists, loose: &Loose, from: usize) -> usize {
+    let mut ahead = HopsAhead::none();
+    let unread = ahead.look_up_loose(lists.hops(), loose, from);
+    let read = ahead.read_from(lists.hops());
     // it never is, but what was read must have a use
     if read == usize::MAX {
         return from;

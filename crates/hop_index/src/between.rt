@@ -1,23 +1,30 @@
 //! The cases of one hop, one after another.
 ghost use Rattle.std.specs.Iterator.{YieldsFirst, item_count};
 
-use crate::number_iter::NumberIter;
+use crate::listed_between::ListedBetween;
+use crate::loose_between::LooseBetween;
 use std::marker::Model;
+
+// What is still to come, of lists or of chains that aren't in lists.
+#[derive(Drop)]
+pub(crate) enum CasesLeft<'a> {
+    Listed(ListedBetween<'a>),
+    Loose(LooseBetween<'a>),
+}
 
 /// The cases that have the hop between two ASes, rising; a contract sees those that are still to come.
 #[derive(Drop)]
 pub struct Between<'a> {
-    // none where no case has the hop
-    pub(crate) cases: Option<NumberIter<'a>>,
+    pub(crate) cases: CasesLeft<'a>,
 }
 
 impl<'a> Model for Between<'a> {
     ghost use Rattle.std.specs.Prelude.{List, ℕ};
-    ghost use Rattle.hop_index.specs.Numbers.{numbers_or};
+    ghost use Rattle.hop_index.specs.Between.{cases_left};
 
     ghost Value = { List ℕ };
 
-    ghost view = { λ b. numbers_or b.cases };
+    ghost view = { λ b. cases_left b.cases };
 }
 
 impl<'a> Iterator for Between<'a> {
@@ -28,12 +35,9 @@ impl<'a> Iterator for Between<'a> {
     ghost remaining = { item_count (λ left. left) };
 
     fn next(&mut self) -> Option<usize> {
-        let Some(cases) = &mut self.cases else {
-            return None;
-        };
-        match cases.next() {
-            None => None,
-            Some(case) => Some(case as usize),
+        match &mut self.cases {
+            CasesLeft::Listed(cases) => cases.next(),
+            CasesLeft::Loose(cases) => cases.next(),
         }
     }
 }

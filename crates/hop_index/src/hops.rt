@@ -1,7 +1,7 @@
 //! The cases of each hop, which stands once in a list without gaps.
 ghost use Rattle.std.specs.Prelude.{◌≡◌, ◌≢◌, ◌↔◌, not, ◌||◌, ◌&&◌, [], Some, None, IfOk, OnOk, IsTrue};
 ghost use Rattle.hop_index.specs.declared.pair.Pair.{Pair};
-ghost use Rattle.hop_index.specs.Index.{at};
+ghost use Rattle.hop_index.specs.Lists.{at};
 ghost use Rattle.hop_index.specs.Kept.{stands, is_pair, Updates, AddsCase, RemovesCase, HaveCases, AreRising};
 
 use crate::number_iter::NumberIter;
@@ -23,10 +23,10 @@ pub(crate) struct Hops {
 }
 
 impl Model for Hops {
-    ghost use Rattle.hop_index.specs.Index.{Entries};
+    ghost use Rattle.hop_index.specs.Lists.{Lists};
     ghost use Rattle.hop_index.specs.Places.{ArePlaced};
 
-    ghost Value = { Entries };
+    ghost Value = { Lists };
 
     ghost view = { λ a. a.hops.items };
 

@@ -1,38 +1,48 @@
 //! Hops by their ASes.
-ghost use Rattle.std.specs.Prelude.{◌≡◌, ◌<◌, ◌^◌, ℕ, true, OnOk};
+ghost use Rattle.std.specs.Prelude.{◌≡◌, ℕ, true, IfOk, OnOk};
 ghost use Rattle.std.specs.List.Sorted.{IsStrictlySortedBy};
 ghost use Rattle.std.specs.Ordering.{nat_cmp};
-ghost use Rattle.hop_index.specs.Gone.{RemovesEach};
-ghost use Rattle.hop_index.specs.Index.{has, HasNothing, Adds, Removes};
-ghost use Rattle.hop_index.specs.Kept.{AddsHop, RemovesHop, AreKept};
+ghost use Rattle.hop_index.specs.Ends.{end_cmp, has_end};
+ghost use Rattle.hop_index.specs.Hops.{has_hop};
+ghost use Rattle.hop_index.specs.Index.{has, HasNothing, HasTheSame, IsNeighbour, IsListed, IsWholeChain, Adds, Removes, RemovesEach, AreGathered, LetsGo, stays};
+ghost use Rattle.hop_index.specs.Kept.{HaveChains};
 ghost use Rattle.hop_index.specs.Numbers.{has_number};
-ghost use Rattle.hop_index.specs.Through.{end_cmp, has_end, ends_left};
+ghost use Rattle.hop_index.specs.Through.{ends_left};
 
-use crate::between::Between;
-use crate::gone::{GoneHop, GoneHops};
+use crate::ahead;
+use crate::between::{Between, CasesLeft};
+use crate::gone::GoneHops;
 use crate::hops::Hops;
-use crate::numbers::Numbers;
-use crate::pair::Pair;
-use crate::through::Through;
-use crate::{ahead, neighbours};
+use crate::lists::HopLists;
+use crate::loose::Loose;
+use crate::loose_between::LooseBetween;
+use crate::loose_neighbours::LooseNeighbours;
+use crate::loose_through::LooseThrough;
+use crate::neighbour_iter::{Left as NeighboursLeft, Neighbours};
+use crate::through::{Left, Through};
 use av_base::NoMemory;
 use path_model::AsList;
 use std::alloc::Global;
-use std::collections::BTreeMap;
 use std::marker::Model;
 
-/// Which cases have a hop between two ASes, of cases under numbers below 2^32. Each hop of a case is held once, under its two ASes. The
-/// first case of a hop takes 24 to 48 bytes, the hop in a list, and 19 to 39 more, its place by the two ASes; the first hop of an AS takes
-/// 20 to 50 more. The second and third case of a hop take nothing, and neither do the second and third neighbour of an AS; a fourth takes
-/// 40, a list of them whose room doubles when it is full. More than 512 stand in chunks, 4 bytes each where they come in order and up to 16
-/// else, and some 2300 more. What no case needs is given back, a list of numbers only with the last of them; the room for hops and their
-/// places stays, and further hops take it.
+/// Which cases have a hop between two ASes, of cases under numbers below 2^32. The cases of each hop stand in lists; an index that is
+/// [made without them](HopIndex::unlisted) holds the chains alone until [`HopIndex::list`] makes the lists, so that cases come and go at the
+/// cost of a few bytes as long as nobody asks for a hop. A chain takes 4 bytes for each AS and 8 more, and up to twice that while the room
+/// doubles; where some went, up to as much again and 262,144 bytes more once the next case comes. In lists each hop of a case is held once, under its two ASes. The first case of a hop takes 24 to 48 bytes, the
+/// hop in a list, and 19 to 39 more, its place by the two ASes; the first hop of an AS takes 20 to 50 more. The second and third case of a
+/// hop take nothing, and neither do the second and third neighbour of an AS; a fourth takes 40, a list of them whose room doubles when it is
+/// full. More than 512 stand in chunks, 4 bytes each where they come in order and up to 16 else, and some 2300 more. What no case needs is
+/// given back, a list of numbers only with the last of them; the room for hops and their places stays, and further hops take it.
 pub struct HopIndex {
     alloc: Global,
-    // the neighbours of each AS, as the hops have them: an AS without hops has no entry
-    ends: BTreeMap<u32, Numbers>,
-    // the cases of each hop, of which there is one at least
-    hops: Hops,
+    kept: Kept,
+}
+
+// How hops are held.
+#[derive(Drop)]
+pub(crate) enum Kept {
+    Loose(Loose),
+    Listed(HopLists),
 }
 
 /// A function of its own, so that what lets an index go needn't say how.
@@ -40,69 +50,134 @@ impl Drop for HopIndex {
     fn drop(self) {
         let HopIndex {
             alloc: _alloc,
-            ends: _ends,
-            hops: _hops,
+            kept: _kept,
         } = self;
     }
 }
 
 impl Model for HopIndex {
     ghost use Rattle.hop_index.specs.Index.{Entries};
-    ghost use Rattle.hop_index.specs.Kept.{AreKept};
 
     ghost Value = { Entries };
 
-    ghost view = { λ a. a.hops };
-
-    ghost invariant = { λ a. AreKept a.ends.entries a.hops };
+    ghost view = { λ a. a.kept };
 }
 
 impl HopIndex {
-    /// An index of no hops. It takes no memory.
+    /// An index of no hops, in lists. It takes no memory.
     pub fn new(alloc: Global) -> HopIndex
+        ensures empty { HasNothing result }
+        ensures listed { IsListed result }
+    {
+        HopIndex {
+            alloc,
+            kept: Kept::Listed(HopLists::new(alloc)),
+        }
+    }
+
+    /// An index of no hops, which makes no lists before it is asked to. It takes no memory.
+    pub fn unlisted(alloc: Global) -> HopIndex
         ensures { HasNothing result }
     {
         HopIndex {
             alloc,
-            ends: BTreeMap::new(alloc),
-            hops: Hops::new(alloc),
+            kept: Kept::Loose(Loose::new(alloc)),
         }
     }
 
+    /// The cases of each hop stand in lists from now on. Where that was so nothing changes; else it takes the time and the memory of all hops.
+    pub fn list(&mut self) -> Result<(), NoMemory>
+        ensures same { HasTheSame self.old self.new }
+        ensures listed { OnOk result (IsListed self.new) }
+    {
+        if let Kept::Loose(loose) = &self.kept {
+            self.kept = Kept::Listed(listed(self.alloc, loose)?);
+        }
+        Ok(())
+    }
+
     /// The hops of a case come in: those between each two neighbours of its chain, in both orders. What there was before of this case stays.
-    /// For a number of 2^32 or above there is no memory. Where there was none, nothing is promised of the hops. Each hop takes one look-up,
-    /// and three to six more where it is new.
+    /// For a number of 2^32 or above there is no memory. Where there was none, nothing is promised of the hops. The hops are listed from then
+    /// on. Each takes one look-up, and three to six more where it is new.
     pub fn add(&mut self, case: usize, chain: &AsList) -> Result<(), NoMemory>
+        ensures added { OnOk result (Adds self.old case chain.now self.new) }
+        ensures listed { OnOk result (IsListed self.new) }
+    {
+        match &mut self.kept {
+            Kept::Listed(lists) => lists.add(case, chain.as_slice()),
+            Kept::Loose(loose) => {
+                let mut lists = listed(self.alloc, loose)?;
+                lists.add(case, chain.as_slice())?;
+                self.kept = Kept::Listed(lists);
+                Ok(())
+            }
+        }
+    }
+
+    /// The same, but as long as the hops aren't listed the chain alone is taken, with a step for each of its ASes. Where the case has a chain,
+    /// or a number beyond the next one, they are listed first. Where more words are of chains that went than of others, and 65,536 beyond, the
+    /// others are put together anew.
+    #[inline(always)]
+    pub fn put(&mut self, case: usize, chain: &AsList) -> Result<(), NoMemory>
         ensures { OnOk result (Adds self.old case chain.now self.new) }
     {
-        let Ok(number) = u32::try_from(case) else {
-            return Err(NoMemory);
-        };
-        let alloc = self.alloc;
-        let added = insert_all(
-            &mut self.ends,
-            &mut self.hops,
-            alloc,
-            chain.as_slice(),
-            number,
-        );
-        if added.is_err() {
-            self.ends = BTreeMap::new(alloc);
-            self.hops = Hops::new(alloc);
+        if self.is_worn() {
+            self.renew()?;
         }
-        added
+        if let Kept::Loose(loose) = &mut self.kept {
+            if loose.takes(case) {
+                return loose.put(case, chain.as_slice());
+            }
+        }
+        self.add(case, chain)
     }
 
     /// The hops of a case between each two neighbours of a chain go, in either order. Hops that weren't there, and those of other cases, make
     /// no difference. It takes no memory. Each hop takes one look-up, and up to seven more with its last case.
     pub fn remove(&mut self, case: usize, chain: &AsList)
+        requires { IsListed self.old }
+        ensures removed { Removes self.old case chain.now self.new }
+        ensures listed { IsListed self.new }
+    {
+        match &mut self.kept {
+            Kept::Listed(lists) => lists.remove(case, chain.as_slice()),
+            Kept::Loose(_) => {}
+        }
+    }
+
+    /// All hops of a case go, with the chain that has them. It takes no memory. Where the hops aren't listed it takes a step, else what
+    /// [`HopIndex::remove`] does.
+    pub fn forget(&mut self, case: usize, chain: &AsList)
+        requires { IsWholeChain self.old case chain.now }
         ensures { Removes self.old case chain.now self.new }
     {
-        let Ok(number) = u32::try_from(case) else {
-            self.are_few();
-            return;
-        };
-        remove_all(&mut self.ends, &mut self.hops, chain.as_slice(), number);
+        match &mut self.kept {
+            Kept::Listed(lists) => lists.remove(case, chain.as_slice()),
+            Kept::Loose(loose) => loose.clear(case, chain.len()),
+        }
+    }
+
+    /// All hops of a case go, with the chain that has those that don't go already: where the hops are listed they come to those that will go,
+    /// for [`HopIndex::remove_each`]; else they go at once. Where there was no memory, nothing is promised of those that will go.
+    pub fn let_go(
+        &mut self,
+        case: usize,
+        chain: &AsList,
+        gone: &mut GoneHops,
+    ) -> Result<(), NoMemory>
+        requires whole { (x y : ℕ) → stays self.old gone.old x y case ≡ true
+            → has_hop chain.now x y ≡ true }
+        requires gathered { AreGathered self.old gone.old }
+        ensures gone { OnOk result (LetsGo self.old gone.old case chain.now self.new gone.new) }
+        ensures gathered { OnOk result (AreGathered self.new gone.new) }
+    {
+        match &mut self.kept {
+            Kept::Listed(_) => gone.push(case, chain),
+            Kept::Loose(loose) => {
+                loose.clear(case, chain.len());
+                Ok(())
+            }
+        }
     }
 
     /// The hops of many cases go, in either order. Hops that weren't there, and those of other cases, make no difference. It costs the time of
@@ -110,123 +185,106 @@ impl HopIndex {
     /// which they were pushed, and up to 64 hops are read ahead, so that memory is waited for less often. While they are sorted they take 12
     /// bytes each more; where there is no memory for that, they go in the order in which they were pushed.
     pub fn remove_each(&mut self, gone: GoneHops)
+        requires { AreGathered self.old gone }
         ensures { RemovesEach self.old gone self.new }
     {
-        let hops = gone.into_sorted();
-        remove_gone(&mut self.ends, &mut self.hops, hops.as_slice());
-    }
-
-    // No case has a number of 2^32 or above: a law, and the body does nothing.
-    fn are_few(&self)
-        ensures { (x y n : ℕ) → has self.now x y n ≡ true → n < 2 ^ 32 }
-    {
-        let _hops = &self.hops;
+        match &mut self.kept {
+            Kept::Listed(lists) => lists.remove_each(gone),
+            Kept::Loose(_) => {}
+        }
     }
 
     /// Each y and case with a hop between `x` and y, in either direction: by rising y and then by rising case, each pair once. It takes
-    /// no memory, and the time of a look-up, of another one for each y, and of what it gives.
+    /// no memory, and the time of a look-up, of another one for each y, and of what it gives. Where the hops aren't listed, it goes over all
+    /// chains twice for each y.
     pub fn through(&self, x: u32) -> Through<'_>
         ensures exact { (y n : ℕ) → has_end (ends_left result) y n ≡ has self.now x y n }
         ensures rising { IsStrictlySortedBy end_cmp (ends_left result) }
     {
-        Through {
-            hops: &self.hops,
-            x,
-            neighbours: neighbours::of(&self.ends, x),
-            y: 0,
-            cases: None,
-        }
+        let left = match &self.kept {
+            Kept::Listed(lists) => Left::Listed(lists.through(x)),
+            Kept::Loose(loose) => Left::Loose(LooseThrough::new(loose, x)),
+        };
+        Through { left }
+    }
+
+    /// Each y with a hop between `x` and y of some case, in either direction, by rising y, each once. It takes no memory, and the time of a
+    /// look-up and of what it gives. Where the hops aren't listed, it goes over all chains once for each y, and once more at the end.
+    pub fn neighbours(&self, x: u32) -> Neighbours<'_>
+        ensures whole { (y n : ℕ) → has self.now x y n ≡ true → has_number result y ≡ true }
+        ensures only { (y : ℕ) → has_number result y ≡ true → IsNeighbour self.now x y }
+        ensures rising { IsStrictlySortedBy nat_cmp result }
+    {
+        let left = match &self.kept {
+            Kept::Listed(lists) => NeighboursLeft::Listed(lists.neighbours(x)),
+            Kept::Loose(loose) => NeighboursLeft::Loose(LooseNeighbours::new(loose, x)),
+        };
+        Neighbours { left }
     }
 
     /// Each case with a hop between `x` and `y`, in either direction, by rising case. It takes no memory, and the time of a look-up and of what
-    /// it gives.
+    /// it gives. Where the hops aren't listed, it goes over all chains.
     pub fn between(&self, x: u32, y: u32) -> Between<'_>
         ensures exact { (n : ℕ) → has_number result n ≡ has self.now x y n }
         ensures rising { IsStrictlySortedBy nat_cmp result }
     {
-        Between {
-            cases: self.hops.of(Pair::of(x, y)),
+        let cases = match &self.kept {
+            Kept::Listed(lists) => CasesLeft::Listed(lists.between(x, y)),
+            Kept::Loose(loose) => CasesLeft::Loose(LooseBetween::new(loose, x, y)),
+        };
+        Between { cases }
+    }
+
+    /// Whether no case came yet to an index that isn't listed. Nothing is promised of it.
+    pub fn has_no_case_yet(&self) -> bool {
+        match &self.kept {
+            Kept::Listed(_) => false,
+            Kept::Loose(loose) => loose.len() == 0,
         }
     }
 
-    // The hops, for who reads them ahead of their use.
+    // Whether many words are of chains that went. Nothing is promised of it.
     #[inline(always)]
-    pub(crate) fn hops(&self) -> &Hops {
-        &self.hops
-    }
-}
-
-// The hops of a chain, each with one case more.
-fn insert_all(
-    ends: &mut BTreeMap<u32, Numbers>,
-    hops: &mut Hops,
-    alloc: Global,
-    chain: &[u32],
-    case: u32,
-) -> Result<(), NoMemory>
-    ensures added { OnOk result (Adds hops.old case chain.now hops.new) }
-    ensures kept { OnOk result (AreKept ends.old.entries hops.old → AreKept ends.new.entries hops.new) }
-{
-    for k in 1..chain.len() {
-        insert(ends, hops, alloc, chain[k - 1], chain[k], case)?;
-    }
-    Ok(())
-}
-
-// The hops of a chain, each with one case less.
-fn remove_all(ends: &mut BTreeMap<u32, Numbers>, hops: &mut Hops, chain: &[u32], case: u32)
-    ensures removed { Removes hops.old case chain.now hops.new }
-    ensures kept { AreKept ends.old.entries hops.old → AreKept ends.new.entries hops.new }
-{
-    for k in 1..chain.len() {
-        remove(ends, hops, chain[k - 1], chain[k], case);
-    }
-}
-
-// Each of these hops, with one case less. They are read ahead of their use.
-fn remove_gone(ends: &mut BTreeMap<u32, Numbers>, hops: &mut Hops, gone: &[GoneHop])
-    ensures removed { RemovesEach hops.old gone.now hops.new }
-    ensures kept { AreKept ends.old.entries hops.old → AreKept ends.new.entries hops.new }
-{
-    // the first of them that isn't read yet
-    let mut unread = 0;
-    for k in 0..gone.len() {
-        if k >= unread {
-            unread = ahead::read_gone(hops, gone, k);
+    fn is_worn(&self) -> bool {
+        match &self.kept {
+            Kept::Listed(_) => false,
+            Kept::Loose(loose) => loose.is_worn(),
         }
-        let hop = gone[k];
-        remove(ends, hops, hop.pair.low, hop.pair.high, hop.case);
+    }
+
+    // The chains are put together anew, where the hops aren't listed.
+    #[inline(never)]
+    fn renew(&mut self) -> Result<(), NoMemory>
+        ensures { HasTheSame self.old self.new }
+    {
+        if let Kept::Loose(loose) = &self.kept {
+            self.kept = Kept::Loose(loose.compacted(self.alloc)?);
+        }
+        Ok(())
+    }
+
+    // The hops in lists, for who reads them ahead of their use.
+    #[inline(always)]
+    pub(crate) fn hops(&self) -> Option<&Hops> {
+        match &self.kept {
+            Kept::Listed(lists) => Some(lists.hops()),
+            Kept::Loose(_) => None,
+        }
     }
 }
 
-// One case more of the hop between two ASes. Where the hop is new, each of them is a neighbour of the other from now on.
-#[inline(always)]
-fn insert(
-    ends: &mut BTreeMap<u32, Numbers>,
-    hops: &mut Hops,
-    alloc: Global,
-    x: u32,
-    y: u32,
-    case: u32,
-) -> Result<(), NoMemory>
-    ensures added { OnOk result (AddsHop hops.old x y case hops.new) }
-    ensures kept { OnOk result (AreKept ends.old.entries hops.old
-        → AreKept ends.new.entries hops.new) }
+// The hops of these chains in lists. They are read ahead of their use.
+fn listed(alloc: Global, loose: &Loose) -> Result<HopLists, NoMemory>
+    ensures { IfOk result (HaveChains loose.now) }
 {
-    if hops.insert(Pair::of(x, y), case)? {
-        neighbours::insert(ends, alloc, x, y)?;
-        neighbours::insert(ends, alloc, y, x)?;
+    let mut lists = HopLists::new(alloc);
+    // the first case whose hops aren't read yet
+    let mut unread = 0;
+    for case in 0..loose.len() {
+        if case >= unread {
+            unread = ahead::read_loose(&lists, loose, case);
+        }
+        lists.add(case, loose.get(case))?;
     }
-    Ok(())
-}
-
-// One case less of the hop between two ASes. Where it was the last one, neither of them is a neighbour of the other from now on.
-fn remove(ends: &mut BTreeMap<u32, Numbers>, hops: &mut Hops, x: u32, y: u32, case: u32)
-    ensures removed { RemovesHop hops.old x y case hops.new }
-    ensures kept { AreKept ends.old.entries hops.old → AreKept ends.new.entries hops.new }
-{
-    if hops.remove(Pair::of(x, y), case) {
-        neighbours::remove(ends, x, y);
-        neighbours::remove(ends, y, x);
-    }
+    Ok(lists)
 }

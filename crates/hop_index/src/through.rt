@@ -2,20 +2,20 @@
 ghost use Rattle.std.specs.Iterator.{YieldsFirstBy, item_count};
 ghost use Rattle.hop_index.specs.Through.{ends_left};
 
-use crate::hops::Hops;
-use crate::number_iter::NumberIter;
-use crate::pair::Pair;
+use crate::listed_through::ListedThrough;
+use crate::loose_through::LooseThrough;
+
+// What is still to come, of lists or of chains that aren't in lists.
+#[derive(Drop)]
+pub(crate) enum Left<'a> {
+    Listed(ListedThrough<'a>),
+    Loose(LooseThrough<'a>),
+}
 
 /// The other ends of one AS's hops: each AS with a case that has a hop to it, by rising AS and then by rising case.
 #[derive(Drop)]
 pub struct Through<'a> {
-    pub(crate) hops: &'a Hops,
-    pub(crate) x: u32,
-    // the neighbours of x whose cases are still to come; none where no case has a hop of x
-    pub(crate) neighbours: Option<NumberIter<'a>>,
-    // the neighbour that is gone through, if one is, and what is left of its cases
-    pub(crate) y: u32,
-    pub(crate) cases: Option<NumberIter<'a>>,
+    pub(crate) left: Left<'a>,
 }
 
 impl<'a> Iterator for Through<'a> {
@@ -26,22 +26,9 @@ impl<'a> Iterator for Through<'a> {
     ghost remaining = { item_count ends_left };
 
     fn next(&mut self) -> Option<(u32, usize)> {
-        loop {
-            if let Some(cases) = &mut self.cases {
-                if let Some(case) = cases.next() {
-                    return Some((self.y, case as usize));
-                }
-            }
-            let Some(neighbours) = &mut self.neighbours else {
-                return None;
-            };
-            match neighbours.next() {
-                None => return None,
-                Some(y) => {
-                    self.y = y;
-                    self.cases = self.hops.of(Pair::of(self.x, y));
-                }
-            }
+        match &mut self.left {
+            Left::Listed(ends) => ends.next(),
+            Left::Loose(ends) => ends.next(),
         }
     }
 }

@@ -123,7 +123,7 @@ impl RibStore {
     }
 
     /// Changes what attests. It visits only the customers that the change names and at most the hops of those whose row moved, and judges
-    /// anew, once each, the cases with a hop of which something else is attested.
+    /// anew, once each, the cases with a hop of which something else is attested. The first change that meets cases lists the hops of all.
     pub fn apply_table<L: Ledger>(
         self,
         change: TableChange,
@@ -324,7 +324,8 @@ impl RibStore {
 
     /// The store as it is, with the keys of the cases gathered that got another verdict since verdicts were marked, so that [`RibStore::changes`]
     /// goes over the changed keys alone. It takes the time and the memory of these keys, with a look-up for each such case and each peer that has
-    /// one of its keys, and the first time the time and the memory of all routes.
+    /// one of its keys, and the first time the time and the memory of all routes. The hops of the cases are listed too: who lists changes is
+    /// about to change what attests ([`SharedCases::list_hops`]).
     pub fn gather(self) -> Result<RibStore, NoMemory>
         ensures { IfOk result (λ s. s ≡ self) }
     {
@@ -336,10 +337,11 @@ impl RibStore {
         } = self;
         let Routing {
             routes,
-            cases,
+            mut cases,
             mut marks,
         } = routing;
         marks.gather(alloc, &routes, &cases)?;
+        cases.list_hops()?;
         Ok(RibStore {
             alloc,
             table,

@@ -1,15 +1,17 @@
 -- How all that is kept of the cases fits together.
-use Rattle.std.proofs.Common.{◌≡◌, ℕ, nat_eq, Bool, true, false, not, ◌||◌, ◌&&◌, ◌≤◌, List, [], refl, ap, sym, subst, ◌∙◌}
+use Rattle.std.proofs.Common.{◌≡◌, ℕ, nat_eq, Bool, true, false, not, ◌&&◌, ◌≤◌, List, [], None, refl, ap, sym, subst, ◌∙◌, true≢false}
+use Rattle.std.specs.declared.option.Option.{Option}
+use Rattle.shared_cases.specs.declared.case.StoredCase.{StoredCase}
 use Rattle.std.proofs.Math.Bool.{and-true}
 use Rattle.std.specs.FinMap.{empty}
 use Rattle.path_model.specs.declared.verdict.Verdict.{Verdict}
 use Rattle.hop_index.specs.declared.gone.GoneHop.{GoneHop}
-use Rattle.hop_index.specs.Gone.{has_gone, Gathers}
+use Rattle.hop_index.specs.Gone.{has_gone}
 use Rattle.hop_index.specs.Hops.{has_hop}
 use Rattle.hop_index.specs.Index.{Entries, has as hops_have}
 use Rattle.shared_cases.specs.declared.names.Names.{Names}
 use Rattle.shared_cases.specs.declared.totals.Totals.{Totals}
-use Rattle.shared_cases.specs.Cases.{Slots, at, Rewrites}
+use Rattle.shared_cases.specs.Cases.{Slots, at, hops_of, Rewrites}
 use Rattle.shared_cases.specs.Kept.{staying, without_chain, AreKept, AreSameHops, FitTogether, Hops}
 use Rattle.shared_cases.specs.Peers.{ByPeer}
 use Rattle.shared_cases.specs.Taking.{lowered_by, users_or}
@@ -58,15 +60,20 @@ fit_same cases names hops hops' peers differed totals verdicts same fit = (
   fit.2,
 )
 
--- the hops of one case more go
-pub staying_less : (index : Entries) (before after : List GoneHop) (case : ℕ) (chain : List ℕ) → Gathers before case chain after
-    → AreSameHops (without_chain (staying index before) case chain) (staying index after)
-staying_less index before after case chain gathers x y n =
-    ap (λ (b : Bool). hops_have index x y n && not b) (gathers x y n) ∙ by (hops_have index x y n) (has_gone before x y n) (nat_eq n case && has_hop chain x y) where
-      by : (h g t : Bool) → (h && not (g || t)) ≡ ((h && not g) && not t)
-      by true true t = refl
-      by true false t = refl
-      by false g t = refl
+and_false : (b : Bool) → (b && false) ≡ false
+and_false true = refl
+and_false false = refl
+
+-- where a case went with its chain, that had all its hops
+pub whole_chain : (cases : Slots) (hops : Hops) (n : ℕ) (chain : List ℕ) → ((x y m : ℕ) → without_chain hops n chain x y m ≡ hops_of (at cases m) x y) → at cases n ≡ None
+    → (x y : ℕ) → hops x y n ≡ true → has_hop chain x y ≡ true
+whole_chain cases hops n chain indexed none x y there = by (has_hop chain x y) refl where
+  by : (t : Bool) → has_hop chain x y ≡ t → t ≡ true
+  by true told = refl
+  by false told = absurd (true≢false (
+      sym (ap (λ (b : Bool). b && not (nat_eq n n && has_hop chain x y)) there ∙ ap (λ (b : Bool). not (nat_eq n n && b)) told ∙ ap not (and_false (nat_eq n n)))
+      ∙ indexed x y n ∙ ap (λ (case : Option StoredCase). hops_of case x y) none
+      ))
 
 -- and so far none go
 pub staying_all : (index : Entries) (gone : List GoneHop) → ((x y n : ℕ) → has_gone gone x y n ≡ false) → AreSameHops (hops_have index) (staying index gone)

@@ -1,6 +1,7 @@
 -- What the moves of a table touch, and what they don't.
 use Rattle.std.proofs.Common.{◌≡◌, ◌≢◌, ◌↔◌, ◌⊎◌, ℕ, nat_eq, ◌+◌, Bool, true, false, not, ◌||◌, ◌&&◌, List, [], ◌∷◌, None, Some, refl, ap, sym, subst, ◌∙◌, inl, inr, true≢false}
 use Rattle.std.specs.Prelude.{slice_index, All}
+use Rattle.std.specs.Cmp.{nat_eq_equiv}
 use Rattle.std.specs.declared.option.Option.{Option}
 use Rattle.std.proofs.lemmas.Bool.{and_from, and_parts, false_from_ne_true, or_cases, or_left, or_right}
 use Rattle.std.proofs.lemmas.List.Elements.{All-head, All-tail}
@@ -14,15 +15,15 @@ use Rattle.path_model.proofs.LawLemmas.{hops_decide_witnesses}
 use Rattle.hop_index.specs.Hops.{AreNeighbours}
 use Rattle.hop_index.specs.Index.{Entries}
 use Rattle.hop_index.specs.Index as hops
-use Rattle.hop_index.specs.Through.{has_end}
+use Rattle.hop_index.specs.Ends.{has_end}
+use Rattle.hop_index.specs.Numbers.{has_number}
 use Rattle.hop_index.proofs.HopLemmas.{hops_are_told}
-use Rattle.hop_index.proofs.ThroughLemmas.{ends_reach}
 use Rattle.vap_table.specs.declared.moves.RowMove.{RowMove}
 use Rattle.vap_table.specs.Moves.{customers_of, IsMove, AreMoves}
 use Rattle.shared_cases.specs.declared.case.StoredCase.{StoredCase}
 use Rattle.shared_cases.specs.Cases.{hops_of}
 use Rattle.shared_cases.specs.Grounds.{by_table, IsRightCase}
-use Rattle.shared_cases.specs.Touching.{same_authority, differs, touches, AreAllOf, asks, IsTouchedAt, IsTouchedBy}
+use Rattle.shared_cases.specs.Touching.{same_authority, differs, AreAllOf, asks, IsTouchedAt, IsTouchedBy}
 use Rattle.shared_cases.proofs.TouchLemmas.{IsTouchedNumber}
 
 same_said : (a b : Authority) → not (same_authority a b) ≡ false → a ≡ b
@@ -47,21 +48,7 @@ said_otherwise Provides Silent e = λ same. cc
 said_otherwise Provides Refuses e = λ same. cc
 said_otherwise Provides Provides e = λ same. true≢false (sym e)
 
--- a case comes to the others exactly where the customer of the move has such a hop of it
-pub touch_told : (index : Entries) (m : RowMove) (n : ℕ) (ends : List (ℕ × ℕ)) (before now : Bool) → ((y : ℕ) → has_end ends y n ≡ hops.has index m.customer y n)
-    → now ≡ (before || touches m n ends) → (now ≡ true) ↔ ((before ≡ true) ⊎ IsTouchedAt index m n)
-touch_told index m n ends before now exact told = (
-  λ h. elim (or_cases before (touches m n ends) (sym told ∙ h)) [
-    | inl was ↦ inl was
-    | inr found ↦ inr ((ends_reach index m.customer n (differs m) ends exact).0 found)
-  ],
-  λ h. told ∙ elim h [
-    | inl was ↦ or_left before (touches m n ends) was
-    | inr touched ↦ or_right before (touches m n ends) ((ends_reach index m.customer n (differs m) ends exact).1 touched)
-  ],
-)
-
--- and none does where the customer has no hop at all
+-- no case comes to the others where the customer of the move has no hop at all
 pub touch_none : (index : Entries) (m : RowMove) (n : ℕ) (ends : List (ℕ × ℕ)) (before : Bool) → ((y : ℕ) → has_end ends y n ≡ hops.has index m.customer y n)
     → ends ≡ [] → (before ≡ true) ↔ ((before ≡ true) ⊎ IsTouchedAt index m n)
 touch_none index m n ends before exact none = (
@@ -80,24 +67,21 @@ reached index m n (y ∷ ys) h = elim (or_cases (differs m y && hops.has index m
   | inr later ↦ reached index m n ys later
 ]
 
-reaches : (index : Entries) (m : RowMove) (n y : ℕ) (asked : List ℕ) → has asked y ≡ true → hops.has index m.customer y n ≡ true → differs m y ≡ true → asks index m n asked ≡ true
+reaches : (index : Entries) (m : RowMove) (n y : ℕ) (asked : List ℕ) → has_number asked y ≡ true → hops.has index m.customer y n ≡ true → differs m y ≡ true → asks index m n asked ≡ true
 reaches index m n y [] there hop other = absurd (true≢false (sym there))
-reaches index m n y (z ∷ zs) there hop other = elim (or_cases (nat_eq z y) (has zs y) there) [
+reaches index m n y (z ∷ zs) there hop other = elim (or_cases (nat_eq y z) (has_number zs y) there) [
   | inl here ↦
-      let e : z ≡ y = exact_unsigned_eq z y here in
+      let e : z ≡ y = sym (exact_unsigned_eq y z here) in
       or_left (differs m z && hops.has index m.customer z n) (asks index m n zs)
       (and_from (differs m z) (hops.has index m.customer z n) (ap (differs m) e ∙ other) (ap (λ (x : ℕ). hops.has index m.customer x n) e ∙ hop))
   | inr later ↦ or_right (differs m z && hops.has index m.customer z n) (asks index m n zs) (reaches index m n y zs later hop other)
 ]
 
-asked_by : (asked : List ℕ) (m : RowMove) (y : ℕ) → AreAllOf asked m → differs m y ≡ true → (b : Bool) → has asked y ≡ b → has asked y ≡ true
-asked_by asked m y all other true is = is
-asked_by asked m y all other false is = absurd (true≢false (sym other ∙ all y is))
-
--- a case comes to the others exactly where the customer of the move has such a hop of it to one that is asked
-pub asked_told : (index : Entries) (m : RowMove) (n : ℕ) (asked : List ℕ) (before now : Bool) → AreAllOf asked m
+-- a case comes to the others exactly where the customer of the move has such a hop of it to one that is asked: all of its neighbours are,
+pub neighbours_told : (index : Entries) (m : RowMove) (n : ℕ) (asked : List ℕ) (before now : Bool)
+    → ((y : ℕ) → hops.has index m.customer y n ≡ true → differs m y ≡ true → has_number asked y ≡ true)
     → now ≡ (before || asks index m n asked) → (now ≡ true) ↔ ((before ≡ true) ⊎ IsTouchedAt index m n)
-asked_told index m n asked before now all told = (
+neighbours_told index m n asked before now all told = (
   λ h. elim (or_cases before (asks index m n asked) (sym told ∙ h)) [
     | inl was ↦ inl was
     | inr found ↦ inr (reached index m n asked found)
@@ -105,9 +89,26 @@ asked_told index m n asked before now all told = (
   λ h. told ∙ elim h [
     | inl was ↦ or_left before (asks index m n asked) was
     | inr touched ↦ or_right before (asks index m n asked)
-        (reaches index m n touched.0 asked (asked_by asked m touched.0 all touched.2 (has asked touched.0) refl) touched.1 touched.2)
+        (reaches index m n touched.0 asked (all touched.0 touched.1 touched.2) touched.1 touched.2)
   ],
 )
+
+asked_by : (asked : List ℕ) (m : RowMove) (y : ℕ) → AreAllOf asked m → differs m y ≡ true → (b : Bool) → has asked y ≡ b → has asked y ≡ true
+asked_by asked m y all other true is = is
+asked_by asked m y all other false is = absurd (true≢false (sym other ∙ all y is))
+
+is_number : (y : ℕ) (asked : List ℕ) → has asked y ≡ true → has_number asked y ≡ true
+is_number y [] there = there
+is_number y (z ∷ zs) there = elim (or_cases (nat_eq z y) (has zs y) there) [
+  | inl here ↦ or_left (nat_eq y z) (has_number zs y) (ap (nat_eq y) (exact_unsigned_eq z y here) ∙ nat_eq_equiv.refl y)
+  | inr later ↦ or_right (nat_eq y z) (has_number zs y) (is_number y zs later)
+]
+
+-- or all of which it attests another thing
+pub asked_told : (index : Entries) (m : RowMove) (n : ℕ) (asked : List ℕ) (before now : Bool) → AreAllOf asked m
+    → now ≡ (before || asks index m n asked) → (now ≡ true) ↔ ((before ≡ true) ⊎ IsTouchedAt index m n)
+asked_told index m n asked before now all told =
+    neighbours_told index m n asked before now (λ y hop other. is_number y asked (asked_by asked m y all other (has asked y) refl)) told
 
 module _ (old new : Table) (index : Entries) where
   -- a move that doesn't touch a case changes nothing at its hops

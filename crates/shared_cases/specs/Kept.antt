@@ -2,9 +2,8 @@
 use Rattle.std.specs.Prelude.{◌≡◌, ℕ, nat_eq, Bool, true, not, ◌||◌, ◌&&◌, List}
 use Rattle.path_model.specs.declared.verdict.Verdict.{Verdict}
 use Rattle.hop_index.specs.declared.gone.GoneHop.{GoneHop}
-use Rattle.hop_index.specs.Gone.{has_gone}
 use Rattle.hop_index.specs.Hops.{has_hop}
-use Rattle.hop_index.specs.Index.{Entries, has as hops_have}
+use Rattle.hop_index.specs.Index.{Entries, stays}
 use Rattle.shared_cases.specs.declared.names.Names.{Names}
 use Rattle.shared_cases.specs.declared.totals.Totals.{Totals}
 use Rattle.shared_cases.specs.Cases.{Slots, at, has_differed, hops_of, is_of_peer}
@@ -22,7 +21,7 @@ Hops = ℕ → ℕ → ℕ → Bool
 
 -- the hops of an index but for those that go
 abbrev pub staying : Entries → List GoneHop → Hops
-staying index gone x y n = hops_have index x y n && not (has_gone gone x y n)
+staying index gone = stays index gone
 
 -- the hops with those of one case, and without them
 abbrev pub with_chain : Hops → ℕ → List ℕ → Hops
@@ -53,3 +52,7 @@ pub record AreKept (cases : Slots) (names : Names) (hops : Hops) (peers : ByPeer
 abbrev pub FitTogether : Slots → Names → Hops → ByPeer → List ℕ → Totals → List Verdict → Type 0
 FitTogether cases names hops peers differed totals verdicts =
     AreKept cases names hops peers differed × (totals ≡ totals_of cases) × AreVerdictsOf cases verdicts
+
+-- the same of some such list
+abbrev pub AreFit : Slots → Names → Hops → ByPeer → Totals → List Verdict → Type 0
+AreFit cases names hops peers totals verdicts = (differed : List ℕ) × FitTogether cases names hops peers differed totals verdicts

@@ -1,5 +1,5 @@
 -- How the touched cases are found. Private contracts alone cite it.
-use Rattle.std.specs.Prelude.{◌≡◌, ⊤, ℕ, nat_eq, Bool, true, false, not, ◌&&◌, List, [], ◌∷◌, ◌⊎◌}
+use Rattle.std.specs.Prelude.{◌≡◌, ⊤, ℕ, Bool, true, false, not, ◌&&◌, List, [], ◌∷◌, ◌⊎◌}
 use Rattle.std.specs.declared.option.Option.{Option}
 use Rattle.std.specs.declared.option.Option.TheVariants.{Some, None}
 use Rattle.std.specs.List.{list_any}
@@ -29,10 +29,6 @@ differs m y = not (same_authority (said_by m.before y) (said_by m.after y))
 abbrev pub IsRisen : Option (List ℕ) → Type 0
 IsRisen None = ⊤
 IsRisen (Some row) = IsNonDecreasing row
-
--- among these other ends of the customer's hops, one of the case n at which the customer attests another thing
-abbrev pub touches : RowMove → ℕ → List (ℕ × ℕ) → Bool
-touches m n ends = list_any (λ end. differs m end.0 && nat_eq n end.1) ends
 
 -- the customer of the move has a hop of the case n to some y of which it attests another thing
 abbrev pub IsTouchedAt : Entries → RowMove → ℕ → Type 0

@@ -35,8 +35,9 @@ use std::sync::ledger::Ledger;
 use vap_table::Vaps;
 
 /// The cases that routes share, each under a number below 2^32 for as long as some route has it. A case takes 111 to 152 bytes, 4 more for
-/// each AS of its path where that has more than seven, and what its hops take in the index; one that got another verdict since the last
-/// mark, 4 to 16 bytes more; and an AS some 60, and 4 to 9 more where it has no role of its own. Room for names stays once it was taken.
+/// each AS of its path where that has more than seven, and what its chain or its hops take in the index ([`HopIndex`]); one that got another
+/// verdict since the last mark, 4 to 16 bytes more; and an AS some 60, and 4 to 9 more where it has no role of its own. Room for names stays
+/// once it was taken.
 pub struct SharedCases {
     pub(crate) alloc: Global,
     pub(crate) slab: Slab<StoredCase>,
@@ -89,7 +90,7 @@ impl SharedCases {
             alloc,
             slab: Slab::new(alloc),
             names: Names::new(alloc),
-            index: HopIndex::new(alloc),
+            index: HopIndex::unlisted(alloc),
             peers: Peers::new(alloc),
             totals: Totals::none(),
             verdicts: Verdicts::new(alloc),
@@ -110,6 +111,17 @@ impl SharedCases {
         ensures { IsIndexOf self.now result.now }
     {
         &self.index
+    }
+
+    /// The hops of the cases are listed from now on, where some case ever came ([`HopIndex::list`]): a change of the table asks for them. Where
+    /// that was so it takes no time.
+    pub fn list_hops(&mut self) -> Result<(), NoMemory>
+        ensures { self.new ≡ self.old }
+    {
+        if self.index.has_no_case_yet() {
+            return Ok(());
+        }
+        self.index.list()
     }
 
     /// No two cases have the same peer AS and path: a law, and the body does nothing.
@@ -347,7 +359,7 @@ fn find_by(
     ensures verdict { OnOk result (SetsVerdict verdicts.old verdicts.new number verdict) }
 {
     let short = u32::try_from(number).ok().ok_or(NoMemory)?;
-    index.add(number, name.trail.chain())?;
+    index.put(number, name.trail.chain())?;
     peers.add(name.asn, number, own)?;
     names.add(name, short)?;
     verdicts.set(number, verdict)?;
@@ -371,7 +383,7 @@ pub(crate) fn start_anew(
 {
     *slab = Slab::new(alloc);
     *names = Names::new(alloc);
-    *index = HopIndex::new(alloc);
+    *index = HopIndex::unlisted(alloc);
     *peers = Peers::new(alloc);
     *totals = Totals::none();
     *verdicts = Verdicts::new(alloc);

@@ -1,8 +1,8 @@
 //! Routes leave their cases, one or many at once.
 ghost use Rattle.std.specs.Prelude.{◌≡◌, ◌≤◌, ◌-◌, ℕ, true, List, length, None, IfNone, IfSome, OnOk};
-ghost use Rattle.hop_index.specs.Index.{has as hops_have, Entries};
+ghost use Rattle.hop_index.specs.Index.{has as hops_have, AreGathered};
 ghost use Rattle.shared_cases.specs.Cases.{at, Rewrites};
-ghost use Rattle.shared_cases.specs.Kept.{staying, without_chain, AreSameHops, FitTogether, Hops};
+ghost use Rattle.shared_cases.specs.Kept.{staying, without_chain, AreFit, AreSameHops, FitTogether, Hops};
 ghost use Rattle.shared_cases.specs.Taking.{is_shared, left, left_times, lowered, times, TakesOut};
 
 use crate::case::StoredCase;
@@ -38,7 +38,7 @@ impl SharedCases {
 
     /// Routes leave these cases, one for each time that a number stands in the list. The last one takes a case along, and where there is no
     /// case nothing changes. The numbers are sorted, so that each case is visited once, and the hops of cases that go are taken out of the
-    /// index in the order of the hops, some 65,536 at a time: where many routes leave, this costs far less than [`SharedCases::leave`] for
+    /// index in the order of the hops, where they are listed, some 65,536 at a time: where many routes leave, this costs far less than [`SharedCases::leave`] for
     /// each. The list takes as much room again while it is sorted (without that memory the numbers are taken as they stand), and the hops
     /// 12 bytes each, two or three times that while they grow or are sorted. Where there was no memory for hops, nothing is promised of
     /// the cases but that they fit together.
@@ -99,7 +99,7 @@ impl SharedCases {
         ) else {
             return;
         };
-        self.index.remove(number as usize, trail.chain());
+        self.index.forget(number as usize, trail.chain());
     }
 }
 
@@ -114,6 +114,8 @@ fn leave_each(
     verdicts: &mut Verdicts,
     numbers: &[u32],
 ) -> Result<(), NoMemory>
+    requires { AreFit slab.old.slots names.old (hops_have index.old) peers.old
+        totals.old verdicts.old }
     ensures kept { OnOk result ((differed : List ℕ)
         → FitTogether slab.old.slots names.old (hops_have index.old) peers.old differed
         totals.old verdicts.old
@@ -134,7 +136,7 @@ fn leave_each(
         let rest = ahead_of(front, *number);
         let count = left.len() - rest.len();
         leave_many(
-            slab, names, peers, totals, verdicts, &mut gone, *number, count,
+            slab, names, index, peers, totals, verdicts, &mut gone, *number, count,
         )?;
         gone = settled(alloc, index, gone);
         left = rest;
@@ -158,10 +160,11 @@ fn ahead_of(list: &[u32], number: u32) -> &[u32]
     left
 }
 
-// So many routes leave a case. The hops of a case that goes come to those that go.
+// So many routes leave a case. The hops of a case that goes go too, or come to those that go.
 fn leave_many(
     slab: &mut Slab<StoredCase>,
     names: &mut Names,
+    index: &mut HopIndex,
     peers: &mut Peers,
     totals: &mut Totals,
     verdicts: &mut Verdicts,
@@ -169,12 +172,16 @@ fn leave_many(
     number: u32,
     count: usize,
 ) -> Result<(), NoMemory>
-    requires { 1 ≤ count }
-    ensures kept { OnOk result ((index : Entries) (differed : List ℕ)
-        → FitTogether slab.old.slots names.old (staying index gone.old) peers.old differed
+    requires some { 1 ≤ count }
+    requires fit { AreFit slab.old.slots names.old (staying index.old gone.old) peers.old
+        totals.old verdicts.old }
+    requires gathered { AreGathered index.old gone.old }
+    ensures kept { OnOk result ((differed : List ℕ)
+        → FitTogether slab.old.slots names.old (staying index.old gone.old) peers.old differed
         totals.old verdicts.old
-        → FitTogether slab.new.slots names.new (staying index gone.new) peers.new differed
+        → FitTogether slab.new.slots names.new (staying index.new gone.new) peers.new differed
         totals.new verdicts.new) }
+    ensures gathered { OnOk result (AreGathered index.new gone.new) }
     ensures left { OnOk result (Rewrites slab.old.slots slab.new.slots number
         (left_times count (at slab.old.slots number))) }
 {
@@ -184,7 +191,7 @@ fn leave_many(
         return Ok(());
     }
     if let Some(trail) = take_out(slab, names, peers, totals, verdicts, number) {
-        gone.push(number as usize, trail.chain())?;
+        index.let_go(number as usize, trail.chain(), gone)?;
     }
     Ok(())
 }
@@ -225,7 +232,9 @@ fn take_out(
 // The hops that go are taken out of the index where there are many: answered are those that are left to go.
 #[inline(always)]
 fn settled(alloc: Global, index: &mut HopIndex, gone: GoneHops) -> GoneHops
-    ensures { AreSameHops (staying index.old gone) (staying index.new result) }
+    requires { AreGathered index.old gone }
+    ensures same { AreSameHops (staying index.old gone) (staying index.new result) }
+    ensures gathered { AreGathered index.new result }
 {
     if gone.len() < MANY {
         return gone;

@@ -32,10 +32,34 @@ use vap_table::{Moves, Vaps};
 impl SharedCases {
     /// The table is another one from now on, by these moves. It judges anew, once each, the cases with a hop of which something else is
     /// attested. It takes the time of a look-up for each move; where its customer has hops, also of a walk over its rows, and of a look-up for
-    /// each AS that is in one row alone or, where these are fewer or there is one row only, for each hop of the customer; and of the cases
-    /// judged. Answered are the cases, and the numbers of those that get another verdict than the marked one for the first time since the last
-    /// mark, or since they came.
+    /// each AS that is in one row alone or, where its hops are fewer or there is one row only, for each of its neighbours; and of the cases
+    /// judged. The first time that something moves beside cases it lists their hops ([`SharedCases::list_hops`]). Answered are the cases, and
+    /// the numbers of those that get another verdict than the marked one for the first time since the last mark, or since they came.
     pub fn follow_table<L: Ledger>(
+        self,
+        moves: &Moves,
+        table: &Vaps,
+        roles: &Roles,
+        steps: &mut Steps<L>,
+    ) -> Result<(SharedCases, CaseNumbers), NoMemory>
+        ensures same { IfOk result (λ r. AreSameCases self r.0) }
+        ensures judged { IfOk result (λ r. (before : Table)
+            → AreMoves before (table_of table.now) moves.now
+            → (n : ℕ) → IsJudged (by_table before roles.now) (at self n)
+            → IsJudged (grounds table.now roles.now) (at r.0 n)) }
+        ensures differed { IfOk result (λ r. HaveDiffered self r.0) }
+        ensures newly { IfOk result (λ r. AreNewlyDiffering self r.0 r.1) }
+        ensures ticks { (before : Table) → AreMoves before (table_of table.now) moves.now
+            → AreWithinTouched (by_table before roles.now) (grounds table.now roles.now) self
+            (steps.new - steps.old) }
+    {
+        let mut cases = self;
+        cases.list_for(moves)?;
+        cases.follow_listed(moves, table, roles, steps)
+    }
+
+    // The same, however the hops are held.
+    fn follow_listed<L: Ledger>(
         self,
         moves: &Moves,
         table: &Vaps,
@@ -109,6 +133,16 @@ impl SharedCases {
         let touched = touched_by_default(self.alloc, &self.peers, before, roles)?;
         let (cases, newly) = self.rejudge(touched.as_slice(), table, roles, steps)?;
         Ok((cases, newly))
+    }
+
+    // The hops of the cases are listed from now on, where something moved.
+    fn list_for(&mut self, moves: &Moves) -> Result<(), NoMemory>
+        ensures { self.new ≡ self.old }
+    {
+        if moves.is_empty() {
+            return Ok(());
+        }
+        self.list_hops()
     }
 
     // The AS has a role of its own, and each of its cases says so from now on. It takes the time of a look-up, and that of these cases where

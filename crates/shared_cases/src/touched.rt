@@ -19,8 +19,8 @@ use std::vec::Vec;
 use vap_table::{Moves, RowMove};
 
 // The cases that some move touches, rising. It takes the time of a look-up for each move; where its customer has hops, also of a walk over its
-// rows, of a look-up for each AS that is in one row alone or, where these are fewer or there is one row only, for each hop of the customer,
-// and of what is found.
+// rows, of a look-up for each AS that is in one row alone or, where its hops are fewer or there is one row only, for each of its neighbours, and
+// of what is found.
 pub(crate) fn touched_by_moves(
     alloc: Global,
     index: &HopIndex,
@@ -100,8 +100,8 @@ fn touch_members(peers: &Peers, asn: u32, touched: &mut FoundCases) -> Result<()
 }
 
 // The cases that a move touches come to the others. Its rows are read only where its customer has a hop. Then the ASes that are in one row
-// alone are looked up among the customer's hops; where the hops are fewer, or all that the customer attests is new or gone, these are looked
-// up in the rows.
+// alone are looked up among the customer's hops; where the hops are fewer, or all that the customer attests is new or gone, its neighbours are
+// looked up in the rows.
 fn touch(
     alloc: Global,
     index: &HopIndex,
@@ -126,7 +126,7 @@ fn touch(
     }
 }
 
-// The same, where each hop of the customer is looked up in the rows.
+// The same, where each neighbour of the customer is looked up in the rows.
 fn touch_ends(
     index: &HopIndex,
     rows: &MovedRows<'_>,
@@ -135,9 +135,9 @@ fn touch_ends(
     ensures { OnOk result ((n : ℕ) → (has touched.new n ≡ true)
         ↔ ((has touched.old n ≡ true) ⊎ IsTouchedAt index.now rows.now n)) }
 {
-    for (provider, case) in index.through(rows.customer()) {
+    for provider in index.neighbours(rows.customer()) {
         if rows.is_moved(provider) {
-            touched.push(case)?;
+            touch_hop(index, rows.customer(), provider, touched)?;
         }
     }
     Ok(())

@@ -1,4 +1,7 @@
 //! Hops of cases, added, found and removed.
+ghost use Rattle.std.specs.Prelude.{IfOk};
+ghost use Rattle.hop_index.specs.Index.{IsListed};
+
 use av_base::NoMemory;
 use hop_index::HopIndex;
 use path_model::AsList;
@@ -12,7 +15,9 @@ const CHAIN: [u32; 4] = [1, 2, 3, 2];
 const OTHER: [u32; 2] = [3, 2];
 
 // The hops of these two cases and of one that has none.
-fn indexed(alloc: Global) -> Result<HopIndex, NoMemory> {
+fn indexed(alloc: Global) -> Result<HopIndex, NoMemory>
+    ensures { IfOk result IsListed }
+{
     let chain = AsList::from_slice(alloc, &CHAIN)?;
     let other = AsList::from_slice(alloc, &OTHER)?;
     let lone = AsList::from_slice(alloc, &[2])?;
@@ -41,6 +46,15 @@ fn test_between(rt: &impl Abort, index: &HopIndex, x: u32, y: u32, wanted: &[usi
     assert!(rt; left.next().is_none());
 }
 
+// Compares the neighbours of an AS.
+fn test_neighbours(rt: &impl Abort, index: &HopIndex, asn: u32, wanted: &[u32]) {
+    let mut left = wanted.iter();
+    for neighbour in index.neighbours(asn) {
+        assert!(rt; left.next() == Some(&neighbour));
+    }
+    assert!(rt; left.next().is_none());
+}
+
 #[test]
 fn finds_hops(rt: HostRuntime) -> Result<(), NoMemory> {
     test_hops(&rt, &HopIndex::new(rt.alloc()), 2, &[]);
@@ -51,6 +65,26 @@ fn finds_hops(rt: HostRuntime) -> Result<(), NoMemory> {
     test_between(&rt, &index, 2, 3, &[5, 7]);
     test_between(&rt, &index, 3, 2, &[5, 7]);
     test_between(&rt, &index, 1, 3, &[]);
+    test_neighbours(&rt, &index, 2, &[1, 3]);
+    test_neighbours(&rt, &index, 4, &[]);
+    Ok(())
+}
+
+#[test]
+fn finds_hops_that_are_not_listed(rt: HostRuntime) -> Result<(), NoMemory> {
+    let alloc = rt.alloc();
+    let mut index = HopIndex::unlisted(alloc);
+    index.put(0, &AsList::from_slice(alloc, &OTHER)?)?;
+    index.put(1, &AsList::from_slice(alloc, &CHAIN)?)?;
+    for _state in 0..2 {
+        test_hops(&rt, &index, 2, &[(1, 1), (3, 0), (3, 1)]);
+        test_hops(&rt, &index, 3, &[(2, 0), (2, 1)]);
+        test_hops(&rt, &index, 4, &[]);
+        test_between(&rt, &index, 2, 3, &[0, 1]);
+        test_between(&rt, &index, 1, 2, &[1]);
+        test_between(&rt, &index, 1, 3, &[]);
+        index.list()?;
+    }
     Ok(())
 }
 

@@ -1,4 +1,4 @@
-use Rattle.std.proofs.Common.{ℕ, ◌-◌, List, length, refl, ap, sym, ◌∙◌, arith}
+use Rattle.std.proofs.Common.{ℕ, ◌-◌, List, length, refl, ap, sym, ◌∙◌, arith, inr}
 use Rattle.std.proofs.lemmas.List.{nil_from_length}
 use Rattle.hop_index.specs.Index.{has as hops_have}
 use Rattle.shared_cases.specs.Cases.{at}
@@ -14,10 +14,14 @@ loop-number-init c = record {
       fit_same c.args.slab.now.slots c.args.names.now (hops_have c.args.index.now) (staying c.args.index.now c.new-gone.result) c.args.peers.now differed c.args.totals.now c.args.verdicts.now
       (staying_all c.args.index.now c.new-gone.result c.new-gone.ensures.none) fit;
   left = λ n. refl;
+  gathered = inr c.new-gone.ensures.none;
 }
 
-pub leave_many-requires : goal.leave_many-requires
-leave_many-requires c = omega (arith, c.in-Some.ensures.cases.1, c.ahead_of-rest.ensures.fewer)
+pub leave_many-requires-clause-fit : goal.leave_many-requires-clause-fit
+leave_many-requires-clause-fit c = (c.requires.0, c.loop-number.invariant.kept c.requires.0 c.requires.1)
+
+pub leave_many-requires-clause-some : goal.leave_many-requires-clause-some
+leave_many-requires-clause-some c = omega (arith, c.in-Some.ensures.cases.1, c.ahead_of-rest.ensures.fewer)
 
 pub loop-number-preserved : goal.loop-number-preserved
 loop-number-preserved c =
@@ -29,10 +33,11 @@ loop-number-preserved c =
     (takes_last left front x c.in-Some.ensures.cases.0) c.ahead_of-rest.ensures.ahead (omega (arith, c.in-Some.ensures.cases.1, c.ahead_of-rest.ensures.fewer)) in
     record {
       kept = λ differed fit.
-          fit_same c.leave_many.new.slab.slots c.leave_many.new.names (staying c.loop-number.index c.leave_many.new.gone) (staying c.settled-gone.new.index c.settled-gone.result) c.leave_many.new.peers differed
-          c.leave_many.new.totals c.leave_many.new.verdicts c.settled-gone.ensures
-          (c.in_ok-leave_many.ensures.kept c.loop-number.index differed (c.loop-number.invariant.kept differed fit));
+          fit_same c.leave_many.new.slab.slots c.leave_many.new.names (staying c.leave_many.new.index c.leave_many.new.gone) (staying c.settled-gone.new.index c.settled-gone.result) c.leave_many.new.peers differed
+          c.leave_many.new.totals c.leave_many.new.verdicts c.settled-gone.ensures.same
+          (c.in_ok-leave_many.ensures.kept differed (c.loop-number.invariant.kept differed fit));
       left = λ n. left_step c.loop-number.slab.slots c.leave_many.new.slab.slots x (length left - length rest) left rest takes c.in_ok-leave_many.ensures.left n ∙ c.loop-number.invariant.left n;
+      gathered = c.settled-gone.ensures.gathered;
     }
 
 pub loop-number-smaller : goal.loop-number-smaller

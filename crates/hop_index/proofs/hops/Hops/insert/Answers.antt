@@ -1,8 +1,7 @@
-use Rattle.std.proofs.Common.{◌≡◌, ℕ, nat_eq, not, ◌||◌, List, Some, refl, ap, sym, ◌∙◌, arith}
+use Rattle.std.proofs.Common.{ℕ, nat_eq, not, ◌||◌, List, Some, refl, ap, sym, ◌∙◌, arith}
 use Rattle.std.specs.declared.option.Option.{Option}
 use Rattle.std.specs.FinMap.{get}
-use Rattle.hop_index.specs.declared.pair.Pair.{Pair}
-use Rattle.hop_index.specs.Index.{Entries, at}
+use Rattle.hop_index.specs.Lists.{Lists, at}
 use Rattle.hop_index.specs.Kept.{is_there}
 use Rattle.hop_index.specs.Numbers.{found_has}
 use Rattle.hop_index.proofs.CaseLemmas.{case_more, stands_more, have_cases, are_rising, one_more}
@@ -63,20 +62,20 @@ returns-in_ok-insert-in-Some-clause-rising c =
 
 pub push-requires : goal.push-requires
 push-requires c =
-    let absent = ap (λ (es : Entries). at es c.args.pair) (sym c.self.view_is) ∙ place_absent c.self.inside.by_pair c.self.inside.hops.items c.self.invariant c.args.pair c.word.ensures.small
+    let absent = ap (λ (es : Lists). at es c.args.pair) (sym c.self.view_is) ∙ place_absent c.self.inside.by_pair c.self.inside.hops.items c.self.invariant c.args.pair c.word.ensures.small
     (ap (get c.self.inside.by_pair) (sym c.word.ensures.same) ∙ sym c.get.ensures ∙ c.in-None.is) in
     absent
 
 pub returns-in_ok-push-in-None-clause-added : goal.returns-in_ok-push-in-None-clause-added
 returns-in_ok-push-in-None-clause-added c =
-    let absent = ap (λ (es : Entries). at es c.args.pair) (sym c.self.view_is) ∙ place_absent c.self.inside.by_pair c.self.inside.hops.items c.self.invariant c.args.pair c.word.ensures.small
+    let absent = ap (λ (es : Lists). at es c.args.pair) (sym c.self.view_is) ∙ place_absent c.self.inside.by_pair c.self.inside.hops.items c.self.invariant c.args.pair c.word.ensures.small
     (ap (get c.self.inside.by_pair) (sym c.word.ensures.same) ∙ sym c.get.ensures ∙ c.in-None.is) in
     case_more c.args.self.now c.push.new.self c.args.pair (Some c.insert-in-None.new.self) c.in_ok-push-in-None.ensures c.args.case
     (one_more c.new-cases.result c.insert-in-None.new.self _ c.args.case c.new-cases.ensures absent c.in_ok-insert-in-None.ensures.added)
 
 pub returns-in_ok-push-in-None-clause-first : goal.returns-in_ok-push-in-None-clause-first
 returns-in_ok-push-in-None-clause-first c =
-    let absent = ap (λ (es : Entries). at es c.args.pair) (sym c.self.view_is) ∙ place_absent c.self.inside.by_pair c.self.inside.hops.items c.self.invariant c.args.pair c.word.ensures.small
+    let absent = ap (λ (es : Lists). at es c.args.pair) (sym c.self.view_is) ∙ place_absent c.self.inside.by_pair c.self.inside.hops.items c.self.invariant c.args.pair c.word.ensures.small
     (ap (get c.self.inside.by_pair) (sym c.word.ensures.same) ∙ sym c.get.ensures ∙ c.in-None.is) in
     ap (λ (o : Option (List ℕ)). not (is_there o)) (sym absent)
 

@@ -3,7 +3,7 @@ use Rattle.std.specs.FinMap.{FinMap, get, insert, remove}
 use Rattle.std.specs.Ordering.{nat_cmp}
 use Rattle.std.proofs.lemmas.List.{get_or_read}
 use Rattle.hop_index.specs.declared.pair.Pair.{Pair}
-use Rattle.hop_index.specs.Index.{Entries}
+use Rattle.hop_index.specs.Lists.{Lists}
 use Rattle.hop_index.specs.Kept.{Updates}
 use Rattle.hop_index.specs.Pairs.{pair_word}
 use Rattle.hop_index.specs.Places.{ArePlaced, hop_at, words_of}
@@ -21,7 +21,7 @@ invariant_of-self c =
 pub returns-in_default : goal.returns-in_default
 returns-in_default c =
     let none = ap (get c.self.inside.by_pair) (sym c.word.ensures.same) ∙ sym c.remove.ensures.before ∙ c.in_default.is in
-    subst (λ (es : Entries). Updates es c.args.pair None c.self.inside.hops.items) c.self.view_is
+    subst (λ (es : Lists). Updates es c.args.pair None c.self.inside.hops.items) c.self.view_is
     (same_when_absent c.self.inside.hops.items c.args.pair (place_absent c.self.inside.by_pair c.self.inside.hops.items c.self.invariant c.args.pair c.word.ensures.small none))
 
 pub swap_remove-requires : goal.swap_remove-requires
@@ -62,13 +62,13 @@ invariant_of-self-else-place-len c =
 pub returns-then-place-len : goal.returns-then-place-len
 returns-then-place-len c =
     let there = ap (get c.self.inside.by_pair) (sym c.word.ensures.same) ∙ sym c.remove.ensures.before ∙ c.in-Some.is in
-    subst (λ (es : Entries). Updates es c.args.pair None c.swap_remove.new.self.items) c.self.view_is
+    subst (λ (es : Lists). Updates es c.args.pair None c.swap_remove.new.self.items) c.self.view_is
     (updates_left c.self.inside.by_pair c.self.inside.hops.items c.swap_remove.new.self.items c.self.invariant c.args.pair c.word.ensures.small c.in-Some.place
     c.swap_remove.result there c.swap_remove.ensures.items c.replace.new.self (invariant_of-self-then-place-len c))
 
 pub returns-else-place-len : goal.returns-else-place-len
 returns-else-place-len c =
     let there = ap (get c.self.inside.by_pair) (sym c.word.ensures.same) ∙ sym c.remove.ensures.before ∙ c.in-Some.is in
-    subst (λ (es : Entries). Updates es c.args.pair None c.swap_remove.new.self.items) c.self.view_is
+    subst (λ (es : Lists). Updates es c.args.pair None c.swap_remove.new.self.items) c.self.view_is
     (updates_left c.self.inside.by_pair c.self.inside.hops.items c.swap_remove.new.self.items c.self.invariant c.args.pair c.word.ensures.small c.in-Some.place
     c.swap_remove.result there c.swap_remove.ensures.items c.remove.new.self (invariant_of-self-else-place-len c))

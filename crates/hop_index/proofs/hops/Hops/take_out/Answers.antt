@@ -1,7 +1,7 @@
 use Rattle.std.proofs.Common.{◌≡◌, ℕ, nat_eq, not, ◌&&◌, List, [], None, Some, ap, sym, ◌∙◌, arith, true≢false}
 use Rattle.std.specs.declared.option.Option.{Option}
 use Rattle.std.specs.FinMap.{get}
-use Rattle.hop_index.specs.Index.{Entries, at}
+use Rattle.hop_index.specs.Lists.{Lists, at}
 use Rattle.hop_index.specs.Kept.{is_there}
 use Rattle.hop_index.specs.Numbers.{found_has}
 use Rattle.hop_index.proofs.CaseLemmas.{case_less, stands_still, others_stay, are_rising, here_now}
@@ -25,14 +25,14 @@ invariant_of-self c =
 
 pub returns-in-None-clause-removed : goal.returns-in-None-clause-removed
 returns-in-None-clause-removed c =
-    let absent = ap (λ (es : Entries). at es c.args.pair) (sym c.self.view_is) ∙ place_absent c.self.inside.by_pair c.self.inside.hops.items c.self.invariant c.args.pair c.word.ensures.small
+    let absent = ap (λ (es : Lists). at es c.args.pair) (sym c.self.view_is) ∙ place_absent c.self.inside.by_pair c.self.inside.hops.items c.self.invariant c.args.pair c.word.ensures.small
     (ap (get c.self.inside.by_pair) (sym c.word.ensures.same) ∙ sym c.get.ensures ∙ c.in-None.is) in
     case_less c.args.self.now c.args.self.now c.args.pair None (same_when_absent c.args.self.now c.args.pair absent) c.args.case
     (λ n. ap (λ (o : Option (List ℕ)). found_has o n && not (nat_eq n c.args.case)) (sym absent))
 
 pub returns-in-None-clause-emptied : goal.returns-in-None-clause-emptied
 returns-in-None-clause-emptied c =
-    let absent = ap (λ (es : Entries). at es c.args.pair) (sym c.self.view_is) ∙ place_absent c.self.inside.by_pair c.self.inside.hops.items c.self.invariant c.args.pair c.word.ensures.small
+    let absent = ap (λ (es : Lists). at es c.args.pair) (sym c.self.view_is) ∙ place_absent c.self.inside.by_pair c.self.inside.hops.items c.self.invariant c.args.pair c.word.ensures.small
     (ap (get c.self.inside.by_pair) (sym c.word.ensures.same) ∙ sym c.get.ensures ∙ c.in-None.is) in
     (λ h. absurd (true≢false (sym h)), λ h. let both : ◌≡◌ {A = Option (List ℕ)} None (Some []) = sym absent ∙ h in absurd cc)
 
