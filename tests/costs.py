@@ -51,6 +51,16 @@ def route(number, peer, path):
     return record(2, struct.pack(">I", number) + prefix + struct.pack(">H", 1) + entry)
 
 
+def update(path, withdrawn, announced):
+    """An UPDATE of the first peer in BGP4MP (RFC 6396, section 4.4.3): prefixes that go, and prefixes that come with this path."""
+    hops = struct.pack(f">BB{len(path)}I", 2, len(path), *path)
+    attributes = bytes([0x40, 1, 1, 0, 0x40, 2, len(hops)]) + hops + bytes([0x40, 3, 4, 1, 1, 1, 1]) if announced else b""
+    body = struct.pack(">H", len(withdrawn)) + withdrawn + struct.pack(">H", len(attributes)) + attributes + announced
+    message = b"\xff" * 16 + struct.pack(">HB", 19 + len(body), 2) + body
+    head = struct.pack(">IIHHII", PEER, 64_500, 0, 1, 0x0A000000, 0x0A0000FF)
+    return struct.pack(">IHHI", 0, 16, 4, len(head) + len(message)) + head + message
+
+
 def der(tag, content):
     """A value in DER."""
     size = len(content)
@@ -169,6 +179,16 @@ def cleared(folder, size):
     return f"open d {dump}\ntake d {ALL}\nclear\n", "".join(f"assert {1_000_000 + i} 1\n" for i in range(size))
 
 
+def taken_back(folder, size):
+    """A path that comes, gets another verdict and goes, so many times, before sixty times as many routes have it, and a list of changes."""
+    path = [PEER, 7, 9]
+    prefix = bytes([24, 10, 0, 0])
+    updates = write(folder, "updates", (update(path, b"", prefix) + update(path, prefix, b"")) * size)
+    dump = write(folder, "dump", peer_table(1) + b"".join(route(i, 0, path) for i in range(60 * size)))
+    rounds = "".join(f"take u 1\n{'assert' if i % 2 == 0 else 'unassert'} 9{' 1' if i % 2 == 0 else ''}\ntake u 1\n" for i in range(size))
+    return f"role {PEER} customer\nopen u {updates}\nopen d {dump}\nchanges\n", rounds + f"take d {ALL}\nchanges\n"
+
+
 # What is measured, for which sizes, and by how much the time may grow where the size doubles.
 KINDS = (
     ("changes where so many peers of an AS have a path each", changes, (4_000, 8_000, 16_000), LINEAR),
@@ -184,6 +204,7 @@ KINDS = (
     ("attestations of one customer, one provider each", attestations, (25_000, 50_000, 100_000), LINEAR),
     ("customers with a hundred times as many providers", rows, (25, 50, 100), ROW),
     ("customers asserted where as many paths were", cleared, (20_000, 40_000, 80_000), LINEAR),
+    ("a path that comes and goes, then of many routes", taken_back, (250, 500, 1_000), LINEAR),
 )
 
 

@@ -11,8 +11,8 @@ use Rattle.std.proofs.lemmas.Bool.{and_parts, and_from, or_cases, or_left, or_ri
 use Rattle.std.proofs.lemmas.List.Folds.{list_any-append}
 use Rattle.std.proofs.lemmas.Map.Views.{exact_unsigned_eq}
 use Rattle.hop_index.specs.Lists.{Lists, at, SomeCaseHas}
-use Rattle.hop_index.specs.Kept.{Ends, are_beside, is_there, AreJoined, AreRising, HaveCases}
-use Rattle.hop_index.specs.Numbers.{has_number, numbers_or, found_has}
+use Rattle.hop_index.specs.Kept.{Ends, are_beside, is_there, AreJoined, HaveCases}
+use Rattle.hop_index.specs.Numbers.{has_number, found_has}
 use Rattle.hop_index.specs.Pairs.{pair_of}
 use Rattle.hop_index.specs.Ends.{end_cmp, has_end, ends_at, ends_of, listed_at}
 

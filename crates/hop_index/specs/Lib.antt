@@ -1,4 +1,3 @@
-pub mod Between
 pub mod Ends
 pub mod Gone
 pub mod Held

@@ -1,7 +1,9 @@
 //! The cases of each hop, which stands once in a list without gaps.
-ghost use Rattle.std.specs.Prelude.{◌≡◌, ◌≢◌, ◌↔◌, not, ◌||◌, ◌&&◌, [], Some, None, IfOk, OnOk, IsTrue};
+ghost use Rattle.std.specs.Prelude.{◌≡◌, ◌≢◌, ◌↔◌, not, ◌++◌, ◌||◌, ◌&&◌, [], Some, None, IfOk, OnOk, IsTrue};
 ghost use Rattle.hop_index.specs.declared.pair.Pair.{Pair};
+ghost use Rattle.std.specs.Option.{option_copied};
 ghost use Rattle.hop_index.specs.Lists.{at};
+ghost use Rattle.hop_index.specs.Numbers.{numbers_or};
 ghost use Rattle.hop_index.specs.Kept.{stands, is_pair, Updates, AddsCase, RemovesCase, HaveCases, AreRising};
 
 use crate::number_iter::NumberIter;
@@ -84,14 +86,35 @@ impl Hops {
         emptied
     }
 
-    // The cases of a hop, rising; none where it has no entry.
+    // The cases of a hop; none where it has no entry.
+    #[inline(always)]
+    fn cases(&self, pair: Pair) -> Option<&Numbers>
+        ensures { option_copied result ≡ at self.now pair }
+    {
+        match self.by_pair.get(pair.word()) {
+            None => None,
+            Some(place) => Some(&self.hops[place as usize].1),
+        }
+    }
+
+    // The same, one after another, rising.
     #[inline(always)]
     pub(crate) fn of(&self, pair: Pair) -> Option<NumberIter<'_>>
         ensures { result ≡ at self.now pair }
     {
-        match self.by_pair.get(pair.word()) {
+        match self.cases(pair) {
             None => None,
-            Some(place) => Some(self.hops[place as usize].1.iter()),
+            Some(cases) => Some(cases.iter()),
+        }
+    }
+
+    // Appends them. Where there was no memory, some may have been appended.
+    pub(crate) fn push_cases(&self, pair: Pair, into: &mut Vec<u32>) -> Result<(), NoMemory>
+        ensures { OnOk result (into.new.items ≡ into.old.items ++ numbers_or (at self.now pair)) }
+    {
+        match self.cases(pair) {
+            None => Ok(()),
+            Some(cases) => cases.push_into(into),
         }
     }
 

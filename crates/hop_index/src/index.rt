@@ -1,16 +1,15 @@
 //! Hops by their ASes.
-ghost use Rattle.std.specs.Prelude.{◌≡◌, ℕ, true, IfOk, OnOk};
+ghost use Rattle.std.specs.Prelude.{◌≡◌, ◌++◌, ℕ, true, IfOk, OnOk};
 ghost use Rattle.std.specs.List.Sorted.{IsStrictlySortedBy};
 ghost use Rattle.std.specs.Ordering.{nat_cmp};
 ghost use Rattle.hop_index.specs.Ends.{end_cmp, has_end};
 ghost use Rattle.hop_index.specs.Hops.{has_hop};
 ghost use Rattle.hop_index.specs.Index.{has, HasNothing, HasTheSame, IsNeighbour, IsListed, IsWholeChain, Adds, Removes, RemovesEach, AreGathered, LetsGo, stays};
 ghost use Rattle.hop_index.specs.Kept.{HaveChains};
-ghost use Rattle.hop_index.specs.Numbers.{has_number};
+ghost use Rattle.hop_index.specs.Numbers.{has_number, Appends};
 ghost use Rattle.hop_index.specs.Through.{ends_left};
 
 use crate::ahead;
-use crate::between::{Between, CasesLeft};
 use crate::gone::GoneHops;
 use crate::hops::Hops;
 use crate::lists::HopLists;
@@ -222,17 +221,16 @@ impl HopIndex {
         Neighbours { left }
     }
 
-    /// Each case with a hop between `x` and `y`, in either direction, by rising case. It takes no memory, and the time of a look-up and of what
-    /// it gives. Where the hops aren't listed, it goes over all chains.
-    pub fn between(&self, x: u32, y: u32) -> Between<'_>
-        ensures exact { (n : ℕ) → has_number result n ≡ has self.now x y n }
-        ensures rising { IsStrictlySortedBy nat_cmp result }
+    /// Appends each case with a hop between `x` and `y`, in either direction. It takes the time of a look-up, and one copy of what is found,
+    /// and memory only where `into` has no room. Where there was none, some may have been appended. Where the hops aren't listed, it goes over
+    /// all chains.
+    pub fn push_between(&self, x: u32, y: u32, into: &mut Vec<u32>) -> Result<(), NoMemory>
+        ensures { OnOk result (Appends into.old.items (has self.now x y) into.new.items) }
     {
-        let cases = match &self.kept {
-            Kept::Listed(lists) => CasesLeft::Listed(lists.between(x, y)),
-            Kept::Loose(loose) => CasesLeft::Loose(LooseBetween::new(loose, x, y)),
-        };
-        Between { cases }
+        match &self.kept {
+            Kept::Listed(lists) => lists.push_between(x, y, into),
+            Kept::Loose(loose) => push_each(LooseBetween::new(loose, x, y), into),
+        }
     }
 
     /// Whether no case came yet to an index that isn't listed. Nothing is promised of it.
@@ -271,6 +269,19 @@ impl HopIndex {
             Kept::Loose(_) => None,
         }
     }
+}
+
+// Appends these cases. For a number of 2^32 or above there is no memory.
+fn push_each(cases: LooseBetween<'_>, into: &mut Vec<u32>) -> Result<(), NoMemory>
+    ensures { OnOk result (into.new.items ≡ into.old.items ++ cases.entry) }
+{
+    for case in cases {
+        let Ok(number) = u32::try_from(case) else {
+            return Err(NoMemory);
+        };
+        into.push(number)?;
+    }
+    Ok(())
 }
 
 // The hops of these chains in lists. They are read ahead of their use.

@@ -1,9 +1,8 @@
 //! Which stored cases have a hop between two ASes, so that a change of one AS's attestations finds the cases that it may touch.
 //!
 //! The layer above uses one contract: **[`HopIndex::through`] gives exactly the cases that were added and not removed with a hop between
-//! x and some y, by rising y and then by rising case**; [`HopIndex::between`] gives those of one y, and
-//! [`HopIndex::neighbours`] each such y once. `specs/Hops.antt` says what the hops of
-//! a chain are, and `specs/Index.antt` what it is that an index has a hop: begin there. A hop is the same from either of its two ASes, since
+//! x and some y, by rising y and then by rising case**; [`HopIndex::push_between`] appends those of one y, and [`HopIndex::neighbours`] gives
+//! each such y once. `specs/Hops.antt` says what the hops of a chain are, and `specs/Index.antt` what it is that an index has a hop: begin there. A hop is the same from either of its two ASes, since
 //! what a change of x does to a hop doesn't depend on which of the two is nearer to the origin: the cases of a hop are held once, under both,
 //! and beside them the neighbours of each AS (`lists`). Both are sets of numbers ([`Numbers`]), which the layer above uses too.
 //!
@@ -13,7 +12,6 @@
 #![tactic(auto)]
 
 mod ahead;
-mod between;
 mod chunked;
 mod gone;
 mod held;
@@ -22,7 +20,6 @@ mod index;
 mod laws;
 mod least;
 mod listed;
-mod listed_between;
 mod listed_through;
 mod lists;
 mod loose;
@@ -38,7 +35,6 @@ mod through;
 mod words;
 
 pub use ahead::HopsAhead;
-pub use between::Between;
 pub use gone::GoneHops;
 pub use index::HopIndex;
 pub use laws::{ends_reach_cases, hops_join_neighbours, removal_undoes_addition};

@@ -4,12 +4,11 @@ ghost use Rattle.std.specs.List.Sorted.{IsStrictlySortedBy};
 ghost use Rattle.std.specs.Ordering.{nat_cmp};
 ghost use Rattle.hop_index.specs.Lists.{has, SomeCaseHas, HasNothing, Adds, Removes};
 ghost use Rattle.hop_index.specs.Kept.{AddsHop, RemovesHop, RemovesEach, AreKept};
-ghost use Rattle.hop_index.specs.Numbers.{has_number, numbers_or};
+ghost use Rattle.hop_index.specs.Numbers.{has_number, numbers_or, Appends};
 ghost use Rattle.hop_index.specs.Ends.{end_cmp, has_end, listed_ends};
 
 use crate::gone::{GoneHop, GoneHops};
 use crate::hops::Hops;
-use crate::listed_between::ListedBetween;
 use crate::listed_through::ListedThrough;
 use crate::number_iter::NumberIter;
 use crate::numbers::Numbers;
@@ -143,15 +142,11 @@ impl HopLists {
         neighbours::of(&self.ends, x)
     }
 
-    // Each case with a hop between `x` and `y`, in either direction, by rising case. It takes no memory, and the time of a look-up and of what
-    // it gives.
-    pub(crate) fn between(&self, x: u32, y: u32) -> ListedBetween<'_>
-        ensures exact { (n : ℕ) → has_number result n ≡ has self.now x y n }
-        ensures rising { IsStrictlySortedBy nat_cmp result }
+    // Appends each case with a hop between `x` and `y`, in either direction. Where there was no memory, some may have been appended.
+    pub(crate) fn push_between(&self, x: u32, y: u32, into: &mut Vec<u32>) -> Result<(), NoMemory>
+        ensures { OnOk result (Appends into.old.items (has self.now x y) into.new.items) }
     {
-        ListedBetween {
-            cases: self.hops.of(Pair::of(x, y)),
-        }
+        self.hops.push_cases(Pair::of(x, y), into)
     }
 
     // The hops, for who reads them ahead of their use.

@@ -1,5 +1,5 @@
 //! Sets of numbers, of ASes or of cases.
-ghost use Rattle.std.specs.Prelude.{◌≡◌, ◌≢◌, ◌↔◌, ℕ, nat_eq, not, ◌||◌, ◌&&◌, [], IsTrue, OnOk};
+ghost use Rattle.std.specs.Prelude.{◌≡◌, ◌≢◌, ◌↔◌, ℕ, nat_eq, not, ◌++◌, ◌||◌, ◌&&◌, [], IsTrue, OnOk};
 ghost use Rattle.std.specs.List.Sorted.{IsStrictlySortedBy};
 ghost use Rattle.std.specs.Ordering.{nat_cmp};
 ghost use Rattle.hop_index.specs.Numbers.{has_number};
@@ -98,6 +98,22 @@ impl Numbers {
             },
             _ => 0,
         }
+    }
+
+    /// Appends the numbers, rising. They are copied by the slices in which they are held. Where there was no memory, some may have been
+    /// appended.
+    pub fn push_into(&self, into: &mut Vec<u32>) -> Result<(), NoMemory>
+        ensures { OnOk result (into.new.items ≡ into.old.items ++ self.now) }
+    {
+        match &self.held {
+            Held::Empty => {}
+            Held::One(a) => into.push(*a)?,
+            Held::Two(a, b) => into.extend_from_slice(&[*a, *b])?,
+            Held::Three(a, b, c) => into.extend_from_slice(&[*a, *b, *c])?,
+            Held::Listed(numbers) => into.extend_from_slice(numbers.as_slice())?,
+            Held::Many(numbers) => return numbers.push_keys(into),
+        }
+        Ok(())
     }
 
     /// The numbers, rising.

@@ -1,5 +1,5 @@
 -- A walk along a chain from one of its ends, and the ramps that it finds. Private contracts alone cite it.
-use Rattle.std.specs.Prelude.{◌≡◌, ◌≢◌, ℕ, ◌+◌, ◌-◌, ◌<◌, ◌≤◌, List, length}
+use Rattle.std.specs.Prelude.{◌≡◌, ◌≢◌, ℕ, ◌+◌, ◌-◌, ◌<◌, ◌≤◌, ◌⊎◌, List, length}
 use Rattle.path_model.specs.declared.authority.Authority.{Authority}
 use Rattle.path_model.specs.declared.authority.Authority.TheVariants.{Refuses, Provides}
 use Rattle.path_model.specs.Authority.{Table}
@@ -42,6 +42,15 @@ pub record AreUpRamps (table : Table) (chain : List ℕ) (ramps : Ramps) : Type 
 pub record AreDownRamps (table : Table) (chain : List ℕ) (ramps : Ramps) : Type 0 where
   pub maximal : IsDownRamp chain (RefusesToDescend table chain) ramps.maximal
   pub minimal : IsDownRamp chain (DoesNotDescend table chain) ramps.minimal
+
+-- the ramp of n ASes along which so is said: it stops at the first hop that isn't attested
+abbrev pub IsAttested : (ℕ → Authority) → ℕ → ℕ → Type 0
+IsAttested says n ramp = IsRamp (λ j. says j ≢ Provides) n ramp
+
+-- The down-ramps of a chain so far as they count beside its up-ramps: where an up-ramp has all ASes, the down-ramp that it is added to may be anything.
+pub record CountBeside (table : Table) (chain : List ℕ) (up down : Ramps) : Type 0 where
+  pub maximal : (up.maximal ≡ length chain) ⊎ IsDownRamp chain (RefusesToDescend table chain) down.maximal
+  pub minimal : (up.minimal ≡ length chain) ⊎ IsDownRamp chain (DoesNotDescend table chain) down.minimal
 
 -- the up-ramps and the down-ramps together
 abbrev pub joined : Ramps → Ramps → FourRamps

@@ -9,7 +9,7 @@ ghost use Rattle.ramps.specs.Small.{AreSmall, IsSmall};
 ghost use Rattle.ramps.specs.Walk.{AreOrdered};
 
 use crate::small_witness::SmallWitness;
-use crate::walk::{Ramps, down_ramps, up_ramps};
+use crate::walk::{Ramps, down_ramps_beside, up_ramps};
 use av_base::Steps;
 use path_model::{Direction, Role, Table, Trail, Verdict, Witness};
 use std::marker::Model;
@@ -79,7 +79,10 @@ fn explain<T: Table>(table: &T, role: Role, neighbour: u32, trail: &Trail) -> Wi
     let count = chain.len() as u32;
     match role.direction() {
         Direction::Up => upstream(count, up_ramps(table, chain)),
-        Direction::Down => downstream(count, up_ramps(table, chain), down_ramps(table, chain)),
+        Direction::Down => {
+            let up = up_ramps(table, chain);
+            downstream(count, up, down_ramps_beside(table, chain, up))
+        }
     }
 }
 

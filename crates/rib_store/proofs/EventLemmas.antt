@@ -52,26 +52,26 @@ noted_state parts relations was is routes cases notes notes' told same = ap (λ 
 
 -- the marks belong to the cases once those that newly differ are pending
 pub event_sound : (g : Grounds) (routes : Numbered) (old new : Slots) (marks marks' : Marks) (numbers : List ℕ) → AreMarks routes old marks → AreStored g routes new → AreNewlyDiffering old new numbers
-    → Defers marks.is_marked marks.pending.keys numbers marks'.pending.keys → marks'.is_marked ≡ marks.is_marked → marks'.notes ≡ marks.notes → marks'.keys ≡ marks.keys → AreSound g routes new marks'
+    → Defers marks.is_marked marks.pending numbers marks'.pending → marks'.is_marked ≡ marks.is_marked → marks'.notes ≡ marks.notes → marks'.keys ≡ marks.keys → AreSound g routes new marks'
 event_sound g routes old new marks marks' numbers are stored newly defers same notes keys = record {
   stored = stored;
   marks = record {
-    noted = subst (λ (b : Bool). AreNoted b routes new marks'.notes marks'.pending.keys) (sym same)
-        (subst (λ (es : Noted). AreNoted marks.is_marked routes new es marks'.pending.keys) (sym notes)
-        (noted_event marks.is_marked routes old new marks.notes marks.pending.keys marks'.pending.keys numbers are.noted newly defers));
+    noted = subst (λ (b : Bool). AreNoted b routes new marks'.notes marks'.pending) (sym same)
+        (subst (λ (es : Noted). AreNoted marks.is_marked routes new es marks'.pending) (sym notes)
+        (noted_event marks.is_marked routes old new marks.notes marks.pending marks'.pending numbers are.noted newly defers));
     keys = subst (λ (index : Option Entries). AreKeysOfRoutes index routes) (sym keys) are.keys;
   };
 }
 
 -- and once the keys of the pending cases are noted
 pub gathered_sound : (g : Grounds) (routes : Numbered) (cases : Slots) (marks marks' : Marks) → AreSound g routes cases marks → TellsMarks routes cases marks.notes marks'.notes
-    → AreCovered routes cases marks.pending.keys marks'.notes → AreKeysOfRoutes marks'.keys routes → marks'.pending.keys ≡ [] → marks'.is_marked ≡ marks.is_marked → AreSound g routes cases marks'
+    → AreCovered routes cases marks.pending marks'.notes → AreKeysOfRoutes marks'.keys routes → marks'.pending ≡ [] → marks'.is_marked ≡ marks.is_marked → AreSound g routes cases marks'
 gathered_sound g routes cases marks marks' sound told covered keys none same = record {
   stored = sound.stored;
   marks = record {
-    noted = subst (λ (b : Bool). AreNoted b routes cases marks'.notes marks'.pending.keys) (sym same)
+    noted = subst (λ (b : Bool). AreNoted b routes cases marks'.notes marks'.pending) (sym same)
         (subst (λ (ps : List ℕ). AreNoted marks.is_marked routes cases marks'.notes ps) (sym none)
-        (noted_gathered marks.is_marked routes cases marks.notes marks'.notes marks.pending.keys sound.marks.noted told covered));
+        (noted_gathered marks.is_marked routes cases marks.notes marks'.notes marks.pending sound.marks.noted told covered));
     keys = keys;
   };
 }

@@ -1,5 +1,5 @@
 -- The changes among all notes and routes are those of the state, and so are those among the notes where each key that may have changed has one.
-use Rattle.std.proofs.Common.{◌∷◌, arith, ◌≡◌, ℕ, ◌≤◌, true, false, length, None, Some, refl, ap, sym, subst, ◌∙◌, Bool, List, []}
+use Rattle.std.proofs.Common.{◌≡◌, ℕ, ◌≤◌, true, false, length, None, Some, refl, ap, sym, subst, ◌∙◌, Bool, List, []}
 use Rattle.std.specs.declared.option.Option.{Option}
 use Rattle.std.specs.BTreeMap.{is_at}
 use Rattle.std.specs.FinMap as fin
@@ -97,8 +97,3 @@ rows_fewer is_marked cases es = fewer (row_change is_marked cases) es
 
 pub changed_fewer : (routes : Numbered) (cases : Slots) (es : Noted) → length (filter_map (changed routes cases) es) ≤ length es
 changed_fewer routes cases es = fewer (changed routes cases) es
-
--- a set of no numbers has none
-pub no_numbers : (ns : List ℕ) → length ns ≡ 0 → ns ≡ []
-no_numbers [] e = refl
-no_numbers (n ∷ ns) e = absurd (omega (arith, e))

@@ -36,7 +36,7 @@ pub record AreIdle (marks : Marks) : Type 0 where
   pub no_keys : marks.keys ≡ None
 
 pub record AreMarks (routes : Numbered) (cases : Slots) (marks : Marks) : Type 0 where
-  pub noted : AreNoted marks.is_marked routes cases marks.notes marks.pending.keys
+  pub noted : AreNoted marks.is_marked routes cases marks.notes marks.pending
   pub keys : AreKeysOfRoutes marks.keys routes
 
 -- the routes, their cases and the marks belong together

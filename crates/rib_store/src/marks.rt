@@ -15,9 +15,8 @@ use crate::journal::mark_of;
 use av_base::NoMemory;
 use path_model::{Key, Verdict};
 use route_map::{KeysByNumber, RouteMap};
-use shared_cases::{CaseNumbers, SharedCases};
+use shared_cases::{FoundCases, SharedCases};
 use std::alloc::Global;
-use std::collections::BTreeSet;
 
 // Once verdicts were marked, a note of each key whose route changed since, or whose case got another verdict than the marked one and isn't
 // pending: what was marked of the key. Of each other key its case tells it. Each note is of a key that has a route, or had one at the mark.
@@ -28,7 +27,7 @@ pub(crate) struct Marks {
     // none, where the key had no route at the mark
     pub(crate) notes: RouteMap<Option<Verdict>>,
     // the numbers of the cases whose keys are still to be noted
-    pub(crate) pending: BTreeSet<usize>,
+    pub(crate) pending: FoundCases,
     // the keys of each case, from when some are first noted by their case
     pub(crate) keys: Option<KeysByNumber>,
 }
@@ -43,7 +42,7 @@ impl Marks {
         Marks {
             is_marked: false,
             notes: RouteMap::new(alloc),
-            pending: BTreeSet::new(alloc),
+            pending: FoundCases::new(alloc),
             keys: None,
         }
     }
@@ -70,7 +69,7 @@ impl Marks {
             (option_map (λ n. marked_or (at cases.now n)) before) self.new.notes) }
         ensures keys { OnOk result (FollowsIn self.old.keys key.now after self.new.keys) }
         ensures same { self.new.is_marked ≡ self.old.is_marked }
-        ensures pending { self.new.pending.keys ≡ self.old.pending.keys }
+        ensures pending { self.new.pending ≡ self.old.pending }
     {
         note(&mut self.notes, self.is_marked, cases, key, before, after)?;
         match &mut self.keys {
@@ -80,10 +79,10 @@ impl Marks {
     }
 
     // These cases got another verdict than the marked one, each for the first time since the mark: their keys are to be noted. It takes
-    // a look-up for each.
-    pub(crate) fn defer(&mut self, numbers: &CaseNumbers) -> Result<(), NoMemory>
-        ensures deferred { OnOk result (Defers self.old.is_marked self.old.pending.keys numbers.now
-            self.new.pending.keys) }
+    // a step for each.
+    pub(crate) fn defer(&mut self, numbers: &FoundCases) -> Result<(), NoMemory>
+        ensures deferred { OnOk result (Defers self.old.is_marked self.old.pending numbers.now
+            self.new.pending) }
         ensures same { self.new.is_marked ≡ self.old.is_marked }
         ensures notes { self.new.notes ≡ self.old.notes }
         ensures keys { self.new.keys ≡ self.old.keys }
@@ -91,11 +90,11 @@ impl Marks {
         if !self.is_marked {
             return Ok(());
         }
-        insert_all(&mut self.pending, numbers)
+        self.pending.append(numbers)
     }
 
-    // The keys of the pending cases are noted. It takes the time of these keys, with a look-up for each pending case and each peer that has
-    // one of its keys, and the first time that of all routes.
+    // The keys of the pending cases are noted. It takes the time of a sort of their numbers and of these keys, with a look-up for each pending
+    // case and each peer that has one of its keys, and the first time that of all routes.
     pub(crate) fn gather(
         &mut self,
         alloc: Global,
@@ -105,40 +104,23 @@ impl Marks {
         requires of_peers { AreOfPeers routes.now cases.now }
         requires held { AreKeysOfRoutes self.old.keys routes.now }
         ensures told { OnOk result (TellsMarks routes.now cases.now self.old.notes self.new.notes) }
-        ensures covered { OnOk result (AreCovered routes.now cases.now self.old.pending.keys
+        ensures covered { OnOk result (AreCovered routes.now cases.now self.old.pending
             self.new.notes) }
         ensures keys { OnOk result (AreKeysOfRoutes self.new.keys routes.now) }
-        ensures pending { OnOk result (self.new.pending.keys ≡ []) }
+        ensures pending { OnOk result (self.new.pending ≡ []) }
         ensures same { self.new.is_marked ≡ self.old.is_marked }
     {
         if self.pending.is_empty() {
             return Ok(());
         }
+        // a number may stand there again, where another case got it, and the keys of a case are gone over once
+        self.pending.settle()?;
         let keys = take_keys(&mut self.keys, alloc, routes)?;
         note_each(&mut self.notes, &keys, cases, &self.pending)?;
         self.keys = Some(keys);
-        self.pending = BTreeSet::new(alloc);
+        self.pending = FoundCases::new(alloc);
         Ok(())
     }
-}
-
-// These numbers come to the others.
-fn insert_all(pending: &mut BTreeSet<usize>, numbers: &CaseNumbers) -> Result<(), NoMemory>
-    ensures { OnOk result (Defers true pending.old.keys numbers.now pending.new.keys) }
-{
-    for number in numbers.iter() {
-        insert(pending, number)?;
-    }
-    Ok(())
-}
-
-// One number comes to the others.
-fn insert(pending: &mut BTreeSet<usize>, number: usize) -> Result<(), NoMemory>
-    ensures { OnOk result ((n : ℕ) → numbers_have pending.new.keys n
-        ≡ (numbers_have pending.old.keys n || nat_eq n number)) }
-{
-    pending.insert(number)?;
-    Ok(())
 }
 
 // The keys of the cases, which are held for as long as they follow the routes.
@@ -194,12 +176,12 @@ fn note_each(
     notes: &mut RouteMap<Option<Verdict>>,
     keys: &KeysByNumber,
     cases: &SharedCases,
-    numbers: &BTreeSet<usize>,
+    numbers: &FoundCases,
 ) -> Result<(), NoMemory>
-    ensures { OnOk result (NotesCases keys.now cases.now numbers.now.keys notes.old notes.new) }
+    ensures { OnOk result (NotesCases keys.now cases.now numbers.now notes.old notes.new) }
 {
-    for number in numbers.iter() {
-        note_case(notes, keys, cases, *number)?;
+    for number in numbers.as_slice() {
+        note_case(notes, keys, cases, *number as usize)?;
     }
     Ok(())
 }

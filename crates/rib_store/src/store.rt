@@ -25,9 +25,8 @@ use crate::trails::Trails;
 use av_base::{NoMemory, Steps};
 use path_model::{Changes, Key, Role, Roles};
 use route_map::RouteMap;
-use shared_cases::SharedCases;
+use shared_cases::{FoundCases, SharedCases};
 use std::alloc::Global;
-use std::collections::BTreeSet;
 use std::marker::Model;
 use std::sync::ledger::Ledger;
 use vap_table::{TableChange, Vaps};
@@ -98,7 +97,7 @@ impl RibStore {
     }
 
     /// Performs changes of the routes, from the first to the last. The end of a peer's session costs what the peer's routes cost; while
-    /// nothing was ever marked also a sort of the numbers of their cases, with up to 8 bytes a route and what [`SharedCases::leave_all`]
+    /// nothing was ever marked the numbers of their cases are brought together, with 4 bytes a route and what [`SharedCases::leave_all`]
     /// takes. It judges at most once for each announcement, and not where another route has the case already. Where there is no memory,
     /// the routes are given up, and nothing is promised of the state.
     pub fn apply_routes<L: Ledger>(
@@ -375,7 +374,7 @@ impl RibStore {
         let marks = Marks {
             is_marked: true,
             notes: RouteMap::new(alloc),
-            pending: BTreeSet::new(alloc),
+            pending: FoundCases::new(alloc),
             keys: marks.keys,
         };
         RibStore {

@@ -2,6 +2,7 @@ pub mod CaseLemmas
 pub mod FitLemmas
 pub mod FollowLemmas
 pub mod FoundLemmas
+pub mod GroupLemmas
 pub mod KeptLemmas
 pub mod LeavingLemmas
 pub mod ListedLemmas

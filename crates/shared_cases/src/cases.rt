@@ -17,8 +17,8 @@ ghost use Rattle.shared_cases.specs.Verdicts.{SetsVerdict};
 
 use crate::case::{Case, StoredCase, new_case};
 use crate::case_name::CaseName;
+use crate::found::FoundCases;
 use crate::names::Names;
-use crate::numbers::CaseNumbers;
 use crate::peers::Peers;
 use crate::rejudging::rejudge_all;
 use crate::slots;
@@ -49,7 +49,7 @@ pub struct SharedCases {
     // the verdict of each
     pub(crate) verdicts: Verdicts,
     // those that got another verdict since the last mark; some may be gone
-    pub(crate) differed: CaseNumbers,
+    pub(crate) differed: FoundCases,
 }
 
 /// A function of its own, so that what lets the cases go needn't say how.
@@ -94,7 +94,7 @@ impl SharedCases {
             peers: Peers::new(alloc),
             totals: Totals::none(),
             verdicts: Verdicts::new(alloc),
-            differed: CaseNumbers::new(alloc),
+            differed: FoundCases::new(alloc),
         }
     }
 
@@ -205,7 +205,7 @@ impl SharedCases {
             peers,
             totals,
             verdicts,
-            differed: CaseNumbers::new(alloc),
+            differed: FoundCases::new(alloc),
         }
     }
 
@@ -216,7 +216,7 @@ impl SharedCases {
         table: &Vaps,
         roles: &Roles,
         steps: &mut Steps<L>,
-    ) -> Result<(SharedCases, CaseNumbers), NoMemory>
+    ) -> Result<(SharedCases, FoundCases), NoMemory>
         requires { IsStrictlySortedBy nat_cmp touched.now }
         ensures judged { IfOk result (λ r. (n : ℕ) → has touched.now n ≡ true
             → IsRightCase (grounds table.now roles.now) (at r.0 n)) }
@@ -248,7 +248,7 @@ impl SharedCases {
             roles,
             steps,
         )?;
-        differed.insert_all(&newly)?;
+        differed.append(&newly)?;
         let cases = SharedCases {
             alloc,
             slab,
@@ -376,7 +376,7 @@ pub(crate) fn start_anew(
     peers: &mut Peers,
     totals: &mut Totals,
     verdicts: &mut Verdicts,
-    differed: &mut CaseNumbers,
+    differed: &mut FoundCases,
 )
     ensures { FitTogether slab.new.slots names.new (hops_have index.new) peers.new differed.new
         totals.new verdicts.new }
@@ -387,5 +387,5 @@ pub(crate) fn start_anew(
     *peers = Peers::new(alloc);
     *totals = Totals::none();
     *verdicts = Verdicts::new(alloc);
-    *differed = CaseNumbers::new(alloc);
+    *differed = FoundCases::new(alloc);
 }

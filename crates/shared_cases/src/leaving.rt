@@ -12,7 +12,7 @@ use crate::names::Names;
 use crate::peers::Peers;
 use crate::totals::Totals;
 use crate::verdicts::Verdicts;
-use crate::{SharedCases, ahead, slots};
+use crate::{SharedCases, ahead, grouping, slots};
 use av_base::NoMemory;
 use hop_index::{GoneHops, HopIndex};
 use path_model::Trail;
@@ -37,18 +37,18 @@ impl SharedCases {
     }
 
     /// Routes leave these cases, one for each time that a number stands in the list. The last one takes a case along, and where there is no
-    /// case nothing changes. The numbers are sorted, so that each case is visited once, and the hops of cases that go are taken out of the
-    /// index in the order of the hops, where they are listed, some 65,536 at a time: where many routes leave, this costs far less than [`SharedCases::leave`] for
-    /// each. The list takes as much room again while it is sorted (without that memory the numbers are taken as they stand), and the hops
-    /// 12 bytes each, two or three times that while they grow or are sorted. Where there was no memory for hops, nothing is promised of
-    /// the cases but that they fit together.
+    /// case nothing changes. Equal numbers are brought together, so that each case is visited once, and the hops of cases that go are taken out
+    /// of the index in the order of the hops, where they are listed, some 65,536 at a time: where many routes leave, this costs far less than
+    /// [`SharedCases::leave`] for each. The numbers are counted, with as much room again and 2 bytes for each number of a case up to the
+    /// greatest one, as long as these are at most 16 for each route and less than 65,536 routes have one of the cases. Else they are sorted,
+    /// with half as much room again (without that memory they are taken as they stand). The hops take 12 bytes each, two or three times that
+    /// while they grow or are sorted. Where there was no memory for hops, nothing is promised of the cases but that they fit together.
     #[inline(never)]
     pub fn leave_all(&mut self, numbers: Vec<u32>) -> Result<(), NoMemory>
         ensures { OnOk result ((n : ℕ)
             → at self.new n ≡ left_times (times n numbers.items) (at self.old n)) }
     {
-        let mut numbers = numbers;
-        let _ = numbers.sort();
+        let numbers = grouping::grouped(self.alloc, numbers);
         match leave_each(
             self.alloc,
             &mut self.slab,

@@ -3,9 +3,9 @@ ghost use Rattle.std.specs.Iterator.{YieldsFirst, item_count};
 
 use std::marker::Model;
 
-/// The case numbers of a set that are still to come, rising.
+// The case numbers of a set that are still to come, rising.
 #[derive(Drop)]
-pub struct NumberIter<'a> {
+pub(crate) struct NumberIter<'a> {
     pub(crate) numbers: hop_index::NumberIter<'a>,
 }
 

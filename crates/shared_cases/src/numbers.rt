@@ -1,5 +1,5 @@
 //! Sets of case numbers.
-ghost use Rattle.std.specs.Prelude.{◌≡◌, ◌≢◌, ◌↔◌, ℕ, nat_eq, not, ◌||◌, ◌&&◌, [], length, IsTrue, OnOk};
+ghost use Rattle.std.specs.Prelude.{◌≡◌, ◌≢◌, ◌↔◌, ℕ, nat_eq, not, ◌++◌, ◌||◌, ◌&&◌, [], length, IsTrue, OnOk};
 ghost use Rattle.std.specs.Ordering.{nat_cmp};
 ghost use Rattle.std.specs.List.Sorted.{IsStrictlySortedBy};
 ghost use Rattle.shared_cases.specs.Numbers.{has};
@@ -10,10 +10,10 @@ use hop_index::Numbers;
 use std::alloc::Global;
 use std::marker::Model;
 
-/// A set of case numbers, each below 2^32; a contract sees it as a rising list. It takes 16 bytes, and up to three numbers take no more; from
-/// the fourth on they take 4 to 8 bytes each, and beyond 512 numbers up to 16 where they come in no order.
+// A set of case numbers, each below 2^32; a contract sees it as a rising list. It takes 16 bytes, and up to three numbers take no more; from
+// the fourth on they take 4 to 8 bytes each, and beyond 512 numbers up to 16 where they come in no order.
 #[derive(Drop)]
-pub struct CaseNumbers {
+pub(crate) struct CaseNumbers {
     numbers: Numbers,
 }
 
@@ -47,18 +47,6 @@ impl CaseNumbers {
         self.numbers.insert(short)
     }
 
-    // Those of another set more.
-    pub(crate) fn insert_all(&mut self, other: &CaseNumbers) -> Result<(), NoMemory>
-        ensures members { OnOk result ((n : ℕ)
-            → has self.new n ≡ (has self.old n || has other.now n)) }
-        ensures rising { IsStrictlySortedBy nat_cmp other.now }
-    {
-        for number in other.iter() {
-            self.insert(number)?;
-        }
-        Ok(())
-    }
-
     // One less. It takes no memory.
     pub(crate) fn remove(&mut self, number: u32)
         ensures { (n : ℕ) → has self.new n ≡ (has self.old n && not (nat_eq n number)) }
@@ -66,15 +54,22 @@ impl CaseNumbers {
         self.numbers.remove(number);
     }
 
-    /// Whether there are none.
-    pub fn is_empty(&self) -> bool
+    // Whether there are none.
+    pub(crate) fn is_empty(&self) -> bool
         ensures { IsTrue result ↔ (self.now ≡ []) }
     {
         self.numbers.is_empty()
     }
 
-    /// The numbers, rising.
-    pub fn iter(&self) -> NumberIter<'_>
+    // Appends the numbers, rising. Where there was no memory, some may have been appended.
+    pub(crate) fn push_into(&self, into: &mut Vec<u32>) -> Result<(), NoMemory>
+        ensures { OnOk result (into.new.items ≡ into.old.items ++ self.now) }
+    {
+        self.numbers.push_into(into)
+    }
+
+    // The numbers, rising.
+    pub(crate) fn iter(&self) -> NumberIter<'_>
         ensures whole { result ≡ self.now }
         ensures rising { IsStrictlySortedBy nat_cmp self.now }
     {

@@ -16,7 +16,7 @@ ghost use Rattle.shared_cases.specs.Touched.{AreWithinTouched, IsRoleMove};
 ghost use Rattle.shared_cases.specs.Verdicts.{AreVerdictsOf};
 
 use crate::case::StoredCase;
-use crate::numbers::CaseNumbers;
+use crate::found::FoundCases;
 use crate::slots::{judge_anew, set_all_own};
 use crate::totals::Totals;
 use crate::touched::{touched_by_default, touched_by_moves, touched_by_role};
@@ -41,7 +41,7 @@ impl SharedCases {
         table: &Vaps,
         roles: &Roles,
         steps: &mut Steps<L>,
-    ) -> Result<(SharedCases, CaseNumbers), NoMemory>
+    ) -> Result<(SharedCases, FoundCases), NoMemory>
         ensures same { IfOk result (λ r. AreSameCases self r.0) }
         ensures judged { IfOk result (λ r. (before : Table)
             → AreMoves before (table_of table.now) moves.now
@@ -65,7 +65,7 @@ impl SharedCases {
         table: &Vaps,
         roles: &Roles,
         steps: &mut Steps<L>,
-    ) -> Result<(SharedCases, CaseNumbers), NoMemory>
+    ) -> Result<(SharedCases, FoundCases), NoMemory>
         ensures same { IfOk result (λ r. AreSameCases self r.0) }
         ensures judged { IfOk result (λ r. (before : Table)
             → AreMoves before (table_of table.now) moves.now
@@ -92,7 +92,7 @@ impl SharedCases {
         table: &Vaps,
         roles: &Roles,
         steps: &mut Steps<L>,
-    ) -> Result<(SharedCases, CaseNumbers), NoMemory>
+    ) -> Result<(SharedCases, FoundCases), NoMemory>
         ensures same { IfOk result (λ r. AreSameCases self r.0) }
         ensures judged { IfOk result (λ r. (old : Relations)
             → IsRoleMove asn before old roles.now
@@ -120,7 +120,7 @@ impl SharedCases {
         table: &Vaps,
         roles: &Roles,
         steps: &mut Steps<L>,
-    ) -> Result<(SharedCases, CaseNumbers), NoMemory>
+    ) -> Result<(SharedCases, FoundCases), NoMemory>
         ensures same { IfOk result (λ r. AreSameCases self r.0) }
         ensures judged { IfOk result (λ r. (n : ℕ)
             → IsJudged (grounds table.now (record roles.now { default = before })) (at self n)
@@ -171,7 +171,7 @@ pub(crate) fn rejudge_all<L: Ledger>(
     table: &Vaps,
     roles: &Roles,
     steps: &mut Steps<L>,
-) -> Result<CaseNumbers, NoMemory>
+) -> Result<FoundCases, NoMemory>
     requires { IsStrictlySortedBy nat_cmp touched.now }
     ensures judged { OnOk result ((n : ℕ) → has touched.now n ≡ true
         → IsRightCase (grounds table.now roles.now) (at slab.new.slots n)) }
@@ -189,7 +189,7 @@ pub(crate) fn rejudge_all<L: Ledger>(
         → AreVerdictsOf slab.new.slots verdicts.new) }
     ensures ticks { steps.new ≤ steps.old + length touched.now }
 {
-    let mut newly = CaseNumbers::new(alloc);
+    let mut newly = FoundCases::new(alloc);
     let mut at: usize = 0;
     // the place of the first one that isn't at hand
     let mut unread: usize = 0;
@@ -203,18 +203,18 @@ pub(crate) fn rejudge_all<L: Ledger>(
         let both = totals.plus(Totals::of(anew.after, anew.users))?;
         *totals = both.minus(Totals::of(anew.before, anew.users));
         verdicts.set(number, anew.after)?;
-        tell(&mut newly, number, anew.newly)?;
+        tell(&mut newly, *short, anew.newly)?;
     }
     Ok(newly)
 }
 
 // A number comes to these, if its case differs.
-fn tell(newly: &mut CaseNumbers, number: usize, differs: bool) -> Result<(), NoMemory>
+fn tell(newly: &mut FoundCases, number: u32, differs: bool) -> Result<(), NoMemory>
     ensures { OnOk result ((n : ℕ)
         → has newly.new n ≡ (has newly.old n || (nat_eq n number && differs))) }
 {
     if !differs {
         return Ok(());
     }
-    newly.insert(number)
+    newly.push(number)
 }

@@ -9,6 +9,7 @@ ghost use Rattle.shared_cases.specs.Taking.{is_shared, lowered_by, raised, users
 ghost use Rattle.shared_cases.specs.Totals.{one_user, share_of, some_users, users_of};
 
 use crate::case::StoredCase;
+use crate::found::FoundCases;
 use crate::numbers::CaseNumbers;
 use crate::totals::Totals;
 use av_base::{NoMemory, Steps};
@@ -105,14 +106,14 @@ pub(crate) fn mark(slab: &mut Slab<StoredCase>, number: usize)
 }
 
 // The verdicts of these cases become the marked ones.
-pub(crate) fn mark_all(slab: &mut Slab<StoredCase>, differed: &CaseNumbers)
+pub(crate) fn mark_all(slab: &mut Slab<StoredCase>, differed: &FoundCases)
     ensures marked { (n : ℕ) → has differed.now n ≡ true
         → at slab.new.slots n ≡ marked_now (at slab.old.slots n) }
     ensures others { (n : ℕ) → has differed.now n ≡ false
         → at slab.new.slots n ≡ at slab.old.slots n }
 {
-    for number in differed.iter() {
-        mark(slab, number);
+    for number in differed.as_slice() {
+        mark(slab, *number as usize);
     }
 }
 

@@ -137,7 +137,7 @@ fn touch_ends(
 {
     for provider in index.neighbours(rows.customer()) {
         if rows.is_moved(provider) {
-            touch_hop(index, rows.customer(), provider, touched)?;
+            touched.push_hop(index, rows.customer(), provider)?;
         }
     }
     Ok(())
@@ -156,24 +156,8 @@ fn touch_asked(
 {
     for provider in asked {
         if rows.is_moved(*provider) {
-            touch_hop(index, rows.customer(), *provider, touched)?;
+            touched.push_hop(index, rows.customer(), *provider)?;
         }
-    }
-    Ok(())
-}
-
-// The cases of a hop come to the others.
-fn touch_hop(
-    index: &HopIndex,
-    customer: u32,
-    provider: u32,
-    touched: &mut FoundCases,
-) -> Result<(), NoMemory>
-    ensures { OnOk result ((n : ℕ) → has touched.new n
-        ≡ (has touched.old n || hops_have index.now customer provider n)) }
-{
-    for case in index.between(customer, provider) {
-        touched.push(case)?;
     }
     Ok(())
 }

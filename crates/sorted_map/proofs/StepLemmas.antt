@@ -1,12 +1,12 @@
 -- What the steps on chunks come to. Each value is a variable, and each fact that the code has of it an equation.
-use Rattle.std.proofs.Common.{◌≡◌, ◌≢◌, ℕ, zero, suc, ◌+◌, ◌-◌, ◌<◌, ◌≤◌, List, [], ◌∷◌, ◌++◌, length, get_or, set, take, drop, slice_get, Some, Result, Ok, Err, OnOk, OnErr, arith, ap, sym, subst, ◌∙◌, append_assoc}
+use Rattle.std.proofs.Common.{◌≡◌, ◌≢◌, ℕ, zero, suc, ◌+◌, ◌-◌, ◌<◌, ◌≤◌, List, [], ◌∷◌, ◌++◌, length, get_or, set, take, drop, map, slice_get, Some, Result, Ok, Err, OnOk, OnErr, arith, ap, sym, subst, ◌∙◌, append_assoc}
 use Rattle.std.specs.declared.cmp.Ordering.{Ordering}
 use Rattle.std.specs.declared.cmp.Ordering.TheVariants.{Less, Equal, Greater}
 use Rattle.std.specs.BTreeMap.{insert_entry}
 use Rattle.std.specs.Cmp.{IsTotalOrder}
 use Rattle.std.specs.List.{insert}
 use Rattle.std.specs.List.Sorted.{IsStrictlySortedBy}
-use Rattle.std.specs.Map.{keys_of, values_of}
+use Rattle.std.specs.Map.{keys_of}
 use Rattle.std.specs.Ordering.{match_ordering}
 use Rattle.std.proofs.lemmas.List.{append-nil, drop_all, drop_more, map-append, get_or_default, get_or-set_same, nil_from_length}
 use Rattle.std.proofs.lemmas.List.Edits.{get_or-insert_below}
@@ -80,16 +80,16 @@ put_here cs i b d within here = here ∙ get_or-set_same cs i b d within
 pub left_empty : {K V : Type 0} (cs : List (List (K × V))) (i n : ℕ) (b d : List (K × V)) → i < length cs → d ≡ get_or (set cs i b) i d → n ≡ length d → n ≡ 0 → b ≡ []
 left_empty cs i n b d within here long none = sym (get_or-set_same cs i b d within) ∙ sym here ∙ nil_from_length d (sym long ∙ none)
 
--- ---- values, chunk by chunk
-module _ {K V : Type 0} (ws all : List V) (cs : List (List (K × V))) (i : ℕ) (so_far : ws ++ values_of (joined (drop i cs)) ≡ all) where
+-- ---- keys or values, chunk by chunk
+module _ {K V X : Type 0} (f : K × V → X) (ws all : List X) (cs : List (List (K × V))) (i : ℕ) (so_far : ws ++ map f (joined (drop i cs)) ≡ all) where
   -- those of one chunk more
-  pub values_pushed : (vs now : List V) (c : List (K × V)) → i < length cs → c ≡ get_or cs i c → vs ≡ values_of c → now ≡ ws ++ vs → now ++ values_of (joined (drop (i + 1) cs)) ≡ all
-  values_pushed vs now c within here is pushed =
+  pub parts_pushed : (vs now : List X) (c : List (K × V)) → i < length cs → c ≡ get_or cs i c → vs ≡ map f c → now ≡ ws ++ vs → now ++ map f (joined (drop (i + 1) cs)) ≡ all
+  parts_pushed vs now c within here is pushed =
       let rest : List (K × V) = joined (drop (i + 1) cs) in
-      ap (λ (xs : List V). xs ++ values_of rest) (pushed ∙ ap (λ (xs : List V). ws ++ xs) is) ∙ append_assoc ws (values_of c) (values_of rest)
-      ∙ ap (λ (xs : List V). ws ++ xs) (sym (map-append (λ (e : K × V). e.1) c rest) ∙ ap (λ (es : List (K × V)). values_of (es ++ rest)) here ∙ ap (λ (bs : List (List (K × V))). values_of (joined bs)) (sym (drop_more cs i c within)))
+      ap (λ (xs : List X). xs ++ map f rest) (pushed ∙ ap (λ (xs : List X). ws ++ xs) is) ∙ append_assoc ws (map f c) (map f rest)
+      ∙ ap (λ (xs : List X). ws ++ xs) (sym (map-append f c rest) ∙ ap (λ (es : List (K × V)). map f (es ++ rest)) here ∙ ap (λ (bs : List (List (K × V))). map f (joined bs)) (sym (drop_more cs i c within)))
       ∙ so_far
 
   -- and then there are no more
-  pub values_over : length cs ≤ i → ws ≡ all
-  values_over over = sym (append-nil ws) ∙ ap (λ (bs : List (List (K × V))). ws ++ values_of (joined bs)) (sym (drop_all i cs over)) ∙ so_far
+  pub parts_over : length cs ≤ i → ws ≡ all
+  parts_over over = sym (append-nil ws) ∙ ap (λ (bs : List (List (K × V))). ws ++ map f (joined bs)) (sym (drop_all i cs over)) ∙ so_far

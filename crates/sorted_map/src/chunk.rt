@@ -49,6 +49,13 @@ impl<K, V> Chunk<K, V> {
         }
     }
 
+    // The keys, which rise.
+    pub(crate) fn keys(&self) -> &[K]
+        ensures { result.now ≡ keys_of self.now }
+    {
+        &self.keys
+    }
+
     // The values, in the order of their keys.
     pub(crate) fn values(&self) -> &[V]
         ensures { result.now ≡ values_of self.now }

@@ -94,6 +94,19 @@ impl<K: Ord, V: Copy> Sorted<K, V> {
     }
 }
 
+impl<K: Ord + Copy, V> Sorted<K, V> {
+    /// Appends all keys, rising. It takes a step for each chunk, and one copy of the bytes of its keys; no value is read. It takes memory only
+    /// where `into` has no room. Where there was none, some keys may have been appended.
+    pub fn push_keys(&self, into: &mut Vec<K>) -> Result<(), NoMemory>
+        ensures { OnOk result (into.new.items ≡ into.old.items ++ keys_of self.now) }
+    {
+        for chunk in self.chunks.as_slice() {
+            into.extend_from_slice(chunk.keys())?;
+        }
+        Ok(())
+    }
+}
+
 impl<K: Ord + Copy, V: Copy> Sorted<K, V> {
     /// Gives a key a value, and answers the one that it had. Where there was no memory, nothing changed. A key above all others goes to the
     /// end at once; else a new one takes its look-up and a move of at most 512 entries, and where it finds its chunk full, that is halved

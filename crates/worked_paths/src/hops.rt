@@ -37,13 +37,18 @@ fn test_hops(rt: &impl Abort, index: &HopIndex, asn: u32, wanted: &[(u32, usize)
     assert!(rt; left.next().is_none());
 }
 
-// Compares the cases of the hop between two ASes.
-fn test_between(rt: &impl Abort, index: &HopIndex, x: u32, y: u32, wanted: &[usize]) {
-    let mut left = wanted.iter();
-    for case in index.between(x, y) {
-        assert!(rt; left.next() == Some(&case));
-    }
-    assert!(rt; left.next().is_none());
+// Compares the cases of the hop between two ASes, behind what stands there.
+fn test_between(
+    rt: &impl Abort,
+    index: &HopIndex,
+    x: u32,
+    y: u32,
+    found: &mut Vec<u32>,
+    wanted: &[u32],
+) -> Result<(), NoMemory> {
+    index.push_between(x, y, found)?;
+    assert!(rt; found.as_slice() == wanted);
+    Ok(())
 }
 
 // Compares the neighbours of an AS.
@@ -62,9 +67,10 @@ fn finds_hops(rt: HostRuntime) -> Result<(), NoMemory> {
     test_hops(&rt, &index, 2, &[(1, 7), (3, 5), (3, 7)]);
     test_hops(&rt, &index, 1, &[(2, 7)]);
     test_hops(&rt, &index, 4, &[]);
-    test_between(&rt, &index, 2, 3, &[5, 7]);
-    test_between(&rt, &index, 3, 2, &[5, 7]);
-    test_between(&rt, &index, 1, 3, &[]);
+    let mut found = Vec::new(rt.alloc());
+    test_between(&rt, &index, 1, 3, &mut found, &[])?;
+    test_between(&rt, &index, 1, 2, &mut found, &[7])?;
+    test_between(&rt, &index, 3, 2, &mut found, &[7, 5, 7])?;
     test_neighbours(&rt, &index, 2, &[1, 3]);
     test_neighbours(&rt, &index, 4, &[]);
     Ok(())
@@ -80,9 +86,10 @@ fn finds_hops_that_are_not_listed(rt: HostRuntime) -> Result<(), NoMemory> {
         test_hops(&rt, &index, 2, &[(1, 1), (3, 0), (3, 1)]);
         test_hops(&rt, &index, 3, &[(2, 0), (2, 1)]);
         test_hops(&rt, &index, 4, &[]);
-        test_between(&rt, &index, 2, 3, &[0, 1]);
-        test_between(&rt, &index, 1, 2, &[1]);
-        test_between(&rt, &index, 1, 3, &[]);
+        let mut found = Vec::new(alloc);
+        test_between(&rt, &index, 2, 3, &mut found, &[0, 1])?;
+        test_between(&rt, &index, 1, 2, &mut found, &[0, 1, 1])?;
+        test_between(&rt, &index, 1, 3, &mut found, &[0, 1, 1])?;
         index.list()?;
     }
     Ok(())

@@ -33,11 +33,11 @@ returns-clause-routed g c =
           c.requires.routed.stored c.in_ok-number.ensures.taken c.len-length.ensures.in_order c.in_ok-before.ensures.inserted c.in_ok-before.ensures.updates)
           leaves;
       marks = record {
-        noted = subst (λ (b : Bool). AreNoted b c.insert.new.self c.leave.new.cases c.follow.new.self.notes c.follow.new.self.pending.keys) (sym c.follow.ensures.same)
+        noted = subst (λ (b : Bool). AreNoted b c.insert.new.self c.leave.new.cases c.follow.new.self.notes c.follow.new.self.pending) (sym c.follow.ensures.same)
             (subst (λ (ps : List ℕ). AreNoted c.args.self.now.marks.is_marked c.insert.new.self c.leave.new.cases c.follow.new.self.notes ps) (sym c.follow.ensures.pending)
             (announced_noted (grounds c.args.table.now c.args.roles.now) c.args.table.now c.args.roles.now c.args.self.now.marks.is_marked c.args.self.now.routes c.insert.new.self c.args.self.now.marks.notes c.follow.new.self.notes c.args.key.now
             c.args.self.now.cases c.take.new.cases c.leave.new.cases c.in_ok-number.number (path_by c.args.self.now.cases c.args.by)
-            c.requires.routed.stored c.in_ok-number.ensures.taken c.len-length.ensures.in_order c.in_ok-before.ensures.inserted c.in_ok-before.ensures.updates leaves moves c.args.self.now.marks.pending.keys c.requires.routed.marks.noted));
+            c.requires.routed.stored c.in_ok-number.ensures.taken c.len-length.ensures.in_order c.in_ok-before.ensures.inserted c.in_ok-before.ensures.updates leaves moves c.args.self.now.marks.pending c.requires.routed.marks.noted));
         keys = keys_follow c.args.self.now.marks.keys c.follow.new.self.keys c.args.self.now.routes c.insert.new.self c.args.key.now (Some c.in_ok-number.number) c.requires.routed.marks.keys c.in_ok-before.ensures.updates c.in_ok-follow.ensures.keys;
       };
     }

@@ -27,10 +27,10 @@ returns-clause-routed c =
           (removed (grounds c.args.table.now c.args.roles.now) c.args.self.now.routes c.remove-before.new.self c.args.self.now.cases c.args.key.now c.requires.stored c.remove-before.ensures.removed c.remove-before.ensures.updates)
           leaves;
       marks = record {
-        noted = subst (λ (b : Bool). AreNoted b c.remove-before.new.self c.leave.new.cases c.follow.new.self.notes c.follow.new.self.pending.keys) (sym c.follow.ensures.same)
+        noted = subst (λ (b : Bool). AreNoted b c.remove-before.new.self c.leave.new.cases c.follow.new.self.notes c.follow.new.self.pending) (sym c.follow.ensures.same)
             (subst (λ (ps : List ℕ). AreNoted c.args.self.now.marks.is_marked c.remove-before.new.self c.leave.new.cases c.follow.new.self.notes ps) (sym c.follow.ensures.pending)
             (withdrawn_noted (grounds c.args.table.now c.args.roles.now) c.args.table.now c.args.roles.now c.args.self.now.marks.is_marked c.args.self.now.routes c.remove-before.new.self c.args.self.now.marks.notes c.follow.new.self.notes c.args.key.now
-            c.args.self.now.cases c.leave.new.cases c.requires.stored c.remove-before.ensures.removed c.remove-before.ensures.updates leaves moves c.args.self.now.marks.pending.keys c.requires.marks.noted));
+            c.args.self.now.cases c.leave.new.cases c.requires.stored c.remove-before.ensures.removed c.remove-before.ensures.updates leaves moves c.args.self.now.marks.pending c.requires.marks.noted));
         keys = keys_follow c.args.self.now.marks.keys c.follow.new.self.keys c.args.self.now.routes c.remove-before.new.self c.args.key.now None c.requires.marks.keys c.remove-before.ensures.updates c.in_ok-follow.ensures.keys;
       };
     }

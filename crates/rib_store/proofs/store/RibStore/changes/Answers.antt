@@ -8,7 +8,7 @@ use Rattle.rib_store.specs.ChangesLeft.{changed, row_change}
 use Rattle.rib_store.specs.Marks.{AreNoted}
 use Rattle.rib_store.specs.Merge.{merge, merged_left}
 use Rattle.rib_store.specs.Stored.{Stored}
-use Rattle.rib_store.proofs.JournalLemmas.{changes_of_notes, changes_of_rows, changed_fewer, no_numbers, rows_fewer}
+use Rattle.rib_store.proofs.JournalLemmas.{changes_of_notes, changes_of_rows, changed_fewer, rows_fewer}
 use Rattle.rib_store.proofs.MergeLemmas.{merge_length}
 use Rattle.rib_store.proofs.RouteLemmas.{state_by}
 use Rattle.rib_store.proofs.store.RibStore.changes.Goals as goal
@@ -22,8 +22,8 @@ returns-then-is_empty-clause-changes c =
     (filter_map (changed c.self.inside.routing.routes c.self.inside.routing.cases) c.self.inside.routing.marks.notes)) (sym c.if-self.true)
     (changes_of_notes c.self.inside.table c.self.inside.roles c.self.inside.routing.routes c.self.inside.routing.cases c.self.inside.routing.marks.notes c.self.invariant.stored c.len-length.ensures.in_order
     c.iter.ensures.in_order
-    (subst (λ (ps : List ℕ). AreNoted true c.self.inside.routing.routes c.self.inside.routing.cases c.self.inside.routing.marks.notes ps) (no_numbers c.self.inside.routing.marks.pending.keys (c.is_empty.ensures.0 c.if-is_empty.true))
-    (subst (λ (b : Bool). AreNoted b c.self.inside.routing.routes c.self.inside.routing.cases c.self.inside.routing.marks.notes c.self.inside.routing.marks.pending.keys) c.if-self.true c.self.invariant.marks.noted)) c.are_settled.ensures)))
+    (subst (λ (ps : List ℕ). AreNoted true c.self.inside.routing.routes c.self.inside.routing.cases c.self.inside.routing.marks.notes ps) (c.is_empty.ensures.0 c.if-is_empty.true)
+    (subst (λ (b : Bool). AreNoted b c.self.inside.routing.routes c.self.inside.routing.cases c.self.inside.routing.marks.notes c.self.inside.routing.marks.pending) c.if-self.true c.self.invariant.marks.noted)) c.are_settled.ensures)))
 
 pub returns-then-is_empty-clause-few : goal.returns-then-is_empty-clause-few
 returns-then-is_empty-clause-few c = omega (arith, changed_fewer c.self.inside.routing.routes c.self.inside.routing.cases c.iter.result, c.iter.ensures.few)

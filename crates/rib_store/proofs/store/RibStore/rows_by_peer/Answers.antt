@@ -1,4 +1,4 @@
-use Rattle.std.proofs.Common.{List, length, arith, ap, sym, subst, ◌∙◌}
+use Rattle.std.proofs.Common.{List, length, arith, ap, sym, subst}
 use Rattle.path_model.specs.declared.key.Key.{Key}
 use Rattle.path_model.specs.declared.verdict.Verdict.{Verdict}
 use Rattle.std.specs.List.Sorted.{IsStrictlySortedBy}

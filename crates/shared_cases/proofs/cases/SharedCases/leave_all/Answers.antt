@@ -1,5 +1,4 @@
-use Rattle.std.proofs.Common.{◌≡◌, ℕ, if◌then◌else◌, nat_eq, ap, subst, ◌∙◌}
-use Rattle.std.proofs.lemmas.List.Sorted.{sum_by-IsPermutation}
+use Rattle.std.proofs.Common.{◌≡◌, ℕ, ap, subst, ◌∙◌}
 use Rattle.shared_cases.specs.Cases.{Slots, at}
 use Rattle.shared_cases.specs.Taking.{left_times, times}
 use Rattle.shared_cases.proofs.cases.SharedCases.leave_all.Goals as goal
@@ -10,6 +9,6 @@ invariant_of-self c = c.in-Ok.ensures.kept c.self.inside.differed c.self.invaria
 pub returns-in-Ok : goal.returns-in-Ok
 returns-in-Ok c = λ n.
     let often : times n c.as_slice.result.now ≡ times n c.args.numbers.items = ap (times n) c.as_slice.ensures.value
-    ∙ sum_by-IsPermutation (λ m. if nat_eq m n then 1 else 0) c.args.numbers.items c.sort.new.self.items c.sort.ensures.permutation in
+    ∙ c.grouped-numbers.ensures n in
     subst (λ (cases : Slots). at c.leave_each.new.slab.slots n ≡ left_times (times n c.args.numbers.items) (at cases n)) c.self.view_is
     (c.in-Ok.ensures.left n ∙ ap (λ (k : ℕ). left_times k (at c.self.inside.slab.slots n)) often)

@@ -7,10 +7,10 @@ use Rattle.shared_cases.proofs.cases.SharedCases.rejudge.Goals as goal
 
 pub invariant_of-cases : goal.invariant_of-cases
 invariant_of-cases g c = (
-  rejudged_kept c.self.inside.slab.slots c.rejudge_all.new.slab.slots c.self.inside.names (hops_have c.self.inside.index) c.self.inside.peers c.self.inside.differed c.insert_all.new.self c.in_ok-newly.newly
+  rejudged_kept c.self.inside.slab.slots c.rejudge_all.new.slab.slots c.self.inside.names (hops_have c.self.inside.index) c.self.inside.peers c.self.inside.differed c.append.new.self c.in_ok-newly.newly
       c.self.invariant.0 c.in_ok-newly.ensures.same c.in_ok-newly.ensures.own
       (all_differed c.self.inside.slab.slots c.rejudge_all.new.slab.slots c.args.touched.now c.in_ok-newly.ensures.others c.self.invariant.0.settled c.in_ok-newly.ensures.differed)
-      c.in_ok-newly.ensures.newly c.in_ok-insert_all.ensures.members,
+      c.in_ok-newly.ensures.newly c.in_ok-append.ensures,
   c.in_ok-newly.ensures.counted c.self.invariant.1,
   c.in_ok-newly.ensures.verdicts c.self.invariant.2,
 )

@@ -1,7 +1,7 @@
 use Rattle.std.proofs.Common.{ap, ◌∙◌, ◌++◌}
 use Rattle.std.specs.Map.{values_of}
 use Rattle.sorted_map.specs.Joined.{joined}
-use Rattle.sorted_map.proofs.StepLemmas.{values_pushed, values_over}
+use Rattle.sorted_map.proofs.StepLemmas.{parts_pushed, parts_over}
 use Rattle.sorted_map.proofs.sorted.Sorted.push_values.Goals as goal
 
 pub loop-chunk-init : goal.loop-chunk-init
@@ -9,8 +9,8 @@ loop-chunk-init g c = ap (λ es. c.args.into.now.items ++ values_of es) (ap join
 
 pub loop-chunk-preserved : goal.loop-chunk-preserved
 loop-chunk-preserved g c =
-    values_pushed c.loop-chunk.into.items _ c.as_slice-chunk-items.result.now c.loop-chunk.chunk-index c.loop-chunk.invariant c.values.result.now c.extend_from_slice.new.self.items c.chunk-item.result c.loop-chunk-test.true c.chunk-item.is
+    parts_pushed (λ e. e.1) c.loop-chunk.into.items _ c.as_slice-chunk-items.result.now c.loop-chunk.chunk-index c.loop-chunk.invariant c.values.result.now c.extend_from_slice.new.self.items c.chunk-item.result c.loop-chunk-test.true c.chunk-item.is
     c.values.ensures c.in_ok-extend_from_slice.ensures.items
 
 pub returns : goal.returns
-returns g c = values_over c.loop-chunk.into.items _ c.as_slice-chunk-items.result.now c.loop-chunk.chunk-index c.loop-chunk.invariant c.loop-chunk-test.false
+returns g c = parts_over (λ e. e.1) c.loop-chunk.into.items _ c.as_slice-chunk-items.result.now c.loop-chunk.chunk-index c.loop-chunk.invariant c.loop-chunk-test.false
