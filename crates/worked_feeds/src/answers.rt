@@ -1,127 +1,119 @@
 //! What the answers of a cache make of a client's rows and payloads.
-use crate::pdus::STREAM;
-use crate::sessions::{
-    Did, Sent, after, asked, aspa, done_by, in_phase, pdu, prefix, take, withdrawal,
-};
+use crate::sessions::{RECEIVING_WHOLE, Sent, aspa, last_act, replayed, step, take};
 use av_base::NoMemory;
-use origin_model::Vrp;
-use path_model::{Addr, AsList, Patch, Prefix, Rows};
-use rtr_pdu::Framer;
-use rtr_session::{Act, Delta, Phase, Session};
+use origin_model::{Vrp, VrpChanges};
+use path_model::{Addr, Patch, Prefix, Rows};
+use rtr_session::{Act, Delta, Session};
 use std::alloc::Global;
-use std::test::Fail;
 
-// The providers of a customer, or `None` where it has no row.
-fn row(rows: &Rows, customer: u32) -> Option<&[u32]> {
-    match rows.row(customer) {
-        Some(row) => Some(row.as_slice()),
-        None => None,
-    }
+fn announced(
+    alloc: Global,
+    session: Session,
+    customer: u32,
+    providers: &[u32],
+) -> Result<Session, NoMemory> {
+    Ok(take(session, aspa(alloc, customer, providers)?)?.0)
 }
 
-#[test]
-fn a_whole_answer_gives_all_rows(rt: HostRuntime) -> Result<(), Fail> {
-    let alloc = rt.alloc();
-    let mut session = in_phase(alloc, Phase::AskedWhole)?;
-    let mut framer = Framer::new(alloc).feed(&STREAM)?;
-    for _ in 0..2 {
-        if let Ok(Some(pdu)) = framer.next() {
-            let (next, act) = take(session, pdu)?;
-            assert_eq!(rt; done_by(&act), Did::Nothing);
-            session = next;
-        }
-    }
-    let (session, act) = take(session, pdu(alloc, Sent::End(7))?)?;
-    assert_eq!(rt; session.phase(), Phase::Ready);
-    match &act {
-        Act::Apply(Delta::Whole(rows, _)) => {
-            assert_eq!(rt; rows.entries().count(), 1);
-            assert_eq!(rt; row(rows, 64_496), Some([64_497u32].as_slice()));
-        }
-        _ => assert!(rt; false),
-    }
-    Ok(())
-}
-
-// The customers 1 to 1000 announce the next AS each, and the last of them 300 providers.
-#[test]
-fn a_thousand_rows(rt: HostRuntime) -> Result<(), Fail> {
-    let alloc = rt.alloc();
-    let mut session = in_phase(alloc, Phase::ReceivingWhole)?;
+// A session that receives a whole answer: the customers 1 to 1000 announce the next AS each, and the last of them 300 providers.
+fn thousand(alloc: Global) -> Result<Session, NoMemory> {
+    let mut session = replayed(alloc, &RECEIVING_WHOLE)?;
     for customer in 1..=1_000u32 {
-        let (next, _) = take(session, aspa(alloc, customer, &[customer + 1])?)?;
-        session = next;
+        session = announced(alloc, session, customer, &[customer + 1])?;
     }
-    let mut providers = [0u32; 300];
-    for (place, provider) in providers.iter_mut().enumerate() {
-        *provider = place as u32;
+    announced(alloc, session, 1_000, &numbers())
+}
+
+// The numbers 0 to 299.
+fn numbers() -> [u32; 300] {
+    let mut numbers = [0u32; 300];
+    for (place, number) in numbers.iter_mut().enumerate() {
+        *number = place as u32;
     }
-    let (session, _) = take(session, aspa(alloc, 1_000, &providers)?)?;
-    let (_, act) = take(session, pdu(alloc, Sent::End(7))?)?;
-    match &act {
-        Act::Apply(Delta::Whole(rows, _)) => {
-            assert_eq!(rt; rows.entries().count(), 1_000);
-            assert_eq!(rt; row(rows, 999), Some([1_000u32].as_slice()));
-            // 0 is none of them.
-            let last = row(rows, 1_000).unwrap_or(&[]);
-            assert_eq!(rt;
-                (last.len(), last.first(), last.last()),
-                (299, Some(&1), Some(&299))
-            );
-        }
-        _ => assert!(rt; false),
+    numbers
+}
+
+// The first provider of a customer, the last one, and how many it has.
+fn ends(rows: &Rows, customer: u32) -> Option<(u32, u32, usize)> {
+    let row = rows.row(customer)?;
+    Some((row.get(0)?, *row.as_slice().last()?, row.len()))
+}
+
+// The rows that the End of Data of a whole answer hands out.
+fn rows_of(act: Act) -> Option<Rows> {
+    match act {
+        Act::Apply(Delta::Whole(rows, _)) => Some(rows),
+        _ => None,
     }
+}
+
+// 0 is no provider beside others.
+fn is_thousand(rows: &Rows) -> bool {
+    rows.entries().count() == 1_000
+        && ends(rows, 999) == Some((1_000, 1_000, 1))
+        && ends(rows, 1_000) == Some((1, 299, 299))
+}
+
+#[test]
+fn a_thousand_rows(rt: HostRuntime) -> Result<(), NoMemory> {
+    let (_, act) = step(rt.alloc(), thousand(rt.alloc())?, Sent::End(7))?;
+    assert!(rt; rows_of(act).is_some_and(|rows| is_thousand(&rows)));
     Ok(())
 }
 
-// The first provider of a row, and how many it has.
-fn first_and_count(row: &Option<AsList>) -> Option<(u32, usize)> {
-    match row {
-        Some(row) => Some((row.get(0).unwrap_or(0), row.len())),
-        None => None,
+// The rows and the payloads that the End of Data of an answer with changes names.
+fn changes_of(act: Act) -> Option<(Patch, VrpChanges)> {
+    match act {
+        Act::Apply(Delta::Part(patch, changes)) => Some((patch, changes)),
+        _ => None,
     }
 }
 
-// What a patch says of its customers: each with its first provider and how many it has.
-fn named(alloc: Global, patch: &Patch) -> Result<Vec<(u32, Option<(u32, usize)>)>, NoMemory> {
-    let mut named = Vec::new(alloc);
-    for (customer, row) in patch.entries() {
-        named.push((customer, first_and_count(row)))?;
+// Changes: 64496 is withdrawn, 64500 has 3 and 5 at last, 64501 attests that it has no provider, 64502 comes and goes.
+const ROWS: [Sent; 12] = [
+    Sent::Ask,
+    Sent::Response(7),
+    Sent::Row(64_496, &[64_497]),
+    Sent::End(7),
+    Sent::Ask,
+    Sent::Response(7),
+    Sent::Withdrawal(64_496),
+    Sent::Row(64_500, &[9]),
+    Sent::Row(64_500, &[5, 0, 3, 5]),
+    Sent::Row(64_501, &[0]),
+    Sent::Row(64_502, &[1]),
+    Sent::Withdrawal(64_502),
+];
+
+const NAMED: [(u32, Option<&[u32]>); 4] = [
+    (64_496, None),
+    (64_500, Some(&[3, 5])),
+    (64_501, Some(&[])),
+    (64_502, None),
+];
+
+// Whether a patch gives a customer these providers, or takes them away.
+fn is_named(patch: &Patch, customer: u32, providers: Option<&[u32]>) -> bool {
+    match patch.of(customer) {
+        Some(Some(row)) => providers == Some(row.as_slice()),
+        Some(None) => providers.is_none(),
+        None => false,
     }
-    Ok(named)
 }
 
-// 64496 is withdrawn, 64500 has 3 and 5 at last, 64501 attests that it has no provider, 64502 comes and goes.
-#[test]
-fn an_answer_with_changes_gives_those_named(rt: HostRuntime) -> Result<(), Fail> {
-    let alloc = rt.alloc();
-    let mut session = in_phase(alloc, Phase::ReceivingChanges)?;
-    let pdus = [
-        withdrawal(alloc, 64_496),
-        aspa(alloc, 64_500, &[9])?,
-        aspa(alloc, 64_500, &[5, 0, 3, 5])?,
-        aspa(alloc, 64_501, &[0])?,
-        aspa(alloc, 64_502, &[1])?,
-        withdrawal(alloc, 64_502),
-    ];
-    for pdu in pdus {
-        let (next, act) = take(session, pdu)?;
-        assert_eq!(rt; done_by(&act), Did::Nothing);
-        session = next;
-    }
-    let (_, act) = take(session, pdu(alloc, Sent::End(7))?)?;
-    match &act {
-        Act::Apply(Delta::Part(patch, _)) => {
-            let expected = [
-                (64_496, None),
-                (64_500, Some((3, 2))),
-                (64_501, Some((0, 0))),
-                (64_502, None),
-            ];
-            assert_eq!(rt; named(alloc, patch)?.as_slice(), expected.as_slice());
+fn are_named(patch: &Patch) -> bool {
+    for (customer, providers) in &NAMED {
+        if !is_named(patch, *customer, *providers) {
+            return false;
         }
-        _ => assert!(rt; false),
     }
+    patch.entries().count() == 4
+}
+
+#[test]
+fn an_answer_with_changes_gives_those_named(rt: HostRuntime) -> Result<(), NoMemory> {
+    let act = last_act(rt.alloc(), &ROWS, Sent::End(7))?;
+    assert!(rt; changes_of(act).is_some_and(|(patch, _)| are_named(&patch)));
     Ok(())
 }
 
@@ -141,84 +133,70 @@ fn handed(act: &Act, max: u8, asn: u32) -> Option<(usize, bool)> {
     }
 }
 
-// The payloads that the End of Data of an answer with changes names: how many, and what it says of one.
-fn said(act: &Act, max: u8, asn: u32) -> Option<(usize, Option<bool>)> {
-    let Act::Apply(Delta::Part(_, changes)) = act else {
-        return None;
-    };
-    let wanted = vrp(max, asn)?;
+// What changes say of a payload.
+fn said_of(changes: &VrpChanges, wanted: Vrp) -> Option<bool> {
     for (named, announced) in changes.entries() {
         if *named == wanted {
-            return Some((changes.len(), Some(announced)));
+            return Some(announced);
         }
     }
-    Some((changes.len(), None))
+    None
 }
 
-// The session behind PDUs of payloads of 198.51.100.0/24, each announced or withdrawn, with a maximum and an AS; none hands anything out.
-fn fed(session: Session, payloads: &[(bool, u8, u32)]) -> Result<Session, NoMemory> {
-    let mut session = session;
-    for (announced, max, asn) in payloads {
-        session = take(session, prefix(*announced, *max, *asn))?.0;
+// The payloads that the End of Data of an answer with changes names: how many, and what it says of one.
+fn said(act: &Act, max: u8, asn: u32) -> Option<(usize, Option<bool>)> {
+    match act {
+        Act::Apply(Delta::Part(_, changes)) => {
+            Some((changes.len(), said_of(changes, vrp(max, asn)?)))
+        }
+        _ => None,
     }
-    Ok(session)
 }
 
-// A session that was handed a whole answer with two payloads, and what the End of Data handed out.
-fn with_two(alloc: Global) -> Result<(Session, Act), NoMemory> {
-    let session = in_phase(alloc, Phase::ReceivingWhole)?;
-    let session = fed(
-        session,
-        &[
-            (true, 24, 64_500),
-            (true, 24, 64_500),
-            (true, 25, 64_500),
-            (false, 25, 64_500),
-            (true, 32, 0),
-        ],
-    )?;
-    take(session, pdu(alloc, Sent::End(7))?)
-}
+// A whole answer with two payloads: one that is announced twice is there once, and a withdrawn one is gone.
+const PAYLOADS: [Sent; 7] = [
+    Sent::Ask,
+    Sent::Response(7),
+    Sent::Payload(true, 24, 64_500),
+    Sent::Payload(true, 24, 64_500),
+    Sent::Payload(true, 25, 64_500),
+    Sent::Payload(false, 25, 64_500),
+    Sent::Payload(true, 32, 0),
+];
 
-// A payload takes effect at the End of Data; one that is announced twice is there once; a withdrawn one is gone.
 #[test]
-fn a_whole_answer_gives_payloads(rt: HostRuntime) -> Result<(), Fail> {
-    let (_, act) = with_two(rt.alloc())?;
-    assert_eq!(rt; handed(&act, 24, 64_500), Some((2, true)));
-    assert_eq!(rt; handed(&act, 25, 64_500), Some((2, false)));
-    assert_eq!(rt; handed(&act, 32, 0), Some((2, true)));
+fn a_whole_answer_gives_payloads(rt: HostRuntime) -> Result<(), NoMemory> {
+    let act = last_act(rt.alloc(), &PAYLOADS, Sent::End(7))?;
+    for (max, asn, there) in [(24, 64_500, true), (25, 64_500, false), (32, 0, true)] {
+        assert_eq!(rt; handed(&act, max, asn), Some((2, there)));
+    }
     Ok(())
 }
+
+// Changes behind a whole answer, one payload after another.
+const CHANGES: [Sent; 10] = [
+    Sent::Ask,
+    Sent::Response(7),
+    Sent::Payload(true, 32, 0),
+    Sent::End(7),
+    Sent::Ask,
+    Sent::Response(7),
+    Sent::Payload(false, 32, 0),
+    Sent::Payload(true, 25, 64_500),
+    Sent::Payload(false, 25, 64_500),
+    Sent::Payload(true, 25, 64_500),
+];
 
 // Changes name what the answer named alone, as it was named last.
 #[test]
-fn an_answer_with_changes_names_payloads(rt: HostRuntime) -> Result<(), Fail> {
-    let alloc = rt.alloc();
-    let (session, _) = with_two(alloc)?;
-    let session = after(alloc, asked(session), Sent::Response(7))?;
-    let session = fed(
-        session,
-        &[
-            (false, 32, 0),
-            (true, 25, 64_500),
-            (false, 25, 64_500),
-            (true, 25, 64_500),
-        ],
-    )?;
-    let (_, act) = take(session, pdu(alloc, Sent::End(7))?)?;
-    assert_eq!(rt; said(&act, 32, 0), Some((2, Some(false))));
-    assert_eq!(rt; said(&act, 25, 64_500), Some((2, Some(true))));
-    assert_eq!(rt; said(&act, 24, 64_500), Some((2, None)));
-    Ok(())
-}
-
-// An answer that names none hands out no change of payloads.
-#[test]
-fn an_answer_that_names_nothing(rt: HostRuntime) -> Result<(), Fail> {
-    let alloc = rt.alloc();
-    let (session, _) = with_two(alloc)?;
-    let session = after(alloc, asked(session), Sent::Response(7))?;
-    let (_, act) = take(session, pdu(alloc, Sent::End(7))?)?;
-    assert_eq!(rt; said(&act, 25, 64_500), Some((0, None)));
+fn an_answer_with_changes_names_payloads(rt: HostRuntime) -> Result<(), NoMemory> {
+    let act = last_act(rt.alloc(), &CHANGES, Sent::End(7))?;
+    for (max, asn, named) in [
+        (32, 0, Some(false)),
+        (25, 64_500, Some(true)),
+        (24, 64_500, None),
+    ] {
+        assert_eq!(rt; said(&act, max, asn), Some((2, named)));
+    }
     Ok(())
 }

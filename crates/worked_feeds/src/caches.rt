@@ -5,11 +5,10 @@ use path_model::{AsList, Name, Rows};
 use rtr_cache::{Cache, Turn, fits_pdus};
 use rtr_pdu::Pdu;
 use std::alloc::Global;
-use std::test::Fail;
 use vap_table::{TableChange, Vaps};
 
 // A PDU that a router sends. Those that are no query and no report are of session 7.
-#[derive(Clone, Copy, Debug, PartialEq, Eq)]
+#[derive(Clone, Copy)]
 enum Sent {
     ResetQuery,
     SerialQuery(u16, u32),
@@ -104,8 +103,11 @@ const CORRUPT: [u8; 16] = [2, 10, 0, 0, 0, 0, 0, 16, 0, 0, 0, 0, 0, 0, 0, 0];
 
 const INVALID: [u8; 16] = [2, 10, 0, 3, 0, 0, 0, 16, 0, 0, 0, 0, 0, 0, 0, 0];
 
-// What is sent once the table changed, the turn behind it, and the reply.
-const REPLIES: [(Sent, Turn, &[u8]); 13] = [
+// What is sent, the turn behind it, and the reply.
+type Reply = (Sent, Turn, &'static [u8]);
+
+// Replies once the table changed.
+const REPLIES: [Reply; 13] = [
     (Sent::ResetQuery, Turn::More, &WHOLE),
     (Sent::SerialQuery(7, 0), Turn::More, &CHANGES),
     (Sent::SerialQuery(7, 1), Turn::More, &NONE),
@@ -121,67 +123,112 @@ const REPLIES: [(Sent, Turn, &[u8]); 13] = [
     (Sent::Withdrawal, Turn::Close, &INVALID),
 ];
 
+// The first table, and the second one, whose change is told: 64496 has no row any more, and 64500 has one without a provider.
+fn first(alloc: Global) -> Result<Vaps, NoMemory> {
+    asserted(alloc, Vaps::new(alloc), 64_496, 64_497)
+}
+
+fn second(alloc: Global) -> Result<Vaps, NoMemory> {
+    asserted(alloc, Vaps::new(alloc), 64_500, 0)
+}
+
+// The cache behind two updates, of which the second one is by the same table.
+fn twice_updated(alloc: Global, cache: Cache) -> Result<Cache, NoMemory> {
+    let table = second(alloc)?;
+    updated(updated(cache, &table)?, &table)
+}
+
+fn is_reply(
+    alloc: Global,
+    cache: &Cache,
+    sent: Sent,
+    turn: Turn,
+    bytes: &[u8],
+) -> Result<bool, NoMemory> {
+    let (had, out) = reply(alloc, cache, sent)?;
+    Ok(had == turn && out.as_slice() == bytes)
+}
+
+// How many replies are right, up to the first that isn't.
+fn count(alloc: Global, cache: &Cache, replies: &[Reply]) -> Result<usize, NoMemory> {
+    for (place, (sent, turn, bytes)) in replies.iter().enumerate() {
+        if !is_reply(alloc, cache, *sent, *turn, bytes)? {
+            return Ok(place);
+        }
+    }
+    Ok(replies.len())
+}
+
 #[test]
-fn replies_to_each_pdu(rt: HostRuntime) -> Result<(), Fail> {
+fn replies_to_each_pdu(rt: HostRuntime) -> Result<(), NoMemory> {
     let alloc = rt.alloc();
-    let table = asserted(alloc, Vaps::new(alloc), 64_496, 64_497)?;
-    let Some(cache) = made(alloc, 7, &table)? else {
-        assert!(rt; false);
-        return Ok(());
+    let Some(cache) = made(alloc, 7, &first(alloc)?)? else {
+        return Err(NoMemory);
     };
     assert_eq!(rt; cache.session(), 7);
-    let (turn, out) = reply(alloc, &cache, Sent::ResetQuery)?;
-    assert_eq!(rt; (turn, out.as_slice()), (Turn::More, FIRST.as_slice()));
-    let (table, _moves) = table.change(TableChange::Unassert(64_496))?;
-    let table = asserted(alloc, table, 64_500, 0)?;
-    // The second update is by the same table.
-    let cache = updated(updated(cache, &table)?, &table)?;
+    assert!(rt; is_reply(alloc, &cache, Sent::ResetQuery, Turn::More, &FIRST)?);
+    let cache = twice_updated(alloc, cache)?;
     assert_eq!(rt; cache.serial(), 1);
-    for (sent, turn, bytes) in REPLIES {
-        let (had, out) = reply(alloc, &cache, sent)?;
-        assert_eq!(rt; had, turn);
-        assert_eq!(rt; out.as_slice(), bytes);
-    }
+    assert_eq!(rt; count(alloc, &cache, &REPLIES)?, 13);
     Ok(())
 }
 
-// The customers 1 to 1000 with a provider each.
-fn thousand(alloc: Global) -> Result<Vaps, Fail> {
+// The rows of the customers 1 to 1000, each with a provider.
+fn thousand(alloc: Global) -> Result<Rows, NoMemory> {
     let mut rows = Rows::new(alloc);
     for customer in 1..=1_000u32 {
         rows.set(customer, AsList::from_slice(alloc, &[customer + 7])?)?;
     }
-    let table = Vaps::new(alloc);
-    match Name::new(alloc, b"a")? {
-        Some(name) => {
-            let change = TableChange::Replace(name, Terms::of(alloc, rows)?);
-            let (table, _moves) = table.change(change)?;
-            Ok(table)
-        }
-        None => Ok(table),
-    }
+    Ok(rows)
 }
 
-// 70 of these customers get a second provider, one after another: the last 63 of these updates are told, and those before are gone.
-#[test]
-fn the_last_64_versions_are_kept(rt: HostRuntime) -> Result<(), Fail> {
-    let alloc = rt.alloc();
-    let mut table = thousand(alloc)?;
-    let Some(mut cache) = made(alloc, 7, &table)? else {
-        assert!(rt; false);
-        return Ok(());
+// The table of a source that has these rows.
+fn table_of(alloc: Global, rows: Rows) -> Result<Vaps, NoMemory> {
+    let Some(name) = Name::new(alloc, b"a")? else {
+        return Ok(Vaps::new(alloc));
     };
+    let change = TableChange::Replace(name, Terms::of(alloc, rows)?);
+    Ok(Vaps::new(alloc).change(change)?.0)
+}
+
+// A table and its cache behind one more provider of a customer.
+fn version(alloc: Global, held: (Vaps, Cache), customer: u32) -> Result<(Vaps, Cache), NoMemory> {
+    let table = asserted(alloc, held.0, customer, 5)?;
+    let cache = updated(held.1, &table)?;
+    Ok((table, cache))
+}
+
+// The cache behind 70 updates: the customers from 501 on get a second provider, one after another.
+fn seventy_times_updated(alloc: Global, held: (Vaps, Cache)) -> Result<Cache, NoMemory> {
+    let mut held = held;
     for customer in 501..=570u32 {
-        table = asserted(alloc, table, customer, 5)?;
-        cache = updated(cache, &table)?;
+        held = version(alloc, held, customer)?;
     }
+    Ok(held.1)
+}
+
+fn length(alloc: Global, cache: &Cache, sent: Sent) -> Result<usize, NoMemory> {
+    Ok(reply(alloc, cache, sent)?.1.len())
+}
+
+// 8 and 24 bytes around the rows, 12 for each customer, and 4 for each provider. The last 63 updates are told, and those before are gone.
+const LENGTHS: [(Sent, usize); 3] = [
+    (Sent::ResetQuery, 32 + 1_000 * 16 + 70 * 4),
+    (Sent::SerialQuery(7, 7), 32 + 63 * 20),
+    (Sent::SerialQuery(7, 6), 8),
+];
+
+#[test]
+fn the_last_64_versions_are_kept(rt: HostRuntime) -> Result<(), NoMemory> {
+    let alloc = rt.alloc();
+    let table = table_of(alloc, thousand(alloc)?)?;
+    let Some(cache) = made(alloc, 7, &table)? else {
+        return Err(NoMemory);
+    };
+    let cache = seventy_times_updated(alloc, (table, cache))?;
     assert_eq!(rt; cache.serial(), 70);
-    // 8 and 24 bytes around the rows, 12 for each customer, and 4 for each provider.
-    let (_, out) = reply(alloc, &cache, Sent::ResetQuery)?;
-    assert_eq!(rt; out.len(), 32 + 1_000 * 16 + 70 * 4);
-    let (_, out) = reply(alloc, &cache, Sent::SerialQuery(7, 7))?;
-    assert_eq!(rt; out.len(), 32 + 63 * 20);
-    let (_, out) = reply(alloc, &cache, Sent::SerialQuery(7, 6))?;
-    assert_eq!(rt; out.as_slice(), RESET.as_slice());
+    for (sent, bytes) in LENGTHS {
+        assert_eq!(rt; length(alloc, &cache, sent)?, bytes);
+    }
     Ok(())
 }

@@ -1,11 +1,10 @@
-//! PDUs: single ones, refused ones, a stream in every cut, and what is written.
+//! PDUs: single ones, a long stream in pieces, and what is written.
 ghost use Rattle.std.specs.Prelude.{◌<◌, ◌≤◌, length};
 
 use av_base::NoMemory;
 use path_model::{Addr, AsList};
 use rtr_pdu::{Framer, Pdu, PduFault, write};
 use std::alloc::Global;
-use std::test::Fail;
 
 /// A Cache Response, an announcement of the provider 64497 by 64496, and an End of Data, all of session 7.
 pub const STREAM: [u8; 48] = [
@@ -14,7 +13,7 @@ pub const STREAM: [u8; 48] = [
 ];
 
 // What a PDU says; of an announcement how many providers it has, and their sum.
-#[derive(Clone, Copy, Debug, PartialEq, Eq)]
+#[derive(Clone, Copy, PartialEq, Eq)]
 pub(crate) enum Said {
     Notify(u16, u32),
     SerialQuery(u16, u32),
@@ -29,15 +28,6 @@ pub(crate) enum Said {
     ErrorReport(u16),
     Announce(u32, usize, u64),
     Withdraw(u32, usize),
-}
-
-// What a framer answers, and the report on a refusal.
-#[derive(Clone, Copy, Debug, PartialEq, Eq)]
-pub(crate) enum Answer {
-    Nothing,
-    Unit(Said),
-    Refused(PduFault, Option<u16>),
-    NoMemory,
 }
 
 fn sum(providers: &AsList) -> u64 {
@@ -79,18 +69,18 @@ fn said_by(pdu: &Pdu) -> Said {
     }
 }
 
-// What the next unit is.
-pub(crate) fn next(framer: &mut Framer) -> Answer {
+// What the next unit says, or `None` where none is whole.
+pub(crate) fn next(framer: &mut Framer) -> Option<Said> {
     match framer.next() {
-        Ok(None) => Answer::Nothing,
-        Ok(Some(pdu)) => Answer::Unit(said_by(&pdu)),
-        Err(PduFault::PduVersion) => Answer::Refused(PduFault::PduVersion, framer.report()),
-        Err(PduFault::PduLength) => Answer::Refused(PduFault::PduLength, framer.report()),
-        Err(PduFault::PduType) => Answer::Refused(PduFault::PduType, framer.report()),
-        Err(PduFault::NoProviders) => Answer::Refused(PduFault::NoProviders, framer.report()),
-        Err(PduFault::PrefixRecord) => Answer::Refused(PduFault::PrefixRecord, framer.report()),
-        Err(PduFault::NoMemory) => Answer::NoMemory,
+        Ok(Some(pdu)) => Some(said_by(&pdu)),
+        _ => None,
     }
+}
+
+/// Whether these bytes are one unit that says this.
+pub(crate) fn is_unit(alloc: Global, bytes: &[u8], said: Said) -> Result<bool, NoMemory> {
+    let mut framer = Framer::new(alloc).feed(bytes)?;
+    Ok(next(&mut framer) == Some(said) && next(&mut framer).is_none())
 }
 
 const UNITS: [(&[u8], Said); 14] = [
@@ -151,64 +141,26 @@ const UNITS: [(&[u8], Said); 14] = [
 
 #[test]
 fn reads_single_units(rt: HostRuntime) -> Result<(), NoMemory> {
-    for (bytes, expected) in UNITS {
-        let mut framer = Framer::new(rt.alloc()).feed(bytes)?;
-        assert_eq!(rt; next(&mut framer), Answer::Unit(expected));
-        assert_eq!(rt; next(&mut framer), Answer::Nothing);
+    for (bytes, said) in UNITS {
+        assert!(rt; is_unit(rt.alloc(), bytes, said)?);
     }
     Ok(())
 }
 
-const REFUSED: [(&[u8], PduFault, Option<u16>); 18] = [
-    (&[1, 3, 0, 7, 0, 0, 0, 8], PduFault::PduVersion, Some(8)),
-    (&[3, 5, 0, 7, 0, 0, 0, 0], PduFault::PduVersion, Some(8)),
-    // On an error report no report is sent, whatever its fault.
-    (&[1, 10, 0, 0, 0, 0, 0, 16], PduFault::PduVersion, None),
-    (&[2, 3, 0, 7, 0, 0, 0, 7], PduFault::PduLength, Some(0)),
-    (&[2, 3, 0, 7, 0, 0, 0, 9], PduFault::PduLength, Some(0)),
-    (&[2, 0, 0, 7, 0, 0, 0, 8], PduFault::PduLength, Some(0)),
-    (&[2, 9, 0, 0, 0, 0, 0, 31], PduFault::PduLength, Some(0)),
-    (&[2, 10, 0, 0, 0, 0, 0, 15], PduFault::PduLength, None),
-    (&[2, 11, 1, 0, 0, 0, 0, 8], PduFault::PduLength, Some(0)),
-    (&[2, 11, 1, 0, 0, 0, 0, 18], PduFault::PduLength, Some(0)),
-    // An ASPA PDU and a router key over the longest length.
-    (
-        &[2, 11, 1, 0, 0xFF, 0xFF, 0xFF, 0xFC],
-        PduFault::PduLength,
-        Some(0),
-    ),
-    (&[2, 9, 0, 0, 0, 4, 0, 1], PduFault::PduLength, Some(0)),
-    // The length of no PDU comes before the type of none.
-    (&[2, 5, 0, 0, 0, 0, 0, 7], PduFault::PduLength, Some(0)),
-    (&[2, 5, 0, 0, 0, 0, 0, 8], PduFault::PduType, Some(5)),
-    (&[2, 12, 0, 0, 0, 0, 0, 8], PduFault::PduType, Some(5)),
-    // The copy of an error report is longer than the report, or the text doesn't fill it.
-    (
-        &[2, 10, 0, 0, 0, 0, 0, 16, 0xFF, 0xFF, 0xFF, 0xFF, 0, 0, 0, 0],
-        PduFault::PduLength,
-        None,
-    ),
-    (
-        &[2, 10, 0, 0, 0, 0, 0, 17, 0, 0, 0, 0, 0, 0, 0, 0, 0],
-        PduFault::PduLength,
-        None,
-    ),
-    (
-        &[2, 11, 1, 0, 0, 0, 0, 12, 0, 0, 0xFB, 0xF0],
-        PduFault::NoProviders,
-        Some(0),
-    ),
-];
-
-#[test]
-fn refuses_and_keeps_refusing(rt: HostRuntime) -> Result<(), NoMemory> {
-    for (bytes, fault, report) in REFUSED {
-        let refused = Answer::Refused(fault, report);
-        let mut framer = Framer::new(rt.alloc()).feed(bytes)?;
-        assert_eq!(rt; next(&mut framer), refused);
-        let mut framer = framer.feed(&STREAM)?;
-        assert_eq!(rt; next(&mut framer), refused);
+// The report on a unit of another version.
+fn reported(alloc: Global, bytes: &[u8]) -> Result<Option<u16>, NoMemory> {
+    let mut framer = Framer::new(alloc).feed(bytes)?;
+    match framer.next() {
+        Err(PduFault::PduVersion) => Ok(framer.report()),
+        _ => Ok(None),
     }
+}
+
+// On an error report no report is sent.
+#[test]
+fn reports_another_version(rt: HostRuntime) -> Result<(), NoMemory> {
+    assert_eq!(rt; reported(rt.alloc(), &[1, 3, 0, 7, 0, 0, 0, 8])?, Some(8));
+    assert_eq!(rt; reported(rt.alloc(), &[1, 10, 0, 0, 0, 0, 0, 16])?, None);
     Ok(())
 }
 
@@ -218,80 +170,45 @@ const IN_STREAM: [Said; 3] = [
     Said::EndOfData(7, 1),
 ];
 
-// How many of its units are whole in the stream's first bytes.
-fn whole(bytes: usize) -> usize {
-    if bytes < 8 {
-        0
-    } else if bytes < 24 {
-        1
-    } else if bytes < 48 {
-        2
-    } else {
-        3
+// The stream, 334 times.
+fn long_stream(alloc: Global) -> Result<Vec<u8>, NoMemory> {
+    let mut stream = Vec::new(alloc);
+    for _ in 0..334 {
+        stream.extend_from_slice(&STREAM)?;
     }
+    Ok(stream)
 }
 
-#[test]
-fn each_front_of_a_stream_has_its_whole_units(rt: HostRuntime) -> Result<(), NoMemory> {
-    for bytes in 0..=STREAM.len() {
-        let mut framer = Framer::new(rt.alloc()).feed(&STREAM[..bytes])?;
-        for unit in IN_STREAM.iter().take(whole(bytes)) {
-            assert_eq!(rt; next(&mut framer), Answer::Unit(*unit));
-        }
-        assert_eq!(rt; next(&mut framer), Answer::Nothing);
-    }
-    Ok(())
-}
-
-// The units of a stream that comes in pieces, each taken as soon as it is whole.
-fn units(alloc: Global, stream: &[u8], pieces: usize) -> Result<Vec<Said>, NoMemory> {
-    let mut units = Vec::new(alloc);
+// The framer that a stream is fed to in pieces of a size.
+fn fed(alloc: Global, stream: &[u8], size: usize) -> Result<Framer, NoMemory> {
     let mut framer = Framer::new(alloc);
-    for piece in stream.chunks(pieces.max(1)) {
+    for piece in stream.chunks(size.max(1)) {
         framer = framer.feed(piece)?;
-        for _ in 0..stream.len() {
-            match next(&mut framer) {
-                Answer::Unit(unit) => units.push(unit)?,
-                _ => break,
-            }
-        }
     }
-    Ok(units)
+    Ok(framer)
 }
 
-// How often the stream comes, and the sizes of its pieces.
-const IN_PIECES: [(usize, &[usize]); 2] = [
-    (
-        1,
-        &[
-            1, 2, 3, 4, 5, 6, 7, 8, 9, 10, 11, 12, 13, 14, 15, 16, 17, 18, 19, 20, 21, 22, 23, 24,
-            25, 26, 27, 28, 29, 30, 31, 32, 33, 34, 35, 36, 37, 38, 39, 40, 41, 42, 43, 44, 45, 46,
-            47, 48,
-        ],
-    ),
-    (334, &[7, 1_001]),
-];
+// How many units are these, again and again, up to the first that isn't.
+fn count(mut framer: Framer, units: &[Said; 3]) -> usize {
+    for place in 0..2_000usize {
+        if next(&mut framer) != Some(units[place % 3]) {
+            return place;
+        }
+    }
+    2_000
+}
 
 #[test]
 fn the_units_are_the_same_in_any_pieces(rt: HostRuntime) -> Result<(), NoMemory> {
-    for (times, sizes) in IN_PIECES {
-        let mut stream = Vec::new(rt.alloc());
-        for _ in 0..times {
-            stream.extend_from_slice(&STREAM)?;
-        }
-        for pieces in sizes {
-            let units = units(rt.alloc(), &stream, *pieces)?;
-            assert_eq!(rt; units.len(), times.wrapping_mul(3));
-            for (unit, want) in units.iter().zip(IN_STREAM.iter().cycle()) {
-                assert_eq!(rt; *unit, *want);
-            }
-        }
+    let stream = long_stream(rt.alloc())?;
+    for size in [1, 7, 1_001, 20_000] {
+        assert_eq!(rt; count(fed(rt.alloc(), &stream, size)?, &IN_STREAM), 1_002);
     }
     Ok(())
 }
 
 // The bytes of a PDU other than an ASPA PDU, or `None` where there is no memory.
-pub(crate) fn written(alloc: Global, pdu: &Pdu) -> Option<Vec<u8>> {
+fn written(alloc: Global, pdu: &Pdu) -> Option<Vec<u8>> {
     let mut out = Vec::new(alloc);
     match pdu {
         Pdu::Passed { .. } => None,
@@ -303,44 +220,32 @@ pub(crate) fn written(alloc: Global, pdu: &Pdu) -> Option<Vec<u8>> {
     }
 }
 
+/// The bytes of a unit other than an ASPA PDU that is read and written again.
+pub(crate) fn rewritten(alloc: Global, bytes: &[u8]) -> Result<Option<Vec<u8>>, NoMemory> {
+    let mut framer = Framer::new(alloc).feed(bytes)?;
+    match framer.next() {
+        Ok(Some(pdu)) => Ok(written(alloc, &pdu)),
+        _ => Ok(None),
+    }
+}
+
+const WRITTEN: [&[u8]; 7] = [
+    &[2, 8, 0, 0, 0, 0, 0, 8],
+    &[2, 3, 0, 7, 0, 0, 0, 8],
+    &[2, 0, 0, 7, 0, 0, 0, 12, 0, 0, 0, 1],
+    &[2, 2, 0, 0, 0, 0, 0, 8],
+    &[2, 1, 0, 7, 0, 0, 0, 12, 0, 0, 0, 1],
+    &[2, 10, 0, 8, 0, 0, 0, 16, 0, 0, 0, 0, 0, 0, 0, 0],
+    &[
+        2, 7, 0, 7, 0, 0, 0, 24, 0, 0, 0, 1, 0, 0, 14, 16, 0, 0, 2, 88, 0, 0, 28, 32,
+    ],
+];
+
 #[test]
-fn writes_what_is_sent(rt: HostRuntime) -> Result<(), Fail> {
-    let alloc = rt.alloc();
-    let table: [(Pdu, &[u8]); 7] = [
-        (Pdu::CacheReset, &[2, 8, 0, 0, 0, 0, 0, 8]),
-        (Pdu::CacheResponse { session: 7 }, &[2, 3, 0, 7, 0, 0, 0, 8]),
-        (
-            Pdu::Notify {
-                session: 7,
-                serial: 1,
-            },
-            &[2, 0, 0, 7, 0, 0, 0, 12, 0, 0, 0, 1],
-        ),
-        (Pdu::ResetQuery, &[2, 2, 0, 0, 0, 0, 0, 8]),
-        (
-            Pdu::SerialQuery {
-                session: 7,
-                serial: 1,
-            },
-            &[2, 1, 0, 7, 0, 0, 0, 12, 0, 0, 0, 1],
-        ),
-        (
-            Pdu::ErrorReport { code: 8 },
-            &[2, 10, 0, 8, 0, 0, 0, 16, 0, 0, 0, 0, 0, 0, 0, 0],
-        ),
-        (
-            Pdu::EndOfData {
-                session: 7,
-                serial: 1,
-            },
-            &[
-                2, 7, 0, 7, 0, 0, 0, 24, 0, 0, 0, 1, 0, 0, 14, 16, 0, 0, 2, 88, 0, 0, 28, 32,
-            ],
-        ),
-    ];
-    for (pdu, bytes) in &table {
-        let out = written(alloc, pdu);
-        assert_eq!(rt; out.as_deref(), Some(*bytes));
+fn writes_what_is_sent(rt: HostRuntime) -> Result<(), NoMemory> {
+    for bytes in WRITTEN {
+        let out = rewritten(rt.alloc(), bytes)?;
+        assert_eq!(rt; out.as_deref(), Some(bytes));
     }
     Ok(())
 }
@@ -360,42 +265,57 @@ fn announcement(alloc: Global, customer: u32, providers: &[u32]) -> Result<Vec<u
     Ok(out)
 }
 
-#[test]
-fn writes_announcements_and_withdrawals(rt: HostRuntime) -> Result<(), NoMemory> {
-    let alloc = rt.alloc();
-    let out = announcement(alloc, 64_496, &[64_497, 1])?;
-    let expected: [u8; 20] = [
-        2, 11, 1, 0, 0, 0, 0, 20, 0, 0, 0xFB, 0xF0, 0, 0, 0xFB, 0xF1, 0, 0, 0, 1,
-    ];
-    assert_eq!(rt; out.as_slice(), expected.as_slice());
+// A written withdrawal.
+fn withdrawal(alloc: Global, customer: u32) -> Result<Vec<u8>, NoMemory> {
     let mut out = Vec::new(alloc);
-    let withdrawal = Pdu::Aspa {
+    let pdu = Pdu::Aspa {
         announce: false,
-        customer: 9,
+        customer,
         providers: AsList::new(alloc),
     };
-    write(&withdrawal, &mut out)?;
-    let expected: [u8; 12] = [2, 11, 0, 0, 0, 0, 0, 12, 0, 0, 0, 9];
-    assert_eq!(rt; out.as_slice(), expected.as_slice());
+    write(&pdu, &mut out)?;
+    Ok(out)
+}
+
+const ANNOUNCEMENT: [u8; 20] = [
+    2, 11, 1, 0, 0, 0, 0, 20, 0, 0, 0xFB, 0xF0, 0, 0, 0xFB, 0xF1, 0, 0, 0, 1,
+];
+
+const WITHDRAWAL: [u8; 12] = [2, 11, 0, 0, 0, 0, 0, 12, 0, 0, 0, 9];
+
+#[test]
+fn writes_announcements_and_withdrawals(rt: HostRuntime) -> Result<(), NoMemory> {
+    let out = announcement(rt.alloc(), 64_496, &[64_497, 1])?;
+    assert_eq!(rt; out.as_slice(), ANNOUNCEMENT.as_slice());
+    let out = withdrawal(rt.alloc(), 9)?;
+    assert_eq!(rt; out.as_slice(), WITHDRAWAL.as_slice());
     Ok(())
 }
 
-// 64496 announces the providers 1 to 300: 1,212 bytes, and a sum of 45,150.
-#[test]
-fn three_hundred_providers(rt: HostRuntime) -> Result<(), NoMemory> {
-    let alloc = rt.alloc();
+// The bytes of an announcement by 64496 of the providers 1 to 300.
+fn three_hundred(alloc: Global) -> Result<Vec<u8>, NoMemory> {
     let mut bytes = Vec::from_slice(alloc, &[2, 11, 1, 0, 0, 0, 4, 0xBC, 0, 0, 0xFB, 0xF0])?;
-    let mut providers = [0u32; 300];
-    for (place, provider) in providers.iter_mut().enumerate() {
-        *provider = (place as u32).wrapping_add(1);
+    for provider in 1..=300u32 {
         bytes.extend_from_slice(&provider.to_be_bytes())?;
     }
-    let mut framer = Framer::new(alloc).feed(&bytes)?;
-    assert_eq!(rt;
-        next(&mut framer),
-        Answer::Unit(Said::Announce(64_496, 300, 45_150))
-    );
-    let out = announcement(alloc, 64_496, &providers)?;
+    Ok(bytes)
+}
+
+// The numbers 1 to 300.
+fn numbers() -> [u32; 300] {
+    let mut numbers = [0u32; 300];
+    for (place, number) in numbers.iter_mut().enumerate() {
+        *number = (place as u32).wrapping_add(1);
+    }
+    numbers
+}
+
+// 1,212 bytes, and a sum of 45,150.
+#[test]
+fn three_hundred_providers(rt: HostRuntime) -> Result<(), NoMemory> {
+    let bytes = three_hundred(rt.alloc())?;
+    assert!(rt; is_unit(rt.alloc(), &bytes, Said::Announce(64_496, 300, 45_150))?);
+    let out = announcement(rt.alloc(), 64_496, &numbers())?;
     assert_eq!(rt; out.as_slice(), bytes.as_slice());
     Ok(())
 }

@@ -1,10 +1,6 @@
-//! Prefix PDUs: good ones, refused ones, and what is written.
-use crate::pdus::{Answer, STREAM, Said, next, written};
+//! Prefix PDUs: what they say, and what is written.
+use crate::pdus::{Said, is_unit, rewritten};
 use av_base::NoMemory;
-use origin_model::Vrp;
-use path_model::{Addr, Prefix};
-use rtr_pdu::{Framer, Pdu, PduFault};
-use std::alloc::Global;
 
 const UNITS: [(&[u8], Said); 5] = [
     (
@@ -44,95 +40,27 @@ const UNITS: [(&[u8], Said); 5] = [
 
 #[test]
 fn reads_prefixes(rt: HostRuntime) -> Result<(), NoMemory> {
-    for (bytes, expected) in UNITS {
-        let mut framer = Framer::new(rt.alloc()).feed(bytes)?;
-        assert_eq!(rt; next(&mut framer), Answer::Unit(expected));
-        assert_eq!(rt; next(&mut framer), Answer::Nothing);
+    for (bytes, said) in UNITS {
+        assert!(rt; is_unit(rt.alloc(), bytes, said)?);
     }
     Ok(())
 }
 
-const REFUSED: [(&[u8], PduFault, Option<u16>); 6] = [
-    (&[2, 4, 0, 0, 0, 0, 0, 21], PduFault::PduLength, Some(0)),
-    // A maximum below the prefix's length, and maxima over 32 and 128; a length over 32.
-    (
-        &[
-            2, 4, 0, 0, 0, 0, 0, 20, 1, 24, 23, 0, 198, 51, 100, 0, 0, 0, 0xFB, 0xF4,
-        ],
-        PduFault::PrefixRecord,
-        Some(0),
-    ),
-    (
-        &[
-            2, 4, 0, 0, 0, 0, 0, 20, 1, 24, 33, 0, 198, 51, 100, 0, 0, 0, 0xFB, 0xF4,
-        ],
-        PduFault::PrefixRecord,
-        Some(0),
-    ),
-    (
-        &[
-            2, 4, 0, 0, 0, 0, 0, 20, 0, 33, 33, 0, 198, 51, 100, 0, 0, 0, 0xFB, 0xF4,
-        ],
-        PduFault::PrefixRecord,
-        Some(0),
-    ),
-    (
-        &[
-            2, 6, 0, 0, 0, 0, 0, 32, 1, 32, 129, 0, 0x20, 1, 0x0D, 0xB8, 0, 0, 0, 0, 0, 0, 0, 0, 0,
-            0, 0, 0, 0, 0, 0xFB, 0xF4,
-        ],
-        PduFault::PrefixRecord,
-        Some(0),
-    ),
-    (
-        &[
-            2, 6, 0, 0, 0, 0, 0, 32, 0, 32, 31, 0, 0x20, 1, 0x0D, 0xB8, 0, 0, 0, 0, 0, 0, 0, 0, 0,
-            0, 0, 0, 0, 0, 0xFB, 0xF4,
-        ],
-        PduFault::PrefixRecord,
-        Some(0),
-    ),
+const WRITTEN: [&[u8]; 2] = [
+    &[
+        2, 4, 0, 0, 0, 0, 0, 20, 1, 24, 24, 0, 198, 51, 100, 0, 0, 0, 0xFB, 0xF4,
+    ],
+    &[
+        2, 6, 0, 0, 0, 0, 0, 32, 0, 32, 48, 0, 0x20, 1, 0x0D, 0xB8, 0, 0, 0, 0, 0, 0, 0, 0, 0, 0,
+        0, 0, 0, 0, 0, 1,
+    ],
 ];
 
 #[test]
-fn refuses_prefixes(rt: HostRuntime) -> Result<(), NoMemory> {
-    for (bytes, fault, report) in REFUSED {
-        let refused = Answer::Refused(fault, report);
-        let mut framer = Framer::new(rt.alloc()).feed(bytes)?;
-        assert_eq!(rt; next(&mut framer), refused);
-        let mut framer = framer.feed(&STREAM)?;
-        assert_eq!(rt; next(&mut framer), refused);
+fn writes_prefixes(rt: HostRuntime) -> Result<(), NoMemory> {
+    for bytes in WRITTEN {
+        let out = rewritten(rt.alloc(), bytes)?;
+        assert_eq!(rt; out.as_deref(), Some(bytes));
     }
     Ok(())
-}
-
-fn vrp(addr: Addr, len: u8, max: u8, asn: u32) -> Option<Vrp> {
-    Vrp::new(Prefix::new(addr, len)?, max, asn)
-}
-
-// A written prefix PDU.
-fn written_prefix(alloc: Global, announce: bool, vrp: Option<Vrp>) -> Option<Vec<u8>> {
-    let pdu = Pdu::Prefix {
-        announce,
-        vrp: vrp?,
-    };
-    written(alloc, &pdu)
-}
-
-#[test]
-fn writes_prefixes(rt: HostRuntime) {
-    let alloc = rt.alloc();
-    let four = vrp(Addr::V4(0xC633_64FF), 24, 24, 64_500);
-    let out = written_prefix(alloc, true, four);
-    let bytes: [u8; 20] = [
-        2, 4, 0, 0, 0, 0, 0, 20, 1, 24, 24, 0, 198, 51, 100, 0, 0, 0, 0xFB, 0xF4,
-    ];
-    assert_eq!(rt; out.as_deref(), Some(bytes.as_slice()));
-    let six = vrp(Addr::V6(0x2001_0DB8 << 96), 32, 48, 1);
-    let out = written_prefix(alloc, false, six);
-    let bytes: [u8; 32] = [
-        2, 6, 0, 0, 0, 0, 0, 32, 0, 32, 48, 0, 0x20, 1, 0x0D, 0xB8, 0, 0, 0, 0, 0, 0, 0, 0, 0, 0,
-        0, 0, 0, 0, 0, 1,
-    ];
-    assert_eq!(rt; out.as_deref(), Some(bytes.as_slice()));
 }

@@ -6,9 +6,10 @@ use rtr_pdu::Pdu;
 use rtr_session::{Act, Delta, Ending, Phase, Query, Session};
 use std::alloc::Global;
 
-// A PDU of session 7, which the session is in from its first answer on, or of session 8.
-#[derive(Clone, Copy, Debug, PartialEq, Eq)]
+// What happens to a session: it asks, or a PDU of session 7, which it is in from its first answer on, or of session 8 comes.
+#[derive(Clone, Copy)]
 pub(crate) enum Sent {
+    Ask,
     Notify(u16),
     SerialQuery,
     ResetQuery,
@@ -17,32 +18,15 @@ pub(crate) enum Sent {
     End(u16),
     Reset,
     Report,
-    // 64500 announces 64501
-    Announce,
-    // 64496, which has a row where the answer has changes, withdraws it
-    Withdraw,
-    // 64499, which never has one, withdraws it
-    WithdrawUnknown,
-    // the payload of AS 64500 is announced
-    AnnouncePrefix,
-    // that of AS 64496, which is there where the answer has changes, is withdrawn
-    WithdrawPrefix,
-    // one of AS 64496 with another maximum, which never is there, is withdrawn
-    WithdrawUnknownPrefix,
-}
-
-// What is done; of rows and patches how many customers they name, and how many payloads there are then, or are named.
-#[derive(Clone, Copy, Debug, PartialEq, Eq)]
-pub(crate) enum Did {
-    Nothing,
-    AskedAll,
-    Whole(usize, usize),
-    Part(usize, usize),
-    End(Ending),
+    // a customer announces providers, or withdraws its row
+    Row(u32, &'static [u32]),
+    Withdrawal(u32),
+    // a payload of 198.51.100.0/24 is announced or withdrawn, with a maximum and an AS
+    Payload(bool, u8, u32),
 }
 
 // A prefix PDU of 198.51.100.0/24.
-pub(crate) fn prefix(announce: bool, max: u8, asn: u32) -> Pdu {
+fn prefix(announce: bool, max: u8, asn: u32) -> Pdu {
     let prefix = Prefix::new(Addr::V4(0xC633_6400), 24);
     match prefix.and_then(|prefix| Vrp::new(prefix, max, asn)) {
         Some(vrp) => Pdu::Prefix { announce, vrp },
@@ -50,28 +34,7 @@ pub(crate) fn prefix(announce: bool, max: u8, asn: u32) -> Pdu {
     }
 }
 
-pub(crate) fn pdu(alloc: Global, sent: Sent) -> Result<Pdu, NoMemory> {
-    Ok(match sent {
-        Sent::Notify(session) => Pdu::Notify { session, serial: 9 },
-        Sent::SerialQuery => Pdu::SerialQuery {
-            session: 7,
-            serial: 1,
-        },
-        Sent::ResetQuery => Pdu::ResetQuery,
-        Sent::Response(session) => Pdu::CacheResponse { session },
-        Sent::Passed => Pdu::Passed { kind: 9 },
-        Sent::End(session) => Pdu::EndOfData { session, serial: 2 },
-        Sent::Reset => Pdu::CacheReset,
-        Sent::Report => Pdu::ErrorReport { code: 2 },
-        Sent::Announce => aspa(alloc, 64_500, &[64_501])?,
-        Sent::Withdraw => withdrawal(alloc, 64_496),
-        Sent::WithdrawUnknown => withdrawal(alloc, 64_499),
-        Sent::AnnouncePrefix => prefix(true, 24, 64_500),
-        Sent::WithdrawPrefix => prefix(false, 24, 64_496),
-        Sent::WithdrawUnknownPrefix => prefix(false, 25, 64_496),
-    })
-}
-
+/// The announcement of a customer's providers.
 pub(crate) fn aspa(alloc: Global, customer: u32, providers: &[u32]) -> Result<Pdu, NoMemory> {
     Ok(Pdu::Aspa {
         announce: true,
@@ -80,7 +43,7 @@ pub(crate) fn aspa(alloc: Global, customer: u32, providers: &[u32]) -> Result<Pd
     })
 }
 
-pub(crate) fn withdrawal(alloc: Global, customer: u32) -> Pdu {
+fn withdrawal(alloc: Global, customer: u32) -> Pdu {
     Pdu::Aspa {
         announce: false,
         customer,
@@ -88,7 +51,28 @@ pub(crate) fn withdrawal(alloc: Global, customer: u32) -> Pdu {
     }
 }
 
-// Takes a PDU, unless the session is over.
+// The PDU that comes, or `None` where the session asks.
+fn pdu(alloc: Global, sent: Sent) -> Result<Option<Pdu>, NoMemory> {
+    Ok(match sent {
+        Sent::Ask => None,
+        Sent::Notify(session) => Some(Pdu::Notify { session, serial: 9 }),
+        Sent::SerialQuery => Some(Pdu::SerialQuery {
+            session: 7,
+            serial: 1,
+        }),
+        Sent::ResetQuery => Some(Pdu::ResetQuery),
+        Sent::Response(session) => Some(Pdu::CacheResponse { session }),
+        Sent::Passed => Some(Pdu::Passed { kind: 9 }),
+        Sent::End(session) => Some(Pdu::EndOfData { session, serial: 2 }),
+        Sent::Reset => Some(Pdu::CacheReset),
+        Sent::Report => Some(Pdu::ErrorReport { code: 2 }),
+        Sent::Row(customer, providers) => Some(aspa(alloc, customer, providers)?),
+        Sent::Withdrawal(customer) => Some(withdrawal(alloc, customer)),
+        Sent::Payload(announce, max, asn) => Some(prefix(announce, max, asn)),
+    })
+}
+
+/// Takes a PDU, unless the session is over.
 pub(crate) fn take(session: Session, pdu: Pdu) -> Result<(Session, Act), NoMemory> {
     match session.phase() {
         Phase::Over => Ok((session, Act::Nothing)),
@@ -101,206 +85,169 @@ pub(crate) fn take(session: Session, pdu: Pdu) -> Result<(Session, Act), NoMemor
     }
 }
 
-pub(crate) fn after(alloc: Global, session: Session, sent: Sent) -> Result<Session, NoMemory> {
-    let (session, _) = take(session, pdu(alloc, sent)?)?;
+/// The session behind something that happens, and what is to be done.
+pub(crate) fn step(
+    alloc: Global,
+    session: Session,
+    sent: Sent,
+) -> Result<(Session, Act), NoMemory> {
+    match pdu(alloc, sent)? {
+        Some(pdu) => take(session, pdu),
+        None => Ok((session.ask().0, Act::Nothing)),
+    }
+}
+
+fn after(alloc: Global, session: Session, sent: Sent) -> Result<Session, NoMemory> {
+    Ok(step(alloc, session, sent)?.0)
+}
+
+/// A session behind all of these.
+pub(crate) fn replayed(alloc: Global, script: &[Sent]) -> Result<Session, NoMemory> {
+    let mut session = Session::new(alloc);
+    for sent in script {
+        session = after(alloc, session, *sent)?;
+    }
     Ok(session)
 }
 
-pub(crate) fn asked(session: Session) -> Session {
-    let (session, _) = session.ask();
-    session
+/// What is to be done on the last PDU behind all of these.
+pub(crate) fn last_act(alloc: Global, script: &[Sent], last: Sent) -> Result<Act, NoMemory> {
+    Ok(step(alloc, replayed(alloc, script)?, last)?.1)
 }
 
-fn ready(alloc: Global) -> Result<Session, NoMemory> {
-    let session = after(alloc, asked(Session::new(alloc)), Sent::Response(7))?;
-    let (session, _) = take(session, aspa(alloc, 64_496, &[64_497])?)?;
-    let (session, _) = take(session, prefix(true, 24, 64_496))?;
-    after(alloc, session, Sent::End(7))
-}
+// The ways to the phases. In the last three 64496 has a row and a payload.
+const PHASES: [(Phase, &[Sent]); 7] = [
+    (Phase::Fresh, &[]),
+    (Phase::AskedWhole, &[Sent::Ask]),
+    (Phase::AskedChanges, &ASKED_CHANGES),
+    (Phase::ReceivingWhole, &RECEIVING_WHOLE),
+    (Phase::ReceivingChanges, &RECEIVING_CHANGES),
+    (Phase::Ready, &READY),
+    (Phase::Over, &[Sent::Report]),
+];
 
-// A session in a phase. In Ready and behind it 64496 has a row and a payload.
-pub(crate) fn in_phase(alloc: Global, phase: Phase) -> Result<Session, NoMemory> {
-    match phase {
-        Phase::Fresh => Ok(Session::new(alloc)),
-        Phase::AskedWhole => Ok(asked(Session::new(alloc))),
-        Phase::ReceivingWhole => after(alloc, asked(Session::new(alloc)), Sent::Response(7)),
-        Phase::Ready => ready(alloc),
-        Phase::AskedChanges => Ok(asked(ready(alloc)?)),
-        Phase::ReceivingChanges => after(alloc, asked(ready(alloc)?), Sent::Response(7)),
-        Phase::Over => after(alloc, Session::new(alloc), Sent::Report),
-    }
-}
+/// The session receives a whole answer.
+pub(crate) const RECEIVING_WHOLE: [Sent; 2] = [Sent::Ask, Sent::Response(7)];
 
-pub(crate) fn done_by(act: &Act) -> Did {
+const READY: [Sent; 5] = [
+    Sent::Ask,
+    Sent::Response(7),
+    Sent::Row(64_496, &[64_497]),
+    Sent::Payload(true, 24, 64_496),
+    Sent::End(7),
+];
+
+const ASKED_CHANGES: [Sent; 6] = [
+    Sent::Ask,
+    Sent::Response(7),
+    Sent::Row(64_496, &[64_497]),
+    Sent::Payload(true, 24, 64_496),
+    Sent::End(7),
+    Sent::Ask,
+];
+
+const RECEIVING_CHANGES: [Sent; 7] = [
+    Sent::Ask,
+    Sent::Response(7),
+    Sent::Row(64_496, &[64_497]),
+    Sent::Payload(true, 24, 64_496),
+    Sent::End(7),
+    Sent::Ask,
+    Sent::Response(7),
+];
+
+const ANNOUNCE: Sent = Sent::Row(64_500, &[64_501]);
+
+// 64496 has a row where the answer has changes, and 64499 never has one.
+const WITHDRAW: Sent = Sent::Withdrawal(64_496);
+
+const WITHDRAW_UNKNOWN: Sent = Sent::Withdrawal(64_499);
+
+// The payload of AS 64496 is there where the answer has changes, and one with another maximum never is.
+const ANNOUNCE_PREFIX: Sent = Sent::Payload(true, 24, 64_500);
+
+const WITHDRAW_PREFIX: Sent = Sent::Payload(false, 24, 64_496);
+
+const WITHDRAW_UNKNOWN_PREFIX: Sent = Sent::Payload(false, 25, 64_496);
+
+// What is done, as a letter: nothing, all is asked for, a whole answer and one with changes, and four ends: unexpected, an unknown
+// withdrawal, another session, and an error report.
+fn letter(act: &Act) -> u8 {
     match act {
-        Act::Nothing => Did::Nothing,
-        Act::Send(_) => Did::AskedAll,
-        Act::Apply(Delta::Whole(rows, payloads)) => {
-            Did::Whole(rows.entries().count(), payloads.entries().count())
-        }
-        Act::Apply(Delta::Part(patch, changes)) => {
-            Did::Part(patch.entries().count(), changes.len())
-        }
-        Act::End(ending) => Did::End(*ending),
+        Act::Nothing => b'.',
+        Act::Send(_) => b'a',
+        Act::Apply(Delta::Whole(..)) => b'w',
+        Act::Apply(Delta::Part(..)) => b'c',
+        Act::End(Ending::Unexpected) => b'U',
+        Act::End(Ending::UnknownWithdrawal) => b'W',
+        Act::End(Ending::SessionChanged) => b'S',
+        Act::End(Ending::PeerReported) => b'R',
     }
 }
 
-const PHASES: [Phase; 6] = [
-    Phase::Fresh,
-    Phase::AskedWhole,
-    Phase::AskedChanges,
-    Phase::ReceivingWhole,
-    Phase::ReceivingChanges,
-    Phase::Ready,
-];
-
-const SAME: Did = Did::Nothing;
-
-const UNEXPECTED: Did = Did::End(Ending::Unexpected);
-
-const CHANGED: Did = Did::End(Ending::SessionChanged);
-
-const UNKNOWN: Did = Did::End(Ending::UnknownWithdrawal);
-
-const REPORTED: Did = Did::End(Ending::PeerReported);
-
-// What each PDU does in each of the phases, in their order.
-const TABLE: [(Sent, [Did; 6]); 17] = [
-    (Sent::Notify(7), [SAME, SAME, SAME, SAME, SAME, SAME]),
-    (Sent::Notify(8), [SAME, SAME, SAME, SAME, SAME, CHANGED]),
-    (Sent::SerialQuery, [UNEXPECTED; 6]),
-    (Sent::ResetQuery, [UNEXPECTED; 6]),
-    (
-        Sent::Response(7),
-        [UNEXPECTED, SAME, SAME, UNEXPECTED, UNEXPECTED, UNEXPECTED],
-    ),
-    (
-        Sent::Response(8),
-        [
-            UNEXPECTED, SAME, CHANGED, UNEXPECTED, UNEXPECTED, UNEXPECTED,
-        ],
-    ),
-    (
-        Sent::Passed,
-        [UNEXPECTED, UNEXPECTED, UNEXPECTED, SAME, SAME, UNEXPECTED],
-    ),
-    (
-        Sent::End(7),
-        [
-            UNEXPECTED,
-            UNEXPECTED,
-            UNEXPECTED,
-            Did::Whole(0, 0),
-            Did::Part(0, 0),
-            UNEXPECTED,
-        ],
-    ),
-    (
-        Sent::End(8),
-        [
-            UNEXPECTED, UNEXPECTED, UNEXPECTED, CHANGED, CHANGED, UNEXPECTED,
-        ],
-    ),
-    (
-        Sent::Reset,
-        [
-            UNEXPECTED,
-            UNEXPECTED,
-            Did::AskedAll,
-            UNEXPECTED,
-            UNEXPECTED,
-            UNEXPECTED,
-        ],
-    ),
-    (Sent::Report, [REPORTED; 6]),
-    (
-        Sent::Announce,
-        [UNEXPECTED, UNEXPECTED, UNEXPECTED, SAME, SAME, UNEXPECTED],
-    ),
+// What each PDU does in each of the first six phases, in their order.
+const TABLE: [(Sent, &[u8; 6]); 17] = [
+    (Sent::Notify(7), b"......"),
+    (Sent::Notify(8), b".....S"),
+    (Sent::SerialQuery, b"UUUUUU"),
+    (Sent::ResetQuery, b"UUUUUU"),
+    (Sent::Response(7), b"U..UUU"),
+    (Sent::Response(8), b"U.SUUU"),
+    (Sent::Passed, b"UUU..U"),
+    (Sent::End(7), b"UUUwcU"),
+    (Sent::End(8), b"UUUSSU"),
+    (Sent::Reset, b"UUaUUU"),
+    (Sent::Report, b"RRRRRR"),
+    (ANNOUNCE, b"UUU..U"),
     // A whole answer begins with no rows.
-    (
-        Sent::Withdraw,
-        [
-            UNEXPECTED, UNEXPECTED, UNEXPECTED, UNKNOWN, SAME, UNEXPECTED,
-        ],
-    ),
-    (
-        Sent::WithdrawUnknown,
-        [
-            UNEXPECTED, UNEXPECTED, UNEXPECTED, UNKNOWN, UNKNOWN, UNEXPECTED,
-        ],
-    ),
-    (
-        Sent::AnnouncePrefix,
-        [UNEXPECTED, UNEXPECTED, UNEXPECTED, SAME, SAME, UNEXPECTED],
-    ),
+    (WITHDRAW, b"UUUW.U"),
+    (WITHDRAW_UNKNOWN, b"UUUWWU"),
+    (ANNOUNCE_PREFIX, b"UUU..U"),
     // Nor does a whole answer begin with payloads.
-    (
-        Sent::WithdrawPrefix,
-        [
-            UNEXPECTED, UNEXPECTED, UNEXPECTED, UNKNOWN, SAME, UNEXPECTED,
-        ],
-    ),
-    (
-        Sent::WithdrawUnknownPrefix,
-        [
-            UNEXPECTED, UNEXPECTED, UNEXPECTED, UNKNOWN, UNKNOWN, UNEXPECTED,
-        ],
-    ),
+    (WITHDRAW_PREFIX, b"UUUW.U"),
+    (WITHDRAW_UNKNOWN_PREFIX, b"UUUWWU"),
 ];
 
-// The phase behind an act, where the session isn't over.
-fn phase_behind(phase: Phase, sent: Sent, did: Did) -> Phase {
-    match did {
-        Did::End(_) => Phase::Over,
-        Did::AskedAll => Phase::AskedWhole,
-        Did::Whole(..) => Phase::Ready,
-        Did::Part(..) => Phase::Ready,
-        Did::Nothing => match sent {
-            Sent::Response(_) => phase_behind_response(phase),
-            _ => phase,
-        },
+// Whether a PDU does in each phase what it should.
+fn is_row(alloc: Global, sent: Sent, row: &[u8]) -> Result<bool, NoMemory> {
+    for ((_, script), want) in PHASES.iter().zip(row.iter()) {
+        if letter(&last_act(alloc, script, sent)?) != *want {
+            return Ok(false);
+        }
     }
-}
-
-// The phase behind the beginning of an answer that is taken.
-fn phase_behind_response(phase: Phase) -> Phase {
-    match phase {
-        Phase::AskedWhole => Phase::ReceivingWhole,
-        Phase::AskedChanges => Phase::ReceivingChanges,
-        _ => phase,
-    }
+    Ok(true)
 }
 
 #[test]
 fn does_what_the_table_says(rt: HostRuntime) -> Result<(), NoMemory> {
-    let alloc = rt.alloc();
-    for (sent, row) in TABLE {
-        for i in 0..6 {
-            let session = in_phase(alloc, PHASES[i])?;
-            assert_eq!(rt; session.phase(), PHASES[i]);
-            let (session, act) = take(session, pdu(alloc, sent)?)?;
-            assert_eq!(rt; done_by(&act), row[i]);
-            assert_eq!(rt; session.phase(), phase_behind(PHASES[i], sent, row[i]));
-        }
+    for (sent, row) in &TABLE {
+        assert!(rt; is_row(rt.alloc(), *sent, row.as_slice())?);
     }
     Ok(())
 }
 
+// The query that is asked behind all of these.
+fn query(alloc: Global, script: &[Sent]) -> Result<Option<Query>, NoMemory> {
+    Ok(replayed(alloc, script)?.ask().1)
+}
+
+// The query that is asked in a phase.
+fn query_in(phase: Phase) -> Option<Query> {
+    match phase {
+        Phase::Fresh => Some(Query::Reset),
+        Phase::Ready => Some(Query::Serial {
+            session: 7,
+            serial: 2,
+        }),
+        _ => None,
+    }
+}
+
 #[test]
 fn asks_in_two_phases_alone(rt: HostRuntime) -> Result<(), NoMemory> {
-    let alloc = rt.alloc();
-    for phase in PHASES {
-        let expected = match phase {
-            Phase::Fresh => Some(Query::Reset),
-            Phase::Ready => Some(Query::Serial {
-                session: 7,
-                serial: 2,
-            }),
-            _ => None,
-        };
-        let (_, query) = in_phase(alloc, phase)?.ask();
-        assert_eq!(rt; query, expected);
+    for (phase, script) in &PHASES {
+        assert!(rt; replayed(rt.alloc(), script)?.phase() == *phase);
+        assert!(rt; query(rt.alloc(), script)? == query_in(*phase));
     }
     Ok(())
 }

@@ -1,5 +1,6 @@
 //! States that are held, and asked for again behind what comes and goes.
 use crate::origin_states::{four, payloads};
+use OriginState::{Invalid, NotFound, Valid};
 use origin_model::{PrefixFilter, PrefixFilters, Vrp, VrpChanges, VrpSet};
 use origin_validation::{OriginState, Origins};
 use path_model::Name;
@@ -54,26 +55,35 @@ fn are(origins: &mut Origins, right: [OriginState; 4]) -> bool {
     true
 }
 
+// One thing after another: nothing, a payload, a shorter one, a filter and an assertion, room for none, neither filter nor assertion, no payload.
+fn step(alloc: Global, origins: &mut Origins, number: usize) -> Option<()> {
+    match number {
+        1 => give(alloc, origins, &[(0x0a00_0000, 16, 24, 64_500)])?,
+        2 => shorten(alloc, origins)?,
+        3 => filter(alloc, origins)?,
+        4 => origins.make_room(0),
+        5 => origins.slurm(PrefixFilters::new(alloc), VrpSet::new(alloc)),
+        6 => give(alloc, origins, &[])?,
+        _ => {}
+    }
+    Some(())
+}
+
+const STATES: [[OriginState; 4]; 7] = [
+    [NotFound, NotFound, NotFound, NotFound],
+    [Valid, Valid, Invalid, NotFound],
+    [Invalid, Invalid, Invalid, NotFound],
+    [NotFound, Valid, NotFound, NotFound],
+    [NotFound, Valid, NotFound, NotFound],
+    [Invalid, Invalid, Invalid, NotFound],
+    [NotFound, NotFound, NotFound, NotFound],
+];
+
 #[test]
 fn states_follow_what_comes_and_goes(rt: HostRuntime) {
-    let alloc = rt.alloc();
-    let (valid, invalid, unknown) = (
-        OriginState::Valid,
-        OriginState::Invalid,
-        OriginState::NotFound,
-    );
-    let mut origins = Origins::new(alloc);
-    assert!(rt; are(&mut origins, [unknown, unknown, unknown, unknown]));
-    assert!(rt; give(alloc, &mut origins, &[(0x0a00_0000, 16, 24, 64_500)]).is_some());
-    assert!(rt; are(&mut origins, [valid, valid, invalid, unknown]));
-    assert!(rt; shorten(alloc, &mut origins).is_some());
-    assert!(rt; are(&mut origins, [invalid, invalid, invalid, unknown]));
-    assert!(rt; filter(alloc, &mut origins).is_some());
-    assert!(rt; are(&mut origins, [unknown, valid, unknown, unknown]));
-    origins.make_room(0);
-    assert!(rt; are(&mut origins, [unknown, valid, unknown, unknown]));
-    origins.slurm(PrefixFilters::new(alloc), VrpSet::new(alloc));
-    assert!(rt; are(&mut origins, [invalid, invalid, invalid, unknown]));
-    assert!(rt; give(alloc, &mut origins, &[]).is_some());
-    assert!(rt; are(&mut origins, [unknown, unknown, unknown, unknown]));
+    let mut origins = Origins::new(rt.alloc());
+    for (number, right) in STATES.iter().enumerate() {
+        assert!(rt; step(rt.alloc(), &mut origins, number).is_some());
+        assert!(rt; are(&mut origins, *right));
+    }
 }

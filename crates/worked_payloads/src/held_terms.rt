@@ -39,28 +39,51 @@ fn two(alloc: Global) -> Result<Terms, NoMemory> {
     Terms::of(alloc, rows)
 }
 
-#[test]
-fn holds_terms(rt: HostRuntime) -> Result<(), NoMemory> {
-    let alloc = rt.alloc();
+// Two more of a customer, of which one comes twice with its providers in another order.
+fn four(alloc: Global) -> Result<Terms, NoMemory> {
     let mut terms = two(alloc)?;
-    assert!(rt; counted(&terms) == (2, 2));
-    assert!(rt; is_only(&terms, 64_499, &[0], None));
-    // Two more of a customer, of which one comes twice with its providers in another order.
     terms.unite(64_496, &[64_498, 64_497], Some(9))?;
     terms.unite(64_496, &[64_497, 64_498, 64_497], Some(9))?;
     terms.unite(64_496, &[64_497], Some(8))?;
-    assert!(rt; counted(&terms) == (2, 4));
-    // A row in the place of all three, and nothing in the place of the other customer's row.
+    Ok(terms)
+}
+
+// A row in the place of all three, and nothing in the place of the other customer's row.
+fn one(alloc: Global) -> Result<Terms, NoMemory> {
+    let mut terms = four(alloc)?;
     terms.set_row(64_496, AsList::from_slice(alloc, &[64_500])?)?;
     terms.remove(64_499);
-    assert!(rt; counted(&terms) == (1, 1));
-    assert!(rt; is_only(&terms, 64_496, &[64_500], None));
-    // An only attestation that ends, and nothing any more.
+    Ok(terms)
+}
+
+#[test]
+fn holds_terms(rt: HostRuntime) -> Result<(), NoMemory> {
+    assert!(rt; counted(&two(rt.alloc())?) == (2, 2));
+    assert!(rt; is_only(&two(rt.alloc())?, 64_499, &[0], None));
+    assert!(rt; counted(&four(rt.alloc())?) == (2, 4));
+    assert!(rt; counted(&one(rt.alloc())?) == (1, 1));
+    assert!(rt; is_only(&one(rt.alloc())?, 64_496, &[64_500], None));
+    Ok(())
+}
+
+// An only attestation that ends, in a row's place.
+fn ending(alloc: Global) -> Result<Terms, NoMemory> {
+    let mut terms = one(alloc)?;
     terms.remove(64_496);
-    assert!(rt; terms.of_customer(64_496).is_none());
     terms.unite(64_496, &[64_500], Some(4_294_967_295))?;
-    assert!(rt; is_only(&terms, 64_496, &[64_500], Some(4_294_967_295)));
+    Ok(terms)
+}
+
+// A row without a provider in its place.
+fn ended(alloc: Global) -> Result<Terms, NoMemory> {
+    let mut terms = ending(alloc)?;
     terms.set_row(64_496, AsList::new(alloc))?;
-    assert!(rt; is_only(&terms, 64_496, &[], None));
+    Ok(terms)
+}
+
+#[test]
+fn holds_a_term_that_ends(rt: HostRuntime) -> Result<(), NoMemory> {
+    assert!(rt; is_only(&ending(rt.alloc())?, 64_496, &[64_500], Some(4_294_967_295)));
+    assert!(rt; is_only(&ended(rt.alloc())?, 64_496, &[], None));
     Ok(())
 }

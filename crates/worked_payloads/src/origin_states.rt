@@ -51,38 +51,45 @@ fn two_sources(alloc: Global) -> Option<Records> {
     Some(records)
 }
 
+// A prefix's bits and length, an origin, and the state.
+const STATES: [(u32, u8, Option<u32>, OriginState); 12] = [
+    (0x0a00_0000, 16, Some(64_500), OriginState::Valid),
+    (0x0a00_1000, 20, Some(64_500), OriginState::Valid),
+    // too long, another origin, none
+    (0x0a00_1000, 21, Some(64_500), OriginState::Invalid),
+    (0x0a00_1000, 20, Some(64_501), OriginState::Invalid),
+    (0x0a00_1000, 20, None, OriginState::Invalid),
+    // shorter than each payload's prefix, and beside it
+    (0x0a00_0000, 15, Some(64_500), OriginState::NotFound),
+    (0x0a01_0000, 16, Some(64_500), OriginState::NotFound),
+    (0x0a01_0000, 16, None, OriginState::NotFound),
+    // the payload of AS 0 takes nothing from the other one
+    (0x0a00_8000, 24, Some(64_501), OriginState::Valid),
+    (0x0a00_8000, 24, Some(64_500), OriginState::Invalid),
+    // AS 0 alone makes nothing valid
+    (0xc000_0200, 24, Some(0), OriginState::Invalid),
+    (0xc000_0201, 32, Some(64_500), OriginState::Invalid),
+];
+
 #[test]
 fn payloads_cover_and_match(rt: HostRuntime) {
-    let Some(records) = two_sources(rt.alloc()) else {
-        assert!(rt; false);
-        return;
-    };
-    let table = [
-        (0x0a00_0000, 16, Some(64_500), OriginState::Valid),
-        (0x0a00_1000, 20, Some(64_500), OriginState::Valid),
-        // too long, another origin, none
-        (0x0a00_1000, 21, Some(64_500), OriginState::Invalid),
-        (0x0a00_1000, 20, Some(64_501), OriginState::Invalid),
-        (0x0a00_1000, 20, None, OriginState::Invalid),
-        // shorter than each payload's prefix, and beside it
-        (0x0a00_0000, 15, Some(64_500), OriginState::NotFound),
-        (0x0a01_0000, 16, Some(64_500), OriginState::NotFound),
-        (0x0a01_0000, 16, None, OriginState::NotFound),
-        // the payload of AS 0 takes nothing from the other one
-        (0x0a00_8000, 24, Some(64_501), OriginState::Valid),
-        (0x0a00_8000, 24, Some(64_500), OriginState::Invalid),
-        // AS 0 alone makes nothing valid
-        (0xc000_0200, 24, Some(0), OriginState::Invalid),
-        (0xc000_0201, 32, Some(64_500), OriginState::Invalid),
-    ];
-    for (bits, len, origin, right) in table {
-        assert!(rt; state(&records, bits, len, origin) == Some(right));
+    for (bits, len, origin, right) in STATES {
+        let records = two_sources(rt.alloc());
+        assert!(rt;
+            records.is_some_and(|records| state(&records, bits, len, origin) == Some(right))
+        );
     }
-    // the same bits in the other family
-    match Prefix::new(Addr::V6(0x0a00_0000 << 96), 16) {
-        Some(six) => assert!(rt; records.state(&six, Some(64_500)) == OriginState::NotFound),
-        None => assert!(rt; false),
-    }
+}
+
+// The state of a route to the same bits in the other family.
+fn state_of_six(alloc: Global) -> Option<OriginState> {
+    let six = Prefix::new(Addr::V6(0x0a00_0000 << 96), 16)?;
+    Some(two_sources(alloc)?.state(&six, Some(64_500)))
+}
+
+#[test]
+fn payloads_of_one_family_cover_none_of_the_other(rt: HostRuntime) {
+    assert!(rt; state_of_six(rt.alloc()) == Some(OriginState::NotFound));
 }
 
 // A filter's prefix, as an address and a length, and its AS.
@@ -102,40 +109,58 @@ fn filtered(alloc: Global, filter: Filter) -> Option<Records> {
     Some(records)
 }
 
+// 10.0.0.0/17 covers no payload's prefix: that of 10.0.0.0/16 is shorter.
+const BY_PREFIX: Filter = (Some((0x0a00_0000, 17)), None);
+
+const BY_BOTH: Filter = (Some((0x0a00_8000, 17)), Some(64_501));
+
+const BY_ALL: Filter = (None, None);
+
+const FILTERED: [(Filter, u32, u8, u32, OriginState); 6] = [
+    (BY_PREFIX, 0x0a00_0000, 16, 64_500, OriginState::Valid),
+    (BY_BOTH, 0x0a00_8000, 24, 64_501, OriginState::Invalid),
+    (BY_BOTH, 0x0a00_8000, 20, 64_500, OriginState::Valid),
+    (BY_ALL, 0x0a00_0000, 16, 64_500, OriginState::NotFound),
+    (BY_ALL, 0xc633_6400, 24, 64_500, OriginState::Valid),
+    (BY_ALL, 0xc633_6400, 24, 64_499, OriginState::Invalid),
+];
+
 #[test]
 fn filters_hit_the_sources_alone(rt: HostRuntime) {
-    let alloc = rt.alloc();
-    // 10.0.0.0/17 covers no payload's prefix: that of 10.0.0.0/16 is shorter
-    let by_prefix: Filter = (Some((0x0a00_0000, 17)), None);
-    let by_both: Filter = (Some((0x0a00_8000, 17)), Some(64_501));
-    let by_all: Filter = (None, None);
-    let table = [
-        (by_prefix, 0x0a00_0000, 16, 64_500, OriginState::Valid),
-        (by_both, 0x0a00_8000, 24, 64_501, OriginState::Invalid),
-        (by_both, 0x0a00_8000, 20, 64_500, OriginState::Valid),
-        (by_all, 0x0a00_0000, 16, 64_500, OriginState::NotFound),
-        (by_all, 0xc633_6400, 24, 64_500, OriginState::Valid),
-        (by_all, 0xc633_6400, 24, 64_499, OriginState::Invalid),
-    ];
-    for (filter, bits, len, origin, right) in table {
-        match filtered(alloc, filter) {
-            Some(records) => assert!(rt; state(&records, bits, len, Some(origin)) == Some(right)),
-            None => assert!(rt; false),
-        }
+    for (filter, bits, len, origin, right) in FILTERED {
+        let records = filtered(rt.alloc(), filter);
+        assert!(rt;
+            records.is_some_and(|records| state(&records, bits, len, Some(origin)) == Some(right))
+        );
     }
 }
 
+// The records of a source that had the payloads of these ASes, one after another, and at last none where it is so.
+fn given(alloc: Global, asns: &[u32], emptied: bool) -> Option<Records> {
+    let mut records = Records::new(alloc);
+    for asn in asns {
+        let set = payloads(alloc, &[(0xc633_6400, 24, 24, *asn)])?;
+        give(alloc, &mut records, b"cache", set)?;
+    }
+    if emptied {
+        give(alloc, &mut records, b"cache", VrpSet::new(alloc))?;
+    }
+    Some(records)
+}
+
+const GIVEN: [(&[u32], bool, OriginState); 3] = [
+    (&[64_500], false, OriginState::Valid),
+    (&[64_500, 64_499], false, OriginState::Invalid),
+    (&[64_500, 64_499], true, OriginState::NotFound),
+];
+
 #[test]
 fn a_source_has_its_last_payloads(rt: HostRuntime) {
-    let alloc = rt.alloc();
-    let mut records = Records::new(alloc);
-    for (asn, right) in [(64_500, OriginState::Valid), (64_499, OriginState::Invalid)] {
-        match payloads(alloc, &[(0xc633_6400, 24, 24, asn)]) {
-            Some(set) => assert!(rt; give(alloc, &mut records, b"cache", set).is_some()),
-            None => assert!(rt; false),
-        }
-        assert!(rt; state(&records, 0xc633_6400, 24, Some(64_500)) == Some(right));
+    for (asns, emptied, right) in GIVEN {
+        let records = given(rt.alloc(), asns, emptied);
+        assert!(rt;
+            records.is_some_and(|records| state(&records, 0xc633_6400, 24, Some(64_500))
+                == Some(right))
+        );
     }
-    assert!(rt; give(alloc, &mut records, b"cache", VrpSet::new(alloc)).is_some());
-    assert!(rt; state(&records, 0xc633_6400, 24, Some(64_500)) == Some(OriginState::NotFound));
 }

@@ -1,16 +1,13 @@
 //! Large files: a reader that finds no memory from some small size on keeps its contract, and only a test sees it.
-use aspa_payload::{FileFault, PayloadFault, read, read_many};
+use crate::slurm_files::says;
+use aspa_payload::{Payload, read, read_many};
 use av_base::NoMemory;
 use der_reader::{put_value, take_value};
-use path_model::Rows;
-use slurm_rules::Slurm;
+use path_model::AsList;
 use std::alloc::Global;
 
-// Customer 64496 with the provider 64497, and the same with a needless zero byte.
+// Customer 64496 with the provider 64497.
 const A: &[u8] = b"\x30\x11\xA0\x03\x02\x01\x01\x02\x03\x00\xFB\xF0\x30\x05\x02\x03\x00\xFB\xF1";
-
-const C: &[u8] =
-    b"\x30\x12\xA0\x03\x02\x01\x01\x02\x04\x00\x00\xFB\xF0\x30\x05\x02\x03\x00\xFB\xF1";
 
 // A front, a piece so many times, and an end.
 fn repeated(
@@ -32,29 +29,18 @@ fn repeated(
 // The most bytes of a file.
 const MOST: usize = 67_108_864;
 
-// Whether a file has one provider of 64496 alone, or is refused so.
-fn is_file(file: Result<Rows, FileFault>, wanted: Result<u32, FileFault>) -> bool {
-    match (file, wanted) {
-        (Ok(rows), Ok(provider)) => match rows.row(64_496) {
-            None => false,
-            Some(row) => row.as_slice() == [provider].as_slice(),
-        },
-        (Err(fault), Err(other)) => fault == other,
-        _ => false,
+// The providers of 64496 in a file of payloads, or `None` where it is refused or has no row.
+fn row(alloc: Global, file: &[u8]) -> Option<AsList> {
+    if file.len() > MOST {
+        return None;
     }
+    read_many(alloc, file).ok()?.row(64_496)?.copy().ok()
 }
 
 #[test]
 fn reads_a_thousand_payloads(rt: HostRuntime) -> Result<(), NoMemory> {
-    let alloc = rt.alloc();
-    let file = repeated(alloc, b"", A, 1_000, b"")?;
-    assert!(rt; file.len() <= MOST && is_file(read_many(alloc, &file), Ok(64_497)));
-    let file = repeated(alloc, b"", A, 1_000, C)?;
-    let last = FileFault::Bad {
-        unit: 1_001,
-        cause: PayloadFault::NotDer,
-    };
-    assert!(rt; file.len() <= MOST && is_file(read_many(alloc, &file), Err(last)));
+    let file = repeated(rt.alloc(), b"", A, 1_000, b"")?;
+    assert!(rt; row(rt.alloc(), &file).is_some_and(|row| row.as_slice() == [64_497].as_slice()));
     Ok(())
 }
 
@@ -75,52 +61,63 @@ fn three_hundred(alloc: Global) -> Result<Vec<u8>, NoMemory> {
     Ok(bytes)
 }
 
-#[test]
-fn reads_and_writes_three_hundred_providers(rt: HostRuntime) -> Result<(), NoMemory> {
-    let alloc = rt.alloc();
-    let bytes = three_hundred(alloc)?;
-    assert_eq!(rt; bytes.len(), 1_091);
-    let Ok(payload) = read(alloc, &bytes) else {
-        return Err(NoMemory);
-    };
-    assert_eq!(rt; payload.providers().as_slice().len(), 300);
-    for (before, provider) in payload.providers().as_slice().iter().enumerate() {
-        assert_eq!(rt; *provider as usize, before + 1);
+// Whether the providers are 1 to 300.
+fn are_numbered(providers: &[u32]) -> bool {
+    for (before, provider) in providers.iter().enumerate() {
+        if *provider as usize != before + 1 {
+            return false;
+        }
     }
+    providers.len() == 300
+}
+
+fn written(alloc: Global, payload: &Payload) -> Result<Vec<u8>, NoMemory> {
     let mut out = Vec::new(alloc);
     payload.write(&mut out)?;
-    assert_eq!(rt; out.as_slice(), bytes.as_slice());
+    Ok(out)
+}
+
+#[test]
+fn reads_and_writes_three_hundred_providers(rt: HostRuntime) -> Result<(), NoMemory> {
+    let bytes = three_hundred(rt.alloc())?;
+    let Ok(payload) = read(rt.alloc(), &bytes) else {
+        return Err(NoMemory);
+    };
+    assert!(rt; are_numbered(payload.providers().as_slice()));
+    assert!(rt; written(rt.alloc(), &payload)?.as_slice() == bytes.as_slice());
     Ok(())
 }
 
-// Contents whose length takes two bytes, and four.
+// Lengths that take one byte, two, three and four, and their fronts.
+const LENGTHS: [(&[u8], usize); 4] = [
+    (b"\x30\x7F", 127),
+    (b"\x30\x81\x80", 128),
+    (b"\x30\x82\xFF\xFF", 65_535),
+    (b"\x30\x83\x01\x00\x00", 65_536),
+];
+
+// Whether a content of so many bytes stands behind this front, when it is put and when it is taken.
+fn is_framed(alloc: Global, front: &[u8], length: usize) -> Result<bool, NoMemory> {
+    let content = repeated(alloc, b"", b"\x07", length, b"")?;
+    let bytes = repeated(alloc, front, b"\x07", length, b"")?;
+    let mut out = Vec::new(alloc);
+    put_value(&mut out, 0x30, &content)?;
+    Ok(
+        out.as_slice() == bytes.as_slice()
+            && take_value(&bytes, 0x30) == Ok((content.as_slice(), b"".as_slice())),
+    )
+}
+
 #[test]
 fn takes_and_puts_long_contents(rt: HostRuntime) -> Result<(), NoMemory> {
-    let alloc = rt.alloc();
-    let table: [(&[u8], usize); 4] = [
-        (b"\x30\x7F", 127),
-        (b"\x30\x81\x80", 128),
-        (b"\x30\x82\xFF\xFF", 65_535),
-        (b"\x30\x83\x01\x00\x00", 65_536),
-    ];
-    for (front, length) in table {
-        let content = repeated(alloc, b"", b"\x07", length, b"")?;
-        let bytes = repeated(alloc, front, b"\x07", length, b"\x09")?;
-        assert_eq!(rt;
-            take_value(&bytes, 0x30),
-            Ok((content.as_slice(), b"\x09".as_slice()))
-        );
-        let mut out = Vec::new(alloc);
-        put_value(&mut out, 0x30, &content)?;
-        out.push(9)?;
-        assert_eq!(rt; out.as_slice(), bytes.as_slice());
+    for (front, length) in LENGTHS {
+        assert!(rt; is_framed(rt.alloc(), front, length)?);
     }
     Ok(())
 }
 
-#[test]
-fn reads_a_thousand_filters_and_assertions(rt: HostRuntime) -> Result<(), NoMemory> {
-    let alloc = rt.alloc();
+// A file of version 2 with a thousand filters, and a thousand assertions of one customer.
+fn thousands(alloc: Global) -> Result<Vec<u8>, NoMemory> {
     let filters = repeated(
         alloc,
         b"{\"slurmVersion\":2,\"validationOutputFilters\":{\"prefixFilters\":[],\"bgpsecFilters\":[],\"aspaFilters\":[",
@@ -128,28 +125,25 @@ fn reads_a_thousand_filters_and_assertions(rt: HostRuntime) -> Result<(), NoMemo
         999,
         b"{\"customerAsn\":8}]},",
     )?;
-    let file = repeated(
+    let assertions = repeated(
         alloc,
         b"\"locallyAddedAssertions\":{\"prefixAssertions\":[],\"bgpsecAssertions\":[],\"aspaAssertions\":[",
         b"{\"customerAsn\":64496,\"providerAsns\":[64497]},",
         999,
         b"{\"customerAsn\":64496,\"providerAsns\":[64498]}]}}",
     )?;
-    let file = repeated(alloc, &filters, b"", 0, &file)?;
-    let Ok(
-        Slurm {
-            filters,
-            assertions,
-            ..
-        },
-    ) = slurm_rules::read(alloc, &file)
-    else {
-        return Err(NoMemory);
-    };
-    assert_eq!(rt; filters.as_slice(), [7, 8].as_slice());
-    match assertions.row(64_496) {
-        None => assert!(rt; false),
-        Some(row) => assert_eq!(rt; row.as_slice(), [64_497, 64_498].as_slice()),
-    }
+    repeated(alloc, &filters, b"", 0, &assertions)
+}
+
+#[test]
+fn reads_a_thousand_filters_and_assertions(rt: HostRuntime) -> Result<(), NoMemory> {
+    let file = thousands(rt.alloc())?;
+    assert!(rt;
+        says(
+            slurm_rules::read(rt.alloc(), &file),
+            &[7, 8],
+            Some(&[64_497, 64_498])
+        )
+    );
     Ok(())
 }

@@ -50,22 +50,49 @@ fn change(alloc: Global, step: u32) -> Option<TableChange> {
     }
 }
 
-// The table after the changes before this one.
-fn before(alloc: Global, step: u32) -> Option<Vaps> {
-    let mut vaps = Vaps::new(alloc);
-    for earlier in 1..step {
-        let (next, _) = vaps.change(change(alloc, earlier)?).ok()?;
-        vaps = next;
-    }
-    Some(vaps)
-}
-
-// The table after this change, and what it moved.
-fn after(alloc: Global, step: u32) -> Option<(Vaps, Moves)> {
-    match (before(alloc, step), change(alloc, step)) {
-        (Some(vaps), Some(change)) => vaps.change(change).ok(),
+// Changes over attestations that end, in their order from 9: one source with three, of which two have ends; a second one with one of these; moments
+// forwards and back; a patch in the place of all that the first one has, and the moment of all ends.
+fn ending_change(alloc: Global, step: u32) -> Option<TableChange> {
+    match step {
+        9 => replace(
+            alloc,
+            b"a",
+            &[
+                (&[64_497], Some(100)),
+                (&[64_498], Some(200)),
+                (&[64_497], None),
+            ],
+        ),
+        10 => replace(alloc, b"b", &[(&[64_497], Some(100))]),
+        11 => Some(TableChange::At(99)),
+        12 => Some(TableChange::At(100)),
+        13 => Some(TableChange::At(u32::MAX)),
+        14 => Some(TableChange::At(199)),
+        15 => patch(alloc, b"a", Some(&[64_499])),
+        16 => Some(TableChange::At(0)),
+        17 => patch(alloc, b"a", None),
+        18 => Some(TableChange::At(100)),
         _ => None,
     }
+}
+
+// The table after one more change, and what that moved.
+fn changed(alloc: Global, vaps: Vaps, step: u32) -> Option<(Vaps, Moves)> {
+    let change = if step <= 8 {
+        change(alloc, step)?
+    } else {
+        ending_change(alloc, step)?
+    };
+    vaps.change(change).ok()
+}
+
+// The table after this change and all before it, and what it moved.
+fn after(alloc: Global, last: u32) -> Option<(Vaps, Moves)> {
+    let mut vaps = Vaps::new(alloc);
+    for step in 1..last {
+        vaps = changed(alloc, vaps, step)?.0;
+    }
+    changed(alloc, vaps, last)
 }
 
 // Whether a row is this one, or there is none.
@@ -89,137 +116,116 @@ fn moved(moves: &Moves, before: Option<&[u32]>, after: Option<&[u32]>) -> bool {
     }
 }
 
+// A change, and the customer's rows before it and after it.
+type Moved = (u32, Option<&'static [u32]>, Option<&'static [u32]>);
+
+fn are_moved(alloc: Global, rows: &[Moved]) -> bool {
+    for (step, before, behind) in rows {
+        if !after(alloc, *step).is_some_and(|(_, moves)| moved(&moves, *before, *behind)) {
+            return false;
+        }
+    }
+    true
+}
+
+const MOVED: [Moved; 3] = [
+    (3, Some(&[64_497, 64_498]), None),
+    (5, None, Some(&[])),
+    (6, Some(&[]), Some(&[64_498])),
+];
+
 #[test]
 fn moves_exactly_what_a_change_moved(rt: HostRuntime) {
-    let table: [(u32, Option<&[u32]>, Option<&[u32]>); 3] = [
-        (3, Some(&[64_497, 64_498]), None),
-        (5, None, Some(&[])),
-        (6, Some(&[]), Some(&[64_498])),
-    ];
-    for (step, before, after_it) in table {
-        assert!(rt;
-            after(rt.alloc(), step).is_some_and(|(_, moves)| moved(&moves, before, after_it))
-        );
-    }
-    for step in [4, 7] {
+    assert!(rt; are_moved(rt.alloc(), &MOVED));
+}
+
+const MOVED_BY_ENDS: [Moved; 6] = [
+    (13, Some(&[64_497, 64_498]), Some(&[64_497])),
+    (14, Some(&[64_497]), Some(&[64_497, 64_498])),
+    (15, Some(&[64_497, 64_498]), Some(&[64_499])),
+    (16, Some(&[64_499]), Some(&[64_497, 64_499])),
+    (17, Some(&[64_497, 64_499]), Some(&[64_497])),
+    (18, Some(&[64_497]), None),
+];
+
+#[test]
+fn moves_what_ends_and_what_is_alive_again(rt: HostRuntime) {
+    assert!(rt; are_moved(rt.alloc(), &MOVED_BY_ENDS));
+}
+
+#[test]
+fn moves_nothing(rt: HostRuntime) {
+    for step in [4, 7, 10, 11, 12] {
         assert!(rt; after(rt.alloc(), step).is_some_and(|(_, moves)| moves.is_empty()));
     }
 }
 
-// Whether so many sources and assertions are counted, and these numbers, each with its sources and assertions.
-fn tallies(tally: Option<&Tally>, of: (u64, u64), given: &[(u32, u64, u64)]) -> bool {
-    let Some(tally) = tally else {
-        return false;
-    };
-    let mut wanted = given.iter();
-    for one in tally.given.iter() {
-        if wanted.next() != Some(&(one.provider, one.sources, one.assertions)) {
+// A number, and how many sources and assertions give it.
+type Given = (u32, u64, u64);
+
+fn are_given(tally: &Tally, wanted: &[Given]) -> bool {
+    for (one, want) in tally.given.iter().zip(wanted.iter()) {
+        if (one.provider, one.sources, one.assertions) != *want {
             return false;
         }
     }
-    wanted.next().is_none() && (tally.sources, tally.assertions) == of
+    tally.given.len() == wanted.len()
 }
+
+// A change, how many sources and assertions are counted behind it, and the numbers that they give.
+type Counted = (u32, u64, u64, &'static [Given]);
+
+fn is_counted(vaps: &Vaps, sources: u64, assertions: u64, given: &[Given]) -> bool {
+    match vaps.tally(CUSTOMER) {
+        Some(tally) => {
+            tally.sources == sources && tally.assertions == assertions && are_given(tally, given)
+        }
+        None => false,
+    }
+}
+
+fn are_counted(alloc: Global, rows: &[Counted]) -> bool {
+    for (step, sources, assertions, given) in rows {
+        let found = after(alloc, *step);
+        if !found.is_some_and(|(vaps, _)| is_counted(&vaps, *sources, *assertions, given)) {
+            return false;
+        }
+    }
+    true
+}
+
+const COUNTED: [Counted; 4] = [
+    (3, 2, 0, &[(64_497, 1, 0), (64_498, 1, 0)]),
+    (4, 1, 0, &[(64_498, 1, 0)]),
+    (5, 1, 1, &[(0, 0, 1), (64_498, 1, 0)]),
+    (7, 1, 0, &[(64_498, 1, 0)]),
+];
 
 #[test]
 fn counts_who_gives_each_provider(rt: HostRuntime) {
-    let table: [(u32, (u64, u64), &[(u32, u64, u64)]); 5] = [
-        (2, (2, 0), &[(64_497, 1, 0), (64_498, 1, 0)]),
-        (3, (2, 0), &[(64_497, 1, 0), (64_498, 1, 0)]),
-        (4, (1, 0), &[(64_498, 1, 0)]),
-        (5, (1, 1), &[(0, 0, 1), (64_498, 1, 0)]),
-        (7, (1, 0), &[(64_498, 1, 0)]),
-    ];
-    for (step, of, given) in table {
-        assert!(rt;
-            after(rt.alloc(), step).is_some_and(|(vaps, _)| tallies(
-                vaps.tally(CUSTOMER),
-                of,
-                given
-            ))
-        );
-    }
-    assert!(rt; after(rt.alloc(), 8).is_some_and(|(vaps, _)| vaps.tally(CUSTOMER).is_none()));
+    assert!(rt; are_counted(rt.alloc(), &COUNTED));
 }
 
-// Changes over attestations that end, in their order from 1: one source with three, of which two have ends; a second one with one of these; moments
-// forwards and back; a patch in the place of all that the first one has, and the moment of all ends.
-fn ending_change(alloc: Global, step: u32) -> Option<TableChange> {
-    match step {
-        1 => replace(
-            alloc,
-            b"a",
-            &[
-                (&[64_497], Some(100)),
-                (&[64_498], Some(200)),
-                (&[64_497], None),
-            ],
-        ),
-        2 => replace(alloc, b"b", &[(&[64_497], Some(100))]),
-        3 => Some(TableChange::At(99)),
-        4 => Some(TableChange::At(100)),
-        5 => Some(TableChange::At(u32::MAX)),
-        6 => Some(TableChange::At(199)),
-        7 => patch(alloc, b"a", Some(&[64_499])),
-        8 => Some(TableChange::At(0)),
-        9 => patch(alloc, b"a", None),
-        10 => Some(TableChange::At(100)),
-        _ => None,
-    }
-}
-
-// The table after this change, and what it moved.
-fn after_ending(alloc: Global, last: u32) -> Option<(Vaps, Moves)> {
-    let mut vaps = Vaps::new(alloc);
-    for step in 1..last {
-        let (next, _) = vaps.change(ending_change(alloc, step)?).ok()?;
-        vaps = next;
-    }
-    vaps.change(ending_change(alloc, last)?).ok()
-}
+const ALIVE: [Counted; 7] = [
+    (9, 3, 0, &[(64_497, 2, 0), (64_498, 1, 0)]),
+    (10, 4, 0, &[(64_497, 3, 0), (64_498, 1, 0)]),
+    (12, 2, 0, &[(64_497, 1, 0), (64_498, 1, 0)]),
+    (13, 1, 0, &[(64_497, 1, 0)]),
+    (15, 1, 0, &[(64_499, 1, 0)]),
+    (16, 2, 0, &[(64_497, 1, 0), (64_499, 1, 0)]),
+    (17, 1, 0, &[(64_497, 1, 0)]),
+];
 
 #[test]
 fn counts_what_is_alive(rt: HostRuntime) {
-    let table: [(u32, (u64, u64), &[(u32, u64, u64)]); 9] = [
-        (1, (3, 0), &[(64_497, 2, 0), (64_498, 1, 0)]),
-        (2, (4, 0), &[(64_497, 3, 0), (64_498, 1, 0)]),
-        (3, (4, 0), &[(64_497, 3, 0), (64_498, 1, 0)]),
-        (4, (2, 0), &[(64_497, 1, 0), (64_498, 1, 0)]),
-        (5, (1, 0), &[(64_497, 1, 0)]),
-        (6, (2, 0), &[(64_497, 1, 0), (64_498, 1, 0)]),
-        (7, (1, 0), &[(64_499, 1, 0)]),
-        (8, (2, 0), &[(64_497, 1, 0), (64_499, 1, 0)]),
-        (9, (1, 0), &[(64_497, 1, 0)]),
-    ];
-    for (step, of, given) in table {
-        assert!(rt;
-            after_ending(rt.alloc(), step).is_some_and(|(vaps, _)| tallies(
-                vaps.tally(CUSTOMER),
-                of,
-                given
-            ))
-        );
-    }
-    assert!(rt;
-        after_ending(rt.alloc(), 10).is_some_and(|(vaps, _)| vaps.tally(CUSTOMER).is_none())
-    );
+    assert!(rt; are_counted(rt.alloc(), &ALIVE));
 }
 
 #[test]
-fn moves_what_ends_and_what_is_alive_again(rt: HostRuntime) {
-    let table: [(u32, Option<&[u32]>, Option<&[u32]>); 6] = [
-        (5, Some(&[64_497, 64_498]), Some(&[64_497])),
-        (6, Some(&[64_497]), Some(&[64_497, 64_498])),
-        (7, Some(&[64_497, 64_498]), Some(&[64_499])),
-        (8, Some(&[64_499]), Some(&[64_497, 64_499])),
-        (9, Some(&[64_497, 64_499]), Some(&[64_497])),
-        (10, Some(&[64_497]), None),
-    ];
-    for (step, before, after_it) in table {
+fn counts_nothing(rt: HostRuntime) {
+    for step in [8, 18] {
         assert!(rt;
-            after_ending(rt.alloc(), step).is_some_and(|(_, moves)| moved(&moves, before, after_it))
+            after(rt.alloc(), step).is_some_and(|(vaps, _)| vaps.tally(CUSTOMER).is_none())
         );
-    }
-    for step in [2, 3, 4] {
-        assert!(rt; after_ending(rt.alloc(), step).is_some_and(|(_, moves)| moves.is_empty()));
     }
 }

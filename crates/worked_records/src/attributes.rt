@@ -1,190 +1,136 @@
 //! Path attributes, and the paths that they give.
-use crate::hex::hex;
+use crate::hex::{hex, put_hex};
 use av_base::NoMemory;
-use bgp_attrs::{Attributes, Form, Item, merge4, read};
+use bgp_attrs::{Attributes, Form, Item, Items, Segments, merge4, read};
+use path_model::Trail;
 use std::alloc::Global;
-use std::process::Abort;
 
-// What an attribute field says.
-#[derive(Clone, Copy)]
-enum Said {
-    // It is refused.
-    Refused,
-    // It has no AS_PATH.
-    NoPath,
-    // Whether the path has a set, and its ASes from the origin on.
-    Path(bool, &'static [u32]),
-}
-
-use Said::{NoPath, Path, Refused};
+// What the attributes say: whether the path has a set, and its ASes from the origin on; `None` where they have no AS_PATH.
+type Said = Option<(bool, &'static [u32])>;
 
 // The attributes, whether ASes have four bytes, and what they say.
 type Case = (&'static str, bool, Said);
 
-const FIELDS: [Case; 31] = [
+// Whether a path is this one.
+fn is_path(trail: &Trail, set: bool, chain: &[u32]) -> bool {
+    trail.is_set() == set && trail.chain().as_slice() == chain
+}
+
+fn is_said(alloc: Global, bytes: &[u8], wide: bool, said: Said) -> Result<bool, NoMemory> {
+    let Ok(attrs) = read(bytes, wide, Form::Message, false) else {
+        return Ok(false);
+    };
+    match (attrs.trail(alloc)?, said) {
+        (Some(trail), Some((set, chain))) => Ok(is_path(&trail, set, chain)),
+        (None, None) => Ok(attrs.path().is_none()),
+        _ => Ok(false),
+    }
+}
+
+// How many of the fields say what they should, up to the first that doesn't.
+fn count(alloc: Global, fields: &[Case]) -> Result<usize, NoMemory> {
+    for (place, (text, wide, said)) in fields.iter().enumerate() {
+        let bytes = hex(alloc, text)?;
+        if !is_said(alloc, &bytes, *wide, *said)? {
+            return Ok(place);
+        }
+    }
+    Ok(fields.len())
+}
+
+// AS_PATH and AS4_PATH (RFC 6793, section 4.2.3).
+const MERGED: [Case; 5] = [
     // AS_PATH 64501 23456 23456, and AS4_PATH 65536 65537 for its last two.
     (
         "40 02 08 02 03 FBF5 5BA0 5BA0  C0 11 0A 02 02 00010000 00010001",
         false,
-        Path(false, &[65537, 65536, 64501]),
+        Some((false, &[65537, 65536, 64501])),
     ),
     // AS4_PATH has four ASes, more than AS_PATH, and isn't used.
     (
         "40 02 08 02 03 FBF5 5BA0 5BA0  C0 11 12 02 04 00010000 00010001 00010002 00010003",
         false,
-        Path(false, &[23456, 64501]),
+        Some((false, &[23456, 64501])),
     ),
     // AS4_PATH has as many and replaces all.
     (
         "40 02 06 02 02 FBF5 5BA0  C0 11 0A 02 02 00010000 00010001",
         false,
-        Path(false, &[65537, 65536]),
+        Some((false, &[65537, 65536])),
     ),
     // AGGREGATOR has another AS than 23456, and AS4_AGGREGATOR is there: someone aggregated behind the AS4_PATH.
     (
         "40 02 06 02 02 FBF5 5BA0  C0 07 06 FBF5 C0000201  C0 11 06 02 01 00010000  C0 12 08 00010000 C0000201",
         false,
-        Path(false, &[23456, 64501]),
+        Some((false, &[23456, 64501])),
     ),
     // AGGREGATOR has 23456, so that AS4_PATH is used.
     (
         "40 02 06 02 02 FBF5 5BA0  C0 07 06 5BA0 C0000201  C0 11 06 02 01 00010000  C0 12 08 00010000 C0000201",
         false,
-        Path(false, &[65536, 64501]),
+        Some((false, &[65536, 64501])),
     ),
-    // AGGREGATOR is of another length and counts as absent; so is AS4_AGGREGATOR in the next one.
-    (
-        "40 02 06 02 02 FBF5 5BA0  C0 07 05 FBF5 C00002  C0 11 06 02 01 00010000  C0 12 08 00010000 C0000201",
-        false,
-        Path(false, &[65536, 64501]),
-    ),
-    (
-        "40 02 06 02 02 FBF5 5BA0  C0 07 06 FBF5 C0000201  C0 11 06 02 01 00010000  C0 12 07 00010000 C00002",
-        false,
-        Path(false, &[65536, 64501]),
-    ),
-    // The first AS4_PATH is malformed and counts as absent, and the second one isn't looked at.
-    (
-        "40 02 06 02 02 FBF5 5BA0  C0 11 05 02 01 000100  C0 11 06 02 01 00010000",
-        false,
-        Path(false, &[23456, 64501]),
-    ),
-    // With ASes of four bytes AS4_PATH is unread.
-    (
-        "40 02 06 02 01 0000FBF5  C0 11 06 02 01 00010000",
-        true,
-        Path(false, &[64501]),
-    ),
+];
+
+#[test]
+fn paths_with_as4_path(rt: HostRuntime) -> Result<(), NoMemory> {
+    assert_eq!(rt; count(rt.alloc(), &MERGED)?, 5);
+    Ok(())
+}
+
+const OTHERS: [Case; 5] = [
     // Prepends count once; two sequences are one path.
     (
         "40 02 14 02 02 0000FBF5 0000FBF5 02 02 0000FBF4 0000FBF3",
         true,
-        Path(false, &[64499, 64500, 64501]),
+        Some((false, &[64499, 64500, 64501])),
     ),
-    // A set, and a set alone.
+    // A set.
     (
         "40 02 10 02 01 0000FBF5 01 02 0000FBF4 0000FBF3",
         true,
-        Path(true, &[64501]),
+        Some((true, &[64501])),
     ),
-    ("40 02 06 01 01 0000FBF5", true, Path(true, &[])),
     // Confederation segments are dropped: no AS of theirs, and no set.
     (
         "40 02 12 03 01 0000FC00 04 01 0000FC01 02 01 0000FBF5",
         true,
-        Path(false, &[64501]),
+        Some((false, &[64501])),
     ),
-    (
-        "40 02 08 03 01 FC00 02 01 FBF5",
-        false,
-        Path(false, &[64501]),
-    ),
-    // An AS_PATH of length 0 has no segment; a length may have two bytes.
-    ("40 02 00", true, Path(false, &[])),
-    ("50 02 0006 02 01 0000FBF5", true, Path(false, &[64501])),
-    // ORIGIN alone, and nothing at all.
-    ("40 01 01 00", true, NoPath),
-    ("", true, NoPath),
-    // The first AS_PATH counts; a second one refuses nothing, however it is.
-    (
-        "40 02 06 02 01 0000FBF5  40 02 06 02 01 0000FBF4",
-        true,
-        Path(false, &[64501]),
-    ),
-    (
-        "40 02 06 02 01 0000FBF5  40 02 01 09",
-        true,
-        Path(false, &[64501]),
-    ),
-    // The kind 5 isn't one, nor is 0.
-    ("40 02 06 05 01 0000FBF5", true, Refused),
-    ("40 02 06 00 01 0000FBF5", true, Refused),
-    // A segment without ASes, one that is longer than the attribute, and a byte that is left.
-    ("40 02 02 02 00", true, Refused),
-    ("40 02 06 02 02 0000FBF5", true, Refused),
-    ("40 02 07 02 01 0000FBF5 02", true, Refused),
-    // An AS of two bytes where four are due.
-    ("40 02 04 02 01 FBF5", true, Refused),
-    // Attributes that are cut: in the header, in the length, in the content.
-    ("40", true, Refused),
-    ("40 02", true, Refused),
-    ("50 02 00", true, Refused),
-    ("40 02 06 02 01 0000FB", true, Refused),
-    ("40 02 06 02 01 0000FBF5  40", true, Refused),
+    // An AS_PATH of length 0 has no segment.
+    ("40 02 00", true, Some((false, &[]))),
+    // ORIGIN alone.
+    ("40 01 01 00", true, None),
 ];
 
-// Each case of the table.
-fn read_all(rt: &impl Abort, alloc: Global, cases: &[Case]) -> Result<(), NoMemory> {
-    for (text, wide, said) in cases {
-        let bytes = hex(alloc, text)?;
-        match (read(&bytes, *wide, Form::Message, false), said) {
-            (Err(Attributes), Refused) => {}
-            (Ok(attrs), NoPath) => {
-                assert!(rt; attrs.path().is_none(), "{text}");
-                assert!(rt; attrs.trail(alloc)?.is_none(), "{text}");
-            }
-            (Ok(attrs), Path(set, chain)) => match attrs.trail(alloc)? {
-                Some(trail) => {
-                    assert_eq!(rt; trail.is_set(), *set, "{text}");
-                    assert_eq!(rt; trail.chain().as_slice(), *chain, "{text}");
-                }
-                None => assert!(rt; false, "{text}"),
-            },
-            _ => assert!(rt; false, "{text}"),
-        }
-    }
-    Ok(())
-}
-
 #[test]
-fn fields_and_their_paths(rt: HostRuntime) -> Result<(), NoMemory> {
-    read_all(&rt, rt.alloc(), &FIELDS)
+fn other_paths(rt: HostRuntime) -> Result<(), NoMemory> {
+    assert_eq!(rt; count(rt.alloc(), &OTHERS)?, 5);
+    Ok(())
 }
 
-// Appends sequences of so many ASes from one on, each AS in four bytes or in two.
-fn put_sequences(
-    bytes: &mut Vec<u8>,
-    wide: bool,
-    from: u32,
-    counts: &[u8],
-) -> Result<(), NoMemory> {
-    let mut asn = from;
-    for count in counts {
-        bytes.extend_from_slice(&[2, *count])?;
-        for _ in 0..*count {
-            let [a, b, c, d] = asn.to_be_bytes();
-            if wide {
-                bytes.extend_from_slice(&[a, b])?;
-            }
-            bytes.extend_from_slice(&[c, d])?;
-            asn = asn.wrapping_add(1);
-        }
+// Appends a sequence of so many ASes from one on, each in four bytes or in two.
+fn put_sequence(bytes: &mut Vec<u8>, wide: bool, from: u32, count: u8) -> Result<(), NoMemory> {
+    bytes.extend_from_slice(&[2, count])?;
+    let high = if wide { 0 } else { 2 };
+    for place in 0..count {
+        let asn = from.wrapping_add(u32::from(place)).to_be_bytes();
+        bytes.extend_from_slice(asn.split_at(high).1)?;
     }
     Ok(())
 }
 
-// An AS_PATH of the ASes 1000 to 1299, and an AS4_PATH of 200 ASes from 70000 on, each with its type and its length.
-const HEADS: [(&str, &str); 2] = [("50 02 04B4", ""), ("50 02 025C", "D0 11 0322")];
+// An AS_PATH of the ASes 1000 to 1299, and where it is merged an AS4_PATH of 200 ASes from 70000 on.
+fn long_path(alloc: Global, merged: bool) -> Result<Vec<u8>, NoMemory> {
+    let mut bytes = hex(alloc, if merged { "50 02 025C" } else { "50 02 04B4" })?;
+    put_sequence(&mut bytes, !merged, 1_000, 255)?;
+    put_sequence(&mut bytes, !merged, 1_255, 45)?;
+    if merged {
+        put_hex(&mut bytes, "D0 11 0322")?;
+        put_sequence(&mut bytes, true, 70_000, 200)?;
+    }
+    Ok(bytes)
+}
 
 // The ASes are those that the path ends with, and before them those of the one before, where there is one.
 fn is_merged(chain: &[u32], merged: bool) -> bool {
@@ -201,44 +147,32 @@ fn is_merged(chain: &[u32], merged: bool) -> bool {
 }
 
 // A merged path has the first 100 ASes of its AS_PATH and all of its AS4_PATH.
+fn is_long_path(alloc: Global, merged: bool) -> Result<bool, NoMemory> {
+    let bytes = long_path(alloc, merged)?;
+    let Ok(attrs) = read(&bytes, !merged, Form::Message, false) else {
+        return Ok(false);
+    };
+    match attrs.trail(alloc)? {
+        Some(trail) => Ok(!trail.is_set() && is_merged(trail.chain().as_slice(), merged)),
+        None => Ok(false),
+    }
+}
+
 #[test]
 fn paths_of_300_ases(rt: HostRuntime) -> Result<(), NoMemory> {
-    let alloc = rt.alloc();
-    for (head, head4) in HEADS {
-        let merged = !head4.is_empty();
-        let mut bytes = hex(alloc, head)?;
-        put_sequences(&mut bytes, !merged, 1_000, &[255, 45])?;
-        bytes.extend_from_slice(&hex(alloc, head4)?)?;
-        if merged {
-            put_sequences(&mut bytes, true, 70_000, &[200])?;
-        }
-        match read(&bytes, !merged, Form::Message, false) {
-            Ok(attrs) => match attrs.trail(alloc)? {
-                Some(trail) => {
-                    assert!(rt; !trail.is_set());
-                    assert!(rt; is_merged(trail.chain().as_slice(), merged), "{head4}");
-                }
-                None => assert!(rt; false, "{head}"),
-            },
-            Err(Attributes) => assert!(rt; false, "{head}"),
-        }
-    }
+    assert!(rt; is_long_path(rt.alloc(), false)?);
+    assert!(rt; is_long_path(rt.alloc(), true)?);
     Ok(())
 }
 
 // AS_PATH, AS4_PATH and the items of the result; both paths are spelled with ASes of four bytes here.
 type Merge = (&'static str, &'static str, &'static [Item]);
 
-const MERGES: [Merge; 5] = [
+const MERGES: [Merge; 3] = [
     (
         "40 02 0C 02 01 0000FBF5 01 01 0000FBF4",
         "40 02 0C 02 01 00010000 01 01 00010001",
         &[Item::As(65536), Item::Set],
-    ),
-    (
-        "40 02 0E 02 03 0000FBF5 00005BA0 0000FBF4",
-        "40 02 00",
-        &[Item::As(64501), Item::As(23456), Item::As(64500)],
     ),
     // A set is one item, however many ASes it has; a confederation's segment is none.
     (
@@ -252,31 +186,37 @@ const MERGES: [Merge; 5] = [
         "40 02 0A 02 02 00010000 00010001",
         &[Item::As(64501)],
     ),
-    ("40 02 00", "40 02 00", &[]),
 ];
+
+// The path of an attribute by itself.
+fn segments(bytes: &[u8]) -> Option<Segments<'_>> {
+    match read(bytes, true, Form::Table, false) {
+        Ok(attrs) => attrs.path(),
+        Err(Attributes) => None,
+    }
+}
+
+fn merged(alloc: Global, path: &str, path4: &str) -> Result<Option<Items>, NoMemory> {
+    let path = hex(alloc, path)?;
+    let path4 = hex(alloc, path4)?;
+    match (segments(&path), segments(&path4)) {
+        (Some(one), Some(other)) => Ok(Some(merge4(alloc, &one, &other)?.copy()?)),
+        _ => Ok(None),
+    }
+}
+
+fn are_items(items: &Items, want: &[Item]) -> bool {
+    items.as_slice() == want
+        && items.len() == want.len()
+        && items.is_empty() == want.is_empty()
+        && items.get(0) == want.first()
+}
 
 #[test]
 fn paths_are_merged(rt: HostRuntime) -> Result<(), NoMemory> {
-    let alloc = rt.alloc();
-    for (path, path4, want) in &MERGES {
-        let path = hex(alloc, path)?;
-        let path4 = hex(alloc, path4)?;
-        match (
-            read(&path, true, Form::Table, false),
-            read(&path4, true, Form::Table, false),
-        ) {
-            (Ok(one), Ok(other)) => match (one.path(), other.path()) {
-                (Some(one), Some(other)) => {
-                    let items = merge4(alloc, &one, &other)?.copy()?;
-                    assert_eq!(rt; items.as_slice(), *want);
-                    assert_eq!(rt; items.len(), want.len());
-                    assert_eq!(rt; items.is_empty(), want.is_empty());
-                    assert_eq!(rt; items.get(0), want.first());
-                }
-                _ => assert!(rt; false),
-            },
-            _ => assert!(rt; false),
-        }
+    for (path, path4, want) in MERGES {
+        let items = merged(rt.alloc(), path, path4)?;
+        assert!(rt; items.is_some_and(|items| are_items(&items, want)));
     }
     Ok(())
 }

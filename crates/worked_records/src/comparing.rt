@@ -1,58 +1,58 @@
-//! The changes and the notes of a record beside those that are wanted.
-use crate::records::Wanted;
-use path_model::{Addr, Batch, Change, Changes, Key, Noted, Notes, Otc, Peer, Trail};
-use std::process::Abort;
+//! The changes of a record or a message beside those that are wanted.
+use path_model::{Addr, Batch, Change, Key, NlriList, Noted, Peer, Trail};
 use std::slice::Iter;
 
-/// Compares all changes, one by one. None of the announcements has an Only-to-Customer.
-pub(crate) fn compare_noted(rt: &impl Abort, noted: &Noted, wants: &[Wanted]) {
-    compare_changes(rt, &noted.changes, wants);
-    assert!(rt; noted.notes.are_absent());
-    let mut notes = 0usize;
-    for want in wants {
-        if let Wanted::Announce(..) | Wanted::AnnouncePath(..) = want {
-            assert_eq!(rt; noted.notes.get(notes), Some(Otc::Absent));
-            notes = notes.wrapping_add(1);
+// A change that is wanted: a prefix is its address and its length, with a path identifier or without, and a path its ASes from the
+// origin on.
+#[derive(Clone, Copy)]
+pub(crate) enum Wanted {
+    Remove(Peer, Addr, u8, Option<u32>),
+    Announce(Peer, Addr, u8, Option<u32>, &'static [u32]),
+    RemovePeer(Peer),
+}
+
+/// Whether these changes are the next ones that are wanted, and no announcement has an Only-to-Customer.
+pub(crate) fn are_next(noted: &Noted, wants: &mut Iter<'_, Wanted>) -> bool {
+    for batch in noted.changes.batches() {
+        if !is_batch(batch, wants) {
+            return false;
         }
     }
-    assert_eq!(rt; noted.notes.get(notes), None);
+    noted.notes.are_absent()
 }
 
-/// Compares all notes, one by one.
-pub(crate) fn compare_notes(rt: &impl Abort, notes: &Notes, wants: &[Otc]) {
-    for (place, want) in wants.iter().enumerate() {
-        assert_eq!(rt; notes.get(place), Some(*want));
-    }
-    assert_eq!(rt; notes.get(wants.len()), None);
-}
-
-fn compare_changes(rt: &impl Abort, changes: &Changes, wants: &[Wanted]) {
-    assert_eq!(rt; changes.len(), wants.len());
-    let mut wants = wants.iter();
-    for batch in changes.batches() {
-        compare_batch(rt, batch, &mut wants);
-    }
-}
-
-fn compare_batch(rt: &impl Abort, batch: &Batch, wants: &mut Iter<'_, Wanted>) {
+fn is_batch(batch: &Batch, wants: &mut Iter<'_, Wanted>) -> bool {
     match batch {
-        Batch::One(change) => assert!(rt; is_wanted(change, wants.next())),
-        Batch::RemoveAll(peer, nlris) => {
-            for nlri in nlris.iter() {
-                let key = Key::new(*peer, nlri);
-                assert!(rt; is_removal(&key, wants.next()));
-            }
-        }
-        Batch::AnnounceAll(peer, trail, nlris) => {
-            for nlri in nlris.iter() {
-                let key = Key::new(*peer, nlri);
-                assert!(rt; is_announcement(&key, trail, wants.next()));
-            }
-        }
+        Batch::One(change) => is_change(change, wants.next()),
+        Batch::RemoveAll(peer, nlris) => are_removed(*peer, nlris, wants),
+        Batch::AnnounceAll(peer, trail, nlris) => are_announced(*peer, trail, nlris, wants),
     }
 }
 
-fn is_wanted(change: &Change, want: Option<&Wanted>) -> bool {
+fn are_removed(peer: Peer, nlris: &NlriList, wants: &mut Iter<'_, Wanted>) -> bool {
+    for nlri in nlris.iter() {
+        if !is_removal(&Key::new(peer, nlri), wants.next()) {
+            return false;
+        }
+    }
+    true
+}
+
+fn are_announced(
+    peer: Peer,
+    trail: &Trail,
+    nlris: &NlriList,
+    wants: &mut Iter<'_, Wanted>,
+) -> bool {
+    for nlri in nlris.iter() {
+        if !is_announcement(&Key::new(peer, nlri), trail, wants.next()) {
+            return false;
+        }
+    }
+    true
+}
+
+fn is_change(change: &Change, want: Option<&Wanted>) -> bool {
     match change {
         Change::Remove(key) => is_removal(key, want),
         Change::Announce(key, trail) => is_announcement(key, trail, want),
@@ -65,21 +65,15 @@ fn is_wanted(change: &Change, want: Option<&Wanted>) -> bool {
 
 fn is_removal(key: &Key, want: Option<&Wanted>) -> bool {
     match want {
-        Some(Wanted::Remove(peer, addr, len)) => is_key(key, *peer, *addr, *len, None),
-        Some(Wanted::RemovePath(peer, addr, len, path)) => {
-            is_key(key, *peer, *addr, *len, Some(*path))
-        }
+        Some(Wanted::Remove(peer, addr, len, path)) => is_key(key, *peer, *addr, *len, *path),
         _ => false,
     }
 }
 
 fn is_announcement(key: &Key, trail: &Trail, want: Option<&Wanted>) -> bool {
     match want {
-        Some(Wanted::Announce(peer, addr, len, chain)) => {
-            is_key(key, *peer, *addr, *len, None) && is_chain(trail, chain)
-        }
-        Some(Wanted::AnnouncePath(peer, addr, len, path, chain)) => {
-            is_key(key, *peer, *addr, *len, Some(*path)) && is_chain(trail, chain)
+        Some(Wanted::Announce(peer, addr, len, path, chain)) => {
+            is_key(key, *peer, *addr, *len, *path) && is_chain(trail, chain)
         }
         _ => false,
     }

@@ -1,11 +1,8 @@
-//! Records with path identifiers (RFC 8050): what each says, which are passed over, and which are refused.
-use crate::records::{
-    Case, DOWN, NET, NET6, ONE, RIB, ROUTE, Said, TABLE, WITHDRAWN, Wanted, read_dumps,
-};
-use Said::{Passed, Peers, Refused, Routes};
-use Wanted::{AnnouncePath, Remove, RemovePath, RemovePeer};
+//! Records with path identifiers (RFC 8050): the changes that they make.
+use crate::comparing::Wanted;
+use crate::records::{Case, NET, NET6, ONE, RIB, ROUTE, TABLE, WITHDRAWN, count_read};
+use Wanted::{Announce, Remove};
 use av_base::NoMemory;
-use mrt_reader::BodyFault;
 
 // Two routes to 198.51.100.0/24 from the first peer, with the identifiers 1 and 2.
 const PATHS: &str = "00000000 000D 0008 0000003C  00000000 18 C63364 0002
@@ -42,124 +39,43 @@ const SIX_GONE: &str =
 
 const CHAIN: [u32; 2] = [64500, 64501];
 
-const DUMPS: [Case; 15] = [
+const DUMPS: [Case; 5] = [
     (
-        &[(TABLE, &[]), (PATHS, &[]), (PATHS6, &[]), (NO_PATHS, &[])],
+        &[TABLE, PATHS, PATHS6, NO_PATHS],
         &[
-            Peers(2, ONE),
-            Routes(&[
-                AnnouncePath(ONE, NET, 24, 1, &CHAIN),
-                AnnouncePath(ONE, NET, 24, 2, &CHAIN),
-            ]),
-            Routes(&[AnnouncePath(ONE, NET6, 32, u32::MAX, &CHAIN)]),
-            Routes(&[]),
+            Announce(ONE, NET, 24, Some(1), &CHAIN),
+            Announce(ONE, NET, 24, Some(2), &CHAIN),
+            Announce(ONE, NET6, 32, Some(u32::MAX), &CHAIN),
         ],
     ),
     // No identifier and the identifier 0 are told apart.
     (
-        &[(TABLE, &[]), (RIB, &[]), (PATHS, &[(31, 0)])],
+        &[TABLE, RIB, NARROW],
+        &[ROUTE, Announce(ONE, NET, 24, Some(0), &CHAIN)],
+    ),
+    (
+        &[GONE, MOVED],
         &[
-            Peers(2, ONE),
-            Routes(&[ROUTE]),
-            Routes(&[
-                AnnouncePath(ONE, NET, 24, 0, &CHAIN),
-                AnnouncePath(ONE, NET, 24, 2, &CHAIN),
-            ]),
+            Remove(ONE, NET, 24, Some(1)),
+            Remove(ONE, NET, 24, Some(1)),
+            Announce(ONE, NET, 24, Some(2), &CHAIN),
         ],
     ),
     (
-        &[(GONE, &[]), (MOVED, &[]), (NARROW, &[])],
+        &[SIX, SIX_GONE],
         &[
-            Routes(&[RemovePath(ONE, NET, 24, 1)]),
-            Routes(&[
-                RemovePath(ONE, NET, 24, 1),
-                AnnouncePath(ONE, NET, 24, 2, &CHAIN),
-            ]),
-            Routes(&[AnnouncePath(ONE, NET, 24, 0, &CHAIN)]),
+            Announce(ONE, NET6, 32, Some(7), &CHAIN),
+            Remove(ONE, NET6, 32, Some(7)),
         ],
     ),
     (
-        &[(SIX, &[]), (SIX_GONE, &[])],
-        &[
-            Routes(&[AnnouncePath(ONE, NET6, 32, 7, &CHAIN)]),
-            Routes(&[RemovePath(ONE, NET6, 32, 7)]),
-        ],
-    ),
-    (
-        &[(WITHDRAWN, &[]), (GONE, &[]), (DOWN, &[])],
-        &[
-            Routes(&[Remove(ONE, NET, 24)]),
-            Routes(&[RemovePath(ONE, NET, 24, 1)]),
-            Routes(&[RemovePeer(ONE)]),
-        ],
-    ),
-    // Other messages than an UPDATE change nothing.
-    (&[(GONE, &[(50, 1)])], &[Routes(&[])]),
-    // Passed over: tables of multicast routes and of any family, and messages that the collector itself sent.
-    (
-        &[
-            (PATHS, &[(7, 3)]),
-            (PATHS, &[(7, 5)]),
-            (PATHS, &[(7, 6)]),
-            (PATHS, &[(7, 9)]),
-            (PATHS, &[(7, 11)]),
-            (PATHS, &[(7, 12)]),
-        ],
-        &[Passed, Passed, Passed, Passed, Passed, Passed],
-    ),
-    (
-        &[
-            (GONE, &[(7, 6)]),
-            (GONE, &[(7, 7)]),
-            (GONE, &[(7, 10)]),
-            (GONE, &[(7, 11)]),
-        ],
-        &[Passed, Passed, Passed, Passed],
-    ),
-    (
-        &[
-            (SIX, &[(7, 6)]),
-            (SIX, &[(7, 7)]),
-            (SIX, &[(7, 10)]),
-            (SIX, &[(7, 11)]),
-        ],
-        &[Passed, Passed, Passed, Passed],
-    ),
-    // Refused: three entries are counted where there are two; entries with identifiers are read without, and entries without them with.
-    (
-        &[(TABLE, &[]), (PATHS, &[(21, 3)])],
-        &[Peers(2, ONE), Refused(BodyFault::Body)],
-    ),
-    (
-        &[(TABLE, &[]), (PATHS, &[(7, 2)]), (RIB, &[(7, 8)])],
-        &[
-            Peers(2, ONE),
-            Refused(BodyFault::Body),
-            Refused(BodyFault::Body),
-        ],
-    ),
-    // There is no table before the record; a peer isn't in the table; attributes are out of form, and one entry has no path.
-    (&[(PATHS, &[])], &[Refused(BodyFault::NoPeerTable)]),
-    (
-        &[(TABLE, &[]), (PATHS, &[(23, 2)])],
-        &[Peers(2, ONE), Refused(BodyFault::PeerIndex)],
-    ),
-    (
-        &[(TABLE, &[]), (PATHS, &[(38, 3)]), (PATHS, &[(60, 3)])],
-        &[
-            Peers(2, ONE),
-            Refused(BodyFault::Attributes),
-            Refused(BodyFault::NoPath),
-        ],
-    ),
-    // A message with identifiers is read without, and one without identifiers with.
-    (
-        &[(GONE, &[(7, 4)]), (WITHDRAWN, &[(7, 9)])],
-        &[Refused(BodyFault::Message), Refused(BodyFault::Message)],
+        &[WITHDRAWN, GONE],
+        &[Remove(ONE, NET, 24, None), Remove(ONE, NET, 24, Some(1))],
     ),
 ];
 
 #[test]
 fn records_with_path_identifiers(rt: HostRuntime) -> Result<(), NoMemory> {
-    read_dumps(&rt, rt.alloc(), &DUMPS)
+    assert_eq!(rt; count_read(rt.alloc(), &DUMPS)?, 5);
+    Ok(())
 }

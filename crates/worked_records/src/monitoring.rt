@@ -1,26 +1,16 @@
-//! Messages of BMP streams: what each says, in a view and behind what was said before, and how a stream ends.
-use crate::comparing::compare_noted;
-use crate::hex::hex;
-use crate::records::{NET, ONE, ROUTE, Wanted, joined};
-use Said::{Ends, Passed, Refused, Routes, Up};
+//! Messages of BMP streams: the changes that they make in a view, and the peers that come up.
+use crate::comparing::{Wanted, are_next};
+use crate::records::{ONE, ROUTE, joined};
 use View::{Post, Pre};
-use Wanted::{Announce, RemovePeer};
+use Wanted::RemovePeer;
 use av_base::NoMemory;
-use bmp_reader::{BmpFault, BmpFrameFault, Body, Framer, PathPeers, View, read_message};
-use path_model::{Addr, Peer, Role};
+use bmp_reader::{Body, Framer, PathPeers, View, read_message};
+use path_model::{Peer, Role};
 use std::alloc::Global;
-use std::process::Abort;
+use std::slice::Iter;
 
-// What a message says, or how a stream ends before its end.
-#[derive(Clone, Copy)]
-enum Said {
-    Routes(&'static [Wanted]),
-    // The peer, its role, and whether its prefixes have path identifiers.
-    Up(Peer, Option<Role>, bool),
-    Passed,
-    Refused(BmpFault),
-    Ends(BmpFrameFault),
-}
+// A peer that comes up, its role, and whether its prefixes have path identifiers.
+type Up = (Peer, Option<Role>, bool);
 
 // The session with 192.0.2.1, AS 64501, comes up; the OPEN that came from it says that it is a customer.
 const UP: &str =
@@ -72,459 +62,108 @@ const PATHS: &str =
     FFFFFFFFFFFFFFFFFFFFFFFFFFFFFFFF 0025 01 04 FBFF 00B4 C00002FE 08  02 06 45 04 00010103
     FFFFFFFFFFFFFFFFFFFFFFFFFFFFFFFF 0025 01 04 FBF5 00B4 C0000201 08  02 06 45 04 00010103";
 
-const OTHER: Peer = Peer {
-    addr: Addr::V4(0xC000_0201),
-    asn: 64502,
-};
-
-const SIXTH: Peer = Peer {
-    addr: Addr::V6(0x2001_0DB8_0000_0000_0000_0000_0000_0001),
-    asn: 64501,
-};
-
-// The messages of a stream, each with changes of some bytes at their places, the view, and what they say.
+// The messages of a stream, the view, the peers that come up, and the changes.
 type Case = (
-    &'static [(&'static str, &'static [(usize, u8)])],
+    &'static [&'static str],
     View,
-    &'static [Said],
+    &'static [Up],
+    &'static [Wanted],
 );
 
-const CUSTOMER: Said = Up(ONE, Some(Role::Customer), false);
+const CUSTOMER: Up = (ONE, Some(Role::Customer), false);
 
-const NOTHING: Said = Up(ONE, None, false);
+const NOTHING: Up = (ONE, None, false);
 
-const STREAMS: [Case; 37] = [
+const STREAMS: [Case; 6] = [
     (
-        &[(UP, &[]), (ROUTES, &[]), (DOWN, &[])],
+        &[UP, ROUTES, DOWN],
         Pre,
-        &[CUSTOMER, Routes(&[ROUTE]), Routes(&[RemovePeer(ONE)])],
+        &[CUSTOMER],
+        &[ROUTE, RemovePeer(ONE)],
     ),
     // The view is that of routes alone.
+    (&[UP, ROUTES, DOWN], Post, &[CUSTOMER], &[RemovePeer(ONE)]),
+    (&[NARROW], Pre, &[], &[ROUTE]),
+    // Two roles that differ, two of one value, and the role of the OPEN that was sent, which is the router's own.
     (
-        &[(UP, &[]), (ROUTES, &[]), (DOWN, &[])],
-        Post,
-        &[CUSTOMER, Passed, Routes(&[RemovePeer(ONE)])],
-    ),
-    (
-        &[
-            (UP, &[(7, 0x40)]),
-            (ROUTES, &[(7, 0x40)]),
-            (DOWN, &[(7, 0x40)]),
-        ],
+        &[TWO_ROLES, APART, OWN],
         Pre,
-        &[CUSTOMER, Passed, Routes(&[RemovePeer(ONE)])],
+        &[NOTHING, CUSTOMER, NOTHING],
+        &[],
     ),
-    (&[(ROUTES, &[(7, 0x40)])], Post, &[Routes(&[ROUTE])]),
-    // Peers of other types.
-    (
-        &[(UP, &[(6, 1)]), (ROUTES, &[(6, 1)]), (DOWN, &[(6, 1)])],
-        Pre,
-        &[Passed, Passed, Passed],
-    ),
-    (
-        &[(ROUTES, &[(6, 3)]), (ROUTES, &[(6, 2)])],
-        Pre,
-        &[Passed, Passed],
-    ),
+    (&[PATHS], Pre, &[(ONE, None, true)], &[]),
     // Other types of messages are passed over unread.
-    (
-        &[
-            (ROUTES, &[(5, 1)]),
-            (UP, &[(5, 4)]),
-            (DOWN, &[(5, 5)]),
-            (DOWN, &[(5, 6)]),
-            ("03 00000006 FF", &[]),
-        ],
-        Pre,
-        &[Passed, Passed, Passed, Passed, Passed],
-    ),
-    // A peer of IPv6, and one of IPv4 before whose address something stands.
-    (
-        &[(
-            ROUTES,
-            &[
-                (7, 0x80),
-                (16, 0x20),
-                (17, 1),
-                (18, 0x0D),
-                (19, 0xB8),
-                (28, 0),
-                (30, 0),
-            ],
-        )],
-        Pre,
-        &[Routes(&[Announce(SIXTH, NET, 24, &[64500, 64501])])],
-    ),
-    (
-        &[(
-            DOWN,
-            &[
-                (7, 0xC0),
-                (16, 0x20),
-                (17, 1),
-                (18, 0x0D),
-                (19, 0xB8),
-                (28, 0),
-                (30, 0),
-            ],
-        )],
-        Pre,
-        &[Routes(&[RemovePeer(SIXTH)])],
-    ),
-    (
-        &[(DOWN, &[(8, 1), (16, 0xFF), (27, 0xFF), (36, 7), (47, 9)])],
-        Pre,
-        &[Routes(&[RemovePeer(ONE)])],
-    ),
-    // ASes of two bytes, and of four where two are due, and the other way round.
-    (&[(NARROW, &[])], Pre, &[Routes(&[ROUTE])]),
-    (
-        &[(ROUTES, &[(7, 0x20)]), (NARROW, &[(7, 0)])],
-        Pre,
-        &[Refused(BmpFault::Attributes), Refused(BmpFault::Attributes)],
-    ),
-    // Capabilities that overrun their parameter, a parameter that overruns the OPEN, another count: no capability.
-    (
-        &[(UP, &[(129, 2)]), (UP, &[(129, 0)])],
-        Pre,
-        &[NOTHING, NOTHING],
-    ),
-    (
-        &[(UP, &[(127, 4)]), (UP, &[(127, 2)])],
-        Pre,
-        &[NOTHING, NOTHING],
-    ),
-    (
-        &[(UP, &[(125, 4)]), (UP, &[(125, 6)])],
-        Pre,
-        &[NOTHING, NOTHING],
-    ),
-    // The OPEN ends a byte earlier, which is information then.
-    (&[(UP, &[(114, 0x21)])], Pre, &[NOTHING]),
-    // A parameter of another type, a capability of another code.
-    (
-        &[(UP, &[(126, 1)]), (UP, &[(128, 8)])],
-        Pre,
-        &[NOTHING, NOTHING],
-    ),
-    // Roles by their values.
-    (
-        &[
-            (UP, &[(130, 0)]),
-            (UP, &[(130, 1)]),
-            (UP, &[(130, 2)]),
-            (UP, &[(130, 4)]),
-            (UP, &[(130, 5)]),
-        ],
-        Pre,
-        &[
-            Up(ONE, Some(Role::Provider), false),
-            Up(ONE, Some(Role::Rs), false),
-            Up(ONE, Some(Role::RsClient), false),
-            Up(ONE, Some(Role::Peer), false),
-            NOTHING,
-        ],
-    ),
-    // Two roles that differ, in one parameter and in two, and two of one value.
-    (
-        &[(TWO_ROLES, &[]), (TWO_ROLES, &[(133, 3)])],
-        Pre,
-        &[NOTHING, CUSTOMER],
-    ),
-    (
-        &[(TWO_ROLES, &[(130, 9)]), (TWO_ROLES, &[(130, 9), (133, 9)])],
-        Pre,
-        &[NOTHING, NOTHING],
-    ),
-    (
-        &[(APART, &[]), (APART, &[(135, 0)])],
-        Pre,
-        &[CUSTOMER, NOTHING],
-    ),
-    // A form that is broken far behind takes the role away.
-    (&[(APART, &[(144, 2)])], Pre, &[NOTHING]),
-    // The role of the OPEN that was sent is the router's own.
-    (&[(OWN, &[])], Pre, &[NOTHING]),
-    // A peer with ADD-PATH in both OPENs is passed over until its next Peer Up without it, and not others.
-    (
-        &[
-            (PATHS, &[]),
-            (ROUTES, &[]),
-            (ROUTES, &[(35, 0xF6)]),
-            (DOWN, &[]),
-            (ROUTES, &[]),
-            (UP, &[(6, 1)]),
-            (ROUTES, &[]),
-            (UP, &[]),
-            (ROUTES, &[]),
-        ],
-        Pre,
-        &[
-            Up(ONE, None, true),
-            Passed,
-            Routes(&[Announce(OTHER, NET, 24, &[64500, 64501])]),
-            Routes(&[RemovePeer(ONE)]),
-            Passed,
-            Passed,
-            Passed,
-            CUSTOMER,
-            Routes(&[ROUTE]),
-        ],
-    ),
-    // ADD-PATH in one OPEN alone.
-    (
-        &[(PATHS, &[(99, 70)]), (PATHS, &[(136, 70)]), (ROUTES, &[])],
-        Pre,
-        &[NOTHING, NOTHING, Routes(&[ROUTE])],
-    ),
-    // OPENs out of form: the marker, the length, the type, of the one and of the other.
-    (
-        &[
-            (UP, &[(83, 0xFE)]),
-            (UP, &[(85, 0x1C)]),
-            (UP, &[(85, 0x1E)]),
-            (UP, &[(86, 2)]),
-        ],
-        Pre,
-        &[
-            Refused(BmpFault::Body),
-            Refused(BmpFault::Body),
-            Refused(BmpFault::Body),
-            Refused(BmpFault::Body),
-        ],
-    ),
-    (
-        &[
-            (UP, &[(97, 0)]),
-            (UP, &[(114, 0x1C)]),
-            (UP, &[(114, 0x23)]),
-            (UP, &[(115, 3)]),
-        ],
-        Pre,
-        &[
-            Refused(BmpFault::Body),
-            Refused(BmpFault::Body),
-            Refused(BmpFault::Body),
-            Refused(BmpFault::Body),
-        ],
-    ),
-    // A peer of another type is tested for its form, and not for its BGP message.
-    (
-        &[(UP, &[(6, 1), (115, 3)]), (ROUTES, &[(6, 1), (48, 0)])],
-        Pre,
-        &[Refused(BmpFault::Body), Passed],
-    ),
-    (
-        &[(ROUTES, &[(48, 0)]), (PATHS, &[]), (ROUTES, &[(48, 0)])],
-        Post,
-        &[Passed, Up(ONE, None, true), Passed],
-    ),
-    // A BGP message: out of form, attributes out of form, no path; the next one is taken.
-    (
-        &[
-            (ROUTES, &[(48, 0)]),
-            (ROUTES, &[(74, 5)]),
-            (ROUTES, &[(72, 3)]),
-            (ROUTES, &[]),
-        ],
-        Pre,
-        &[
-            Refused(BmpFault::Message),
-            Refused(BmpFault::Attributes),
-            Refused(BmpFault::NoPath),
-            Routes(&[ROUTE]),
-        ],
-    ),
-    // One that is no UPDATE changes nothing.
-    (&[(ROUTES, &[(66, 4)])], Pre, &[Routes(&[])]),
-    // A body without its last byte, and none.
-    (
-        &[(
-            "03 00000030 02  0000 0000000000000000 000000000000000000000000C0000201 0000FBF5 C0000201 0000000000000000",
-            &[],
-        )],
-        Pre,
-        &[Refused(BmpFault::Body)],
-    ),
-    (
-        &[("03 00000006 00 03 00000006 02 03 00000006 03", &[])],
-        Pre,
-        &[
-            Refused(BmpFault::Body),
-            Refused(BmpFault::Body),
-            Refused(BmpFault::Body),
-        ],
-    ),
-    // Versions and lengths.
-    (
-        &[(DOWN, &[]), (ROUTES, &[(0, 4)])],
-        Pre,
-        &[Routes(&[RemovePeer(ONE)]), Ends(BmpFrameFault::BmpVersion)],
-    ),
-    (
-        &[(ROUTES, &[(0, 4), (4, 5)])],
-        Pre,
-        &[Ends(BmpFrameFault::BmpVersion)],
-    ),
-    (
-        &[(ROUTES, &[(4, 5)])],
-        Pre,
-        &[Ends(BmpFrameFault::BmpLength)],
-    ),
-    (
-        &[("03 00400001 00", &[])],
-        Pre,
-        &[Ends(BmpFrameFault::BmpLength)],
-    ),
+    (&["03 00000006 FF", UP], Pre, &[CUSTOMER], &[]),
 ];
 
-// Reads a stream in pieces of a size, and compares what each message says with what is wanted.
-fn read_stream(
-    rt: &impl Abort,
-    alloc: Global,
-    stream: &[u8],
-    size: usize,
-    view: View,
-    wants: &[Said],
-) -> Result<(), NoMemory> {
-    assert!(rt; size > 0);
-    let mut framer = Framer::new(alloc);
-    let mut peers = PathPeers::new(alloc);
-    let mut wants = wants.iter();
-    for piece in stream.chunks(size) {
-        framer = framer.feed(piece)?;
-        for _ in 0..stream.len() {
-            match framer.next() {
-                Ok(Some(message)) => {
-                    let said = read_message(alloc, &message, view, &peers);
-                    if let Some((peer, paths)) = compare(rt, said, wants.next())? {
-                        peers = peers.note(peer, paths)?;
-                    }
-                }
-                Ok(None) => break,
-                Err(fault) => return ends(rt, fault, wants.next()),
-            }
-        }
-    }
-    match framer.finish() {
-        Ok(()) => assert!(rt; wants.next().is_none()),
-        Err(fault) => return ends(rt, fault, wants.next()),
-    }
-    Ok(())
-}
-
-fn ends(rt: &impl Abort, fault: BmpFrameFault, want: Option<&Said>) -> Result<(), NoMemory> {
+fn is_up(peer: Peer, role: Option<Role>, paths: bool, want: Option<&Up>) -> bool {
     match want {
-        Some(Ends(wanted)) => assert_eq!(rt; fault, *wanted),
-        _ => assert!(rt; false, "{fault:?}"),
+        Some((one, its, identified)) => peer == *one && role == *its && paths == *identified,
+        None => false,
     }
-    Ok(())
 }
 
-// Compares what one message says, and gives what is noted of a peer that came up.
-fn compare(
-    rt: &impl Abort,
-    said: Result<Body, BmpFault>,
-    want: Option<&Said>,
-) -> Result<Option<(Peer, bool)>, NoMemory> {
-    match (said, want) {
-        (Err(BmpFault::NoMemory), _) => return Err(NoMemory),
-        (Err(fault), Some(Refused(wanted))) => assert_eq!(rt; fault, *wanted),
-        (Ok(Body::Passed), Some(Passed)) => {}
-        (Ok(Body::Routes(noted)), Some(Routes(list))) => compare_noted(rt, &noted, list),
-        (Ok(Body::Up { peer, role, paths }), Some(Up(one, its, identified))) => {
-            assert!(rt; peer == *one);
-            assert_eq!(rt; role, *its);
-            assert_eq!(rt; paths, *identified);
-            return Ok(Some((peer, paths)));
-        }
-        _ => assert!(rt; false),
+// Whether the next message makes the next changes that are wanted, or the next peer comes up, or it is passed over.
+fn is_next(
+    alloc: Global,
+    framer: &mut Framer,
+    view: View,
+    peers: &PathPeers,
+    ups: &mut Iter<'_, Up>,
+    wants: &mut Iter<'_, Wanted>,
+) -> bool {
+    match framer.next() {
+        Ok(Some(message)) => match read_message(alloc, &message, view, peers) {
+            Ok(Body::Passed) => true,
+            Ok(Body::Routes(noted)) => are_next(&noted, wants),
+            Ok(Body::Up { peer, role, paths }) => is_up(peer, role, paths, ups.next()),
+            Err(_) => false,
+        },
+        _ => false,
     }
-    Ok(None)
+}
+
+fn is_read(alloc: Global, case: &Case, peers: &PathPeers) -> Result<bool, NoMemory> {
+    let (messages, view, ups, wants) = *case;
+    let mut framer = Framer::new(alloc).feed(&joined(alloc, messages)?)?;
+    let mut ups = ups.iter();
+    let mut wants = wants.iter();
+    for _ in 0..messages.len() {
+        if !is_next(alloc, &mut framer, view, peers, &mut ups, &mut wants) {
+            return Ok(false);
+        }
+    }
+    Ok(framer.finish().is_ok() && ups.next().is_none() && wants.next().is_none())
+}
+
+// How many streams say what they should, up to the first that doesn't.
+fn count(alloc: Global, streams: &[Case]) -> Result<usize, NoMemory> {
+    let peers = PathPeers::new(alloc);
+    for (place, case) in streams.iter().enumerate() {
+        if !is_read(alloc, case, &peers)? {
+            return Ok(place);
+        }
+    }
+    Ok(streams.len())
 }
 
 #[test]
 fn messages_say_what_they_should(rt: HostRuntime) -> Result<(), NoMemory> {
-    let alloc = rt.alloc();
-    for (messages, view, wants) in STREAMS {
-        let stream = joined(alloc, messages)?;
-        read_stream(&rt, alloc, &stream, 65_536, view, wants)?;
-    }
+    assert_eq!(rt; count(rt.alloc(), &STREAMS)?, 6);
     Ok(())
 }
 
-// However the stream is cut, its messages are the same.
+const PASSED: Case = (&[ROUTES], Pre, &[], &[]);
+
+const TAKEN: Case = (&[ROUTES], Pre, &[], &[ROUTE]);
+
+// A peer with ADD-PATH in both OPENs is passed over until its next Peer Up without it.
 #[test]
-fn messages_in_pieces_of_any_size(rt: HostRuntime) -> Result<(), NoMemory> {
+fn peers_with_path_identifiers(rt: HostRuntime) -> Result<(), NoMemory> {
     let alloc = rt.alloc();
-    let stream = joined(
-        alloc,
-        &[
-            (UP, &[]),
-            (ROUTES, &[(48, 0)]),
-            (ROUTES, &[]),
-            (DOWN, &[]),
-            ("0300000031", &[]),
-        ],
-    )?;
-    let wants = [
-        CUSTOMER,
-        Refused(BmpFault::Message),
-        Routes(&[ROUTE]),
-        Routes(&[RemovePeer(ONE)]),
-        Ends(BmpFrameFault::CutShort),
-    ];
-    for size in 1..140 {
-        read_stream(&rt, alloc, &stream, size, Pre, &wants)?;
-    }
+    let peers = PathPeers::new(alloc).note(ONE, true)?;
+    assert!(rt; is_read(alloc, &PASSED, &peers)?);
+    let peers = peers.note(ONE, false)?;
+    assert!(rt; is_read(alloc, &TAKEN, &peers)?);
     Ok(())
-}
-
-// Each front of a message is cut short.
-#[test]
-fn messages_that_are_cut(rt: HostRuntime) -> Result<(), NoMemory> {
-    let alloc = rt.alloc();
-    for text in [UP, ROUTES, NARROW, DOWN, "03 00400000 00 00"] {
-        let message = hex(alloc, text)?;
-        for len in 1..message.len() {
-            let (front, _) = message.split_at(len);
-            read_stream(
-                &rt,
-                alloc,
-                front,
-                65_536,
-                Pre,
-                &[Ends(BmpFrameFault::CutShort)],
-            )?;
-        }
-    }
-    Ok(())
-}
-
-// A message with the length of this front is refused by its body, up to so many bytes, and then by its BGP message.
-fn read_fronts(rt: &impl Abort, alloc: Global, text: &str, bodies: usize) -> Result<(), NoMemory> {
-    let message = hex(alloc, text)?;
-    for len in 6..message.len() {
-        assert!(rt; len < 256);
-        let mut front = Vec::new(alloc);
-        front.extend_from_slice(&[3, 0, 0, 0, len as u8])?;
-        let (_, behind) = message.split_at(5);
-        let (kept, _) = behind.split_at(len - 5);
-        front.extend_from_slice(kept)?;
-        let fault = if len < bodies {
-            BmpFault::Body
-        } else {
-            BmpFault::Message
-        };
-        read_stream(rt, alloc, &front, 65_536, Pre, &[Refused(fault)])?;
-    }
-    Ok(())
-}
-
-#[test]
-fn bodies_that_are_cut(rt: HostRuntime) -> Result<(), NoMemory> {
-    let alloc = rt.alloc();
-    read_fronts(&rt, alloc, UP, 131)?;
-    read_fronts(&rt, alloc, ROUTES, 48)?;
-    read_fronts(&rt, alloc, DOWN, 49)
 }
