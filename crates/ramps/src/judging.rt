@@ -48,6 +48,7 @@ impl Judged {
 }
 
 /// Judges a path that came from a neighbour of this role, and counts it as one step. It takes no memory and refuses nothing.
+#[inline(always)]
 pub fn judge<T: Table, L: Ledger>(
     table: &T,
     role: Role,

@@ -1,6 +1,6 @@
 //! The walk along a chain from one of its ends, and the ramps that it finds.
 ghost use Rattle.std.specs.Prelude.{◌≡◌, ◌+◌, ◌<◌, ◌≤◌, length};
-ghost use Rattle.ramps.specs.Walk.{AreDownRamps, AreOrdered, AreUpRamps, AreWalked, CountBeside, IsAttested, said};
+ghost use Rattle.ramps.specs.Walk.{AreOrdered, AreUpRamps, CountBeside, said};
 
 use path_model::{Authority, Table};
 
@@ -22,74 +22,55 @@ pub(crate) enum End {
     Neighbour,
 }
 
-/// The up-ramps.
+/// The up-ramps: the walk ends at the first hop that is refused.
 pub(crate) fn up_ramps<T: Table>(table: &T, chain: &[u32]) -> Ramps
     requires some { 0 < length chain.now }
     requires short { length chain.now ≤ 65535 }
     ensures are { AreUpRamps (T.rows table.now) chain.now result }
     ensures ordered { AreOrdered (length chain.now) result }
 {
-    walk(table, chain, End::Origin)
-}
-
-/// The down-ramps.
-pub(crate) fn down_ramps<T: Table>(table: &T, chain: &[u32]) -> Ramps
-    requires some { 0 < length chain.now }
-    requires short { length chain.now ≤ 65535 }
-    ensures are { AreDownRamps (T.rows table.now) chain.now result }
-    ensures ordered { AreOrdered (length chain.now) result }
-{
-    walk(table, chain, End::Neighbour)
-}
-
-/// The down-ramps so far as they count beside these up-ramps. Where no hop is refused up to the neighbour, no maximal down-ramp is too short,
-/// and the walk ends at the first hop that isn't attested; where all hops are attested up to there, no hop is asked.
-pub(crate) fn down_ramps_beside<T: Table>(table: &T, chain: &[u32], up: Ramps) -> Ramps
-    requires some { 0 < length chain.now }
-    requires short { length chain.now ≤ 65535 }
-    ensures count { CountBeside (T.rows table.now) chain.now up result }
-    ensures ordered { AreOrdered (length chain.now) result }
-{
     let count = chain.len() as u32;
-    if up.maximal != count {
-        return down_ramps(table, chain);
+    let mut minimal = count;
+    for j in 0..chain.len() - 1 {
+        let ramp = (j + 1) as u32;
+        match ask(table, chain, End::Origin, j) {
+            Authority::Provides => {}
+            Authority::Silent => minimal = minimal.min(ramp),
+            Authority::Refuses => {
+                return Ramps {
+                    minimal: minimal.min(ramp),
+                    maximal: ramp,
+                };
+            }
+        }
     }
     Ramps {
-        minimal: if up.minimal == count {
-            count
-        } else {
-            attested(table, chain, End::Neighbour)
-        },
+        minimal,
         maximal: count,
     }
 }
 
-// The minimal ramp from one end: the walk ends at the first hop that isn't attested.
-fn attested<T: Table>(table: &T, chain: &[u32], end: End) -> u32
+/// The down-ramps so far as they count beside these up-ramps: the walk ends where it meets the maximal up-ramp, or, while each hop is attested,
+/// the minimal one. Nothing behind that counts.
+#[inline(always)]
+pub(crate) fn down_ramps_beside<T: Table>(table: &T, chain: &[u32], up: Ramps) -> Ramps
     requires some { 0 < length chain.now }
     requires short { length chain.now ≤ 65535 }
-    ensures { IsAttested (said end (T.rows table.now) chain.now) (length chain.now) result }
-{
-    for j in 0..chain.len() - 1 {
-        match ask(table, chain, end, j) {
-            Authority::Provides => {}
-            _ => return (j + 1) as u32,
-        }
-    }
-    chain.len() as u32
-}
-
-// The ramps from one end: the walk ends at the first hop that is refused.
-fn walk<T: Table>(table: &T, chain: &[u32], end: End) -> Ramps
-    requires some { 0 < length chain.now }
-    requires short { length chain.now ≤ 65535 }
-    ensures { AreWalked (said end (T.rows table.now) chain.now) (length chain.now) result }
+    requires up { AreOrdered (length chain.now) up }
+    ensures count { CountBeside (T.rows table.now) chain.now up result }
+    ensures ordered { AreOrdered (length chain.now) result }
 {
     let count = chain.len() as u32;
     let mut minimal = count;
     for j in 0..chain.len() - 1 {
         let ramp = (j + 1) as u32;
-        match ask(table, chain, end, j) {
+        if up.maximal + ramp >= count && (minimal < count || up.minimal + ramp >= count) {
+            return Ramps {
+                minimal,
+                maximal: count,
+            };
+        }
+        match ask(table, chain, End::Neighbour, j) {
             Authority::Provides => {}
             Authority::Silent => minimal = minimal.min(ramp),
             Authority::Refuses => {

@@ -93,8 +93,8 @@ impl Marks {
         self.pending.append(numbers)
     }
 
-    // The keys of the pending cases are noted. It takes the time of a sort of their numbers and of these keys, with a look-up for each pending
-    // case and each peer that has one of its keys, and the first time that of all routes.
+    // The keys of the pending cases are noted. Their numbers are made rising (`FoundCases::settle`), and it takes the time of a look-up for each
+    // pending case and each peer that has one of its keys, and of these keys, and the first time that of all routes.
     pub(crate) fn gather(
         &mut self,
         alloc: Global,

@@ -1,7 +1,6 @@
 pub mod CaseLemmas
 pub mod FitLemmas
 pub mod FollowLemmas
-pub mod FoundLemmas
 pub mod GroupLemmas
 pub mod KeptLemmas
 pub mod LeavingLemmas

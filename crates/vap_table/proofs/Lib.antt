@@ -4,6 +4,7 @@ pub mod ComparingLemmas
 pub mod CountingLemmas
 pub mod CurrentLemmas
 pub mod EntriesLemmas
+pub mod FilterLemmas
 pub mod IdleLemmas
 pub mod LastsLemmas
 pub mod MemberLemmas

@@ -8,8 +8,10 @@ use Rattle.std.specs.FinMap as map
 use Rattle.std.proofs.Math.ListN.{get_or-append}
 use Rattle.std.proofs.Math.Seq.{drop-append-add, get_or-append_seam, take-length}
 use Rattle.std.proofs.lemmas.List.{drop-append-le, length-append, length-drop, take-append-le}
+use Rattle.std.proofs.lemmas.Bool.Decides.{nat_tests}
 use Rattle.std.proofs.lemmas.Option.{same_Some}
-use Rattle.vap_table.specs.Quick.{Places, Quick, row_at, quick_row, IsWithin, AreWithin}
+use Rattle.vap_table.specs.Filter.{is_marked}
+use Rattle.vap_table.specs.Quick.{Places, Quick, row_at, quick_row, IsWithin, AreWithin, AreMarked, AreHeld}
 
 -- ---- words that come behind the others
 
@@ -26,8 +28,12 @@ module _ (words more : List ℕ) (place : ℕ) (within : IsWithin words place) w
       ∙ ap (take (get_or words place 0)) (drop-append-le (place + 1) words more (omega (arith, within)))
       ∙ take-append-le (get_or words place 0) (drop (place + 1) words) more (omega (arith, within, length-drop (place + 1) words))
 
-pub all_within : (places : Places) (words more : List ℕ) → AreWithin places words → AreWithin places (words ++ more)
-all_within places words more within x place there = row_within words more place (within x place there)
+-- what was marked still is
+abbrev pub Keeps : List ℕ → List ℕ → Type 0
+Keeps marks marks' = (q : ℕ) → is_marked marks q ≡ true → is_marked marks' q ≡ true
+
+pub all_held : (places : Places) (words more marks marks' : List ℕ) → Keeps marks marks' → AreHeld places words marks → AreHeld places (words ++ more) marks'
+all_held places words more marks marks' kept held = record { within = λ x place there. row_within words more place (held.within x place there); marked = λ x place there. kept x (held.marked x place there) }
 
 still_at : (words more : List ℕ) (o : Option ℕ) → ((place : ℕ) → o ≡ Some place → IsWithin words place) → option_map (row_at (words ++ more)) o ≡ option_map (row_at words) o
 still_at words more None within = refl
@@ -66,6 +72,14 @@ module _ (places : Places) (words : List ℕ) (x : ℕ) (row : List ℕ) (within
   put_within : AreWithin (map.insert places x (length words)) longer
   put_within q place e = put_at (is_at (nat_cmp q) x) q place (sym (map.get-insert nat_cmp_total places x (length words) q) ∙ e)
 
+marked_at : (places : Places) (marks : List ℕ) (x at : ℕ) → AreMarked places marks → is_marked marks x ≡ true
+    → (b : Bool) (q place : ℕ) → is_at (nat_cmp q) x ≡ b → cond b (Some at) (map.get places q) ≡ Some place → is_marked marks q ≡ true
+marked_at places marks x at marked here true q place same e = subst (λ (n : ℕ). is_marked marks n ≡ true) (grind (arith, nat_tests, unsigned_tied q x, same)) here
+marked_at places marks x at marked here false q place same e = marked q place e
+
+put_marked : (places : Places) (marks : List ℕ) (x at : ℕ) → AreMarked places marks → is_marked marks x ≡ true → AreMarked (map.insert places x at) marks
+put_marked places marks x at marked here q place e = marked_at places marks x at marked here (is_at (nat_cmp q) x) q place refl (sym (map.get-insert nat_cmp_total places x at q) ∙ e)
+
 -- the same by what the calls that lengthen the list say
 module _ (places places' : Places) (words words' row : List ℕ) (x place len : ℕ) (within : AreWithin places words) (at_end : place ≡ length words) (counted : len ≡ length row)
     (put : places' ≡ map.insert places x place) (lengthened : words' ≡ (words ++ len ∷ []) ++ row) where
@@ -75,8 +89,9 @@ module _ (places places' : Places) (words words' row : List ℕ) (x place len : 
   pub all_put : (q : ℕ) → quick_row (places', words') q ≡ cond (is_at (nat_cmp x) q) (Some row) (quick_row (places, words) q)
   all_put q = ap (λ (quick : Quick). quick_row quick q) whole ∙ put_row places words x row within q
 
-  pub all_put_within : AreWithin places' words'
-  all_put_within = subst (λ (quick : Quick). AreWithin quick.0 quick.1) (sym whole) (put_within places words x row within)
+  pub all_put_held : (marks : List ℕ) → AreMarked places marks → is_marked marks x ≡ true → AreHeld places' words' marks
+  all_put_held marks marked here = subst (λ (quick : Quick). AreHeld quick.0 quick.1 marks) (sym whole)
+      (record { within = put_within places words x row within; marked = put_marked places marks x (length words) marked here })
 
 pub removed_row : (places : Places) (words : List ℕ) (x q : ℕ) → quick_row (map.remove places x, words) q ≡ cond (is_at (nat_cmp x) q) None (quick_row (places, words) q)
 removed_row places words x q =
@@ -86,9 +101,11 @@ removed_row places words x q =
       by_case true = refl
       by_case false = refl
 
-left_at : (places : Places) (words : List ℕ) (within : AreWithin places words) (b : Bool) (q place : ℕ) → cond b None (map.get places q) ≡ Some place → IsWithin words place
-left_at places words within true q place e = absurd cc
-left_at places words within false q place e = within q place e
+left_at : (places : Places) (b : Bool) (q place : ℕ) → cond b None (map.get places q) ≡ Some place → map.get places q ≡ Some place
+left_at places true q place e = absurd cc
+left_at places false q place e = e
 
-pub removed_within : (places : Places) (words : List ℕ) (x : ℕ) → AreWithin places words → AreWithin (map.remove places x) words
-removed_within places words x within q place e = left_at places words within (is_at (nat_cmp q) x) q place (sym (map.get-remove nat_cmp_total places x q) ∙ e)
+pub removed_held : (places : Places) (words marks : List ℕ) (x : ℕ) → AreHeld places words marks → AreHeld (map.remove places x) words marks
+removed_held places words marks x held = record { within = λ q place e. held.within q place (left q place e); marked = λ q place e. held.marked q place (left q place e) } where
+  left : (q place : ℕ) → map.get (map.remove places x) q ≡ Some place → map.get places q ≡ Some place
+  left q place e = left_at places (is_at (nat_cmp q) x) q place (sym (map.get-remove nat_cmp_total places x q) ∙ e)

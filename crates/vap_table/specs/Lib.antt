@@ -4,6 +4,7 @@ pub mod Comparing
 pub mod Counting
 pub mod Current
 pub mod Entries
+pub mod Filter
 pub mod Lasts
 pub mod Laws
 pub mod Moves

@@ -1,9 +1,10 @@
 -- Rows in one list of numbers, by the places where they begin; private contracts alone cite it.
-use Rattle.std.specs.Prelude.{◌≡◌, ◌≤◌, ℕ, ◌+◌, List, length, take, drop, get_or, option_map}
+use Rattle.std.specs.Prelude.{◌≡◌, ◌≤◌, ℕ, ◌+◌, true, List, length, take, drop, get_or, option_map}
 use Rattle.std.specs.declared.option.Option.{Option}
 use Rattle.std.specs.declared.option.Option.TheVariants.{Some}
 use Rattle.std.specs.FinMap as map
 use Rattle.std.specs.Ordering.{nat_cmp}
+use Rattle.vap_table.specs.Filter.{is_marked}
 
 -- where the row of each customer begins
 abbrev pub Places : Type 0
@@ -24,6 +25,15 @@ IsWithin words place = place + 1 + get_or words place 0 ≤ length words
 -- so do those of all customers
 abbrev pub AreWithin : Places → List ℕ → Type 0
 AreWithin places words = (x place : ℕ) → map.get places x ≡ Some place → IsWithin words place
+
+-- each customer that has a place is marked
+abbrev pub AreMarked : Places → List ℕ → Type 0
+AreMarked places marks = (x place : ℕ) → map.get places x ≡ Some place → is_marked marks x ≡ true
+
+-- both
+pub record AreHeld (places : Places) (words marks : List ℕ) : Type 0 where
+  pub within : AreWithin places words
+  pub marked : AreMarked places marks
 
 -- the row of a customer
 abbrev pub quick_row : Quick → ℕ → Option (List ℕ)

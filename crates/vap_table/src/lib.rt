@@ -11,7 +11,8 @@
 //! tally and adds the new ones (`tallying`, `turning`, `gathering`, `tallied`, `stepping`), and the current row is read off the tally
 //! (`shown`). So other sources are looked at only for another moment, and for a customer with an attestation that has an end. `current`
 //! keeps the rows that the first source doesn't have as they are, and `refreshing` does so customer by customer. All current rows stand once
-//! more in one list (`quick_rows`), for the look-ups of judgements. [`Vaps::entries`] lends the current rows one after another (`entries`).
+//! more in one list (`quick_rows`), for the look-ups of judgements, and a filter tells most customers without one (`filter`). [`Vaps::entries`]
+//! lends the current rows one after another (`entries`).
 #![tactic(auto)]
 
 mod change;
@@ -19,6 +20,7 @@ mod comparing;
 mod current;
 mod customers;
 mod entries;
+mod filter;
 mod gathering;
 mod idle;
 mod lasts;

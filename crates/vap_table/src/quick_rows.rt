@@ -1,10 +1,11 @@
 //! The current rows once more, each found at once.
-ghost use Rattle.std.specs.Prelude.{◌≡◌, ℕ, None, Some, OnOk, if◌then◌else◌};
+ghost use Rattle.std.specs.Prelude.{◌≡◌, ℕ, None, Some, IfOk, OnOk, if◌then◌else◌};
 ghost use Rattle.std.specs.BTreeMap.{is_at};
 ghost use Rattle.std.specs.Option.{option_copied};
 ghost use Rattle.std.specs.Ordering.{nat_cmp};
 ghost use Rattle.vap_table.specs.Quick.{quick_row, row_at, IsWithin};
 
+use crate::filter::Filter;
 use av_base::NoMemory;
 use path_model::AsList;
 use std::alloc::Global;
@@ -16,20 +17,23 @@ use word_map::WordMap;
 const FEW: usize = 1024;
 
 /// The row of each customer that has one, all in one list: 4 bytes for each provider and 4 more, or up to four times that where many rows went
-/// or there is room for more, and 19 to 39 for the place of the row in that list.
+/// or there is room for more, and 19 to 39 for the place of the row in that list. A filter tells most customers without a row at once; it takes
+/// 8 KiB, or 2 to 4 bytes a row where there were many when the list was made.
 #[derive(Drop)]
 pub(crate) struct QuickRows {
     // where the row of each customer begins
     places: WordMap,
     // of each row how many ASes it has, and these; some rows are no customer's any more
     words: Vec<u32>,
+    // marks of the customers that have a row
+    filter: Filter,
     // how many of the words are of rows that went; it tells when to make the list anew, and nothing else rests on it
     gone: usize,
 }
 
 impl Model for QuickRows {
     ghost use Rattle.vap_table.specs.Codes.{coded_quick};
-    ghost use Rattle.vap_table.specs.Quick.{Quick, AreWithin};
+    ghost use Rattle.vap_table.specs.Quick.{Quick, AreHeld};
 
     ghost Value = { Quick };
 
@@ -37,7 +41,7 @@ impl Model for QuickRows {
 
     ghost view = { λ q. (q.places, q.words.items) };
 
-    ghost invariant = { λ q. AreWithin q.places q.words.items };
+    ghost invariant = { λ q. AreHeld q.places q.words.items q.filter.words.items };
 }
 
 impl QuickRows {
@@ -45,18 +49,36 @@ impl QuickRows {
     pub(crate) fn new(alloc: Global) -> QuickRows
         ensures { (x : ℕ) → quick_row result x ≡ None }
     {
+        QuickRows::with_filter(alloc, Filter::new(alloc))
+    }
+
+    /// The same, where so many rows are to come.
+    pub(crate) fn with_room(alloc: Global, count: usize) -> Result<QuickRows, NoMemory>
+        ensures { IfOk result (λ quick. (x : ℕ) → quick_row quick x ≡ None) }
+    {
+        Ok(QuickRows::with_filter(alloc, Filter::with_room(alloc, count)?))
+    }
+
+    // No rows, and any filter.
+    fn with_filter(alloc: Global, filter: Filter) -> QuickRows
+        ensures { (x : ℕ) → quick_row result x ≡ None }
+    {
         QuickRows {
             places: WordMap::new(alloc),
             words: Vec::new(alloc),
+            filter,
             gone: 0,
         }
     }
 
-    /// The row of a customer, if it has one. It costs a look-up in a map of words.
+    /// The row of a customer, if it has one. It costs a look-up in a map of words where the filter has a mark.
     #[inline(always)]
     pub(crate) fn row(&self, customer: u32) -> Option<&[u32]>
         ensures { option_copied result ≡ quick_row self.now customer }
     {
+        if !self.filter.may_have(customer) {
+            return None;
+        }
         match self.places.get(u64::from(customer)) {
             None => None,
             Some(place) => Some(row_at(self.words.as_slice(), place as usize)),
@@ -89,6 +111,7 @@ impl QuickRows {
         let Ok(len) = u32::try_from(row.len()) else {
             return Err(NoMemory);
         };
+        self.filter.put(customer)?;
         self.words.push(len)?;
         self.words.extend_from_slice(row)?;
         let before = self.places.set(u64::from(customer), place)?;
@@ -117,9 +140,10 @@ impl QuickRows {
         }
     }
 
-    /// Whether most of the list is of rows that went.
+    /// Whether most of the list is of rows that went, or the filter is small for so many rows.
     pub(crate) fn is_worn(&self) -> bool {
-        self.gone > FEW && self.gone > self.words.len() / 2
+        let has_gaps = self.gone > FEW && self.gone > self.words.len() / 2;
+        has_gaps || self.filter.is_crowded(self.places.len())
     }
 }
 

@@ -1,10 +1,15 @@
-use Rattle.std.proofs.Common.{inl, inr}
-use Rattle.path_model.specs.Labelling.{DoesNotDescend}
-use Rattle.ramps.proofs.WalkLemmas.{IsDownRamp-walked}
+use Rattle.std.proofs.Common.{◌+◌, rules, arith}
+use Rattle.std.proofs.lemmas.Bool.Decides.{nat_tests}
+use Rattle.ramps.proofs.WalkLemmas.{CountBeside-walked}
 use Rattle.ramps.proofs.walk.down_ramps_beside.Goals as goal
 
-pub returns-else-up-count-2-clause-count : goal.returns-else-up-count-2-clause-count
-returns-else-up-count-2-clause-count g c = record {
-  maximal = inl c.if-up-count.false;
-  minimal = inr (IsDownRamp-walked c.args.chain.now (DoesNotDescend (g.T.Table.rows c.args.table.now) c.args.chain.now) c.attested.result c.attested.ensures);
-}
+pub returns-then-up-ramp-2-clause-count : goal.returns-then-up-ramp-2-clause-count
+returns-then-up-ramp-2-clause-count g c =
+    CountBeside-walked _ _ _ _ _ c.loop-j.invariant (omega arith) (λ all. omega arith) (λ all. grind (arith, nat_tests))
+
+pub returns-in-Refuses-clause-count : goal.returns-in-Refuses-clause-count
+returns-in-Refuses-clause-count g c =
+    CountBeside-walked _ _ _ _ (c.loop-j.j + 1) (search rules) (omega arith) (λ all. omega arith) (λ all. omega arith)
+
+pub returns-clause-count : goal.returns-clause-count
+returns-clause-count g c = CountBeside-walked _ _ _ _ _ c.loop-j.invariant (omega arith) (λ all. omega arith) (λ all. omega arith)

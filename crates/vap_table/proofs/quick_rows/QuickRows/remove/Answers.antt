@@ -1,14 +1,14 @@
 use Rattle.std.proofs.Common.{None, cond, nat_cmp, ap, sym, subst, ◌∙◌}
 use Rattle.std.specs.BTreeMap.{is_at}
 use Rattle.std.specs.FinMap as map
-use Rattle.vap_table.specs.Quick.{Places, Quick, AreWithin, quick_row}
-use Rattle.vap_table.proofs.QuickLemmas.{removed_row, removed_within}
+use Rattle.vap_table.specs.Quick.{Places, Quick, AreHeld, quick_row}
+use Rattle.vap_table.proofs.QuickLemmas.{removed_row, removed_held}
 use Rattle.vap_table.proofs.quick_rows.QuickRows.remove.Goals as goal
 
 pub invariant_of-self : goal.invariant_of-self
 invariant_of-self c =
-    subst (λ (places : Places). AreWithin places c.self.inside.words.items) (sym (c.remove-before.ensures.removed ∙ ap (map.remove c.self.inside.places) c.from.ensures))
-    (removed_within c.self.inside.places c.self.inside.words.items c.args.customer c.self.invariant)
+    subst (λ (places : Places). AreHeld places c.self.inside.words.items c.self.inside.filter.words.items) (sym (c.remove-before.ensures.removed ∙ ap (map.remove c.self.inside.places) c.from.ensures))
+    (removed_held c.self.inside.places c.self.inside.words.items c.self.inside.filter.words.items c.args.customer c.self.invariant)
 
 pub returns : goal.returns
 returns c = λ q.
