@@ -1,2 +1,0 @@
-N=$1; shift
-for i in $(seq $N); do k=0; for P in "$@"; do perf record -q -e cpu-clock:u -F 20000 -o /tmp/e5$k.$i.data ./$P run < s-ev5 > /tmp/e5$k.out 2>/dev/null; k=$((k+1)); done; done
