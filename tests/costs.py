@@ -1,7 +1,7 @@
 #!/usr/bin/env python3
 """Where the lines of a script and all that is held beside them double together, their time grows at most by the factor 2.6, counted from 0.15 s
 on: a line costs what it touches, and not what is held. Only lines that give one customer a provider more may each cost the customer's row: there it
-is the factor 8 (twice the size costs four times as much, and more where the row outgrows a cache), and 10,000 assertions take at most 2.5 s.
+is the factor 7 (twice the size costs four times as much, and more where the row outgrows a cache; a cube would cost eight times), and 10,000 assertions take at most 2.5 s.
 
 Usage: costs.py PROGRAM. Runs scripts with lines of each kind and prints a table of the processor seconds that these lines take, beside a run
 of the same script without them. The last line is 'N passed, M failed', and the status is 0 where none failed.
@@ -15,7 +15,7 @@ import tempfile
 
 # By how much the time may grow where the size doubles, where a line may cost the row too, and the seconds that count as none.
 LINEAR = 2.6
-ROW = 8.0
+ROW = 7.0
 FLOOR = 0.15
 
 # The seconds that the most asserted lines of one customer may take.
