@@ -1,5 +1,5 @@
 -- The lines of a text.
-use Rattle.std.specs.Prelude.{◌≡◌, ℕ, ◌==◌, Bool, List, [], ◌∷◌, map, if◌then◌else◌}
+use Rattle.std.specs.Prelude.{◌≡◌, ◌≢◌, ℕ, ◌==◌, ◌⊎◌, Bool, List, [], ◌∷◌, ◌++◌, All, map, if◌then◌else◌}
 use Rattle.std.specs.List.{slice_split}
 use Rattle.std.specs.Str.Lines.{lines, strip_carriage_return}
 
@@ -24,3 +24,11 @@ lines_in whole bytes = if whole then lines bytes else ended_lines bytes
 -- a line comes first, and the others are those of what is left
 abbrev pub IsFirstLine : Bool → List ℕ → List ℕ → List ℕ → Type 0
 IsFirstLine whole bytes line left = lines_in whole bytes ≡ line ∷ lines_in whole left
+
+-- no bytes, or lines of which the last ends in a LF too
+abbrev pub AreWhole : List ℕ → Type 0
+AreWhole bytes = (bytes ≡ []) ⊎ ((line : List ℕ) × (bytes ≡ line ++ 10 ∷ []))
+
+-- no byte is a LF: it is a part of one line
+abbrev pub IsPart : List ℕ → Type 0
+IsPart bytes = All (λ byte. byte ≢ 10) bytes
