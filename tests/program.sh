@@ -219,6 +219,60 @@ wait
 check 'the text is whole, of messages' "$(lines valid '! line 3 d unit 1 cause 47 BmpBody' \
     'summary routes 0 valid 0 unknown 0 invalid 0 customers 0 passed 0 refused 1')" "$(cat "$work/held")"
 
+# ---- a script that is typed: before more of it is waited for, all lines that came are answered
+
+mkfifo "$work/typed" "$work/growing"
+: >"$work/wanted"
+
+# types LINE TEXT..: the line is written, and then these lines are there, after those before.
+types() {
+    printf '%s\n' "$1" >&5
+    [ $# -eq 1 ] || lines "${@:2}" >>"$work/wanted"
+    check "typed, and answered: $1" 0 "$(within 10 holds "$(cat "$work/wanted")"; echo $?)"
+}
+
+port=$(free_port)
+sed "s/8282/$port/" examples/cache.py >"$work/cache.py"
+PYTHONPATH=examples timeout 60 python3 -B "$work/cache.py" &
+cache=$!
+within 10 eval "(exec 3<>/dev/tcp/127.0.0.1/$port) 2>/dev/null"
+timeout 60 "$program" run <"$work/typed" >"$work/held" &
+exec 5>"$work/typed"
+types 'say one' '# one'
+types 'assert 64500 64501'
+types 'judge customer 64501 64501 64500' valid
+types 'assert 64501 0'
+types 'judge customer 64502 64502 64501 64500' invalid
+types 'judge customer 64502 64502 64501 x' '! line 6 cause 34 Number'
+types 'jugde customer 64501 64501' '! line 7 cause 32 Command'
+printf 'judge customer 64501 6' >&5
+sleep 0.2
+check 'a part of a line is not performed' 0 "$(holds "$(cat "$work/wanted")"; echo $?)"
+types '4501' valid
+types 'open table examples/table.mrt'
+types 'take table 2'
+types 'report' '192.0.2.1 64501 198.51.100.0/24 valid' '192.0.2.3 64503 198.51.100.0/24 unknown'
+types 'summary' 'summary routes 2 valid 1 unknown 1 invalid 0 customers 2 passed 0 refused 2'
+types "open news $work/growing"
+exec 6>"$work/growing"
+types 'take news 1'
+sleep 0.2
+check 'a record is waited for, and nothing is said' 0 "$(holds "$(cat "$work/wanted")"; echo $?)"
+printf '\0\0\0\0\0\15\0\2\0\0\0\37\0\0\0\0\30\306\63\144\0\1\0\0\0\0\0\0\0\15\100\2\12\2\2\0\0\373\365\0\0\373\364' >&6
+lines '! line 14 news unit 1 cause 29 NoPeerTable' >>"$work/wanted"
+check 'what is taken of a fifo is answered when it comes' 0 "$(within 10 holds "$(cat "$work/wanted")"; echo $?)"
+exec 6>&-
+types "feed rpki 127.0.0.1:$port"
+types 'sync rpki 100'
+types 'summary' 'summary routes 2 valid 2 unknown 0 invalid 0 customers 7 passed 0 refused 3'
+printf 'say last' >&5
+exec 5>&-
+wait "$(jobs -p | tail -n 1)"
+kill "$cache"
+wait
+lines '# last' >>"$work/wanted"
+check 'the last part needs no line feed' "$(cat "$work/wanted")" "$(cat "$work/held")"
+
 # ---- routers are served, over connections of the system's
 
 # listens PORT: whether somebody listens at it. (Who connects to see is a router.)

@@ -17,10 +17,12 @@ pub mod OutcomeLemmas
 pub mod PerformingLemmas
 pub mod ProgramLemmas
 pub mod QuestionLemmas
+pub mod ReadingLemmas
 pub mod ReadyLemmas
 pub mod ReportingLemmas
 pub mod RoutersLemmas
 pub mod RunLemmas
+pub mod ScriptLemmas
 pub mod ServingLemmas
 pub mod ShortLemmas
 pub mod StandsLemmas

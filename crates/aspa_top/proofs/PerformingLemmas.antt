@@ -1,6 +1,7 @@
 -- One line performed.
-use Rattle.std.proofs.Common.{◌≡◌, ℕ, ◌+◌, ◌≤◌, List, ◌++◌, Ok, Err, Some, refl, sym, subst, arith}
+use Rattle.std.proofs.Common.{◌≡◌, ℕ, ◌+◌, ◌^◌, ◌<◌, ◌≤◌, ◌==◌, true, false, List, [], ◌∷◌, ◌++◌, length, Ok, Err, Some, inl, inr, refl, sym, subst, arith}
 use Rattle.std.specs.declared.option.Option.{Option}
+use Rattle.std.proofs.lemmas.Bool.Decides.{nat_tests}
 use Rattle.report_text.specs.declared.cause.Cause.{Cause}
 use Rattle.report_text.specs.Refusals.{of_line, refusal_text}
 use Rattle.script_lines.specs.declared.command.Command.{Command}
@@ -14,9 +15,12 @@ use Rattle.aspa_top.specs.declared.working.Working.{Working}
 use Rattle.aspa_top.specs.Bounds.{IsWithinBounds, most}
 use Rattle.aspa_top.specs.Evaluation.{line_cause}
 use Rattle.aspa_top.specs.Outside.{Outside}
-use Rattle.aspa_top.specs.Performing.{Done}
-use Rattle.aspa_top.specs.Standing.{IsBegun}
+use Rattle.aspa_top.specs.Performing.{DidLine, Done}
+use Rattle.aspa_top.specs.Standing.{IsBegun, IsReady}
+use Rattle.aspa_top.specs.Working.{counted_in}
 use Rattle.aspa_top.proofs.DidLemmas.{done_refused}
+use Rattle.aspa_top.proofs.ReadyLemmas.{begun}
+use Rattle.aspa_top.proofs.ShortLemmas.{idle}
 
 -- a count that a line may name is no more than the most that a line takes
 within_most : {count : ℕ} → count ≤ 100000000 → count ≤ most
@@ -60,3 +64,15 @@ line_refused working next fault cause old held begun is added next_is =
     subst (λ (c : Option Cause). Done working (Err c) old (record old { held = held }) next) (sym is)
     (done_refused working (Err (Some cause)) old (record old { held = held }) next of_line cause tt (Leaves-refl (λ other. Unit {0}) old.files) (λ n d e. tt)
     refl refl refl (omega arith) refl refl added next_is begun (λ world tells state stands. (refl, refl)))
+
+-- a line without a byte is counted, and nothing else
+pub no_bytes : (line : List ℕ) → (length line == 0) ≡ true → line ≡ []
+no_bytes [] none = refl
+no_bytes (byte ∷ line) none = let full : (length (byte ∷ line) == 0) ≡ false = grind (arith, nat_tests) in absurd (let no : ⊥ = cc in no)
+
+pub idle_line : (working : Working) (now : Outside) → working.lines < 2 ^ 31 → IsReady now working → DidLine working [] now now (Ok (counted_in working))
+idle_line working now room ready = record {
+  reading = Ok Idle;
+  reads = inl (inr (record { no_comment = λ is. let no : ⊥ = cc in no; short = omega arith }, refl), refl);
+  did = idle (counted_in working) now (begun now working room ready);
+}

@@ -1,15 +1,14 @@
 -- What stopped the lines.
-use Rattle.std.proofs.Common.{◌≡◌, ℕ, ◌≤◌, List, [], Ok, Err, IsErrAnd, sym, subst, arith}
+use Rattle.std.proofs.Common.{◌≡◌, ℕ, ◌≤◌, List, [], Ok, Err, IfOk, IsErrAnd, sym, subst, arith}
 use Rattle.std.specs.declared.option.Option.{Option}
 use Rattle.std.specs.declared.result.Result.{Result}
 use Rattle.av_base.specs.Told.{Rose}
 use Rattle.stream_lines.specs.declared.stop.Stop.{Stop}
 use Rattle.stream_lines.specs.declared.stop.Stop.TheVariants as stops
 use Rattle.aspa_top.specs.declared.working.Working.{Working}
-use Rattle.aspa_top.specs.Evaluated.{EvaluatedIn, Poured, StoppedByFault}
+use Rattle.aspa_top.specs.Evaluated.{Performed, Poured, Stopped, StoppedByFault}
 use Rattle.aspa_top.specs.Outside.{Keeps, Outside}
 use Rattle.aspa_top.specs.Performing.{DidLine}
-use Rattle.aspa_top.specs.World.{World}
 
 -- a count that rose later rose from what it was before
 pub rose_later : (a b c : ℕ) → a ≤ b → Rose b c → Rose a c
@@ -21,7 +20,7 @@ rose_before a b c later rose = omega (arith, later, rose)
 -- where the shelf or the sink did, it counted a fault
 pub stopped_by : (working : Working) (line : List ℕ) (begun now mid : Outside) (written : Option (List ℕ)) (faults : ℕ) (held : List ℕ) (stop then : Stop)
     → DidLine working line now mid (Err stop) → Poured stop then mid.held held (Rose mid.sink_faults faults) → Keeps begun now → Keeps now mid → mid.sink_faults ≤ faults
-    → StoppedByFault begun (record mid { written = written; sink_faults = faults; held = [] }) (Err then)
+    → StoppedByFault begun (record mid { written = written; sink_faults = faults; held = [] }) then
 stopped_by working line begun now mid written faults held stops.Shelf stops.Shelf did poured kept keeps later =
     record { shelf = λ is. rose_later begun.shelf_faults now.shelf_faults mid.shelf_faults kept.shelf_faults did.did.cause.1; sink = λ is. let no : ⊥ = cc in absurd no }
 stopped_by working line begun now mid written faults held stops.Shelf stops.Sink did poured kept keeps later =
@@ -39,15 +38,18 @@ stopped_by working line begun now mid written faults held stops.NoMemory stops.N
     record { shelf = λ is. let no : ⊥ = cc in absurd no; sink = λ is. let no : ⊥ = cc in absurd no }
 
 -- the sink stopped them between two lines
-pub sink_stopped : (old now : Outside) (result : Result ℕ Stop) → IsErrAnd result (λ e. e ≡ stops.Sink) → (new : Outside) → Keeps old now → Rose now.sink_faults new.sink_faults
-    → StoppedByFault old new result
-sink_stopped old now (Ok n) is new keeps rose = absurd is
-sink_stopped old now (Err e) is new keeps rose = record {
+pub sink_performed : (working : Working) (lines : List (List ℕ)) (old new : Outside) (result : Result Working Stop) → IsErrAnd result (λ e. e ≡ stops.Sink)
+    → Stopped working lines old new stops.Sink → Performed working lines old new result
+sink_performed working lines old new (Ok next) is stopped = absurd is
+sink_performed working lines old new (Err e) is stopped = subst (λ (stop : Stop). Stopped working lines old new stop) (sym is) stopped
+
+-- nothing is said of another result then
+pub none_performed : (result : Result Working Stop) (P : Working → Type 0) → IsErrAnd result (λ e. e ≡ stops.Sink) → IfOk result P
+none_performed (Ok next) P is = absurd is
+none_performed (Err e) P is = tt
+
+pub sink_stopped : (old now new : Outside) → Keeps old now → Rose now.sink_faults new.sink_faults → StoppedByFault old new stops.Sink
+sink_stopped old now new keeps rose = record {
   shelf = λ same. let no : ⊥ = cc in absurd no;
   sink = λ same. rose_later old.sink_faults now.sink_faults new.sink_faults keeps.sink_faults rose;
 }
-
-pub sink_ended : (world : World) (lines : List (List ℕ)) (old new : Outside) (result : Result ℕ Stop) → IsErrAnd result (λ e. e ≡ stops.Sink)
-    → EvaluatedIn world lines old new (Err stops.Sink) → EvaluatedIn world lines old new result
-sink_ended world lines old new (Ok n) is holds = absurd is
-sink_ended world lines old new (Err e) is holds = subst (λ (e' : Stop). EvaluatedIn world lines old new (Err e')) (sym is) holds

@@ -1,5 +1,6 @@
 -- Laws of the definitions, each the contract of a public function of the module `laws`.
-use Rattle.std.specs.Prelude.{◌≡◌, ℕ, List, [], Some}
+use Rattle.std.specs.Prelude.{◌≡◌, ℕ, false, List, [], Some}
+use Rattle.std.specs.Io.KnownBytes.{append_known, prepend_known}
 use Rattle.std.specs.List.{All, Contains}
 use Rattle.std.specs.declared.option.Option.{Option}
 use Rattle.std.specs.declared.result.Result.TheVariants.{Ok}
@@ -7,6 +8,7 @@ use Rattle.script_lines.specs.declared.command.Command.TheVariants.{Feed, Serve}
 use Rattle.script_lines.specs.Grammar.{IsReading}
 use Rattle.stream_lines.specs.Counts.{refusals_in}
 use Rattle.av_base.specs.Files.{Files}
+use Rattle.av_text.specs.Lines.{lines_in}
 use Rattle.report_text.specs.declared.feed.FeedEnd.TheVariants.{Lost}
 use Rattle.feed_lines.specs.declared.telling.Telling.{Telling}
 use Rattle.feed_lines.specs.declared.telling.Telling.TheVariants.{End as FeedEnds}
@@ -23,7 +25,7 @@ use Rattle.rtr_cache.specs.Laws.{Exchanges, MayAsk}
 use Rattle.aspa_top.specs.Serving.{ServesAll}
 use Rattle.aspa_top.specs.Tasks.{State, feeds_of, start}
 use Rattle.aspa_top.specs.Evaluation.{Evaluates}
-use Rattle.aspa_top.specs.Program.{AreTold, WentThrough, WritesFront}
+use Rattle.aspa_top.specs.Program.{AreTold, StopsAtRead, WentThrough, WritesFront}
 use Rattle.aspa_top.specs.World.{GoesOn, Links, Meets, World}
 
 -- In a world whose attempts are told no lines have two texts, or leave two states.
@@ -55,6 +57,13 @@ EachScriptWithoutAttemptsHasAText = (world : World) (lines : List (List ℕ)) �
 abbrev pub RunsWriteFronts : Type 0
 RunsWriteFronts = (world : World) → AreTold world → (lines : List (List ℕ)) (old new : Option (List ℕ)) (ticks_old ticks_new : ℕ) →
     WentThrough world lines old new ticks_old ticks_new → WritesFront world lines old new
+
+-- Where the script failed, what was written is exactly the text of the lines whose LF had been read. So it is at each read, any of which may
+-- fail: all lines that have come are answered before more of the script is waited for.
+abbrev pub LinesAreAnsweredBeforeReads : Type 0
+LinesAreAnsweredBeforeReads = (limit : ℕ) (world : World) → AreTold world → (script taken : List ℕ) (left old new : Option (List ℕ)) (ticks_old ticks_new : ℕ) →
+    StopsAtRead limit world script left old new ticks_old ticks_new → Some script ≡ prepend_known taken left → (text : List ℕ) (end : State) →
+    Evaluates world (start world) (lines_in false taken) text end → new ≡ append_known old text
 
 -- what the lines have left counts as many refusals as their text has lines that begin with `! `
 abbrev pub RefusalsAreCounted : Type 0

@@ -12,6 +12,7 @@ pub mod Outside
 pub mod Performing
 pub mod Program
 pub mod Reporting
+pub mod Script
 pub mod Serving
 pub mod Standing
 pub mod State

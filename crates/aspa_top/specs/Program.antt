@@ -1,9 +1,10 @@
 -- What a run of a script, or of a workload, has done when it ends with a status.
-use Rattle.std.specs.Prelude.{◌≡◌, ℕ, ◌+◌, ◌<◌, ◌≤◌, ◌⊎◌, List, [], ◌∷◌, ◌++◌, length, codes, IfSome}
-use Rattle.std.specs.Io.KnownBytes.{append_known}
+use Rattle.std.specs.Prelude.{◌≡◌, ℕ, ◌+◌, ◌<◌, ◌≤◌, ◌⊎◌, false, List, [], ◌∷◌, ◌++◌, length, codes, IfSome}
+use Rattle.std.specs.Io.KnownBytes.{append_known, prepend_known}
 use Rattle.std.specs.declared.option.Option.{Option}
 use Rattle.std.specs.declared.option.Option.TheVariants.{Some}
 use Rattle.std.specs.declared.result.Result.{Result}
+use Rattle.av_text.specs.Lines.{lines_in}
 use Rattle.av_text.specs.Number.{IsNumber}
 use Rattle.stated_workload.specs.Text as demo
 use Rattle.av_base.specs.Connections.{Attempt}
@@ -100,6 +101,15 @@ pub record Ended (world : World) (lines : List (List ℕ)) (old new : Option (Li
   pub ticked : ticks_new ≤ ticks_old + state.judgements
   pub counted : refusals ≡ refusals_in text
 
+-- The script failed where these first bytes of it had been read: all lines whose LF is among them were evaluated, and all their text was
+-- written; as many attempts were made, and such bytes were sent. So it is at each read, whatever comes of it.
+pub record StopsAtRead (limit : ℕ) (world : World) (script : List ℕ) (left old new : Option (List ℕ)) (ticks_old ticks_new : ℕ) : Type 0 where
+  pub taken : List ℕ
+  pub told : Some script ≡ prepend_known taken left
+  pub within : length taken ≤ limit
+  pub refusals : ℕ
+  pub ended : Ended world (lines_in false taken) old new ticks_old ticks_new refusals
+
 -- what was written is a front of these lines' text, perhaps all
 abbrev pub WritesFront : World → List (List ℕ) → Option (List ℕ) → Option (List ℕ) → Type 0
 WritesFront world lines old new =
@@ -128,7 +138,7 @@ AreTold world = (attempts : List Attempt) × (world.ends.attempts ≡ Some attem
 
 -- What was written, and how often the counter ticked, at each status. The text depends on the script and the world alone, and not on
 -- how anything was read or sent or how the text was written.
-pub record Ran (limit : ℕ) (world : World) (script : List ℕ) (script_failed shelf_failed : Type 0)
+pub record Ran (limit : ℕ) (world : World) (script : List ℕ) (left : Option (List ℕ)) (script_failed shelf_failed : Type 0)
     (old new : Option (List ℕ)) (ticks_old ticks_new status : ℕ) : Type 0 where
   -- at every status: what was written is a front of the script's text, and it is known how far the run went
   pub front : AreTold world → WritesFront world (performed limit script) old new
@@ -140,16 +150,17 @@ pub record Ran (limit : ℕ) (world : World) (script : List ℕ) (script_failed 
   pub clean : status ≡ 0 → (refusals ≡ 0) × (length script ≤ limit)
   pub refused : status ≡ 1 → (0 < refusals) × (length script ≤ limit)
   pub over : status ≡ 6 → limit < length script
-  -- 3: the script failed before anything was written, or the shelf did at a line that opens or reads a file
-  pub stopped : status ≡ 3 → (script_failed × (new ≡ old)) ⊎ (shelf_failed × StopsAtFile world (performed limit script) old new ticks_old ticks_new)
+  -- 3: the script failed, where the text of all lines that had come was written, or the shelf did at a line that opens or reads a file
+  pub stopped : status ≡ 3 → (script_failed × StopsAtRead limit world script left old new ticks_old ticks_new)
+      ⊎ (shelf_failed × StopsAtFile world (performed limit script) old new ticks_old ticks_new)
   -- 4: not all of the text was written
   pub cut : status ≡ 4 → AreTold world → WritesPart world (performed limit script) old new
 
 -- the same of a script that tells its bytes, over a shelf that tells its files and links that tell their connections
-abbrev pub RanIfTold : ℕ → Option (List ℕ) → Option Files → Links → Links → Type 0 → Type 0 → Option (List ℕ) → Option (List ℕ) → ℕ → ℕ → ℕ → Type 0
-RanIfTold limit script files links_old links_new script_failed shelf_failed old new ticks_old ticks_new status =
+abbrev pub RanIfTold : ℕ → Option (List ℕ) → Option (List ℕ) → Option Files → Links → Links → Type 0 → Type 0 → Option (List ℕ) → Option (List ℕ) → ℕ → ℕ → ℕ → Type 0
+RanIfTold limit script left files links_old links_new script_failed shelf_failed old new ticks_old ticks_new status =
     IfSome script (λ bytes. IfSome files (λ told. IfSome links_new.wire (λ connections.
-    Ran limit (world_of told links_old.attempts links_new.attempts connections) bytes script_failed shelf_failed
+    Ran limit (world_of told links_old.attempts links_new.attempts connections) bytes left script_failed shelf_failed
     old new ticks_old ticks_new status)))
 
 -- Where memory ran out, and the sink didn't fail: what was written is the whole text of some first lines and of what the next one had added,

@@ -1,86 +1,80 @@
-//! The lines of a script performed one after another.
-ghost use Rattle.std.specs.Prelude.{◌≡◌, ◌^◌, ◌<◌, ◌≤◌, [], length, OnErr};
+//! Lines performed one after another.
+ghost use Rattle.std.specs.Prelude.{◌≡◌, ◌+◌, ◌^◌, ◌<◌, ◌≤◌, [], length, IfOk, OnErr};
 ghost use Rattle.std.specs.Io.KnownBytes.{append_known};
 ghost use Rattle.av_base.specs.Told.{Grows, HasCause, Rose};
 ghost use Rattle.av_text.specs.Lines.{lines_in};
-ghost use Rattle.report_text.specs.Reported.{AddsFront};
-ghost use Rattle.aspa_top.specs.Evaluated.{Evaluated, Poured, StoppedByFault};
+ghost use Rattle.aspa_top.specs.Evaluated.{Performed, Poured};
 ghost use Rattle.aspa_top.specs.Outside.{Keeps, outside};
+ghost use Rattle.aspa_top.specs.Standing.{IsReady};
 
 use crate::performing::perform_line;
 use crate::working::Working;
 use av_base::{Fault, Links, Shelf, Sink, Steps, pour, pour_piece};
 use av_text::next_line;
 use std::alloc::Global;
-use std::mem;
 use std::sync::ledger::Ledger;
 use stream_lines::Stop;
 
-/// Performs the lines of a whole script, or of the front of one, and answers how many were refused. Their text is held, and written in
-/// pieces, and before a line that may wait. Where the shelf fails, or memory runs out, the text before that is written first; there the sink's own faults count for
+/// Performs lines, the last of a script or others, and writes all their text: it is held, and written in pieces, and before a line that may
+/// wait. Where the shelf fails, or memory runs out, the text before that is written first; there the sink's own faults count for
 /// nothing where memory ran out.
-pub(crate) fn evaluate<F: Shelf, K: Links, W: Sink, L: Ledger>(
+pub(crate) fn perform_lines<F: Shelf, K: Links, W: Sink, L: Ledger>(
     alloc: Global,
-    script: &[u8],
+    mut working: Working,
+    lines: &[u8],
     whole: bool,
     shelf: &mut F,
     links: &mut K,
     out: &mut W,
     steps: &mut Steps<L>,
-) -> Result<u64, Stop>
-    requires { length script.now < 2 ^ 31 }
+) -> Result<Working, Stop>
+    requires room { working.lines + length lines.now < 2 ^ 31 }
+    requires ready { IsReady
+        (outside F.Shelf K.Links W.Sink shelf.old links.old out.old [] steps.old) working }
     ensures keeps { Keeps
         (outside F.Shelf K.Links W.Sink shelf.old links.old out.old [] steps.old)
         (outside F.Shelf K.Links W.Sink shelf.new links.new out.new [] steps.new) }
-    ensures evaluated { Evaluated (lines_in whole script.now)
+    ensures performed { Performed working (lines_in whole lines.now)
         (outside F.Shelf K.Links W.Sink shelf.old links.old out.old [] steps.old)
         (outside F.Shelf K.Links W.Sink shelf.new links.new out.new [] steps.new) result }
-    ensures causes { StoppedByFault
-        (outside F.Shelf K.Links W.Sink shelf.old links.old out.old [] steps.old)
-        (outside F.Shelf K.Links W.Sink shelf.new links.new out.new [] steps.new) result }
-
-    // Whatever the world tells, what was written is a front of whole lines, of which no more say that a feed's place wasn't to be had
-    // than faults were counted.
-    ensures adds { AddsFront (W.written out.old) (W.written out.new)
-        (K.faults links.old) (K.faults links.new) }
+    ensures few { IfOk result (λ next. next.lines ≤ working.lines + length lines.now) }
 {
-    let Ok(mut working) = Working::new(alloc) else {
-        return Err(Stop::NoMemory);
-    };
     let mut text = Vec::new(alloc);
-    let mut left = script;
+    let mut left = lines;
     while let Some((line, more)) = next_line(left, whole) {
+        left = more;
+        // Of a line without a byte there is nothing to read.
+        if line.is_empty() {
+            working.lines += 1;
+            continue;
+        }
+        pour_before(line, out, &mut text)?;
         match perform_line(alloc, working, line, shelf, links, out, &mut text, steps) {
             Ok(next) => working = next,
             Err(stop) => return Err(write_held(stop, out, &mut text)),
         }
-        left = more;
-        pour_before(left, out, &mut text)?;
     }
     pour(out, &mut text)?;
-    let refused = working.refused;
-    // (the program ends, so nothing is gained by taking apart what it keeps)
-    mem::forget(working);
-    Ok(refused)
+    Ok(working)
 }
 
-// Writes what is held once that is a whole piece, and all of it where what is left begins with a line that may wait.
-fn pour_before<W: Sink>(left: &[u8], out: &mut W, text: &mut Vec<u8>) -> Result<(), Fault>
+// Writes what is held once that is a whole piece, and all of it before a line that may wait.
+fn pour_before<W: Sink>(line: &[u8], out: &mut W, text: &mut Vec<u8>) -> Result<(), Fault>
     ensures same { append_known (W.written out.new) text.new.items
         ≡ append_known (W.written out.old) text.old.items }
     ensures grows { Grows (W.written out.old) (W.written out.new) }
     ensures err { OnErr result (0 < length text.new.items) }
     ensures cause { HasCause (W.faults out.old) (W.faults out.new) result }
 {
-    if may_wait(left) {
+    if may_wait(line) {
         pour(out, text)
     } else {
         pour_piece(out, text)
     }
 }
 
-// Whether the first of these lines may wait for others when it is performed: it opens or reads a file, or speaks with a cache.
-fn may_wait(lines: &[u8]) -> bool {
+// Whether the line may wait for others when it is performed: it opens or reads a file, or speaks with a cache or a router.
+fn may_wait(line: &[u8]) -> bool {
     let waiting: [&[u8]; 11] = [
         b"ask",
         b"aspa",
@@ -94,12 +88,12 @@ fn may_wait(lines: &[u8]) -> bool {
         b"until",
         b"validated",
     ];
-    let blanks = lines
+    let blanks = line
         .iter()
         .take_while(|byte| matches!(byte, b' ' | b'\t'))
         .count();
-    let (_, line) = lines.split_at(blanks);
-    waiting.iter().any(|word| line.starts_with(word))
+    let (_, words) = line.split_at(blanks);
+    waiting.iter().any(|word| words.starts_with(word))
 }
 
 // Writes what is held where a line ended early, unless the sink failed in it, and answers what stops the lines.

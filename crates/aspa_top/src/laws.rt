@@ -1,5 +1,5 @@
 //! Laws of the definitions: the contract of each function is the law, and its body does nothing.
-ghost use Rattle.aspa_top.specs.Laws.{EachScriptWithoutAttemptsHasAText, FeedsWereConnected, NoScriptHasTwoTexts, RefusalsAreCounted, RunsWriteFronts, ServedRoutersGetTheTable, SourcesHaveFeedsPayloads, UnbrokenFeedsAreLostAtEnd};
+ghost use Rattle.aspa_top.specs.Laws.{EachScriptWithoutAttemptsHasAText, FeedsWereConnected, LinesAreAnsweredBeforeReads, NoScriptHasTwoTexts, RefusalsAreCounted, RunsWriteFronts, ServedRoutersGetTheTable, SourcesHaveFeedsPayloads, UnbrokenFeedsAreLostAtEnd};
 
 /// In a world whose attempts are told no script has two texts.
 pub fn no_script_has_two_texts()
@@ -14,6 +14,12 @@ pub fn each_script_without_attempts_has_a_text()
 /// What a run that ends early has written is a front of the text of all lines that it was to perform.
 pub fn runs_write_fronts()
     ensures { RunsWriteFronts }
+{}
+
+/// Where the script failed, exactly the text of the lines whose LF had been read was written. As any read may fail, all lines that have come
+/// are answered before the program waits for more of the script.
+pub fn lines_are_answered_before_reads()
+    ensures { LinesAreAnsweredBeforeReads }
 {}
 
 /// As many refusals are counted as the text of the lines has lines that begin with `! `: it is the number that `summary` shows.

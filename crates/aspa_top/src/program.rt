@@ -1,21 +1,23 @@
 //! The top call: from the words to the status.
-ghost use Rattle.std.specs.Prelude.{◌≡◌, ◌≢◌, ◌+◌, ◌≤◌, ◌⊎◌, ◌++◌, ℕ, List, [], Some, length, map};
+ghost use Rattle.std.specs.Prelude.{◌≡◌, ◌≢◌, ◌<◌, ◌≤◌, ◌⊎◌, ◌++◌, ℕ, List, [], Some, map};
 ghost use Rattle.std.specs.String.{string_bytes};
 ghost use Rattle.std.specs.Io.KnownBytes.{IsAtEnd};
 ghost use Rattle.av_base.specs.Told.{Rose};
 ghost use Rattle.connection_calls.specs.Faults.{BreaksByFault, NewAreUnbroken};
-ghost use Rattle.report_text.specs.Reported.{IsWithinRise, unreachables_in};
-ghost use Rattle.aspa_top.specs.Evaluated.{Runs, RunsSource};
+ghost use Rattle.report_text.specs.Reported.{AddsLines, IsWithinRise, unreachables_in};
+ghost use Rattle.aspa_top.specs.Evaluated.{RunsSource, status_of};
 ghost use Rattle.aspa_top.specs.Outside.{Keeps, outside};
 ghost use Rattle.aspa_top.specs.Program.{AreOwn, Completes, Demonstrates, IsDemo, IsEnding, IsRun, IsStatus, RanIfTold, StarvedIfTold};
 ghost use Rattle.aspa_top.specs.World.{GoesOn, linked, names_of};
 
 use crate::demo::run_demo;
-use crate::evaluation::evaluate;
-use crate::script::read_all;
+use crate::evaluation::perform_lines;
+use crate::script::{Piece, let_go, read_piece};
 use crate::words::{Form, form_of};
-use av_base::{Links, Shelf, Sink, Source, Steps};
+use crate::working::Working;
+use av_base::{Links, PIECE, Shelf, Sink, Source, Steps};
 use std::alloc::Global;
+use std::mem;
 use std::sync::ledger::Ledger;
 use stream_lines::{ReadFault, Stop};
 
@@ -23,14 +25,15 @@ use stream_lines::{ReadFault, Stop};
 pub const SCRIPT_LIMIT: usize = 67_108_864;
 
 /// Performs the script where the words are `run`, or the workload of a number where they are `demo N`, and answers the program's status.
-/// The words stand without the program's name.
+/// The words stand without the program's name. The script is read in pieces, and each line is performed as it comes: before each read the
+/// text of all lines whose LF was read is written.
 ///
 /// | Status | Comes |
 /// |---|---|
 /// | 0 | the whole script was performed, all its text was written, and no line of it begins with `! `; or the workload's text was |
 /// | 1 | the same, and some line does: a line of the script was refused |
 /// | 2 | the words are of neither form; nothing is read, written, opened or connected |
-/// | 3 | the script's source failed before a line was performed, or the shelf failed at a line that opens or reads a file |
+/// | 3 | the script's source failed, and all text was written of the lines whose LF was read before; or the shelf failed at a line that opens or reads a file |
 /// | 4 | the sink failed, and not all of the text was written |
 /// | 5 | there was no memory |
 /// | 6 | the script has more than [`SCRIPT_LIMIT`] bytes; the lines whose LF is among the first so many were performed |
@@ -49,7 +52,7 @@ pub fn run<S: Source, F: Shelf, K: Links, W: Sink, L: Ledger>(
     // What is written and sent at each status, for every script that tells its bytes, every shelf that tells its files and all links
     // that tell their connections, and however all is read, received, written and sent.
     ensures ran { IsRun (map string_bytes words.now.items) → RanIfTold SCRIPT_LIMIT
-        (S.left script.old) (F.files shelf.old)
+        (S.left script.old) (S.left script.new) (F.files shelf.old)
         (linked (K.attempts links.old) (K.wire links.old)) (linked (K.attempts links.new) (K.wire links.new))
         (Rose (S.faults script.old) (S.faults script.new)) (Rose (F.faults shelf.old) (F.faults shelf.new))
         (W.written out.old) (W.written out.new) steps.old steps.new result }
@@ -69,10 +72,14 @@ pub fn run<S: Source, F: Shelf, K: Links, W: Sink, L: Ledger>(
         × (links.new ≡ links.old) × (out.new ≡ out.old) × (steps.new ≡ steps.old) }
     ensures at_end { IsRun (map string_bytes words.now.items) → (result ≡ 0) ⊎ (result ≡ 1)
         → IsAtEnd (S.left script.new) }
-    ensures input_cause { result ≡ 3 → (Rose (S.faults script.old) (S.faults script.new) × (out.new ≡ out.old)
-        × (shelf.new ≡ shelf.old) × (links.new ≡ links.old) × (steps.new ≡ steps.old))
+    ensures input_cause { result ≡ 3 → Rose (S.faults script.old) (S.faults script.new)
         ⊎ Rose (F.faults shelf.old) (F.faults shelf.new) }
     ensures sink_cause { result ≡ 4 → Rose (W.faults out.old) (W.faults out.new) }
+
+    // Where the script failed, and not the shelf, whole lines were written, whatever is told.
+    ensures whole_lines { IsRun (map string_bytes words.now.items) → result ≡ 3
+        → ¬ Rose (F.faults shelf.old) (F.faults shelf.new) → AddsLines
+        (W.written out.old) (W.written out.new) (K.faults links.old) (K.faults links.new) }
 
     // Nothing but a fault, want of memory or the limit ends a run early.
     ensures complete { IsRun (map string_bytes words.now.items) → Completes SCRIPT_LIMIT (S.left script.old)
@@ -118,7 +125,7 @@ pub fn run<S: Source, F: Shelf, K: Links, W: Sink, L: Ledger>(
     }
 }
 
-// Reads the script and performs it.
+// Reads the script piece by piece, and performs its lines as they come.
 fn run_script<S: Source, F: Shelf, K: Links, W: Sink, L: Ledger>(
     alloc: Global,
     script: &mut S,
@@ -135,75 +142,64 @@ fn run_script<S: Source, F: Shelf, K: Links, W: Sink, L: Ledger>(
         (Rose (S.faults script.old) (S.faults script.new))
         (outside F.Shelf K.Links W.Sink shelf.old links.old out.old [] steps.old)
         (outside F.Shelf K.Links W.Sink shelf.new links.new out.new [] steps.new) result }
-    ensures input_cause { result ≡ 3 → (Rose (S.faults script.old) (S.faults script.new) × (out.new ≡ out.old)
-        × (shelf.new ≡ shelf.old) × (links.new ≡ links.old) × (steps.new ≡ steps.old))
-        ⊎ Rose (F.faults shelf.old) (F.faults shelf.new) }
     ensures script_faults { S.faults script.old ≤ S.faults script.new }
 {
-    match read_all(alloc, script, SCRIPT_LIMIT) {
-        Ok(bytes) => {
-            let text = bytes.as_slice();
-            if text.len() <= SCRIPT_LIMIT {
-                run_whole(alloc, text, shelf, links, out, steps)
-            } else {
-                run_front(alloc, text, shelf, links, out, steps)
+    let Ok(mut working) = Working::new(alloc) else {
+        return 5;
+    };
+    let mut held = Vec::new(alloc);
+    let mut room = SCRIPT_LIMIT;
+    let mut buffer = [0u8; PIECE];
+    'pieces: loop {
+        match read_piece(script, &mut held, room, &mut buffer) {
+            Ok(Piece::More(count, end)) => {
+                let (lines, _) = held.as_slice().split_at(end);
+                match perform_lines(alloc, working, lines, false, shelf, links, out, steps) {
+                    Ok(next) => working = next,
+                    Err(stop) => return status_of(stop),
+                }
+                let_go(&mut held, end);
+                room -= count;
             }
+            Ok(Piece::End) => {
+                let lines = held.as_slice();
+                match perform_lines(alloc, working, lines, true, shelf, links, out, steps) {
+                    Ok(last) => return status_at_end(last),
+                    Err(stop) => return status_of(stop),
+                }
+            }
+            Ok(Piece::Over) => return leave(working, 6),
+            Err(ReadFault::Source) => return leave(working, 3),
+            Err(ReadFault::NoMemory) => return leave(working, 5),
         }
-        Err(ReadFault::Source) => 3,
-        Err(ReadFault::NoMemory) => 5,
     }
 }
 
-// Performs a whole script.
-fn run_whole<F: Shelf, K: Links, W: Sink, L: Ledger>(
-    alloc: Global,
-    script: &[u8],
-    shelf: &mut F,
-    links: &mut K,
-    out: &mut W,
-    steps: &mut Steps<L>,
-) -> u8
-    requires { length script.now ≤ SCRIPT_LIMIT }
-    ensures known { (result ≡ 0) ⊎ (result ≡ 1) ⊎ (result ≡ 3) ⊎ (result ≡ 4) ⊎ (result ≡ 5) }
-    ensures keeps { Keeps
-        (outside F.Shelf K.Links W.Sink shelf.old links.old out.old [] steps.old)
-        (outside F.Shelf K.Links W.Sink shelf.new links.new out.new [] steps.new) }
-    ensures runs { Runs SCRIPT_LIMIT script.now
-        (outside F.Shelf K.Links W.Sink shelf.old links.old out.old [] steps.old)
-        (outside F.Shelf K.Links W.Sink shelf.new links.new out.new [] steps.new) result }
+// The status where something stopped the lines.
+fn status_of(stop: Stop) -> u8
+    ensures { result ≡ status_of stop }
 {
-    match evaluate(alloc, script, true, shelf, links, out, steps) {
-        Ok(0) => 0,
-        Ok(_) => 1,
-        Err(Stop::Shelf) => 3,
-        Err(Stop::Sink) => 4,
-        Err(Stop::NoMemory) => 5,
+    match stop {
+        Stop::Shelf => 3,
+        Stop::Sink => 4,
+        Stop::NoMemory => 5,
     }
 }
 
-// Performs the front of a script that is over its limit, of which one byte too many was read.
-fn run_front<F: Shelf, K: Links, W: Sink, L: Ledger>(
-    alloc: Global,
-    script: &[u8],
-    shelf: &mut F,
-    links: &mut K,
-    out: &mut W,
-    steps: &mut Steps<L>,
-) -> u8
-    requires { length script.now ≡ SCRIPT_LIMIT + 1 }
-    ensures known { (result ≡ 6) ⊎ (result ≡ 3) ⊎ (result ≡ 4) ⊎ (result ≡ 5) }
-    ensures keeps { Keeps
-        (outside F.Shelf K.Links W.Sink shelf.old links.old out.old [] steps.old)
-        (outside F.Shelf K.Links W.Sink shelf.new links.new out.new [] steps.new) }
-    ensures runs { (more : List ℕ) → Runs SCRIPT_LIMIT (script.now ++ more)
-        (outside F.Shelf K.Links W.Sink shelf.old links.old out.old [] steps.old)
-        (outside F.Shelf K.Links W.Sink shelf.new links.new out.new [] steps.new) result }
+// The status where all lines were performed.
+fn status_at_end(working: Working) -> u8
+    ensures known { (result ≡ 0) ⊎ (result ≡ 1) }
+    ensures clean { result ≡ 0 → working.refused ≡ 0 }
+    ensures refused { result ≡ 1 → 0 < working.refused }
 {
-    let (front, _) = script.split_at(SCRIPT_LIMIT);
-    match evaluate(alloc, front, false, shelf, links, out, steps) {
-        Ok(_) => 6,
-        Err(Stop::Shelf) => 3,
-        Err(Stop::Sink) => 4,
-        Err(Stop::NoMemory) => 5,
-    }
+    let status = if working.refused == 0 { 0 } else { 1 };
+    leave(working, status)
+}
+
+// This status. The program ends, so nothing is gained by taking apart what it keeps.
+fn leave(working: Working, status: u8) -> u8
+    ensures { result ≡ status }
+{
+    mem::forget(working);
+    status
 }

@@ -9,6 +9,7 @@ ghost use Rattle.std.specs.Prelude.{◌≡◌, ◌≢◌, ◌≤◌, ◌⊎◌, 
 ghost use Rattle.std.specs.String.{string_bytes};
 ghost use Rattle.std.specs.Io.KnownBytes.{IsAtEnd};
 ghost use Rattle.av_base.specs.Told.{Rose};
+ghost use Rattle.report_text.specs.Reported.{AddsLines};
 ghost use Rattle.aspa_top.specs.Program.{AreOwn, Completes, Demonstrates, IsDemo, IsRun, IsStatus, RanIfTold};
 ghost use Rattle.aspa_top.specs.World.{linked, names_of};
 
@@ -72,7 +73,7 @@ fn perform<S: Source, F: Shelf, K: Links, W: Sink, L: Ledger>(
     requires parts { blank.parts ≡ L.parts }
     requires one { L.parts ≡ 1 }
     ensures ran { IsRun (map string_bytes words.now.items) → (ticks : ℕ) × RanIfTold SCRIPT_LIMIT
-        (S.left script.old) (F.files shelf.old)
+        (S.left script.old) (S.left script.new) (F.files shelf.old)
         (linked (K.attempts links.old) (K.wire links.old)) (linked (K.attempts links.new) (K.wire links.new))
         (Rose (S.faults script.old) (S.faults script.new)) (Rose (F.faults shelf.old) (F.faults shelf.new))
         (W.written out.old) (W.written out.new) 0 ticks result }
@@ -87,10 +88,12 @@ fn perform<S: Source, F: Shelf, K: Links, W: Sink, L: Ledger>(
         × (links.new ≡ links.old) × (out.new ≡ out.old) }
     ensures at_end { IsRun (map string_bytes words.now.items) → (result ≡ 0) ⊎ (result ≡ 1)
         → IsAtEnd (S.left script.new) }
-    ensures input_cause { result ≡ 3 → (Rose (S.faults script.old) (S.faults script.new) × (out.new ≡ out.old)
-        × (shelf.new ≡ shelf.old) × (links.new ≡ links.old))
+    ensures input_cause { result ≡ 3 → Rose (S.faults script.old) (S.faults script.new)
         ⊎ Rose (F.faults shelf.old) (F.faults shelf.new) }
     ensures sink_cause { result ≡ 4 → Rose (W.faults out.old) (W.faults out.new) }
+    ensures whole_lines { IsRun (map string_bytes words.now.items) → result ≡ 3
+        → ¬ Rose (F.faults shelf.old) (F.faults shelf.new) → AddsLines
+        (W.written out.old) (W.written out.new) (K.faults links.old) (K.faults links.new) }
     ensures complete { IsRun (map string_bytes words.now.items) → Completes SCRIPT_LIMIT (S.left script.old)
         (Rose (S.faults script.old) (S.faults script.new)) (Rose (F.faults shelf.old) (F.faults shelf.new))
         (Rose (W.faults out.old) (W.faults out.new)) result }

@@ -1,31 +1,105 @@
-use Rattle.std.proofs.Common.{ℕ, List, [], inl, inr, Err, refl, arith, ap, sym, ◌∙◌}
-use Rattle.std.specs.Io.KnownBytes.{prepend_known}
+use Rattle.std.proofs.Common.{◌≡◌, ℕ, ◌+◌, ◌≤◌, length, take, Err, refl, sym, ap, subst, ◌∙◌, arith}
+use Rattle.feed_lines.proofs.StandingLemmas.{start_sound}
 use Rattle.aspa_top.specs.declared.program.TheConstants.{SCRIPT_LIMIT}
-use Rattle.aspa_top.proofs.KeepLemmas.{keeps_all}
-use Rattle.aspa_top.proofs.ProgramLemmas.{source_early, source_front, source_whole}
+use Rattle.aspa_top.specs.Standing.{IsSound}
+use Rattle.aspa_top.proofs.KeepLemmas.{Keeps-trans, keeps_all}
+use Rattle.aspa_top.proofs.ReadingLemmas.{end_room, read_failed, read_next, read_none, read_over, read_room, read_starved, read_start, read_stopped, read_stopped_last, read_whole}
+use Rattle.aspa_top.proofs.StopLemmas.{rose_later}
 use Rattle.aspa_top.proofs.program.run_script.Goals as goal
 
-pub returns-then-text-le-SCRIPT_LIMIT-clause-runs : goal.returns-then-text-le-SCRIPT_LIMIT-clause-runs
-returns-then-text-le-SCRIPT_LIMIT-clause-runs g c =
-    source_whole SCRIPT_LIMIT _ _ _ _ _ _ _ (c.in-Ok.ensures.taken ∙ ap (λ (bytes : List ℕ). prepend_known bytes (g.S.Source.left c.read_all.new.source)) (sym c.as_slice-text.ensures.value))
-    (c.in-Ok.ensures.ended (rw c.as_slice-text.ensures.value at c.if-text-le-SCRIPT_LIMIT.true)) c.if-text-le-SCRIPT_LIMIT.true c.run_whole.ensures.known c.run_whole.ensures.runs
+pub returns-in_default-clause-keeps : goal.returns-in_default-clause-keeps
+returns-in_default-clause-keeps g c = keeps_all _ _ _
 
-pub returns-in-Ok-clause-runs : goal.returns-in-Ok-clause-runs
-returns-in-Ok-clause-runs g c =
-    source_front SCRIPT_LIMIT _ _ _ _ _ _ _ (c.in-Ok.ensures.taken ∙ ap (λ (bytes : List ℕ). prepend_known bytes (g.S.Source.left c.read_all.new.source)) (sym c.as_slice-text.ensures.value))
-    (let within = c.in-Ok.ensures.bound in let value = c.as_slice-text.ensures.value in grind (arith)) c.run_front.ensures.known c.run_front.ensures.runs
+pub returns-in_default-clause-runs : goal.returns-in_default-clause-runs
+returns-in_default-clause-runs g c = read_none SCRIPT_LIMIT _ _ _ refl
 
+pub pieces-init : goal.pieces-init
+pieces-init g c =
+    let none : c.in-Ok.working.lines ≡ 0 = c.in-Ok.ensures.lines in
+    record {
+      so_far = read_start SCRIPT_LIMIT _ _ c.in-Ok.working _ c.new-held.ensures.items none (λ world begins. c.in-Ok.ensures.stands _ _ world begins) (record {
+        sound = subst (λ (n : ℕ). IsSound (g.F.Shelf.opened c.args.shelf.now) n c.in-Ok.working) (sym none) (c.in-Ok.ensures.sound (g.F.Shelf.opened c.args.shelf.now));
+        caches = λ session cache is. let no_cache : ⊥ = (let none = c.in-Ok.ensures.caches session in cc) in absurd no_cache;
+        feeds = start_sound _ _ _ c.in-Ok.ensures.feeds;
+      });
+      faults = omega arith;
+    }
+
+-- the lines count at most as many as the script may have bytes
+pub perform_lines-requires-clause-room : goal.perform_lines-requires-clause-room
+perform_lines-requires-clause-room g c =
+    let came = rw c.in-Ok-More.field-0-is at c.in-Ok-More.ensures.came in
+    let held = c.read_piece.new.held.items in
+    let end = c.in-Ok-More.end in
+    let lines : c.split_at.result.0.now ≡ take end held = c.split_at.ensures.front ∙ ap (take end) c.as_slice.ensures.value in
+    let room : c.pieces.working.lines + length c.split_at.result.0.now ≤ 67108864 = read_room SCRIPT_LIMIT _ _ _ _ _ _ _ c.pieces.invariant.so_far _ held _ _ end came lines in
+    omega (arith, room)
+
+pub perform_lines-requires-in-Ok-End-clause-room : goal.perform_lines-requires-in-Ok-End-clause-room
+perform_lines-requires-in-Ok-End-clause-room g c =
+    let came = rw c.in-Ok-End.field-0-is at c.in-Ok-End.ensures.came in
+    let room : c.pieces.working.lines + length c.as_slice-lines.result.now ≤ 67108864 =
+    end_room SCRIPT_LIMIT _ _ _ _ _ _ _ c.pieces.invariant.so_far _ c.read_piece.new.held.items _ came c.as_slice-lines.ensures.value in
+    omega (arith, room)
+
+-- a read brought more, and its lines were performed
+pub pieces-preserved : goal.pieces-preserved
+pieces-preserved g c =
+    let came = rw c.in-Ok-More.field-0-is at c.in-Ok-More.ensures.came in
+    let held = c.read_piece.new.held.items in
+    let end = c.in-Ok-More.end in
+    let lines : c.split_at.result.0.now ≡ take end held = c.split_at.ensures.front ∙ ap (take end) c.as_slice.ensures.value in
+    record {
+      so_far = rw c.let_go.ensures (read_next SCRIPT_LIMIT _ _ _ _ _ _ _ c.pieces.invariant.so_far _ held _ _ end came lines _ _ c.in-Ok-perform_lines.ensures.performed c.in-Ok-perform_lines.ensures.few c.perform_lines.ensures.keeps);
+      faults = omega (arith, c.pieces.invariant.faults, c.read_piece.ensures.faults);
+    }
+
+-- something stopped them
+pub returns-in-Err-clause-keeps : goal.returns-in-Err-clause-keeps
+returns-in-Err-clause-keeps g c = Keeps-trans c.pieces.invariant.so_far.keeps c.perform_lines.ensures.keeps
+
+pub returns-in-Err-clause-runs : goal.returns-in-Err-clause-runs
+returns-in-Err-clause-runs g c =
+    let came = rw c.in-Ok-More.field-0-is at c.in-Ok-More.ensures.came in
+    let held = c.read_piece.new.held.items in
+    let end = c.in-Ok-More.end in
+    let lines : c.split_at.result.0.now ≡ take end held = c.split_at.ensures.front ∙ ap (take end) c.as_slice.ensures.value in
+    rw c.status_of.ensures (read_stopped SCRIPT_LIMIT _ _ _ _ _ _ _ c.pieces.invariant.so_far _ _ held _ _ end _ c.in-Err.stop came lines c.in-Err.ensures.performed)
+
+-- nothing was left
+pub returns-in-Ok-perform_lines-2-clause-keeps : goal.returns-in-Ok-perform_lines-2-clause-keeps
+returns-in-Ok-perform_lines-2-clause-keeps g c = Keeps-trans c.pieces.invariant.so_far.keeps c.perform_lines-in-Ok-End.ensures.keeps
+
+pub returns-in-Ok-perform_lines-2-clause-runs : goal.returns-in-Ok-perform_lines-2-clause-runs
+returns-in-Ok-perform_lines-2-clause-runs g c =
+    let came = rw c.in-Ok-End.field-0-is at c.in-Ok-End.ensures.came in
+    read_whole SCRIPT_LIMIT _ _ _ _ _ _ _ c.pieces.invariant.so_far _ c.read_piece.new.held.items _ came c.as_slice-lines.ensures.value _ _ c.in-Ok-perform_lines-2.last _
+    c.in-Ok-perform_lines-2.ensures.performed c.perform_lines-in-Ok-End.ensures.keeps refl
+    c.status_at_end.ensures.known c.status_at_end.ensures.clean c.status_at_end.ensures.refused
+
+pub returns-in-Err-perform_lines-clause-keeps : goal.returns-in-Err-perform_lines-clause-keeps
+returns-in-Err-perform_lines-clause-keeps g c = Keeps-trans c.pieces.invariant.so_far.keeps c.perform_lines-in-Ok-End.ensures.keeps
+
+pub returns-in-Err-perform_lines-clause-runs : goal.returns-in-Err-perform_lines-clause-runs
+returns-in-Err-perform_lines-clause-runs g c =
+    let came = rw c.in-Ok-End.field-0-is at c.in-Ok-End.ensures.came in
+    let stop = c.in-Err-perform_lines.stop in
+    rw c.status_of-in-Err-perform_lines.ensures (read_stopped_last SCRIPT_LIMIT _ _ _ _ _ _ _ c.pieces.invariant.so_far _ c.read_piece.new.held.items _ came c.as_slice-lines.ensures.value _ _ stop c.in-Err-perform_lines.ensures.performed)
+
+-- more came than may
+pub returns-in-Ok-Over-clause-runs : goal.returns-in-Ok-Over-clause-runs
+returns-in-Ok-Over-clause-runs g c =
+    let came = rw c.in-Ok-Over.field-0-is at c.in-Ok-Over.ensures.came in
+    rw c.leave.ensures (read_over SCRIPT_LIMIT _ _ _ _ _ _ _ c.pieces.invariant.so_far _ _ c.read_piece.new.held.items came refl)
+
+-- the script failed
 pub returns-in-Err-Source-clause-runs : goal.returns-in-Err-Source-clause-runs
-returns-in-Err-Source-clause-runs g c = source_early SCRIPT_LIMIT _ _ _ _ 3 (inl refl) (λ same. c.in-Err-Source.ensures.cause (ap Err c.in-Err-Source.field-0-is))
+returns-in-Err-Source-clause-runs g c =
+    let fault = c.in-Err-Source.ensures.fault (ap Err c.in-Err-Source.field-0-is) in
+    let rose = c.in-Err-Source.ensures.cause (ap Err c.in-Err-Source.field-0-is) in
+    rw c.leave-in-Err-Source.ensures (read_failed SCRIPT_LIMIT _ _ _ _ _ _ _ c.pieces.invariant.so_far _ _ fault (rose_later _ _ _ c.pieces.invariant.faults rose) refl)
 
-pub returns-clause-runs : goal.returns-clause-runs
-returns-clause-runs g c = source_early SCRIPT_LIMIT _ _ _ _ 5 (inr refl) (λ same. absurd (omega (arith, same)))
-
-pub returns-in-Err-Source-clause-keeps : goal.returns-in-Err-Source-clause-keeps
-returns-in-Err-Source-clause-keeps g c = keeps_all _ _ _
-
-pub returns-clause-keeps : goal.returns-clause-keeps
-returns-clause-keeps g c = keeps_all _ _ _
-
-pub returns-in-Ok-clause-input_cause : goal.returns-in-Ok-clause-input_cause
-returns-in-Ok-clause-input_cause g c = λ same. inr ((c.run_front.ensures.runs []).shelf_cause same)
+-- there was no memory
+pub returns-in-Err-NoMemory-clause-runs : goal.returns-in-Err-NoMemory-clause-runs
+returns-in-Err-NoMemory-clause-runs g c =
+    rw c.leave-in-Err-NoMemory.ensures (read_starved SCRIPT_LIMIT _ _ _ _ _ _ _ c.pieces.invariant.so_far _ _ c.in-Err-NoMemory.ensures.lost refl)
