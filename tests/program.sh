@@ -223,12 +223,25 @@ check 'the text is whole, of messages' "$(lines valid '! line 3 d unit 1 cause 4
 
 mkfifo "$work/typed" "$work/growing"
 : >"$work/wanted"
+silent=
 
-# types LINE TEXT..: the line is written, and then these lines are there, after those before.
+# answered WHAT TEXT..: these lines come, after those before. After one that doesn't come none is waited for.
+answered() {
+    lines "${@:2}" >>"$work/wanted"
+    [ -n "$silent" ] || within 10 holds "$(cat "$work/wanted")" || silent=yes
+    check "answered before the next line: $1" '' "$silent"
+}
+
+# types LINE TEXT..: the line is written, and then these lines come, if there are any.
 types() {
     printf '%s\n' "$1" >&5
-    [ $# -eq 1 ] || lines "${@:2}" >>"$work/wanted"
-    check "typed, and answered: $1" 0 "$(within 10 holds "$(cat "$work/wanted")"; echo $?)"
+    [ $# -eq 1 ] || answered "$@"
+}
+
+# still WHAT: nothing more has come.
+still() {
+    sleep 0.2
+    check "$1" "$(cat "$work/wanted")" "$(cat "$work/held")"
 }
 
 port=$(free_port)
@@ -237,6 +250,8 @@ PYTHONPATH=examples timeout 60 python3 -B "$work/cache.py" &
 cache=$!
 within 10 eval "(exec 3<>/dev/tcp/127.0.0.1/$port) 2>/dev/null"
 timeout 60 "$program" run <"$work/typed" >"$work/held" &
+typed=$!
+trap '' PIPE
 exec 5>"$work/typed"
 types 'say one' '# one'
 types 'assert 64500 64501'
@@ -246,28 +261,29 @@ types 'judge customer 64502 64502 64501 64500' invalid
 types 'judge customer 64502 64502 64501 x' '! line 6 cause 34 Number'
 types 'jugde customer 64501 64501' '! line 7 cause 32 Command'
 printf 'judge customer 64501 6' >&5
-sleep 0.2
-check 'a part of a line is not performed' 0 "$(holds "$(cat "$work/wanted")"; echo $?)"
+still 'a part of a line is not performed'
 types '4501' valid
 types 'open table examples/table.mrt'
 types 'take table 2'
 types 'report' '192.0.2.1 64501 198.51.100.0/24 valid' '192.0.2.3 64503 198.51.100.0/24 unknown'
 types 'summary' 'summary routes 2 valid 1 unknown 1 invalid 0 customers 2 passed 0 refused 2'
 types "open news $work/growing"
-exec 6>"$work/growing"
+# (opened both ways, so that this never waits for a reader)
+exec 6<>"$work/growing"
 types 'take news 1'
-sleep 0.2
-check 'a record is waited for, and nothing is said' 0 "$(holds "$(cat "$work/wanted")"; echo $?)"
+still 'a record is waited for, and nothing is said'
 printf '\0\0\0\0\0\15\0\2\0\0\0\37\0\0\0\0\30\306\63\144\0\1\0\0\0\0\0\0\0\15\100\2\12\2\2\0\0\373\365\0\0\373\364' >&6
-lines '! line 14 news unit 1 cause 29 NoPeerTable' >>"$work/wanted"
-check 'what is taken of a fifo is answered when it comes' 0 "$(within 10 holds "$(cat "$work/wanted")"; echo $?)"
-exec 6>&-
+answered 'take news 1, where the record came later' '! line 14 news unit 1 cause 29 NoPeerTable'
+types 'feed gone 127.0.0.1:1' '! line 15 gone unreachable'
 types "feed rpki 127.0.0.1:$port"
+types 'sync rpki 2' '! line 17 rpki short'
 types 'sync rpki 100'
-types 'summary' 'summary routes 2 valid 2 unknown 0 invalid 0 customers 7 passed 0 refused 3'
+types 'summary' 'summary routes 2 valid 2 unknown 0 invalid 0 customers 7 passed 0 refused 5'
 printf 'say last' >&5
-exec 5>&-
-wait "$(jobs -p | tail -n 1)"
+exec 5>&- 6>&-
+wait "$typed"
+check 'a typed script: status' 1 $?
+trap - PIPE
 kill "$cache"
 wait
 lines '# last' >>"$work/wanted"

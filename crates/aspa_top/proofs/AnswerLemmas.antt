@@ -1,6 +1,7 @@
 -- A question that was answered, or refused.
-use Rattle.std.proofs.Common.{◌≡◌, ℕ, ◌+◌, ◌<◌, List, ◌++◌, length, false, Ok, refl, sym, ap, subst, ◌∙◌, arith}
+use Rattle.std.proofs.Common.{◌≡◌, ℕ, ◌+◌, ◌<◌, List, ◌++◌, length, flat_map, false, Ok, Err, IsErrAnd, refl, sym, ap, subst, ◌∙◌, arith}
 use Rattle.std.specs.declared.option.Option.{Option}
+use Rattle.std.specs.declared.result.Result.{Result}
 use Rattle.std.specs.declared.option.Option.TheVariants.{Some, None}
 use Rattle.std.specs.Io.KnownBytes.{append_known}
 use Rattle.av_base.specs.Told.{AppendsFront, Rose}
@@ -12,7 +13,7 @@ use Rattle.path_model.specs.Trail.{Path}
 use Rattle.origin_model.specs.declared.origin_state.OriginState.{OriginState}
 use Rattle.origin_model.specs.Current.{Parts as Origins}
 use Rattle.origin_validation.specs.Rows.{AreOriginRows}
-use Rattle.origin_lines.specs.Rows.{origins_text}
+use Rattle.origin_lines.specs.Rows.{origin_row}
 use Rattle.report_text.specs.declared.cause.Cause.{Cause}
 use Rattle.report_text.specs.declared.cause.Cause.TheVariants.{NoRoute}
 use Rattle.report_text.specs.declared.summary.Summary.{Summary}
@@ -26,8 +27,9 @@ use Rattle.script_lines.specs.declared.command.Show.TheVariants.{Report, Origins
 use Rattle.otc_check.specs.declared.leaks.Leak.{Leak}
 use Rattle.otc_check.specs.Marks.{Marked}
 use Rattle.path_model.specs.Roles.{Relations}
-use Rattle.stream_lines.specs.Leaks.{AreLeaks, leaks_text}
-use Rattle.stream_lines.specs.Rows.{rows_text}
+use Rattle.stream_lines.specs.Leaks.{AreLeaks, leak_row}
+use Rattle.stream_lines.specs.Listing.{Lists, Pouring}
+use Rattle.stream_lines.specs.Rows.{row_of}
 use Rattle.stream_lines.specs.Summary.{IsSummary}
 use Rattle.stream_lines.specs.declared.stop.Stop.{Stop}
 use Rattle.stream_lines.specs.declared.stop.Stop.TheVariants as stops
@@ -35,8 +37,8 @@ use Rattle.stream_lines.proofs.FrameLemmas.{Leaves-refl}
 use Rattle.serve_lines.specs.Routers.{NoneMore}
 use Rattle.suspects.specs.declared.tally.Tally.{Tally}
 use Rattle.suspects.specs.Suspects.{AreSuspects}
-use Rattle.suspect_lines.specs.Details.{AreDetails, details_text}
-use Rattle.suspect_lines.specs.Suspected.{suspects_text}
+use Rattle.suspect_lines.specs.Details.{AreDetails, detail_row}
+use Rattle.suspect_lines.specs.Suspected.{suspect_row}
 use Rattle.valleys.specs.declared.valley.Valley.{Valley}
 use Rattle.aspa_top.specs.declared.task.Question.{Question}
 use Rattle.aspa_top.specs.declared.task.Question.TheVariants.{Show, Details, Why}
@@ -44,10 +46,10 @@ use Rattle.aspa_top.specs.declared.task.Task.TheVariants.{Answer}
 use Rattle.aspa_top.specs.declared.working.Working.{Working}
 use Rattle.aspa_top.specs.Answers.{Answers, AnswersUnless, no_route, refused_for}
 use Rattle.aspa_top.specs.Outside.{Outside, all_of}
-use Rattle.aspa_top.specs.Performing.{Done, EndedEarly}
+use Rattle.aspa_top.specs.Performing.{Did, Done, EndedEarly}
 use Rattle.aspa_top.specs.Standing.{IsBegun}
 use Rattle.aspa_top.specs.Tasks.{State}
-use Rattle.aspa_top.proofs.DidLemmas.{done_refused, some_done, stopped_by_sink}
+use Rattle.aspa_top.proofs.DidLemmas.{did_err, done_refused, some_done, stopped_by_sink}
 use Rattle.aspa_top.proofs.QuestionLemmas.{answer_lines}
 use Rattle.aspa_top.proofs.ReadyLemmas.{kept_all, ready_streams}
 
@@ -138,16 +140,37 @@ module _ (working : Working) (question : Question) (old : Outside) (written : Op
       (adds_answers_front (all_of old) (all_of new) are.lines old.link_faults are.each (subst (AppendsFront (all_of old) (all_of new)) are.is front))
       (stopped_by_sink working (Ok (Answer question)) old new stop no_shelf some rose)
 
+-- ---- listings
+
+-- what of all that is outside a listing sees
+abbrev pub pouring_of : Outside → Pouring
+pouring_of now = record { written = now.written; faults = now.sink_faults; held = now.held }
+
+-- a listing answers it, whole or where it ended early
+module _ {Row T : Type 0} {Are : List Row → Type 0} {line_of : Row → List ℕ} (working : Working) (question : Question) (old : Outside) (new : Pouring) (begun : IsBegun old working)
+    (answers : (rows : List Row) → Are rows → (state : State) → Reads working state → IsAnswered state question (flat_map line_of rows)) where
+  pub all_listed : (done : T) → Lists Are line_of (pouring_of old) new (Ok done) → (next : Working) → next ≡ working
+      → Done working (Ok (Answer question)) old (record old { written = new.written; sink_faults = new.faults; held = new.held }) next
+  all_listed done lists next same =
+      answered_same working question old new.written new.faults new.held (flat_map line_of lists.rows) begun (answers lists.rows lists.are) next same lists.listed.whole
+
+  pub some_listed : (stop : Stop) → Lists {T = T} Are line_of (pouring_of old) new (Err stop) → (result : Result Working Stop) → IsErrAnd result (λ e. e ≡ stop)
+      → Did working (Ok (Answer question)) old (record old { written = new.written; sink_faults = new.faults; held = new.held }) result
+  some_listed stop lists result is =
+      did_err working (Ok (Answer question)) old (record old { written = new.written; sink_faults = new.faults; held = new.held }) result stop is
+      (answer_stopped working question old new.written new.faults new.held (flat_map line_of lists.rows) begun (answers lists.rows lists.are) stop lists.listed.front
+      (λ same. lists.listed.no_shelf (ap Err same)) (λ same. lists.listed.held (ap Err same)) (λ same. lists.listed.sink_cause (ap Err same)))
+
 -- ---- the questions
 
 module _ (working : Working) (held : Analysis) (is : held ≡ working.analyser) where
-  pub report_answers : (rows : List (Key × Verdict)) → AreRows held rows → (state : State) → Reads working state → IsAnswered state (Show Report) (rows_text rows)
+  pub report_answers : (rows : List (Key × Verdict)) → AreRows held rows → (state : State) → Reads working state → IsAnswered state (Show Report) (flat_map row_of rows)
   report_answers rows are = λ state reads. record {
     there = refl;
     answers = record { rows = rows; are = subst (λ (a : Analysis). AreRows a rows) (is ∙ reads.analysis) are; text_is = refl };
   }
 
-  pub origins_answer : (rows : List (Key × OriginState)) → AreOriginRows held.routes working.origins rows → (state : State) → Reads working state → IsAnswered state (Show ListOrigins) (origins_text rows)
+  pub origins_answer : (rows : List (Key × OriginState)) → AreOriginRows held.routes working.origins rows → (state : State) → Reads working state → IsAnswered state (Show ListOrigins) (flat_map origin_row rows)
   origins_answer rows are = λ state reads. record {
     there = refl;
     answers = record {
@@ -157,9 +180,9 @@ module _ (working : Working) (held : Analysis) (is : held ≡ working.analyser) 
     };
   }
 
-  pub leaks_answer : (roles : Relations) (rows : List (Key × Leak)) → roles ≡ held.roles → AreLeaks roles working.marks rows → (state : State) → Reads working state
-      → IsAnswered state (Show ListLeaks) (leaks_text rows)
-  leaks_answer roles rows are_its are = λ state reads. record {
+  pub leaks_answer : (roles : Relations) → roles ≡ held.roles → (rows : List (Key × Leak)) → AreLeaks roles working.marks rows → (state : State) → Reads working state
+      → IsAnswered state (Show ListLeaks) (flat_map leak_row rows)
+  leaks_answer roles are_its rows are = λ state reads. record {
     there = refl;
     answers = record {
       rows = rows;
@@ -169,14 +192,14 @@ module _ (working : Working) (held : Analysis) (is : held ≡ working.analyser) 
     };
   }
 
-  pub suspects_answer : (rows : List (Valley × Tally)) → AreSuspects held rows → (state : State) → Reads working state → IsAnswered state (Show ListSuspects) (suspects_text rows)
+  pub suspects_answer : (rows : List (Valley × Tally)) → AreSuspects held rows → (state : State) → Reads working state → IsAnswered state (Show ListSuspects) (flat_map suspect_row rows)
   suspects_answer rows are = λ state reads. record {
     there = refl;
     answers = record { rows = rows; are = subst (λ (a : Analysis). AreSuspects a rows) (is ∙ reads.analysis) are; text_is = refl };
   }
 
   pub details_answer : (verdict : Option Verdict) (rows : List (Key × Standing)) → AreDetails held verdict rows → (state : State) → Reads working state
-      → IsAnswered state (Details verdict) (details_text rows)
+      → IsAnswered state (Details verdict) (flat_map detail_row rows)
   details_answer verdict rows are = λ state reads. record {
     there = refl;
     answers = record { rows = rows; are = subst (λ (a : Analysis). AreDetails a verdict rows) (is ∙ reads.analysis) are; text_is = refl };

@@ -36,10 +36,10 @@ taken_once one other None script a b = absurd (let no : ⊥ = cc in no)
 taken_once one other (Some rest) script a b = let same : one ++ rest ≡ other ++ rest = cc in append_cancel_right one other rest same
 
 -- where the script failed, the text of the lines that had come was written
-pub answered_before_reads : (limit : ℕ) (world : World) → AreTold world → (script taken : List ℕ) (left old new : Option (List ℕ)) (ticks_old ticks_new : ℕ)
+pub wrote_what_had_come : (limit : ℕ) (world : World) → AreTold world → (script taken : List ℕ) (left old new : Option (List ℕ)) (ticks_old ticks_new : ℕ)
     → StopsAtRead limit world script left old new ticks_old ticks_new → Some script ≡ prepend_known taken left → (text : List ℕ) (end : State)
     → Evaluates world (start world) (lines_in false taken) text end → new ≡ append_known old text
-answered_before_reads limit world told script taken left old new ticks_old ticks_new stops is text end evaluates =
+wrote_what_had_come limit world told script taken left old new ticks_old ticks_new stops is text end evaluates =
     let same : stops.taken ≡ taken = taken_once stops.taken taken left script stops.told is in
     let one = one_text world told (lines_in false taken) stops.ended.text text stops.ended.state end (subst (λ (bytes : List ℕ). Evaluates world (start world) (lines_in false bytes) stops.ended.text stops.ended.state) same stops.ended.evaluates) evaluates in
     stops.ended.written ∙ ap (append_known old) one.0

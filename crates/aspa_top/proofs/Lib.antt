@@ -14,9 +14,11 @@ pub mod LoadingLemmas
 pub mod LostLemmas
 pub mod NamedLemmas
 pub mod OutcomeLemmas
+pub mod PassedLemmas
 pub mod PerformingLemmas
 pub mod ProgramLemmas
 pub mod QuestionLemmas
+pub mod ReadAsLemmas
 pub mod ReadingLemmas
 pub mod ReadyLemmas
 pub mod ReportingLemmas

@@ -148,7 +148,7 @@ module _ (limit : ℕ) (script : List ℕ) (left : Option (List ℕ)) (script_fa
 pub runs_source : (limit : ℕ) (left_old left_new : Option (List ℕ)) (script_failed : Type 0) (old new : Outside) (status : ℕ) → IsEnding status
     → ((bytes : List ℕ) → left_old ≡ Some bytes → Runs limit bytes left_new script_failed old new status)
     → ((status ≡ 0) ⊎ (status ≡ 1) → IsAtEnd left_new) → (status ≡ 3 → script_failed ⊎ Rose old.shelf_faults new.shelf_faults) → (status ≡ 4 → Rose old.sink_faults new.sink_faults)
-    → (status ≡ 3 → ¬ Rose old.shelf_faults new.shelf_faults → AddsLines old.written new.written old.link_faults new.link_faults)
+    → (IsWhole status ⊎ (status ≡ 3) → ¬ Rose old.shelf_faults new.shelf_faults → AddsLines old.written new.written old.link_faults new.link_faults)
     → AddsFront old.written new.written old.link_faults new.link_faults → RunsSource limit left_old left_new script_failed old new status
 runs_source limit left_old left_new script_failed old new status known runs at_end input_cause sink_cause whole_lines adds = record {
   ran = ran left_old runs;

@@ -1,5 +1,5 @@
 -- A question has one answer, of lines that read as no refusal. Each question has a clause in `one_answer` and in `answer_lines`.
-use Rattle.std.proofs.Common.{◌≡◌, ℕ, ◌+◌, List, [], ◌∷◌, ◌++◌, map, refl, sym, ap, subst, ◌∙◌, append_assoc, append-nil, cond, Bool, zero-add}
+use Rattle.std.proofs.Common.{◌≡◌, ℕ, ◌+◌, List, [], ◌∷◌, ◌++◌, map, flat_map, refl, sym, ap, subst, ◌∙◌, append_assoc, append-nil, cond, Bool, zero-add}
 use Rattle.std.specs.FinMap as fin
 use Rattle.std.specs.List.{All}
 use Rattle.std.specs.Option.{unwrap_or}
@@ -19,7 +19,8 @@ use Rattle.path_model.proofs.LawLemmas.{one_printed}
 use Rattle.attestations.proofs.PartsLemmas.{table_is_current, parts_have_one_table}
 use Rattle.path_model.proofs.WitnessLemmas.{printed_facts}
 use Rattle.origin_validation.proofs.RowLemmas.{has_one_list}
-use Rattle.origin_lines.specs.Rows.{origins_text}
+use Rattle.origin_lines.specs.Rows.{origin_row}
+use Rattle.origin_validation.specs.Rows.{AreOriginRows}
 use Rattle.origin_lines.proofs.RowsLemmas.{line_of as origin_line_of, rows_answer as origins_answer, rows_are_lines as origins_are_lines}
 use Rattle.report_text.specs.declared.cause.Cause.{Cause}
 use Rattle.report_text.specs.Laws.{IsAnswerLine}
@@ -28,23 +29,24 @@ use Rattle.report_text.specs.Summary.{summary_line, summary_text}
 use Rattle.report_text.specs.Why.{why_line, why_text}
 use Rattle.report_text.proofs.AnswerLemmas.{summary_is_one_line, reason_is_one_line}
 use Rattle.rib_store.specs.Shown.{IsExplained}
-use Rattle.rib_store.specs.State.{State as Analysis}
+use Rattle.rib_store.specs.State.{AreRows, State as Analysis}
 use Rattle.rib_store.proofs.ReportLemmas.{has_one_report}
 use Rattle.script_lines.specs.declared.command.Show.TheVariants.{Report, Origins as ListOrigins, Leaks as ListLeaks, Suspects, Summary as SumUp}
 use Rattle.stream_lines.specs.Counts.{refusals_in}
-use Rattle.stream_lines.specs.Leaks.{leaks_text}
-use Rattle.stream_lines.specs.Rows.{rows_text}
+use Rattle.stream_lines.specs.Leaks.{AreLeaks, leak_row}
+use Rattle.stream_lines.specs.Rows.{row_of}
 use Rattle.stream_lines.proofs.LeaksLemmas.{leak_line_of, leaks_answer, leaks_are_lines, one_list_of_leaks}
 use Rattle.stream_lines.proofs.RefusalLemmas.{lacks, refusals_in-line}
 use Rattle.stream_lines.proofs.ReportedLemmas.{line_of, rows_answer, rows_are_lines}
 use Rattle.stream_lines.proofs.SummaryLemmas.{some_summary, one_summary}
-use Rattle.suspect_lines.specs.Details.{details_text}
-use Rattle.suspect_lines.specs.Suspected.{suspects_text}
+use Rattle.suspect_lines.specs.Details.{AreDetails, detail_row}
+use Rattle.suspect_lines.specs.Suspected.{suspect_row}
+use Rattle.suspects.specs.Suspects.{AreSuspects}
 use Rattle.suspect_lines.proofs.DetailsLemmas.{detail_line_of, details_answer, details_are_lines, one_list_of_details}
 use Rattle.suspect_lines.proofs.SuspectedLemmas.{one_list_of_suspects, suspect_line_of, suspects_answer, suspects_are_lines}
 use Rattle.aspa_top.specs.declared.task.Question.{Question}
 use Rattle.aspa_top.specs.declared.task.Question.TheVariants.{Show, Details, Why}
-use Rattle.aspa_top.specs.Answers.{Answers, AnswersUnless, Replies, no_route, refused_for}
+use Rattle.aspa_top.specs.Answers.{Answers, AnswersUnless, Replies, Shows, no_route, refused_for}
 use Rattle.aspa_top.specs.Tasks.{State}
 
 -- ---- one answer
@@ -82,35 +84,23 @@ some_reason (Some path) state key route there =
       },
     )
 
+-- a listing has one text
+one_listing : {Row : Type 0} (Are : List Row → Type 0) (line_of : Row → List ℕ) → HasOne Are → HasOne (Shows Are line_of)
+one_listing Are line_of list = record {
+  one = flat_map line_of list.one;
+  is = record { rows = list.one; are = list.is; text_is = refl };
+  only = λ other is. is.text_is ∙ ap (flat_map line_of) (list.only is.rows is.are);
+}
+
 pub one_answer : (state : State) (question : Question) → refused_for state question ≡ None → HasOne (Answers state question)
 one_answer state (Show Report) there =
-    let report = has_one_report state.analysis in
-    record {
-      one = rows_text report.one;
-      is = record { rows = report.one; are = report.is; text_is = refl };
-      only = λ other is. is.text_is ∙ ap rows_text (report.only is.rows is.are);
-    }
+    one_listing (AreRows state.analysis) row_of (has_one_report state.analysis)
 one_answer state (Show ListOrigins) there =
-    let list = has_one_list state.analysis.routes state.origins in
-    record {
-      one = origins_text list.one;
-      is = record { rows = list.one; are = list.is; text_is = refl };
-      only = λ other is. is.text_is ∙ ap origins_text (list.only is.rows is.are);
-    }
+    one_listing (AreOriginRows state.analysis.routes state.origins) origin_row (has_one_list state.analysis.routes state.origins)
 one_answer state (Show ListLeaks) there =
-    let list = one_list_of_leaks state.analysis.roles state.marks in
-    record {
-      one = leaks_text list.one;
-      is = record { rows = list.one; are = list.is; text_is = refl };
-      only = λ other is. is.text_is ∙ ap leaks_text (list.only is.rows is.are);
-    }
+    one_listing (AreLeaks state.analysis.roles state.marks) leak_row (one_list_of_leaks state.analysis.roles state.marks)
 one_answer state (Show Suspects) there =
-    let list = one_list_of_suspects state.analysis in
-    record {
-      one = suspects_text list.one;
-      is = record { rows = list.one; are = list.is; text_is = refl };
-      only = λ other is. is.text_is ∙ ap suspects_text (list.only is.rows is.are);
-    }
+    one_listing (AreSuspects state.analysis) suspect_row (one_list_of_suspects state.analysis)
 one_answer state (Show SumUp) there =
     let found = some_summary state.analysis state.passed state.refused in
     record {
@@ -119,12 +109,7 @@ one_answer state (Show SumUp) there =
       only = λ other is. is.text_is ∙ ap summary_text (one_summary state.analysis state.passed state.refused is.summary found.0 is.is found.1);
     }
 one_answer state (Details verdict) there =
-    let list = one_list_of_details state.analysis verdict in
-    record {
-      one = details_text list.one;
-      is = record { rows = list.one; are = list.is; text_is = refl };
-      only = λ other is. is.text_is ∙ ap details_text (list.only is.rows is.are);
-    }
+    one_listing (AreDetails state.analysis verdict) detail_row (one_list_of_details state.analysis verdict)
 one_answer state (Why key) there =
     let found = some_reason (fin.get state.analysis.routes key) state.analysis key refl there in
     record {

@@ -15,7 +15,7 @@ use Rattle.aspa_top.specs.Evaluated.{AllDone, Evaluated, EvaluatedIn, ReadSoFar,
 use Rattle.aspa_top.specs.Lines.{performed}
 use Rattle.aspa_top.specs.Outside.{Keeps, Outside}
 use Rattle.aspa_top.specs.Performing.{Performing}
-use Rattle.aspa_top.specs.Program.{IsEnding, WentThrough}
+use Rattle.aspa_top.specs.Program.{IsEnding, IsWhole, WentThrough}
 use Rattle.aspa_top.specs.Script.{CameEnd, CameMore, CameOver, ComesMore, ReadAs, held_of}
 use Rattle.aspa_top.specs.Standing.{IsReady, StandsFor}
 use Rattle.aspa_top.specs.Tasks.{start}
@@ -78,6 +78,14 @@ shelf_of stops.Shelf same = refl
 shelf_of stops.Sink same = absurd (omega (arith, same))
 shelf_of stops.NoMemory same = absurd (omega (arith, same))
 
+not_whole : (stop : Stop) → IsWhole (status_of stop) → ⊥
+not_whole stops.Shelf done = elim done [ inl zero ↦ omega (arith, zero) | inr a ↦ elim a [ inl one ↦ omega (arith, one) | inr six ↦ omega (arith, six) ] ]
+not_whole stops.Sink done = elim done [ inl zero ↦ omega (arith, zero) | inr a ↦ elim a [ inl one ↦ omega (arith, one) | inr six ↦ omega (arith, six) ] ]
+not_whole stops.NoMemory done = elim done [ inl zero ↦ omega (arith, zero) | inr a ↦ elim a [ inl one ↦ omega (arith, one) | inr six ↦ omega (arith, six) ] ]
+
+shelf_stopped : (stop : Stop) → IsWhole (status_of stop) ⊎ (status_of stop ≡ 3) → stop ≡ stops.Shelf
+shelf_stopped stop either = elim either [ inl done ↦ absurd (not_whole stop done) | inr same ↦ shelf_of stop same ]
+
 sink_of : (stop : Stop) → status_of stop ≡ 4 → stop ≡ stops.Sink
 sink_of stops.Shelf same = absurd (omega (arith, same))
 sink_of stops.Sink same = refl
@@ -96,7 +104,7 @@ source_stopped : (limit : ℕ) (left_old left_new : Option (List ℕ)) (script_f
 source_stopped limit left_old left_new script_failed begun new stop cause evaluated adds =
     runs_source limit left_old left_new script_failed begun new (status_of stop) (ending_of stop) (λ bytes is. runs_stopped limit bytes left_new script_failed begun new stop (evaluated bytes is) cause)
     (λ done. absurd (not_at_end stop done)) (λ same. inr (cause.shelf (shelf_of stop same))) (λ same. cause.sink (sink_of stop same))
-    (λ same none. absurd (none (cause.shelf (shelf_of stop same)))) adds
+    (λ same none. absurd (none (cause.shelf (shelf_stopped stop same)))) adds
 
 no_fault : (begun now : Outside) → StoppedByFault begun now stops.NoMemory
 no_fault begun now = record { shelf = λ is. let no : ⊥ = cc in absurd no; sink = λ is. let no : ⊥ = cc in absurd no }
@@ -272,6 +280,7 @@ module _ (limit room : ℕ) (left_old left : Option (List ℕ)) (held : List ℕ
         let front = lines_in false so_far.front in
         let end : Outside = record new { held = [] } in
         let kept = Keeps-trans so_far.keeps keeps in
+        let all_added = adds_more begun.written now.written new.written begun.link_faults now.link_faults new.link_faults so_far.adds done.adds in
         let fits : (bytes : List ℕ) → left_old ≡ Some bytes → length bytes ≤ limit = λ bytes is. omega (arith, so_far.size, ap length (end_told bytes is)) in
         runs_source limit left_old left_new script_failed begun end status (elim known [ inl zero ↦ inl zero | inr one ↦ inr (inl one) ])
         (λ bytes is. runs_whole limit bytes left_new script_failed begun end status next.refused (elim known [ inl zero ↦ inl zero | inr one ↦ inr (inl one) ])
@@ -282,8 +291,7 @@ module _ (limit room : ℕ) (left_old left : Option (List ℕ)) (held : List ℕ
         (λ zero. (clean zero, fits bytes is)) (λ one. (refused one, fits bytes is)) (λ six. absurd (elim known [ inl zero ↦ omega (arith, zero, six) | inr one ↦ omega (arith, one, six) ])))
         (λ either. came.at_end) (λ three. absurd (elim known [ inl zero ↦ omega (arith, zero, three) | inr one ↦ omega (arith, one, three) ]))
         (λ four. absurd (elim known [ inl zero ↦ omega (arith, zero, four) | inr one ↦ omega (arith, one, four) ]))
-        (λ three. absurd (elim known [ inl zero ↦ omega (arith, zero, three) | inr one ↦ omega (arith, one, three) ]))
-        (adds_front begun.written new.written begun.link_faults new.link_faults (adds_more begun.written now.written new.written begun.link_faults now.link_faults new.link_faults so_far.adds done.adds))
+        (λ either shelf. all_added) (adds_front begun.written new.written begun.link_faults new.link_faults all_added)
 
   -- there was no memory for what a read brought
   pub read_starved : (left_new : Option (List ℕ)) (script_failed : Type 0) → ComesMore left left_new → now.held ≡ []
@@ -326,7 +334,7 @@ module _ (limit room : ℕ) (left_old left : Option (List ℕ)) (held : List ℕ
         ended = (all_so_far world meets none).ended;
       }))
       (λ done. absurd (elim done [ inl zero ↦ omega (arith, zero) | inr one ↦ omega (arith, one) ])) (λ three. inl failed) (λ four. absurd (omega (arith, four)))
-      (λ three shelf. so_far.adds)
+      (λ either shelf. so_far.adds)
       (adds_front begun.written now.written begun.link_faults now.link_faults so_far.adds)
 
   -- more came than may
@@ -352,5 +360,5 @@ module _ (limit room : ℕ) (left_old left : Option (List ℕ)) (held : List ℕ
       (λ world meets. subst (λ (ls : List (List ℕ)). EvaluatedIn world ls begun end (Ok working.refused)) (sym lines) (all_so_far world meets none))
       (λ zero. absurd (omega (arith, zero))) (λ one. absurd (omega (arith, one))) (λ six. omega (arith, full, more.2, ap length more.1, length-append read more.0)))
       (λ done. absurd (elim done [ inl zero ↦ omega (arith, zero) | inr one ↦ omega (arith, one) ])) (λ three. absurd (omega (arith, three))) (λ four. absurd (omega (arith, four)))
-      (λ three. absurd (omega (arith, three)))
+      (λ either shelf. so_far.adds)
       (adds_front begun.written now.written begun.link_faults now.link_faults so_far.adds)

@@ -1,5 +1,5 @@
 -- A task has one text, and leaves one state.
-use Rattle.std.proofs.Common.{◌≡◌, ℕ, ◌+◌, Bool, true, false, ◌||◌, is_some, List, [], ◌∷◌, ◌++◌, None, Some, refl, sym, ap, subst, ◌∙◌}
+use Rattle.std.proofs.Common.{◌≡◌, ℕ, ◌+◌, Bool, true, false, ◌||◌, is_some, List, [], ◌∷◌, ◌++◌, None, Some, refl, sym, ap, subst, ◌∙◌, flat_map}
 use Rattle.std.specs.declared.option.Option.{Option}
 use Rattle.path_model.specs.Trail.{path_of}
 use Rattle.attestations.specs.ComputedTable.{table_of}
@@ -23,7 +23,7 @@ use Rattle.analyser.specs.declared.event.Event.TheVariants.{Table as TableEvent}
 use Rattle.analyser.proofs.CostLemmas.{some_cost}
 use Rattle.analyser.proofs.EventLemmas.{one_outcome_of}
 use Rattle.stream_lines.specs.declared.kind.DumpKind.{DumpKind}
-use Rattle.stream_lines.specs.Changes.{changes_text}
+use Rattle.stream_lines.specs.Changes.{change_row}
 use Rattle.stream_lines.specs.Streams.{Dump}
 use Rattle.stream_lines.specs.Units.{is_of_records}
 use Rattle.stream_lines.proofs.LawLemmas.{outcome_and_cost, some_units, units_unique}
@@ -128,7 +128,7 @@ some_changes : (state : State) → Some_that (ShowsChanges state)
 some_changes state =
     let list = has_one_list_of_changes state.analysis in
     let marking = has_one_marking state.analysis in (
-      changes_text list.one,
+      flat_map change_row list.one,
       record state { analysis = marking.one },
       record { changes = list.one; are = list.is; text_is = refl; analysis = marking.one; marked = marking.is; left = refl },
     )
@@ -253,7 +253,7 @@ ShowsChanges-unique : (state : State) (one other : List ℕ) (end last : State)
 ShowsChanges-unique state one other end last a b =
     let list = has_one_list_of_changes state.analysis in
     let marking = has_one_marking state.analysis in (
-      a.text_is ∙ ap changes_text (list.only a.changes a.are ∙ sym (list.only b.changes b.are)) ∙ sym b.text_is,
+      a.text_is ∙ ap (flat_map change_row) (list.only a.changes a.are ∙ sym (list.only b.changes b.are)) ∙ sym b.text_is,
       a.left ∙ ap (λ (n : Analysis). record state { analysis = n }) (marking.only a.analysis a.marked ∙ sym (marking.only b.analysis b.marked)) ∙ sym b.left,
     )
 

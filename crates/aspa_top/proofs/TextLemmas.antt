@@ -1,5 +1,5 @@
 -- The refusals in a text, line by line.
-use Rattle.std.proofs.Common.{◌≡◌, ℕ, ◌+◌, Bool, true, false, cond, List, [], ◌∷◌, ◌++◌, None, Some, Ok, Err, refl, sym, ap, ◌∙◌, arith, zero-add, length, ◌||◌, is_some, inl, inr}
+use Rattle.std.proofs.Common.{◌≡◌, ℕ, ◌+◌, Bool, true, false, cond, List, [], ◌∷◌, ◌++◌, None, Some, Ok, Err, refl, sym, ap, ◌∙◌, arith, zero-add, length, ◌||◌, is_some, inl, inr, flat_map}
 use Rattle.std.specs.declared.option.Option.{Option}
 use Rattle.std.proofs.lemmas.List.{append_assoc}
 use Rattle.path_model.specs.declared.verdict.Verdict.{Verdict}
@@ -27,7 +27,7 @@ use Rattle.report_text.proofs.AnswerLemmas.{change_is_one_line, saying_is_one_li
 use Rattle.analyser.specs.declared.event.Event.{Event}
 use Rattle.rib_store.specs.declared.journal.ChangedKey.{ChangedKey}
 use Rattle.stream_lines.specs.declared.kind.DumpKind.{DumpKind}
-use Rattle.stream_lines.specs.Changes.{changes_text}
+use Rattle.stream_lines.specs.Changes.{change_row}
 use Rattle.stream_lines.specs.Counts.{refusals_in}
 use Rattle.stream_lines.specs.Streams.{Dump}
 use Rattle.stream_lines.specs.Units.{is_of_records}
@@ -67,11 +67,11 @@ no_mark Invalid = refl
 refusals_in-verdict : (v : Verdict) (rest : List ℕ) → refusals_in ((verdict_text v ++ 10 ∷ []) ++ rest) ≡ refusals_in rest
 refusals_in-verdict v rest = answer_counted (verdict_text v) rest (record { in_line = verdict_text-lacks 10 v (omega arith); unmarked = no_mark v })
 
-changes_counted : (changes : List ChangedKey) (rest : List ℕ) → refusals_in (changes_text changes ++ rest) ≡ refusals_in rest
+changes_counted : (changes : List ChangedKey) (rest : List ℕ) → refusals_in (flat_map change_row changes ++ rest) ≡ refusals_in rest
 changes_counted [] rest = refl
 changes_counted (change ∷ changes) rest =
-    ap (λ (t : List ℕ). refusals_in t) (append_assoc (change_text change.key change.before change.after) (changes_text changes) rest)
-    ∙ answer_counted (change_line change.key change.before change.after) (changes_text changes ++ rest) (change_is_one_line change.key change.before change.after)
+    ap (λ (t : List ℕ). refusals_in t) (append_assoc (change_text change.key change.before change.after) (flat_map change_row changes) rest)
+    ∙ answer_counted (change_line change.key change.before change.after) (flat_map change_row changes ++ rest) (change_is_one_line change.key change.before change.after)
     ∙ changes_counted changes rest
 
 -- ---- what is counted, whatever text comes behind
@@ -258,7 +258,7 @@ DoesTask-refused world state (OnFeed name work) text next rest in_line does = Wo
 DoesTask-refused world state (Serve place session count) text next rest in_line does = ServesTable-refused world state place session count text next rest does
 DoesTask-refused world state (Answer question) text next rest in_line does = Replies-refused state question text next rest does
 DoesTask-refused world state Changes text next rest in_line does =
-    answered state next text (changes_text does.changes) rest does.text_is (changes_counted does.changes rest) (ap (λ (s : State). s.refused) does.left)
+    answered state next text (flat_map change_row does.changes) rest does.text_is (changes_counted does.changes rest) (ap (λ (s : State). s.refused) does.left)
 
 -- one line counts what its text has
 DoesAsked-refused : (world : World) (state : State) (asked : Asked) (text : List ℕ) (next : State) (rest : List ℕ) → IsAskedInLine asked

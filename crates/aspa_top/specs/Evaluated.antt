@@ -13,7 +13,7 @@ use Rattle.aspa_top.specs.declared.working.Working.{Working}
 use Rattle.aspa_top.specs.Lines.{performed}
 use Rattle.aspa_top.specs.Outside.{Keeps, Outside}
 use Rattle.aspa_top.specs.Performing.{Performing}
-use Rattle.aspa_top.specs.Program.{AreTold, Completes, Ended, Ran, RanIfTold, StarvedIfTold, StopsAtFile, StopsWithin, WentThrough, WritesPart}
+use Rattle.aspa_top.specs.Program.{AreTold, Completes, Ended, IsWhole, Ran, RanIfTold, StarvedIfTold, StopsAtFile, StopsWithin, WentThrough, WritesPart}
 use Rattle.aspa_top.specs.Script.{ReadAs, held_of}
 use Rattle.aspa_top.specs.Standing.{IsReady}
 use Rattle.aspa_top.specs.World.{BeginsAt, Meets, Tells, World}
@@ -116,5 +116,5 @@ pub record RunsSource (limit : ℕ) (left_old left_new : Option (List ℕ)) (scr
   pub input_cause : status ≡ 3 → script_failed ⊎ Rose old.shelf_faults new.shelf_faults
   pub sink_cause : status ≡ 4 → Rose old.sink_faults new.sink_faults
   pub complete : Completes limit left_old script_failed (Rose old.shelf_faults new.shelf_faults) (Rose old.sink_faults new.sink_faults) status
-  pub whole_lines : status ≡ 3 → ¬ Rose old.shelf_faults new.shelf_faults → AddsLines old.written new.written old.link_faults new.link_faults
+  pub whole_lines : IsWhole status ⊎ (status ≡ 3) → ¬ Rose old.shelf_faults new.shelf_faults → AddsLines old.written new.written old.link_faults new.link_faults
   pub adds : AddsFront old.written new.written old.link_faults new.link_faults

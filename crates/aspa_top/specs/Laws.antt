@@ -58,10 +58,9 @@ abbrev pub RunsWriteFronts : Type 0
 RunsWriteFronts = (world : World) → AreTold world → (lines : List (List ℕ)) (old new : Option (List ℕ)) (ticks_old ticks_new : ℕ) →
     WentThrough world lines old new ticks_old ticks_new → WritesFront world lines old new
 
--- Where the script failed, what was written is exactly the text of the lines whose LF had been read. So it is at each read, any of which may
--- fail: all lines that have come are answered before more of the script is waited for.
-abbrev pub LinesAreAnsweredBeforeReads : Type 0
-LinesAreAnsweredBeforeReads = (limit : ℕ) (world : World) → AreTold world → (script taken : List ℕ) (left old new : Option (List ℕ)) (ticks_old ticks_new : ℕ) →
+-- Where a run ended because the script failed, what was written is exactly the text of the lines whose LF had been read.
+abbrev pub FailedScriptsWroteWhatHadCome : Type 0
+FailedScriptsWroteWhatHadCome = (limit : ℕ) (world : World) → AreTold world → (script taken : List ℕ) (left old new : Option (List ℕ)) (ticks_old ticks_new : ℕ) →
     StopsAtRead limit world script left old new ticks_old ticks_new → Some script ≡ prepend_known taken left → (text : List ℕ) (end : State) →
     Evaluates world (start world) (lines_in false taken) text end → new ≡ append_known old text
 

@@ -9,6 +9,7 @@ pub mod Loading
 pub mod LoadingSteps
 pub mod Moving
 pub mod Outside
+pub mod Passed
 pub mod Performing
 pub mod Program
 pub mod Reporting

@@ -102,7 +102,7 @@ pub record Ended (world : World) (lines : List (List ℕ)) (old new : Option (Li
   pub counted : refusals ≡ refusals_in text
 
 -- The script failed where these first bytes of it had been read: all lines whose LF is among them were evaluated, and all their text was
--- written; as many attempts were made, and such bytes were sent. So it is at each read, whatever comes of it.
+-- written when the run ended; as many attempts were made, and such bytes were sent.
 pub record StopsAtRead (limit : ℕ) (world : World) (script : List ℕ) (left old new : Option (List ℕ)) (ticks_old ticks_new : ℕ) : Type 0 where
   pub taken : List ℕ
   pub told : Some script ≡ prepend_known taken left

@@ -1,5 +1,5 @@
 -- What a line asks for, and what comes of it: from the world, and what the lines before have left.
-use Rattle.std.specs.Prelude.{◌≡◌, ℕ, ◌+◌, ◌-◌, ◌≤◌, Bool, true, false, ◌||◌, is_some, cond, List, [], ◌∷◌, ◌++◌}
+use Rattle.std.specs.Prelude.{◌≡◌, ℕ, ◌+◌, ◌-◌, ◌≤◌, Bool, true, false, ◌||◌, is_some, cond, List, [], ◌∷◌, ◌++◌, flat_map}
 use Rattle.std.specs.FinMap as fin
 use Rattle.std.specs.declared.option.Option.{Option}
 use Rattle.std.specs.declared.option.Option.TheVariants.{Some, None}
@@ -25,7 +25,7 @@ use Rattle.feed_lines.specs.Tellings.{Asking as FeedAsking}
 use Rattle.report_text.specs.declared.cause.Cause.TheVariants as causes
 use Rattle.report_text.specs.Refusals.{of_line, of_unit}
 use Rattle.report_text.specs.Sayings.{said_text}
-use Rattle.stream_lines.specs.Changes.{changes_text}
+use Rattle.stream_lines.specs.Changes.{change_row}
 use Rattle.stream_lines.specs.Streams.{Dump, Taking}
 use Rattle.stream_lines.specs.Until.{TakesCount}
 use Rattle.origin_model.specs.Current.{Parts as Origins}
@@ -198,7 +198,7 @@ pub record IsJudged (parts : Parts) (role : Role) (neighbour : ℕ) (path : List
 pub record ShowsChanges (state : State) (text : List ℕ) (next : State) : Type 0 where
   pub changes : List ChangedKey
   pub are : AreChanges state.analysis changes
-  pub text_is : text ≡ changes_text changes
+  pub text_is : text ≡ flat_map change_row changes
   pub analysis : Analysis
   pub marked : IsMarked state.analysis analysis
   pub left : next ≡ record state { analysis = analysis }

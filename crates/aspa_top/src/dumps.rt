@@ -2,15 +2,16 @@
 ghost use Rattle.std.specs.Prelude.{is_some, true, ◌≡◌, ◌≤◌, Ok, IfOk};
 ghost use Rattle.aspa_top.specs.declared.task.Task.TheVariants.{Open, Take};
 ghost use Rattle.aspa_top.specs.Bounds.{most};
-ghost use Rattle.aspa_top.specs.Outside.{Keeps, outside};
+ghost use Rattle.aspa_top.specs.Passed.{KeepsAll, told};
 ghost use Rattle.aspa_top.specs.Performing.{Did};
 ghost use Rattle.aspa_top.specs.Standing.{IsBegun};
 ghost use Rattle.aspa_top.specs.Working.{IsOpenIn, NamesDump, dump_in};
 
 use crate::acting::refuse;
 use crate::feeding::work_on;
+use crate::outside::Outside;
 use crate::working::Working;
-use av_base::{Links, NoMemory, Shelf, Sink, Steps};
+use av_base::{Links, NoMemory, Shelf, Sink};
 use feed_lines::Work;
 use path_model::Name;
 use report_text::{Cause, Place};
@@ -27,29 +28,22 @@ pub(crate) fn open<F: Shelf, K: Links, W: Sink, L: Ledger>(
     kind: DumpKind,
     name: Name,
     file: &Word,
-    shelf: &mut F,
-    links: &mut K,
-    out: &mut W,
-    text: &mut Vec<u8>,
-    steps: &mut Steps<L>,
+    outside: &mut Outside<F, K, W, L>,
 ) -> Result<Working, Stop>
-    requires begun { IsBegun
-        (outside F.Shelf K.Links W.Sink shelf.old links.old out.old text.old.items steps.old) working }
-    ensures keeps { Keeps
-        (outside F.Shelf K.Links W.Sink shelf.old links.old out.old text.old.items steps.old)
-        (outside F.Shelf K.Links W.Sink shelf.new links.new out.new text.new.items steps.new) }
+    requires begun { IsBegun (told F.Shelf K.Links W.Sink outside.old) working }
+    ensures keeps { KeepsAll F.Shelf K.Links W.Sink outside.old outside.new }
     ensures did { Did working (Ok (Open kind name file.now))
-        (outside F.Shelf K.Links W.Sink shelf.old links.old out.old text.old.items steps.old)
-        (outside F.Shelf K.Links W.Sink shelf.new links.new out.new text.new.items steps.new) result }
+        (told F.Shelf K.Links W.Sink outside.old)
+        (told F.Shelf K.Links W.Sink outside.new) result }
 {
     if working.has_name(&name) {
-        return Ok(refuse(working, Place::Line, Cause::NameTaken, text)?);
+        return Ok(refuse(working, Place::Line, Cause::NameTaken, outside.text)?);
     }
-    let Ok(opened) = shelf.open_file(file.text()) else {
+    let Ok(opened) = outside.shelf.open_file(file.text()) else {
         return Err(Stop::Shelf);
     };
     let Some(number) = opened else {
-        return Ok(refuse(working, Place::Line, Cause::NoFile, text)?);
+        return Ok(refuse(working, Place::Line, Cause::NoFile, outside.text)?);
     };
     let dump = OpenDump::new(alloc, number, kind);
     Ok(name_dump(working, name, dump)?)
@@ -70,39 +64,22 @@ pub(crate) fn take<F: Shelf, K: Links, W: Sink, L: Ledger>(
     working: Working,
     name: &Name,
     count: u32,
-    shelf: &mut F,
-    links: &mut K,
-    out: &mut W,
-    text: &mut Vec<u8>,
-    steps: &mut Steps<L>,
+    outside: &mut Outside<F, K, W, L>,
 ) -> Result<Working, Stop>
     requires few { count ≤ most }
-    requires begun { IsBegun
-        (outside F.Shelf K.Links W.Sink shelf.old links.old out.old text.old.items steps.old) working }
-    ensures keeps { Keeps
-        (outside F.Shelf K.Links W.Sink shelf.old links.old out.old text.old.items steps.old)
-        (outside F.Shelf K.Links W.Sink shelf.new links.new out.new text.new.items steps.new) }
+    requires begun { IsBegun (told F.Shelf K.Links W.Sink outside.old) working }
+    ensures keeps { KeepsAll F.Shelf K.Links W.Sink outside.old outside.new }
     ensures did { Did working (Ok (Take name.now count))
-        (outside F.Shelf K.Links W.Sink shelf.old links.old out.old text.old.items steps.old)
-        (outside F.Shelf K.Links W.Sink shelf.new links.new out.new text.new.items steps.new) result }
+        (told F.Shelf K.Links W.Sink outside.old)
+        (told F.Shelf K.Links W.Sink outside.new) result }
 {
     let Some(dump) = working.dumps.get(name) else {
-        return work_on(
-            alloc,
-            working,
-            name,
-            Work::Take(count),
-            shelf,
-            links,
-            out,
-            text,
-            steps,
-        );
+        return work_on(alloc, working, name, Work::Take(count), outside);
     };
     if dump.is_over() {
-        return Ok(refuse(working, Place::Line, Cause::StreamOver, text)?);
+        return Ok(refuse(working, Place::Line, Cause::StreamOver, outside.text)?);
     }
-    take_open(alloc, working, name, count, shelf, links, out, text, steps)
+    take_open(alloc, working, name, count, outside)
 }
 
 // Takes the next units of a dump that isn't over.
@@ -111,22 +88,15 @@ fn take_open<F: Shelf, K: Links, W: Sink, L: Ledger>(
     working: Working,
     name: &Name,
     count: u32,
-    shelf: &mut F,
-    links: &mut K,
-    out: &mut W,
-    text: &mut Vec<u8>,
-    steps: &mut Steps<L>,
+    outside: &mut Outside<F, K, W, L>,
 ) -> Result<Working, Stop>
     requires few { count ≤ most }
     requires is { IsOpenIn working name.now }
-    requires begun { IsBegun
-        (outside F.Shelf K.Links W.Sink shelf.old links.old out.old text.old.items steps.old) working }
-    ensures keeps { Keeps
-        (outside F.Shelf K.Links W.Sink shelf.old links.old out.old text.old.items steps.old)
-        (outside F.Shelf K.Links W.Sink shelf.new links.new out.new text.new.items steps.new) }
+    requires begun { IsBegun (told F.Shelf K.Links W.Sink outside.old) working }
+    ensures keeps { KeepsAll F.Shelf K.Links W.Sink outside.old outside.new }
     ensures did { Did working (Ok (Take name.now count))
-        (outside F.Shelf K.Links W.Sink shelf.old links.old out.old text.old.items steps.old)
-        (outside F.Shelf K.Links W.Sink shelf.new links.new out.new text.new.items steps.new) result }
+        (told F.Shelf K.Links W.Sink outside.old)
+        (told F.Shelf K.Links W.Sink outside.new) result }
 {
     let Working {
         analyser,
@@ -154,7 +124,16 @@ fn take_open<F: Shelf, K: Links, W: Sink, L: Ledger>(
     let Some(dump) = dumps.get_mut(name) else {
         unreachable!();
     };
-    let taken = take_units(alloc, dump, asked, progress, shelf, out, text, steps)?;
+    let taken = take_units(
+        alloc,
+        dump,
+        asked,
+        progress,
+        outside.shelf,
+        outside.out,
+        outside.text,
+        outside.steps,
+    )?;
     Ok(Working {
         analyser: taken.analyser,
         marks: taken.marks,

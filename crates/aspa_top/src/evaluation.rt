@@ -4,12 +4,13 @@ ghost use Rattle.std.specs.Io.KnownBytes.{append_known};
 ghost use Rattle.av_base.specs.Told.{Grows, HasCause, Rose};
 ghost use Rattle.av_text.specs.Lines.{lines_in};
 ghost use Rattle.aspa_top.specs.Evaluated.{Performed, Poured};
-ghost use Rattle.aspa_top.specs.Outside.{Keeps, outside};
+ghost use Rattle.aspa_top.specs.Passed.{KeepsAll, told_unheld};
 ghost use Rattle.aspa_top.specs.Standing.{IsReady};
 
+use crate::outside::Outside;
 use crate::performing::perform_line;
 use crate::working::Working;
-use av_base::{Fault, Links, Shelf, Sink, Steps, pour, pour_piece};
+use av_base::{Fault, Links, Shelf, Sink, pour, pour_piece};
 use av_text::next_line;
 use std::alloc::Global;
 use std::sync::ledger::Ledger;
@@ -23,23 +24,18 @@ pub(crate) fn perform_lines<F: Shelf, K: Links, W: Sink, L: Ledger>(
     mut working: Working,
     lines: &[u8],
     whole: bool,
-    shelf: &mut F,
-    links: &mut K,
-    out: &mut W,
-    steps: &mut Steps<L>,
+    outside: &mut Outside<F, K, W, L>,
 ) -> Result<Working, Stop>
     requires room { working.lines + length lines.now < 2 ^ 31 }
-    requires ready { IsReady
-        (outside F.Shelf K.Links W.Sink shelf.old links.old out.old [] steps.old) working }
-    ensures keeps { Keeps
-        (outside F.Shelf K.Links W.Sink shelf.old links.old out.old [] steps.old)
-        (outside F.Shelf K.Links W.Sink shelf.new links.new out.new [] steps.new) }
+    requires unheld { outside.old.text.now.items ≡ [] }
+    requires ready { IsReady (told_unheld F.Shelf K.Links W.Sink outside.old) working }
+    ensures keeps { KeepsAll F.Shelf K.Links W.Sink outside.old outside.new }
     ensures performed { Performed working (lines_in whole lines.now)
-        (outside F.Shelf K.Links W.Sink shelf.old links.old out.old [] steps.old)
-        (outside F.Shelf K.Links W.Sink shelf.new links.new out.new [] steps.new) result }
+        (told_unheld F.Shelf K.Links W.Sink outside.old)
+        (told_unheld F.Shelf K.Links W.Sink outside.new) result }
     ensures few { IfOk result (λ next. next.lines ≤ working.lines + length lines.now) }
+    ensures poured { IfOk result (λ next. outside.new.text.now.items ≡ []) }
 {
-    let mut text = Vec::new(alloc);
     let mut left = lines;
     while let Some((line, more)) = next_line(left, whole) {
         left = more;
@@ -48,13 +44,13 @@ pub(crate) fn perform_lines<F: Shelf, K: Links, W: Sink, L: Ledger>(
             working.lines += 1;
             continue;
         }
-        pour_before(line, out, &mut text)?;
-        match perform_line(alloc, working, line, shelf, links, out, &mut text, steps) {
+        pour_before(line, outside.out, outside.text)?;
+        match perform_line(alloc, working, line, outside) {
             Ok(next) => working = next,
-            Err(stop) => return Err(write_held(stop, out, &mut text)),
+            Err(stop) => return Err(write_held(stop, outside.out, outside.text)),
         }
     }
-    pour(out, &mut text)?;
+    pour(outside.out, outside.text)?;
     Ok(working)
 }
 

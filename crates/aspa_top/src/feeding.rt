@@ -3,13 +3,14 @@ ghost use Rattle.std.specs.Prelude.{◌≤◌, Ok};
 ghost use Rattle.feed_lines.specs.Lines.{units_of};
 ghost use Rattle.aspa_top.specs.declared.task.Task.TheVariants.{Connect, OnFeed};
 ghost use Rattle.aspa_top.specs.Bounds.{most};
-ghost use Rattle.aspa_top.specs.Outside.{Keeps, outside};
+ghost use Rattle.aspa_top.specs.Passed.{KeepsAll, told};
 ghost use Rattle.aspa_top.specs.Performing.{Did};
 ghost use Rattle.aspa_top.specs.Standing.{IsBegun};
 
 use crate::acting::refuse;
+use crate::outside::Outside;
 use crate::working::Working;
-use av_base::{Links, Shelf, Sink, Steps};
+use av_base::{Links, Shelf, Sink};
 use feed_lines::{Progress, Work, connect, work};
 use path_model::Name;
 use report_text::{Cause, Place};
@@ -25,23 +26,16 @@ pub(crate) fn connect_feed<F: Shelf, K: Links, W: Sink, L: Ledger>(
     working: Working,
     name: &Name,
     place: &Word,
-    shelf: &mut F,
-    links: &mut K,
-    out: &mut W,
-    text: &mut Vec<u8>,
-    steps: &mut Steps<L>,
+    outside: &mut Outside<F, K, W, L>,
 ) -> Result<Working, Stop>
-    requires begun { IsBegun
-        (outside F.Shelf K.Links W.Sink shelf.old links.old out.old text.old.items steps.old) working }
-    ensures keeps { Keeps
-        (outside F.Shelf K.Links W.Sink shelf.old links.old out.old text.old.items steps.old)
-        (outside F.Shelf K.Links W.Sink shelf.new links.new out.new text.new.items steps.new) }
+    requires begun { IsBegun (told F.Shelf K.Links W.Sink outside.old) working }
+    ensures keeps { KeepsAll F.Shelf K.Links W.Sink outside.old outside.new }
     ensures did { Did working (Ok (Connect name.now place.now))
-        (outside F.Shelf K.Links W.Sink shelf.old links.old out.old text.old.items steps.old)
-        (outside F.Shelf K.Links W.Sink shelf.new links.new out.new text.new.items steps.new) result }
+        (told F.Shelf K.Links W.Sink outside.old)
+        (told F.Shelf K.Links W.Sink outside.new) result }
 {
     if working.is_no_feeds(name) {
-        return Ok(refuse(working, Place::Line, Cause::NameTaken, text)?);
+        return Ok(refuse(working, Place::Line, Cause::NameTaken, outside.text)?);
     }
     // it comes with what stands in a name
     let _name = name.text();
@@ -65,8 +59,8 @@ pub(crate) fn connect_feed<F: Shelf, K: Links, W: Sink, L: Ledger>(
         place.text(),
         &mut feeds,
         progress,
-        links,
-        text,
+        outside.links,
+        outside.text,
     )?;
     Ok(Working {
         analyser: next.analyser,
@@ -89,21 +83,14 @@ pub(crate) fn work_on<F: Shelf, K: Links, W: Sink, L: Ledger>(
     working: Working,
     name: &Name,
     asked: Work,
-    shelf: &mut F,
-    links: &mut K,
-    out: &mut W,
-    text: &mut Vec<u8>,
-    steps: &mut Steps<L>,
+    outside: &mut Outside<F, K, W, L>,
 ) -> Result<Working, Stop>
     requires within { units_of asked ≤ most }
-    requires begun { IsBegun
-        (outside F.Shelf K.Links W.Sink shelf.old links.old out.old text.old.items steps.old) working }
-    ensures keeps { Keeps
-        (outside F.Shelf K.Links W.Sink shelf.old links.old out.old text.old.items steps.old)
-        (outside F.Shelf K.Links W.Sink shelf.new links.new out.new text.new.items steps.new) }
+    requires begun { IsBegun (told F.Shelf K.Links W.Sink outside.old) working }
+    ensures keeps { KeepsAll F.Shelf K.Links W.Sink outside.old outside.new }
     ensures did { Did working (Ok (OnFeed name.now asked))
-        (outside F.Shelf K.Links W.Sink shelf.old links.old out.old text.old.items steps.old)
-        (outside F.Shelf K.Links W.Sink shelf.new links.new out.new text.new.items steps.new) result }
+        (told F.Shelf K.Links W.Sink outside.old)
+        (told F.Shelf K.Links W.Sink outside.new) result }
 {
     // it comes with what stands in a name
     let _name = name.text();
@@ -128,9 +115,9 @@ pub(crate) fn work_on<F: Shelf, K: Links, W: Sink, L: Ledger>(
         &mut feeds,
         progress,
         &mut origins,
-        links,
-        text,
-        steps,
+        outside.links,
+        outside.text,
+        outside.steps,
     )?;
     Ok(Working {
         analyser: next.analyser,

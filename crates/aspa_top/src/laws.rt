@@ -1,5 +1,5 @@
 //! Laws of the definitions: the contract of each function is the law, and its body does nothing.
-ghost use Rattle.aspa_top.specs.Laws.{EachScriptWithoutAttemptsHasAText, FeedsWereConnected, LinesAreAnsweredBeforeReads, NoScriptHasTwoTexts, RefusalsAreCounted, RunsWriteFronts, ServedRoutersGetTheTable, SourcesHaveFeedsPayloads, UnbrokenFeedsAreLostAtEnd};
+ghost use Rattle.aspa_top.specs.Laws.{EachScriptWithoutAttemptsHasAText, FeedsWereConnected, FailedScriptsWroteWhatHadCome, NoScriptHasTwoTexts, RefusalsAreCounted, RunsWriteFronts, ServedRoutersGetTheTable, SourcesHaveFeedsPayloads, UnbrokenFeedsAreLostAtEnd};
 
 /// In a world whose attempts are told no script has two texts.
 pub fn no_script_has_two_texts()
@@ -16,10 +16,10 @@ pub fn runs_write_fronts()
     ensures { RunsWriteFronts }
 {}
 
-/// Where the script failed, exactly the text of the lines whose LF had been read was written. As any read may fail, all lines that have come
-/// are answered before the program waits for more of the script.
-pub fn lines_are_answered_before_reads()
-    ensures { LinesAreAnsweredBeforeReads }
+/// Where a run ended because the script failed, exactly the text of the lines whose LF had been read was written: no line less, and nothing of
+/// the part after them.
+pub fn failed_scripts_wrote_what_had_come()
+    ensures { FailedScriptsWroteWhatHadCome }
 {}
 
 /// As many refusals are counted as the text of the lines has lines that begin with `! `: it is the number that `summary` shows.

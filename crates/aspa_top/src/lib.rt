@@ -18,6 +18,7 @@ mod judging;
 mod laws;
 mod listing;
 mod loading;
+mod outside;
 mod performing;
 mod program;
 mod script;
@@ -30,8 +31,8 @@ mod words;
 mod working;
 
 pub use laws::{
-    each_script_without_attempts_has_a_text, feeds_were_connected, lines_are_answered_before_reads,
-    no_script_has_two_texts, refusals_are_counted, runs_write_fronts, served_routers_get_the_table,
-    sources_have_feeds_payloads, unbroken_feeds_are_lost_at_end,
+    each_script_without_attempts_has_a_text, failed_scripts_wrote_what_had_come,
+    feeds_were_connected, no_script_has_two_texts, refusals_are_counted, runs_write_fronts,
+    served_routers_get_the_table, sources_have_feeds_payloads, unbroken_feeds_are_lost_at_end,
 };
 pub use program::{SCRIPT_LIMIT, run};

@@ -2,7 +2,7 @@
 ghost use Rattle.std.specs.Prelude.{◌≡◌, ◌^◌, ◌<◌, Some, Ok, IfOk};
 ghost use Rattle.aspa_top.specs.Bounds.{IsWithinTask};
 ghost use Rattle.aspa_top.specs.Evaluation.{line_cause as cause_of_fault};
-ghost use Rattle.aspa_top.specs.Outside.{Keeps, outside};
+ghost use Rattle.aspa_top.specs.Passed.{KeepsAll, told};
 ghost use Rattle.aspa_top.specs.Performing.{Did, DidLine};
 ghost use Rattle.aspa_top.specs.Standing.{IsBegun, IsReady};
 
@@ -11,13 +11,14 @@ use crate::answering::answer;
 use crate::dumps::{open, take};
 use crate::feeding::{connect_feed, work_on};
 use crate::listing::list_changes;
+use crate::outside::Outside;
 use crate::serving::serve_routers;
 use crate::short::perform_short;
 use crate::tables::load;
 use crate::task::{Task, task_of};
 use crate::until::take_up_to;
 use crate::working::Working;
-use av_base::{Links, NoMemory, Shelf, Sink, Steps};
+use av_base::{Links, NoMemory, Shelf, Sink};
 use report_text::{Cause, Place};
 use script_lines::{Command, LineFault, read};
 use std::alloc::Global;
@@ -29,21 +30,15 @@ pub(crate) fn perform_line<F: Shelf, K: Links, W: Sink, L: Ledger>(
     alloc: Global,
     working: Working,
     line: &[u8],
-    shelf: &mut F,
-    links: &mut K,
-    out: &mut W,
-    text: &mut Vec<u8>,
-    steps: &mut Steps<L>,
+    outside: &mut Outside<F, K, W, L>,
 ) -> Result<Working, Stop>
     requires room { working.lines < 2 ^ 31 }
     requires ready { IsReady
-        (outside F.Shelf K.Links W.Sink shelf.old links.old out.old text.old.items steps.old) working }
-    ensures keeps { Keeps
-        (outside F.Shelf K.Links W.Sink shelf.old links.old out.old text.old.items steps.old)
-        (outside F.Shelf K.Links W.Sink shelf.new links.new out.new text.new.items steps.new) }
+        (told F.Shelf K.Links W.Sink outside.old) working }
+    ensures keeps { KeepsAll F.Shelf K.Links W.Sink outside.old outside.new }
     ensures did { DidLine working line.now
-        (outside F.Shelf K.Links W.Sink shelf.old links.old out.old text.old.items steps.old)
-        (outside F.Shelf K.Links W.Sink shelf.new links.new out.new text.new.items steps.new) result }
+        (told F.Shelf K.Links W.Sink outside.old)
+        (told F.Shelf K.Links W.Sink outside.new) result }
 {
     let counted = Working {
         lines: working.lines + 1,
@@ -52,21 +47,10 @@ pub(crate) fn perform_line<F: Shelf, K: Links, W: Sink, L: Ledger>(
     match read(alloc, line) {
         // Nothing is made ready here that a command alone needs.
         Ok(Command::Idle) => Ok(counted),
-        Ok(command) => {
-            perform_task(
-                alloc,
-                counted,
-                task_of(command),
-                shelf,
-                links,
-                out,
-                text,
-                steps,
-            )
-        }
+        Ok(command) => { perform_task(alloc, counted, task_of(command), outside) }
         Err(fault) => {
             let cause = line_cause(fault)?;
-            Ok(refuse(counted, Place::Line, cause, text)?)
+            Ok(refuse(counted, Place::Line, cause, outside.text)?)
         }
     }
 }
@@ -77,59 +61,29 @@ fn perform_task<F: Shelf, K: Links, W: Sink, L: Ledger>(
     alloc: Global,
     working: Working,
     task: Task,
-    shelf: &mut F,
-    links: &mut K,
-    out: &mut W,
-    text: &mut Vec<u8>,
-    steps: &mut Steps<L>,
+    outside: &mut Outside<F, K, W, L>,
 ) -> Result<Working, Stop>
     requires within { IsWithinTask task }
     requires begun { IsBegun
-        (outside F.Shelf K.Links W.Sink shelf.old links.old out.old text.old.items steps.old) working }
-    ensures keeps { Keeps
-        (outside F.Shelf K.Links W.Sink shelf.old links.old out.old text.old.items steps.old)
-        (outside F.Shelf K.Links W.Sink shelf.new links.new out.new text.new.items steps.new) }
+        (told F.Shelf K.Links W.Sink outside.old) working }
+    ensures keeps { KeepsAll F.Shelf K.Links W.Sink outside.old outside.new }
     ensures did { Did working (Ok task)
-        (outside F.Shelf K.Links W.Sink shelf.old links.old out.old text.old.items steps.old)
-        (outside F.Shelf K.Links W.Sink shelf.new links.new out.new text.new.items steps.new) result }
+        (told F.Shelf K.Links W.Sink outside.old)
+        (told F.Shelf K.Links W.Sink outside.new) result }
 {
     match task {
-        Task::Short(short) => {
-            perform_short(alloc, working, short, shelf, links, out, text, steps)
-        }
-        Task::Load(kind, file) => {
-            load(alloc, working, kind, &file, shelf, links, out, text, steps)
-        }
-        Task::Open(kind, name, file) => {
-            open(
-                alloc, working, kind, name, &file, shelf, links, out, text, steps,
-            )
-        }
-        Task::Take(name, count) => {
-            take(alloc, working, &name, count, shelf, links, out, text, steps)
-        }
-        Task::Until(name, moment) => {
-            take_up_to(
-                alloc, working, &name, moment, shelf, links, out, text, steps,
-            )
-        }
-        Task::Connect(name, place) => {
-            connect_feed(
-                alloc, working, &name, &place, shelf, links, out, text, steps,
-            )
-        }
+        Task::Short(short) => { perform_short(alloc, working, short, outside) }
+        Task::Load(kind, file) => { load(alloc, working, kind, &file, outside) }
+        Task::Open(kind, name, file) => { open(alloc, working, kind, name, &file, outside) }
+        Task::Take(name, count) => { take(alloc, working, &name, count, outside) }
+        Task::Until(name, moment) => { take_up_to(alloc, working, &name, moment, outside) }
+        Task::Connect(name, place) => { connect_feed(alloc, working, &name, &place, outside) }
         Task::Serve(place, session, count) => {
-            serve_routers(
-                alloc, working, &place, session, count, shelf, links, out, text, steps,
-            )
+            serve_routers(alloc, working, &place, session, count, outside)
         }
-        Task::OnFeed(name, work) => {
-            work_on(alloc, working, &name, work, shelf, links, out, text, steps)
-        }
-        Task::Answer(question) => {
-            answer(alloc, working, question, shelf, links, out, text, steps)
-        }
-        Task::Changes => list_changes(working, shelf, links, out, text, steps),
+        Task::OnFeed(name, work) => { work_on(alloc, working, &name, work, outside) }
+        Task::Answer(question) => { answer(alloc, working, question, outside) }
+        Task::Changes => list_changes(working, outside),
     }
 }
 

@@ -7,11 +7,13 @@ ghost use Rattle.connection_calls.specs.Faults.{BreaksByFault, NewAreUnbroken};
 ghost use Rattle.report_text.specs.Reported.{AddsLines, IsWithinRise, unreachables_in};
 ghost use Rattle.aspa_top.specs.Evaluated.{RunsSource, status_of};
 ghost use Rattle.aspa_top.specs.Outside.{Keeps, outside};
-ghost use Rattle.aspa_top.specs.Program.{AreOwn, Completes, Demonstrates, IsDemo, IsEnding, IsRun, IsStatus, RanIfTold, StarvedIfTold};
+ghost use Rattle.aspa_top.specs.Passed.{KeepsAll, told_unheld};
+ghost use Rattle.aspa_top.specs.Program.{AreOwn, Completes, Demonstrates, IsDemo, IsEnding, IsRun, IsStatus, IsWhole, RanIfTold, StarvedIfTold};
 ghost use Rattle.aspa_top.specs.World.{GoesOn, linked, names_of};
 
 use crate::demo::run_demo;
 use crate::evaluation::perform_lines;
+use crate::outside::Outside;
 use crate::script::{Piece, let_go, read_piece};
 use crate::words::{Form, form_of};
 use crate::working::Working;
@@ -76,8 +78,9 @@ pub fn run<S: Source, F: Shelf, K: Links, W: Sink, L: Ledger>(
         ⊎ Rose (F.faults shelf.old) (F.faults shelf.new) }
     ensures sink_cause { result ≡ 4 → Rose (W.faults out.old) (W.faults out.new) }
 
-    // Where the script failed, and not the shelf, whole lines were written, whatever is told.
-    ensures whole_lines { IsRun (map string_bytes words.now.items) → result ≡ 3
+    // Where all lines that had come were performed, whole lines were written, where the sink tells what was written and whatever the
+    // script, the shelf and the links tell.
+    ensures whole_lines { IsRun (map string_bytes words.now.items) → IsWhole result ⊎ (result ≡ 3)
         → ¬ Rose (F.faults shelf.old) (F.faults shelf.new) → AddsLines
         (W.written out.old) (W.written out.new) (K.faults links.old) (K.faults links.new) }
 
@@ -144,6 +147,32 @@ fn run_script<S: Source, F: Shelf, K: Links, W: Sink, L: Ledger>(
         (outside F.Shelf K.Links W.Sink shelf.new links.new out.new [] steps.new) result }
     ensures script_faults { S.faults script.old ≤ S.faults script.new }
 {
+    let mut text = Vec::new(alloc);
+    let mut outside = Outside {
+        shelf,
+        links,
+        out,
+        text: &mut text,
+        steps,
+    };
+    run_pieces(alloc, script, &mut outside)
+}
+
+// The same, where all that is outside is passed as one.
+fn run_pieces<S: Source, F: Shelf, K: Links, W: Sink, L: Ledger>(
+    alloc: Global,
+    script: &mut S,
+    outside: &mut Outside<F, K, W, L>,
+) -> u8
+    requires unheld { outside.old.text.now.items ≡ [] }
+    ensures known { IsEnding result }
+    ensures keeps { KeepsAll F.Shelf K.Links W.Sink outside.old outside.new }
+    ensures runs { RunsSource SCRIPT_LIMIT (S.left script.old) (S.left script.new)
+        (Rose (S.faults script.old) (S.faults script.new))
+        (told_unheld F.Shelf K.Links W.Sink outside.old)
+        (told_unheld F.Shelf K.Links W.Sink outside.new) result }
+    ensures script_faults { S.faults script.old ≤ S.faults script.new }
+{
     let Ok(mut working) = Working::new(alloc) else {
         return 5;
     };
@@ -154,7 +183,7 @@ fn run_script<S: Source, F: Shelf, K: Links, W: Sink, L: Ledger>(
         match read_piece(script, &mut held, room, &mut buffer) {
             Ok(Piece::More(count, end)) => {
                 let (lines, _) = held.as_slice().split_at(end);
-                match perform_lines(alloc, working, lines, false, shelf, links, out, steps) {
+                match perform_lines(alloc, working, lines, false, outside) {
                     Ok(next) => working = next,
                     Err(stop) => return status_of(stop),
                 }
@@ -163,7 +192,7 @@ fn run_script<S: Source, F: Shelf, K: Links, W: Sink, L: Ledger>(
             }
             Ok(Piece::End) => {
                 let lines = held.as_slice();
-                match perform_lines(alloc, working, lines, true, shelf, links, out, steps) {
+                match perform_lines(alloc, working, lines, true, outside) {
                     Ok(last) => return status_at_end(last),
                     Err(stop) => return status_of(stop),
                 }

@@ -5,14 +5,15 @@ ghost use Rattle.std.specs.Ordering.{nat_cmp};
 ghost use Rattle.rtr_cache.specs.Cache.{FitsPdus};
 ghost use Rattle.aspa_top.specs.declared.task.Task.TheVariants.{Serve};
 ghost use Rattle.aspa_top.specs.Bounds.{most};
-ghost use Rattle.aspa_top.specs.Outside.{Keeps, outside};
+ghost use Rattle.aspa_top.specs.Passed.{KeepsAll, told};
 ghost use Rattle.aspa_top.specs.Performing.{Did};
 ghost use Rattle.aspa_top.specs.Serving.{TakesTable};
 ghost use Rattle.aspa_top.specs.Standing.{HasRoom, IsBegun};
 
 use crate::acting::refuse;
+use crate::outside::Outside;
 use crate::working::Working;
-use av_base::{Links, NoMemory, Shelf, Sink, Steps};
+use av_base::{Links, NoMemory, Shelf, Sink};
 use report_text::{Cause, Place, put_served};
 use rtr_cache::{Cache, fits_pdus};
 use script_lines::Word;
@@ -31,24 +32,17 @@ pub(crate) fn serve_routers<F: Shelf, K: Links, W: Sink, L: Ledger>(
     place: &Word,
     session: u16,
     count: u32,
-    shelf: &mut F,
-    links: &mut K,
-    out: &mut W,
-    text: &mut Vec<u8>,
-    steps: &mut Steps<L>,
+    outside: &mut Outside<F, K, W, L>,
 ) -> Result<Working, Stop>
     requires few { count ≤ most }
-    requires begun { IsBegun
-        (outside F.Shelf K.Links W.Sink shelf.old links.old out.old text.old.items steps.old) working }
-    ensures keeps { Keeps
-        (outside F.Shelf K.Links W.Sink shelf.old links.old out.old text.old.items steps.old)
-        (outside F.Shelf K.Links W.Sink shelf.new links.new out.new text.new.items steps.new) }
+    requires begun { IsBegun (told F.Shelf K.Links W.Sink outside.old) working }
+    ensures keeps { KeepsAll F.Shelf K.Links W.Sink outside.old outside.new }
     ensures did { Did working (Ok (Serve place.now session count))
-        (outside F.Shelf K.Links W.Sink shelf.old links.old out.old text.old.items steps.old)
-        (outside F.Shelf K.Links W.Sink shelf.new links.new out.new text.new.items steps.new) result }
+        (told F.Shelf K.Links W.Sink outside.old)
+        (told F.Shelf K.Links W.Sink outside.new) result }
 {
     if !fits_pdus(working.analyser.store().table()) {
-        return Ok(refuse(working, Place::Line, Cause::RowLong, text)?);
+        return Ok(refuse(working, Place::Line, Cause::RowLong, outside.text)?);
     }
     let Working {
         analyser,
@@ -63,13 +57,22 @@ pub(crate) fn serve_routers<F: Shelf, K: Links, W: Sink, L: Ledger>(
         refused,
     } = working;
     let cache = cache_of(alloc, &mut caches, session, analyser.store().table())?;
-    let served = match serve(alloc, lines, &cache, place.text(), count, links, out, text) {
+    let served = match serve(
+        alloc,
+        lines,
+        &cache,
+        place.text(),
+        count,
+        outside.links,
+        outside.out,
+        outside.text,
+    ) {
         Ok(served) => served,
         Err(serve_lines::Stop::Sink) => return Err(Stop::Sink),
         Err(serve_lines::Stop::NoMemory) => return Err(Stop::NoMemory),
     };
     keep(&mut caches, session, cache)?;
-    put_served(text, served.accepted, served.answers)?;
+    put_served(outside.text, served.accepted, served.answers)?;
     Ok(Working {
         analyser,
         marks,

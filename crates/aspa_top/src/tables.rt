@@ -3,13 +3,14 @@ ghost use Rattle.std.specs.Prelude.{◌≡◌, ◌^◌, ◌<◌, Ok, IfOk, OnErr
 ghost use Rattle.analyser.specs.declared.event.Event.TheVariants.{Table as TableEvent};
 ghost use Rattle.analyser.specs.Touched.{TicksWithin};
 ghost use Rattle.aspa_top.specs.declared.task.Task.TheVariants.{Load};
-ghost use Rattle.aspa_top.specs.Outside.{Keeps, outside};
+ghost use Rattle.aspa_top.specs.Passed.{KeepsAll, told};
 ghost use Rattle.aspa_top.specs.Performing.{Did};
 ghost use Rattle.aspa_top.specs.Standing.{IsBegun};
 ghost use Rattle.aspa_top.specs.Working.{Acted, ActedWithin, Amended, Loaded, Names};
 
 use crate::acting::{happen, refuse};
 use crate::loading::{Amendment, FileKind, Made, Outcome, load_file};
+use crate::outside::Outside;
 use crate::working::Working;
 use analyser::Event;
 use av_base::{Links, NoMemory, Shelf, Sink, Steps};
@@ -27,28 +28,21 @@ pub(crate) fn load<F: Shelf, K: Links, W: Sink, L: Ledger>(
     working: Working,
     kind: FileKind,
     file: &Word,
-    shelf: &mut F,
-    links: &mut K,
-    out: &mut W,
-    text: &mut Vec<u8>,
-    steps: &mut Steps<L>,
+    outside: &mut Outside<F, K, W, L>,
 ) -> Result<Working, Stop>
-    requires begun { IsBegun
-        (outside F.Shelf K.Links W.Sink shelf.old links.old out.old text.old.items steps.old) working }
-    ensures keeps { Keeps
-        (outside F.Shelf K.Links W.Sink shelf.old links.old out.old text.old.items steps.old)
-        (outside F.Shelf K.Links W.Sink shelf.new links.new out.new text.new.items steps.new) }
+    requires begun { IsBegun (told F.Shelf K.Links W.Sink outside.old) working }
+    ensures keeps { KeepsAll F.Shelf K.Links W.Sink outside.old outside.new }
     ensures did { Did working (Ok (Load kind file.now))
-        (outside F.Shelf K.Links W.Sink shelf.old links.old out.old text.old.items steps.old)
-        (outside F.Shelf K.Links W.Sink shelf.new links.new out.new text.new.items steps.new) result }
+        (told F.Shelf K.Links W.Sink outside.old)
+        (told F.Shelf K.Links W.Sink outside.new) result }
 {
     if working.is_taken(&kind) {
-        return Ok(refuse(working, Place::Line, Cause::NameTaken, text)?);
+        return Ok(refuse(working, Place::Line, Cause::NameTaken, outside.text)?);
     }
     // it comes with what stands in a name
     let _name = kind.unit_name();
-    let outcome = load_file(alloc, &kind, file.text(), shelf)?;
-    Ok(act_on(working, kind, outcome, text, steps)?)
+    let outcome = load_file(alloc, &kind, file.text(), outside.shelf)?;
+    Ok(act_on(working, kind, outcome, outside.text, outside.steps)?)
 }
 
 // Makes the change of a good file, and refuses the line by another one.

@@ -1,14 +1,15 @@
 //! `until`: the records of a dump up to a moment.
 ghost use Rattle.std.specs.Prelude.{Ok};
 ghost use Rattle.aspa_top.specs.declared.task.Task.TheVariants.{Until};
-ghost use Rattle.aspa_top.specs.Outside.{Keeps, outside};
+ghost use Rattle.aspa_top.specs.Passed.{KeepsAll, told};
 ghost use Rattle.aspa_top.specs.Performing.{Did};
 ghost use Rattle.aspa_top.specs.Standing.{IsBegun};
 ghost use Rattle.aspa_top.specs.Working.{HasRecordsIn};
 
 use crate::acting::refuse;
+use crate::outside::Outside;
 use crate::working::Working;
-use av_base::{Links, Shelf, Sink, Steps};
+use av_base::{Links, Shelf, Sink};
 use path_model::Name;
 use report_text::{Cause, Place};
 use std::alloc::Global;
@@ -25,31 +26,24 @@ pub(crate) fn take_up_to<F: Shelf, K: Links, W: Sink, L: Ledger>(
     working: Working,
     name: &Name,
     moment: u32,
-    shelf: &mut F,
-    links: &mut K,
-    out: &mut W,
-    text: &mut Vec<u8>,
-    steps: &mut Steps<L>,
+    outside: &mut Outside<F, K, W, L>,
 ) -> Result<Working, Stop>
-    requires begun { IsBegun
-        (outside F.Shelf K.Links W.Sink shelf.old links.old out.old text.old.items steps.old) working }
-    ensures keeps { Keeps
-        (outside F.Shelf K.Links W.Sink shelf.old links.old out.old text.old.items steps.old)
-        (outside F.Shelf K.Links W.Sink shelf.new links.new out.new text.new.items steps.new) }
+    requires begun { IsBegun (told F.Shelf K.Links W.Sink outside.old) working }
+    ensures keeps { KeepsAll F.Shelf K.Links W.Sink outside.old outside.new }
     ensures did { Did working (Ok (Until name.now moment))
-        (outside F.Shelf K.Links W.Sink shelf.old links.old out.old text.old.items steps.old)
-        (outside F.Shelf K.Links W.Sink shelf.new links.new out.new text.new.items steps.new) result }
+        (told F.Shelf K.Links W.Sink outside.old)
+        (told F.Shelf K.Links W.Sink outside.new) result }
 {
     let Some(dump) = working.dumps.get(name) else {
-        return Ok(refuse(working, Place::Line, Cause::NoName, text)?);
+        return Ok(refuse(working, Place::Line, Cause::NoName, outside.text)?);
     };
     if !dump.is_of_records() {
-        return Ok(refuse(working, Place::Line, Cause::NoName, text)?);
+        return Ok(refuse(working, Place::Line, Cause::NoName, outside.text)?);
     }
     if dump.is_over() {
-        return Ok(refuse(working, Place::Line, Cause::StreamOver, text)?);
+        return Ok(refuse(working, Place::Line, Cause::StreamOver, outside.text)?);
     }
-    take_open(alloc, working, name, moment, shelf, links, out, text, steps)
+    take_open(alloc, working, name, moment, outside)
 }
 
 // Takes the records of a dump that isn't over.
@@ -58,21 +52,14 @@ fn take_open<F: Shelf, K: Links, W: Sink, L: Ledger>(
     working: Working,
     name: &Name,
     moment: u32,
-    shelf: &mut F,
-    links: &mut K,
-    out: &mut W,
-    text: &mut Vec<u8>,
-    steps: &mut Steps<L>,
+    outside: &mut Outside<F, K, W, L>,
 ) -> Result<Working, Stop>
     requires is { HasRecordsIn working name.now }
-    requires begun { IsBegun
-        (outside F.Shelf K.Links W.Sink shelf.old links.old out.old text.old.items steps.old) working }
-    ensures keeps { Keeps
-        (outside F.Shelf K.Links W.Sink shelf.old links.old out.old text.old.items steps.old)
-        (outside F.Shelf K.Links W.Sink shelf.new links.new out.new text.new.items steps.new) }
+    requires begun { IsBegun (told F.Shelf K.Links W.Sink outside.old) working }
+    ensures keeps { KeepsAll F.Shelf K.Links W.Sink outside.old outside.new }
     ensures did { Did working (Ok (Until name.now moment))
-        (outside F.Shelf K.Links W.Sink shelf.old links.old out.old text.old.items steps.old)
-        (outside F.Shelf K.Links W.Sink shelf.new links.new out.new text.new.items steps.new) result }
+        (told F.Shelf K.Links W.Sink outside.old)
+        (told F.Shelf K.Links W.Sink outside.new) result }
 {
     let Working {
         analyser,
@@ -101,7 +88,15 @@ fn take_open<F: Shelf, K: Links, W: Sink, L: Ledger>(
         unreachable!();
     };
     let taken = take_until(
-        alloc, dump, asked, moment, progress, shelf, out, text, steps,
+        alloc,
+        dump,
+        asked,
+        moment,
+        progress,
+        outside.shelf,
+        outside.out,
+        outside.text,
+        outside.steps,
     )?;
     Ok(Working {
         analyser: taken.analyser,

@@ -10,7 +10,7 @@ ghost use Rattle.std.specs.String.{string_bytes};
 ghost use Rattle.std.specs.Io.KnownBytes.{IsAtEnd};
 ghost use Rattle.av_base.specs.Told.{Rose};
 ghost use Rattle.report_text.specs.Reported.{AddsLines};
-ghost use Rattle.aspa_top.specs.Program.{AreOwn, Completes, Demonstrates, IsDemo, IsRun, IsStatus, RanIfTold};
+ghost use Rattle.aspa_top.specs.Program.{AreOwn, Completes, Demonstrates, IsDemo, IsRun, IsStatus, IsWhole, RanIfTold};
 ghost use Rattle.aspa_top.specs.World.{linked, names_of};
 
 use aspa_top::{SCRIPT_LIMIT, run};
@@ -91,7 +91,7 @@ fn perform<S: Source, F: Shelf, K: Links, W: Sink, L: Ledger>(
     ensures input_cause { result ≡ 3 → Rose (S.faults script.old) (S.faults script.new)
         ⊎ Rose (F.faults shelf.old) (F.faults shelf.new) }
     ensures sink_cause { result ≡ 4 → Rose (W.faults out.old) (W.faults out.new) }
-    ensures whole_lines { IsRun (map string_bytes words.now.items) → result ≡ 3
+    ensures whole_lines { IsRun (map string_bytes words.now.items) → IsWhole result ⊎ (result ≡ 3)
         → ¬ Rose (F.faults shelf.old) (F.faults shelf.new) → AddsLines
         (W.written out.old) (W.written out.new) (K.faults links.old) (K.faults links.new) }
     ensures complete { IsRun (map string_bytes words.now.items) → Completes SCRIPT_LIMIT (S.left script.old)

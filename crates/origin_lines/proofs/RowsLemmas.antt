@@ -1,5 +1,5 @@
 -- Rows of states that are written line by line, and that none reads as a refusal.
-use Rattle.std.proofs.Common.{◌≡◌, ℕ, List, [], ◌∷◌, ◌++◌, map, Ok, Err, OnOk, refl, sym, subst, ◌∙◌, ap, append_assoc}
+use Rattle.std.proofs.Common.{◌≡◌, ℕ, ◌<◌, ◌≤◌, List, [], ◌∷◌, ◌++◌, length, map, Ok, Err, IsErrOf, OnOk, refl, sym, subst, ◌∙◌, ap, append_assoc}
 use Rattle.std.specs.FinMap as fin
 use Rattle.std.specs.Io.KnownBytes.{append_known}
 use Rattle.std.specs.List.{All}
@@ -7,6 +7,7 @@ use Rattle.std.specs.declared.option.Option.{Option}
 use Rattle.std.specs.declared.result.Result.{Result}
 use Rattle.std.proofs.lemmas.List.{append-nil}
 use Rattle.std.proofs.lemmas.List.Elements.{All-map}
+use Rattle.av_base.specs.Told.{Grows, Rose}
 use Rattle.av_base.proofs.ToldLemmas.{append_known-append, append_known-nil}
 use Rattle.path_model.specs.declared.key.Key.{Key}
 use Rattle.path_model.specs.Routes.{Routes}
@@ -14,14 +15,17 @@ use Rattle.path_model.specs.Trail.{Path}
 use Rattle.origin_model.specs.declared.origin_state.OriginState.{OriginState}
 use Rattle.origin_model.specs.Current.{Parts, IsCurrent}
 use Rattle.origin_model.specs.OriginState.{HasState, IsStateOf}
-use Rattle.origin_validation.specs.Rows.{AreRowsOf}
+use Rattle.origin_validation.specs.Rows.{AreOriginRows, AreRowsOf}
 use Rattle.origin_validation.proofs.RowLemmas.{rows_both, some_rows}
 use Rattle.report_text.specs.Laws.{IsAnswerLine}
 use Rattle.report_text.specs.Origins.{origin_line, origin_text}
 use Rattle.report_text.specs.Reported.{lines_text}
 use Rattle.report_text.proofs.AnswerLemmas.{origin_is_one_line}
-use Rattle.origin_lines.specs.Each.{ListsBefore, ListsFirst, ListsUpToOne}
-use Rattle.origin_lines.specs.Rows.{Lists, ListsFront, origins_text}
+use Rattle.stream_lines.specs.declared.stop.Stop.{Stop}
+use Rattle.stream_lines.specs.declared.stop.Stop.TheVariants.{Shelf, Sink}
+use Rattle.stream_lines.specs.Listing.{Lists, Pouring, all_of}
+use Rattle.origin_lines.specs.Each.{ListsBefore, ListsFirst, ListsUpToOne, origins_text}
+use Rattle.origin_lines.specs.Rows.{origin_row}
 
 text_both : (rows more : List (Key × OriginState)) → origins_text (rows ++ more) ≡ origins_text rows ++ origins_text more
 text_both [] more = refl
@@ -98,26 +102,41 @@ first_all parts old new routes all = record { rest = []; before = all }
 
 -- ---- the whole list
 
-pub lists : {T E : Type 0} (result : Result T E) (routes : Routes) (parts now : Parts) (left : List (Key × Path)) (old new : Option (List ℕ)) → left ≡ fin.entries routes → now ≡ parts
-    → OnOk result (ListsBefore now left [] old new) → OnOk result (Lists routes parts old new)
-lists {T} {E} (Ok x) routes parts now left old new is same before = record {
+-- all were listed, or the first ones where that ended early
+pub origins_listed : {T : Type 0} (result : Result T Stop) (routes : Routes) (parts now : Parts) (left : List (Key × Path)) (old new : Pouring) → left ≡ fin.entries routes → now ≡ parts
+    → OnOk result (ListsBefore now left [] (all_of old) (all_of new)) → ListsFirst now left (all_of old) (all_of new) → (IsErrOf result Sink → 0 < length new.held)
+    → (IsErrOf result Sink → Rose old.faults new.faults) → old.faults ≤ new.faults → Grows old.written new.written → (IsErrOf result Shelf → ⊥)
+    → Lists (AreOriginRows routes parts) origin_row old new result
+origins_listed {T} (Ok x) routes parts now left old new is same before first held cause faults grows no_shelf = record {
   rows = before.rows;
   are = subst (λ (p : Parts). AreRowsOf p (fin.entries routes) before.rows) same
       (subst (λ (l : List (Key × Path)). AreRowsOf now l before.rows) (sym (append-nil before.listed) ∙ sym before.whole ∙ is) before.are);
-  added = before.added;
+  listed = record {
+    whole = before.added;
+    front = record { rest = []; before = record { front = origins_text before.rows; whole = sym (append-nil (origins_text before.rows)); told = before.added } };
+    held = held;
+    sink_cause = cause;
+    sink_faults = faults;
+    grows = grows;
+    no_shelf = no_shelf;
+  };
 }
-lists {T} {E} (Err e) routes parts now left old new is same before = tt
-
-pub lists_front : (routes : Routes) (parts now : Parts) (left : List (Key × Path)) (old new : Option (List ℕ)) → left ≡ fin.entries routes → now ≡ parts → ListsFirst now left old new
-    → ListsFront routes parts old new
-lists_front routes parts now left old new is same first =
+origins_listed {T} (Err e) routes parts now left old new is same all first held cause faults grows no_shelf =
     let before = first.before in
     let more = some_rows now first.rest in
     record {
       rows = before.rows ++ more.0;
       are = subst (λ (p : Parts). AreRowsOf p (fin.entries routes) (before.rows ++ more.0)) same
           (subst (λ (l : List (Key × Path)). AreRowsOf now l (before.rows ++ more.0)) (sym before.whole ∙ is) (rows_both now before.listed first.rest before.rows more.0 before.are more.1));
-      front = record { rest = origins_text more.0; before = record { front = origins_text before.rows; whole = text_both before.rows more.0; told = before.added } };
+      listed = record {
+        whole = tt;
+        front = record { rest = origins_text more.0; before = record { front = origins_text before.rows; whole = text_both before.rows more.0; told = before.added } };
+        held = held;
+        sink_cause = cause;
+        sink_faults = faults;
+        grows = grows;
+        no_shelf = no_shelf;
+      };
     }
 
 -- ---- lines

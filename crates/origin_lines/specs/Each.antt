@@ -1,5 +1,5 @@
 -- The routes that were listed before others; private contracts alone cite it.
-use Rattle.std.specs.Prelude.{◌≡◌, ℕ, List, [], ◌∷◌, ◌++◌}
+use Rattle.std.specs.Prelude.{◌≡◌, ℕ, List, [], ◌∷◌, ◌++◌, flat_map}
 use Rattle.std.specs.Io.KnownBytes.{append_known}
 use Rattle.std.specs.declared.option.Option.{Option}
 use Rattle.std.specs.declared.option.Option.TheVariants.{None, Some}
@@ -9,7 +9,11 @@ use Rattle.origin_model.specs.declared.origin_state.OriginState.{OriginState}
 use Rattle.origin_model.specs.Current.{Parts}
 use Rattle.origin_model.specs.OriginState.{origin_of}
 use Rattle.origin_validation.specs.Rows.{AreRowsOf}
-use Rattle.origin_lines.specs.Rows.{origins_text}
+use Rattle.origin_lines.specs.Rows.{origin_row}
+
+-- one line for each row
+abbrev pub origins_text : List (Key × OriginState) → List ℕ
+origins_text rows = flat_map origin_row rows
 
 -- the lines of these routes but for the rest were added; `all` is what was written and then what is held
 pub record ListsBefore (parts : Parts) (routes rest : List (Key × Path)) (all_old all_new : Option (List ℕ)) : Type 0 where

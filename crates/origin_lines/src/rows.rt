@@ -3,8 +3,10 @@ ghost use Rattle.std.specs.Prelude.{◌≡◌, ◌<◌, ◌≤◌, [], length, I
 ghost use Rattle.std.specs.Io.KnownBytes.{append_known};
 ghost use Rattle.av_base.specs.Told.{Grows, Rose};
 ghost use Rattle.rib_store.specs.Trails.{trails_left};
+ghost use Rattle.origin_validation.specs.Rows.{AreOriginRows};
+ghost use Rattle.stream_lines.specs.Listing.{Lists, pouring};
 ghost use Rattle.origin_lines.specs.Each.{ListsBefore, ListsFirst, ListsUpTo};
-ghost use Rattle.origin_lines.specs.Rows.{Lists, ListsFront};
+ghost use Rattle.origin_lines.specs.Rows.{origin_row};
 
 use av_base::{Sink, pour_piece};
 use origin_model::origin_of;
@@ -22,20 +24,9 @@ pub fn put_origins<W: Sink>(
     out: &mut W,
     text: &mut Vec<u8>,
 ) -> Result<(), Stop>
-    ensures whole { OnOk result (Lists store.now.state.routes origins.old
-        (append_known (W.written out.old) text.old.items)
-        (append_known (W.written out.new) text.new.items)) }
-
-    // Whether it ended early or not.
-    ensures front { ListsFront store.now.state.routes origins.old
-        (append_known (W.written out.old) text.old.items)
-        (append_known (W.written out.new) text.new.items) }
     ensures same { origins.new ≡ origins.old }
-    ensures held { IsErrOf result Stop.Sink → 0 < length text.new.items }
-    ensures sink_cause { IsErrOf result Stop.Sink → Rose (W.faults out.old) (W.faults out.new) }
-    ensures sink_faults { W.faults out.old ≤ W.faults out.new }
-    ensures grows { Grows (W.written out.old) (W.written out.new) }
-    ensures no_shelf { IsErrOf result Stop.Shelf → ⊥ }
+    ensures lists { Lists (AreOriginRows store.now.state.routes origins.old) origin_row
+        (pouring W.Sink out.old text.old.items) (pouring W.Sink out.new text.new.items) result }
 {
     origins.make_room(store.counts().routes);
     put_each(store.trails(), origins, out, text)

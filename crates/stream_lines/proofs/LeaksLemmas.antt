@@ -1,29 +1,25 @@
 -- Leaks that are written line by line, that there is one list of them, and that none reads as a refusal.
-use Rattle.std.proofs.Common.{◌≡◌, ℕ, not, List, [], ◌∷◌, ◌++◌, map, filter, Ok, Err, OnOk, refl, sym, ap, subst, ◌∙◌}
+use Rattle.std.proofs.Common.{◌≡◌, ℕ, not, List, [], ◌∷◌, ◌++◌, map, filter, flat_map, refl, ap, subst, ◌∙◌}
 use Rattle.std.specs.FinMap as fin
-use Rattle.std.specs.Io.KnownBytes.{append_known}
-use Rattle.std.specs.List.{All, AllZip}
-use Rattle.std.specs.declared.option.Option.{Option}
+use Rattle.std.specs.List.{All, AllZip, concat}
 use Rattle.std.specs.declared.result.Result.{Result}
 use Rattle.std.proofs.lemmas.List.Elements.{All-map}
 use Rattle.av_base.specs.One.{HasOne}
-use Rattle.av_base.specs.Told.{AppendsBefore, AppendsFront}
-use Rattle.av_base.proofs.ToldLemmas.{append_known-append, AppendsBefore-more}
 use Rattle.path_model.specs.declared.key.Key.{Key}
 use Rattle.path_model.specs.declared.otc.Otc.{Otc}
 use Rattle.path_model.specs.Roles.{Relations, role_of}
 use Rattle.otc_check.specs.declared.leaks.Leak.{Leak}
 use Rattle.otc_check.specs.declared.leaks.Leak.TheVariants.{Clean, Customer, RsClient, Peer, Malformed}
-use Rattle.otc_check.specs.Leak.{IsLeak}
 use Rattle.otc_check.specs.Marks.{Marked}
-use Rattle.otc_check.specs.LeakBy.{leak_of}
 use Rattle.otc_check.proofs.LeakLemmas.{is_leak_of, only_leak_of}
 use Rattle.report_text.specs.Laws.{IsAnswerLine}
 use Rattle.report_text.specs.Leaks.{leak_line, leak_text}
 use Rattle.report_text.specs.Reported.{lines_text}
 use Rattle.report_text.proofs.AnswerLemmas.{leak_is_one_line}
-use Rattle.stream_lines.specs.EachLeak.{each_leak_text, found_by, leak_or_nothing, leaks_of}
-use Rattle.stream_lines.specs.Leaks.{AreLeaks, IsFound, Lists, ListsFront, is_clean, leaks_text}
+use Rattle.stream_lines.specs.EachLeak.{found_by, leak_or_nothing, leaks_of, piece_of}
+use Rattle.stream_lines.specs.Leaks.{AreLeaks, IsFound, is_clean, leak_row}
+use Rattle.stream_lines.specs.Listing.{Listed, Lists, Pouring}
+use Rattle.stream_lines.specs.declared.stop.Stop.{Stop}
 
 -- ---- the list of all
 
@@ -53,42 +49,25 @@ one_list_of_leaks relations marks = record {
 -- ---- line by line
 
 -- the line of one, or nothing, and then the others
-one_more : (key : Key) (leak : Leak) (rows : List (Key × Leak))
-    → leaks_text (filter (λ row. not (is_clean row.1)) ((key, leak) ∷ rows)) ≡ leak_or_nothing key leak ++ leaks_text (filter (λ row. not (is_clean row.1)) rows)
-one_more key Clean rows = refl
-one_more key (Customer asn) rows = refl
-one_more key (RsClient asn) rows = refl
-one_more key (Peer asn) rows = refl
-one_more key Malformed rows = refl
+one_more : (row : Key × Leak) (rows : List (Key × Leak)) (others : List ℕ) → others ≡ flat_map leak_row (filter (λ row. not (is_clean row.1)) rows)
+    → leak_or_nothing row ++ others ≡ flat_map leak_row (filter (λ row. not (is_clean row.1)) (row ∷ rows))
+one_more (key, Clean) rows others is = is
+one_more (key, Customer asn) rows others is = ap (λ (t : List ℕ). leak_text key (Customer asn) ++ t) is
+one_more (key, RsClient asn) rows others is = ap (λ (t : List ℕ). leak_text key (RsClient asn) ++ t) is
+one_more (key, Peer asn) rows others is = ap (λ (t : List ℕ). leak_text key (Peer asn) ++ t) is
+one_more (key, Malformed) rows others is = ap (λ (t : List ℕ). leak_text key Malformed ++ t) is
 
--- one more is held, if it is a leak, and what is held was perhaps written
-pub leaks_next : (relations : Relations) (old mid new : Option (List ℕ)) (marks left more : List (Key × Otc)) (key : Key) (otc : Otc) (leak : Leak) (written : Option (List ℕ)) (text_old text_new : List ℕ)
-    → AppendsBefore old mid (each_leak_text relations marks) (each_leak_text relations left) → left ≡ (key, otc) ∷ more → IsLeak (role_of relations key.peer.asn) key.peer.asn otc leak
-    → mid ≡ append_known written text_old → text_new ≡ text_old ++ leak_or_nothing key leak → new ≡ append_known written text_new
-    → AppendsBefore old new (each_leak_text relations marks) (each_leak_text relations more)
-leaks_next relations old mid new marks left more key otc leak written text_old text_new so_far is right held added same =
-    let found = leak_of (role_of relations key.peer.asn) key.peer.asn otc in
-    let line = leak_or_nothing key found in
-    let put = added ∙ ap (λ (l : Leak). text_old ++ leak_or_nothing key l) (only_leak_of (role_of relations key.peer.asn) key.peer.asn otc leak right) in
-    AppendsBefore-more so_far new line (each_leak_text relations more) (ap (each_leak_text relations) is ∙ one_more key found (map (found_by relations) more))
-    (same ∙ ap (append_known written) put ∙ sym (append_known-append written text_old line) ∙ ap (λ (m : Option (List ℕ)). append_known m line) (sym held))
+-- what the steps of marks add are the lines of their leaks
+pieces_are : (relations : Relations) (marks : List (Key × Otc)) → concat (map (piece_of relations) marks) ≡ flat_map leak_row (leaks_of relations marks)
+pieces_are relations [] = refl
+pieces_are relations (mark ∷ marks) = one_more (found_by relations mark) (map (found_by relations) marks) _ (pieces_are relations marks)
 
--- the leaks of marks, if these are the ones that were left
-pub lists : {T E : Type 0} (result : Result T E) (relations : Relations) (marks : Marked) (left : List (Key × Otc)) (old new : Option (List ℕ)) → left ≡ fin.entries marks
-    → OnOk result (new ≡ append_known old (each_leak_text relations left)) → OnOk result (Lists relations marks old new)
-lists {T} {E} (Ok x) relations marks left old new is added = record {
+pub leaks_listed : {T : Type 0} (relations : Relations) (marks : Marked) (old new : Pouring) (result : Result T Stop) → Listed (concat (map (piece_of relations) (fin.entries marks))) old new result
+    → Lists (AreLeaks relations marks) leak_row old new result
+leaks_listed {T} relations marks old new result listed = record {
   rows = leaks_of relations (fin.entries marks);
   are = are_leaks relations marks;
-  added = added ∙ ap (λ (l : List (Key × Otc)). append_known old (each_leak_text relations l)) is;
-}
-lists {T} {E} (Err e) relations marks left old new is added = tt
-
-pub lists_front : (relations : Relations) (marks : Marked) (left : List (Key × Otc)) (old new : Option (List ℕ)) → left ≡ fin.entries marks → AppendsFront old new (each_leak_text relations left)
-    → ListsFront relations marks old new
-lists_front relations marks left old new is front = record {
-  rows = leaks_of relations (fin.entries marks);
-  are = are_leaks relations marks;
-  front = subst (λ (l : List (Key × Otc)). AppendsFront old new (each_leak_text relations l)) is front;
+  listed = subst (λ (t : List ℕ). Listed t old new result) (pieces_are relations (fin.entries marks)) listed;
 }
 
 -- ---- lines
@@ -96,7 +75,7 @@ lists_front relations marks left old new is front = record {
 abbrev pub leak_line_of : Key × Leak → List ℕ
 leak_line_of row = leak_line row.0 row.1
 
-pub leaks_are_lines : (rows : List (Key × Leak)) → leaks_text rows ≡ lines_text (map leak_line_of rows)
+pub leaks_are_lines : (rows : List (Key × Leak)) → flat_map leak_row rows ≡ lines_text (map leak_line_of rows)
 leaks_are_lines [] = refl
 leaks_are_lines (row ∷ rows) = ap (λ (t : List ℕ). leak_text row.0 row.1 ++ t) (leaks_are_lines rows)
 

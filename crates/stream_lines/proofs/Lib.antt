@@ -1,10 +1,10 @@
-pub mod ChangesLemmas
 pub mod ComingLemmas
 pub mod FrameLemmas
 pub mod HoldingLemmas
 pub mod JudgementLemmas
 pub mod LawLemmas
 pub mod LeaksLemmas
+pub mod ListingLemmas
 pub mod NextLemmas
 pub mod PieceLemmas
 pub mod RefusalLemmas

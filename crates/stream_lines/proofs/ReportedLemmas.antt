@@ -1,5 +1,5 @@
 -- The lines of reports and of units say of no feed that its place wasn't to be had.
-use Rattle.std.proofs.Common.{◌≡◌, ℕ, List, [], ◌∷◌, ◌++◌, map, refl, sym, ap, subst, ◌∙◌}
+use Rattle.std.proofs.Common.{◌≡◌, ℕ, List, [], ◌∷◌, ◌++◌, map, flat_map, refl, sym, ap, subst, ◌∙◌}
 use Rattle.std.specs.Io.KnownBytes.{append_known}
 use Rattle.std.specs.List.{All}
 use Rattle.std.specs.declared.option.Option.{Option}
@@ -18,50 +18,39 @@ use Rattle.report_text.specs.Rows.{row_line, row_text}
 use Rattle.report_text.proofs.AnswerLemmas.{row_is_one_line, change_is_one_line}
 use Rattle.report_text.proofs.ReportedLemmas.{adds_answers, adds_answers_front, adds_quiet_none, adds_refusal, quiet_more}
 use Rattle.rib_store.specs.declared.journal.ChangedKey.{ChangedKey}
-use Rattle.rib_store.specs.State.{State}
-use Rattle.stream_lines.specs.Changes.{changes_text, Lists, ListsFront}
-use Rattle.stream_lines.specs.Rows.{rows_text, Reports, ReportsFront}
+use Rattle.stream_lines.specs.Changes.{change_row}
+use Rattle.stream_lines.specs.Rows.{row_of}
 
 -- ---- rows
 
 abbrev pub line_of : Key × Verdict → List ℕ
 line_of row = row_line row.0 row.1
 
-pub rows_are_lines : (rows : List (Key × Verdict)) → rows_text rows ≡ lines_text (map line_of rows)
+pub rows_are_lines : (rows : List (Key × Verdict)) → flat_map row_of rows ≡ lines_text (map line_of rows)
 rows_are_lines [] = refl
 rows_are_lines (row ∷ rows) = ap (λ (t : List ℕ). row_text row.0 row.1 ++ t) (rows_are_lines rows)
 
 pub rows_answer : (rows : List (Key × Verdict)) → All IsAnswerLine (map line_of rows)
 rows_answer rows = All-map IsAnswerLine line_of rows (λ k row within. row_is_one_line _ _)
 
-pub rows_reported : (state : State) (old new : Option (List ℕ)) → Reports state old new → AddsQuiet old new
-rows_reported state old new reports =
-    adds_answers old new (map line_of reports.rows) (rows_answer reports.rows) (reports.added ∙ ap (append_known old) (rows_are_lines reports.rows))
-
-pub rows_reported_front : (state : State) (old new : Option (List ℕ)) → ReportsFront state old new → (faults : ℕ) → AddsFront old new faults faults
-rows_reported_front state old new reports faults =
-    adds_answers_front old new (map line_of reports.rows) faults (rows_answer reports.rows) (subst (AppendsFront old new) (rows_are_lines reports.rows) reports.front)
-
 -- ---- changes
 
 abbrev pub line_of_change : ChangedKey → List ℕ
 line_of_change change = change_line change.key change.before change.after
 
-pub changes_are_lines : (changes : List ChangedKey) → changes_text changes ≡ lines_text (map line_of_change changes)
+pub changes_are_lines : (changes : List ChangedKey) → flat_map change_row changes ≡ lines_text (map line_of_change changes)
 changes_are_lines [] = refl
 changes_are_lines (change ∷ changes) = ap (λ (t : List ℕ). (line_of_change change ++ 10 ∷ []) ++ t) (changes_are_lines changes)
 
 pub changes_answer : (changes : List ChangedKey) → All IsAnswerLine (map line_of_change changes)
 changes_answer changes = All-map IsAnswerLine line_of_change changes (λ k change within. change_is_one_line _ _ _)
 
-pub changes_reported : (state : State) (old new : Option (List ℕ)) → Lists state old new → AddsQuiet old new
-changes_reported state old new lists =
-    adds_answers old new (map line_of_change lists.changes) (changes_answer lists.changes) (lists.added ∙ ap (append_known old) (changes_are_lines lists.changes))
+pub changes_reported : (old new : Option (List ℕ)) (changes : List ChangedKey) → new ≡ append_known old (flat_map change_row changes) → AddsQuiet old new
+changes_reported old new changes added = adds_answers old new (map line_of_change changes) (changes_answer changes) (added ∙ ap (append_known old) (changes_are_lines changes))
 
-pub changes_reported_front : (state : State) (old new : Option (List ℕ)) → ListsFront state old new → (faults : ℕ) → AddsFront old new faults faults
-changes_reported_front state old new lists faults =
-    adds_answers_front old new (map line_of_change lists.changes) faults (changes_answer lists.changes)
-    (subst (AppendsFront old new) (changes_are_lines lists.changes) lists.front)
+pub changes_reported_front : (old new : Option (List ℕ)) (changes : List ChangedKey) → AppendsFront old new (flat_map change_row changes) → (faults : ℕ) → AddsFront old new faults faults
+changes_reported_front old new changes front faults =
+    adds_answers_front old new (map line_of_change changes) faults (changes_answer changes) (subst (AppendsFront old new) (changes_are_lines changes) front)
 
 -- ---- units
 

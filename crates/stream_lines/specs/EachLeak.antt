@@ -5,8 +5,7 @@ use Rattle.path_model.specs.declared.otc.Otc.{Otc}
 use Rattle.path_model.specs.Roles.{Relations, role_of}
 use Rattle.otc_check.specs.declared.leaks.Leak.{Leak}
 use Rattle.otc_check.specs.LeakBy.{leak_of}
-use Rattle.report_text.specs.Leaks.{leak_text}
-use Rattle.stream_lines.specs.Leaks.{is_clean, leaks_text}
+use Rattle.stream_lines.specs.Leaks.{is_clean, leak_row}
 
 -- the leak of a mark, by the present roles
 abbrev pub found_by : Relations → Key × Otc → Key × Leak
@@ -16,10 +15,10 @@ found_by relations mark = (mark.0, leak_of (role_of relations mark.0.peer.asn) m
 abbrev pub leaks_of : Relations → List (Key × Otc) → List (Key × Leak)
 leaks_of relations marks = filter (λ row. not (is_clean row.1)) (map (found_by relations) marks)
 
--- their lines
-abbrev pub each_leak_text : Relations → List (Key × Otc) → List ℕ
-each_leak_text relations marks = leaks_text (leaks_of relations marks)
-
 -- the line of one, or nothing
-abbrev pub leak_or_nothing : Key → Leak → List ℕ
-leak_or_nothing key leak = if is_clean leak then [] else leak_text key leak
+abbrev pub leak_or_nothing : Key × Leak → List ℕ
+leak_or_nothing row = if is_clean row.1 then [] else leak_row row
+
+-- what the step of a mark adds
+abbrev pub piece_of : Relations → Key × Otc → List ℕ
+piece_of relations mark = leak_or_nothing (found_by relations mark)

@@ -1,10 +1,7 @@
 -- The text of the leaks that Only-to-Customer marks (RFC 9234, section 5).
-use Rattle.std.specs.Prelude.{◌≡◌, ℕ, Bool, true, false, not, List, [], ◌∷◌, ◌++◌, filter}
+use Rattle.std.specs.Prelude.{◌≡◌, ℕ, Bool, true, false, not, List, filter}
 use Rattle.std.specs.FinMap as fin
-use Rattle.std.specs.Io.KnownBytes.{append_known}
 use Rattle.std.specs.List.{AllZip}
-use Rattle.std.specs.declared.option.Option.{Option}
-use Rattle.av_base.specs.Told.{AppendsFront}
 use Rattle.path_model.specs.declared.key.Key.{Key}
 use Rattle.path_model.specs.declared.otc.Otc.{Otc}
 use Rattle.path_model.specs.Roles.{Relations, role_of}
@@ -33,19 +30,6 @@ pub record AreLeaks (roles : Relations) (marks : Marked) (rows : List (Key × Le
   pub are : AllZip (IsFound roles) (fin.entries marks) all
   pub leaks : rows ≡ filter (λ row. not (is_clean row.1)) all
 
--- one line for each row
-abbrev pub leaks_text : List (Key × Leak) → List ℕ
-leaks_text [] = []
-leaks_text (row ∷ rows) = leak_text row.0 row.1 ++ leaks_text rows
-
--- the lines of these leaks were added; `all` is what was written and then what is held
-pub record Lists (roles : Relations) (marks : Marked) (all_old all_new : Option (List ℕ)) : Type 0 where
-  pub rows : List (Key × Leak)
-  pub are : AreLeaks roles marks rows
-  pub added : all_new ≡ append_known all_old (leaks_text rows)
-
--- a front of them was, perhaps nothing and perhaps all
-pub record ListsFront (roles : Relations) (marks : Marked) (all_old all_new : Option (List ℕ)) : Type 0 where
-  pub rows : List (Key × Leak)
-  pub are : AreLeaks roles marks rows
-  pub front : AppendsFront all_old all_new (leaks_text rows)
+-- the line of a row
+abbrev pub leak_row : Key × Leak → List ℕ
+leak_row row = leak_text row.0 row.1

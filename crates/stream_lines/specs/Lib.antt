@@ -2,12 +2,14 @@ pub mod Changes
 pub mod Codes
 pub mod Counts
 pub mod EachLeak
+pub mod EachRow
 pub mod Frames
 pub mod Gives
 pub mod Held
 pub mod Holding
 pub mod Laws
 pub mod Leaks
+pub mod Listing
 pub mod Rows
 pub mod Stops
 pub mod Streams

@@ -25,6 +25,7 @@ mod effect;
 mod kind;
 mod laws;
 mod leaks;
+mod listing;
 mod messages;
 mod next;
 mod reader;
@@ -43,6 +44,7 @@ pub use laws::{
     until_has_one_outcome,
 };
 pub use leaks::put_leaks;
+pub use listing::{Listing, put_all};
 pub use rows::put_rows;
 pub use stop::{ReadFault, Stop};
 pub use summary::summary_of;

@@ -1,8 +1,7 @@
 -- Details that are written line by line, that each state has one list of them, and that none reads as a refusal.
-use Rattle.std.proofs.Common.{◌≡◌, ℕ, Bool, true, false, cond, List, [], ◌∷◌, ◌++◌, get_or, length, map, Ok, Err, OnOk, refl, sym, ap, subst, ◌∙◌, arith}
+use Rattle.std.proofs.Common.{◌≡◌, ℕ, Bool, true, false, cond, List, [], ◌∷◌, ◌++◌, get_or, length, map, flat_map, if◌then◌else◌, refl, sym, ap, subst, ◌∙◌, arith}
 use Rattle.std.specs.FinMap as fin
-use Rattle.std.specs.Io.KnownBytes.{append_known}
-use Rattle.std.specs.List.{All}
+use Rattle.std.specs.List.{All, concat}
 use Rattle.std.specs.Option.{unwrap_or}
 use Rattle.std.specs.Prelude.{Some}
 use Rattle.std.specs.declared.option.Option.{Option}
@@ -10,8 +9,6 @@ use Rattle.std.specs.declared.result.Result.{Result}
 use Rattle.std.proofs.lemmas.List.Elements.{All-from_recursion, All-head, All-map, All-tail, All-weaker}
 use Rattle.std.proofs.lemmas.Simd.{map-map}
 use Rattle.av_base.specs.One.{HasOne, HasOnePair}
-use Rattle.av_base.specs.Told.{AppendsBefore, AppendsFront}
-use Rattle.av_base.proofs.ToldLemmas.{append_known-append, AppendsBefore-more}
 use Rattle.path_model.specs.declared.key.Key.{Key}
 use Rattle.path_model.specs.declared.role.Role.{Role}
 use Rattle.path_model.specs.declared.verdict.Verdict.{Verdict}
@@ -32,7 +29,10 @@ use Rattle.report_text.proofs.AnswerLemmas.{detail_is_one_line}
 use Rattle.rib_store.specs.Shown.{AreShown, IsExplained, IsRouteStanding, Standing}
 use Rattle.rib_store.specs.State.{State}
 use Rattle.rib_store.proofs.KeyLemmas.{AllFound, all_found}
-use Rattle.suspect_lines.specs.Details.{AreDetails, ListsDetails, ListsDetailsFront, asked_of, details_text, is_asked, row_text}
+use Rattle.stream_lines.specs.declared.stop.Stop.{Stop}
+use Rattle.stream_lines.specs.Listing.{Listed, Lists, Pouring}
+use Rattle.suspect_lines.specs.Details.{AreDetails, asked_of, detail_row, is_asked}
+use Rattle.suspect_lines.specs.EachDetail.{piece_of}
 
 -- ---- the list of all routes
 
@@ -128,52 +128,31 @@ one_list_of_details state asked = details_by state (λ asn path. one_printed (ta
 
 -- ---- line by line
 
--- the text of the routes that are asked for, of one and the others
-abbrev asked_text : Option Verdict → List (Key × Standing) → List ℕ
-asked_text asked routes = details_text (asked_of asked routes)
+-- what the steps of some routes add are the lines of those that are asked for
+one_more : (asked : Bool) (row : Key × Standing) (rows : List (Key × Standing)) → (if asked then detail_row row else []) ++ flat_map detail_row rows ≡ flat_map detail_row (cond asked (row ∷ rows) rows)
+one_more true row rows = refl
+one_more false row rows = refl
 
-text_with : (asked : Option Verdict) (key : Key) (s : Standing) (more : List (Key × Standing)) → is_asked asked s.verdict ≡ true
-    → asked_text asked ((key, s) ∷ more) ≡ row_text key s ++ asked_text asked more
-text_with asked key s more is = ap (λ (b : Bool). details_text (cond b ((key, s) ∷ asked_of asked more) (asked_of asked more))) is
+pieces_are : (asked : Option Verdict) (rows : List (Key × Standing)) → concat (map (piece_of asked) rows) ≡ flat_map detail_row (asked_of asked rows)
+pieces_are asked [] = refl
+pieces_are asked (row ∷ rows) = ap (λ (t : List ℕ). piece_of asked row ++ t) (pieces_are asked rows) ∙ one_more (is_asked asked row.1.verdict) row (asked_of asked rows)
 
-text_without : (asked : Option Verdict) (key : Key) (s : Standing) (more : List (Key × Standing)) → is_asked asked s.verdict ≡ false
-    → asked_text asked ((key, s) ∷ more) ≡ asked_text asked more
-text_without asked key s more is = ap (λ (b : Bool). details_text (cond b ((key, s) ∷ asked_of asked more) (asked_of asked more))) is
-
--- one route more is held, and what is held was perhaps written
-pub details_next : (asked : Option Verdict) (old mid new : Option (List ℕ)) (routes left more : List (Key × Standing)) (key : Key) (s : Standing) (written : Option (List ℕ)) (text_old text_new : List ℕ)
-    → AppendsBefore old mid (asked_text asked routes) (asked_text asked left) → left ≡ (key, s) ∷ more → is_asked asked s.verdict ≡ true → mid ≡ append_known written text_old
-    → text_new ≡ text_old ++ row_text key s → new ≡ append_known written text_new → AppendsBefore old new (asked_text asked routes) (asked_text asked more)
-details_next asked old mid new routes left more key s written text_old text_new so_far is wanted held added same =
-    let line = row_text key s in
-    AppendsBefore-more so_far new line (asked_text asked more) (ap (asked_text asked) is ∙ text_with asked key s more wanted)
-    (same ∙ ap (append_known written) added ∙ sym (append_known-append written text_old line) ∙ ap (λ (m : Option (List ℕ)). append_known m line) (sym held))
-
--- one is passed over that isn't asked for
-pub details_pass : (asked : Option Verdict) (old mid : Option (List ℕ)) (routes left more : List (Key × Standing)) (key : Key) (s : Standing)
-    → AppendsBefore old mid (asked_text asked routes) (asked_text asked left) → left ≡ (key, s) ∷ more → is_asked asked s.verdict ≡ false
-    → AppendsBefore old mid (asked_text asked routes) (asked_text asked more)
-details_pass asked old mid routes left more key s so_far is unwanted =
-    subst (λ (t : List ℕ). AppendsBefore old mid (asked_text asked routes) t) (ap (asked_text asked) is ∙ text_without asked key s more unwanted) so_far
-
--- the routes that are asked for, of all of a state
-pub lists : {T E : Type 0} (result : Result T E) (state : State) (asked : Option Verdict) (all : List (Key × Standing)) (old new : Option (List ℕ)) → AreShown state all
-    → OnOk result (new ≡ append_known old (asked_text asked all)) → OnOk result (ListsDetails state asked old new)
-lists {T} {E} (Ok x) state asked all old new are added = record { rows = asked_of asked all; are = record { all = all; are = are; asked_for = refl }; added = added }
-lists {T} {E} (Err e) state asked all old new are added = tt
-
-pub lists_front : (state : State) (asked : Option Verdict) (all : List (Key × Standing)) (old new : Option (List ℕ)) → AreShown state all
-    → AppendsFront old new (asked_text asked all) → ListsDetailsFront state asked old new
-lists_front state asked all old new are front = record { rows = asked_of asked all; are = record { all = all; are = are; asked_for = refl }; front = front }
+pub details_listed : {T : Type 0} (state : State) (asked : Option Verdict) (all : List (Key × Standing)) (old new : Pouring) (result : Result T Stop) → AreShown state all
+    → Listed (concat (map (piece_of asked) all)) old new result → Lists (AreDetails state asked) detail_row old new result
+details_listed {T} state asked all old new result are listed = record {
+  rows = asked_of asked all;
+  are = record { all = all; are = are; asked_for = refl };
+  listed = subst (λ (t : List ℕ). Listed t old new result) (pieces_are asked all) listed;
+}
 
 -- ---- lines
 
 abbrev pub detail_line_of : Key × Standing → List ℕ
 detail_line_of row = detail_line row.0 row.1.verdict row.1.witness row.1.path
 
-pub details_are_lines : (rows : List (Key × Standing)) → details_text rows ≡ lines_text (map detail_line_of rows)
+pub details_are_lines : (rows : List (Key × Standing)) → flat_map detail_row rows ≡ lines_text (map detail_line_of rows)
 details_are_lines [] = refl
-details_are_lines (row ∷ rows) = ap (λ (t : List ℕ). row_text row.0 row.1 ++ t) (details_are_lines rows)
+details_are_lines (row ∷ rows) = ap (λ (t : List ℕ). detail_row row ++ t) (details_are_lines rows)
 
 details_answer_each : (row : Key × Standing) → IsAnswerLine (detail_line_of row)
 details_answer_each row = detail_is_one_line row.0 row.1.verdict row.1.witness row.1.path

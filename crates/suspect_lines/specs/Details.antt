@@ -1,9 +1,7 @@
 -- The text that lists the routes as they stand.
-use Rattle.std.specs.Prelude.{◌≡◌, ℕ, Bool, true, List, [], ◌∷◌, ◌++◌, filter}
-use Rattle.std.specs.Io.KnownBytes.{append_known}
+use Rattle.std.specs.Prelude.{◌≡◌, ℕ, Bool, true, List, filter}
 use Rattle.std.specs.declared.option.Option.{Option}
 use Rattle.std.specs.declared.option.Option.TheVariants.{Some, None}
-use Rattle.av_base.specs.Told.{AppendsFront}
 use Rattle.path_model.specs.declared.key.Key.{Key}
 use Rattle.path_model.specs.declared.verdict.Verdict.{Verdict}
 use Rattle.report_text.specs.Details.{detail_text}
@@ -27,22 +25,5 @@ pub record AreDetails (state : State) (asked : Option Verdict) (rows : List (Key
   pub asked_for : rows ≡ asked_of asked all
 
 -- the line of a route
-abbrev pub row_text : Key → Standing → List ℕ
-row_text key s = detail_text key s.verdict s.witness s.path
-
--- one line for each row
-abbrev pub details_text : List (Key × Standing) → List ℕ
-details_text [] = []
-details_text (row ∷ rows) = row_text row.0 row.1 ++ details_text rows
-
--- the lines of these routes of this state were added; `all` is what was written and then what is held
-pub record ListsDetails (state : State) (asked : Option Verdict) (all_old all_new : Option (List ℕ)) : Type 0 where
-  pub rows : List (Key × Standing)
-  pub are : AreDetails state asked rows
-  pub added : all_new ≡ append_known all_old (details_text rows)
-
--- a front of them was, perhaps nothing and perhaps all
-pub record ListsDetailsFront (state : State) (asked : Option Verdict) (all_old all_new : Option (List ℕ)) : Type 0 where
-  pub rows : List (Key × Standing)
-  pub are : AreDetails state asked rows
-  pub front : AppendsFront all_old all_new (details_text rows)
+abbrev pub detail_row : Key × Standing → List ℕ
+detail_row row = detail_text row.0 row.1.verdict row.1.witness row.1.path

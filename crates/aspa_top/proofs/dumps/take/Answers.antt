@@ -17,13 +17,13 @@ returns-in_default-clause-did g c = takes_feed c.args.working c.args.name.now c.
 -- it is over
 pub returns-then-is_over : goal.returns-then-is_over
 returns-then-is_over g c = record {
-  keeps = keeps_all _ _ _;
+  keeps = record { lent = refl; keeps = keeps_all _ _ _ };
   did = take_over c.args.working _ c.args.name.now c.args.count c.in-Some.dump.now _ _ c.requires.begun (sym c.in-Some.ensures.value) (sym c.is_over.ensures ∙ c.if-is_over.true) c.in_ok-refuse.ensures.text c.in_ok-refuse.ensures.next;
 }
 
 pub returns-in_err-refuse : goal.returns-in_err-refuse
 returns-in_err-refuse g c = record {
-  keeps = keeps_all _ _ _;
+  keeps = record { lent = refl; keeps = keeps_all _ _ _ };
   did = did_err c.args.working _ _ _ c.from_residual.result stops.NoMemory c.from_residual.ensures.1
-      (nothing c.args.working _ _ _ refl (ap (append_known (g.W.Sink.written c.args.out.now)) c.in_err-refuse.ensures.err) refl (omega arith));
+      (nothing c.args.working _ _ _ refl (ap (append_known (g.W.Sink.written c.args.outside.now.out.now)) c.in_err-refuse.ensures.err) refl (omega arith));
 }

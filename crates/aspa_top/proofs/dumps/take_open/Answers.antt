@@ -22,7 +22,7 @@ returns g c =
     let both : Some c.in-Some.dump.now ≡ Some c.requires.is.dump = c.in-Some.ensures.value ∙ c.requires.is.here in
     let same : c.in-Some.dump.now ≡ c.requires.is.dump = cc in
     record {
-      keeps = keeps_both _ _ _ _ _ _ _ _ c.take_units.ensures.others.names c.take_units.ensures.shelf_faults c.take_units.ensures.grows c.take_units.ensures.sink_faults;
+      keeps = record { lent = refl; keeps = keeps_both _ _ _ _ _ _ _ _ c.take_units.ensures.others.names c.take_units.ensures.shelf_faults c.take_units.ensures.grows c.take_units.ensures.sink_faults };
       did = take_done c.args.working c.args.name.now c.args.count c.in-Some.dump.now c.take_units.new.dump _ _ _ _ _ _ _ _ _ _ c.requires.begun c.requires.few (sym c.in-Some.ensures.value)
           c.take_units.ensures.others (ap (λ (d : HeldDump). d.over) same ∙ c.requires.is.yet) (λ i. record { line = c.args.working.lines; name = c.text.ensures.text i }) refl c.take_units.ensures.ticks
           (c.take_units.ensures.reports (subst (λ (name : List ℕ). IsInLine name) (sym c.text.ensures.text) (names_in_line _ c.text.ensures.is_name)))
@@ -35,7 +35,7 @@ returns-in_err-taken g c =
     let both : Some c.in-Some.dump.now ≡ Some c.requires.is.dump = c.in-Some.ensures.value ∙ c.requires.is.here in
     let same : c.in-Some.dump.now ≡ c.requires.is.dump = cc in
     record {
-      keeps = keeps_both _ _ _ _ _ _ _ _ c.take_units.ensures.others.names c.take_units.ensures.shelf_faults c.take_units.ensures.grows c.take_units.ensures.sink_faults;
+      keeps = record { lent = refl; keeps = keeps_both _ _ _ _ _ _ _ _ c.take_units.ensures.others.names c.take_units.ensures.shelf_faults c.take_units.ensures.grows c.take_units.ensures.sink_faults };
       did = did_err c.args.working _ _ _ c.from_residual.result _ c.from_residual.ensures.1
           (take_stopped c.args.working c.args.name.now c.args.count c.in-Some.dump.now c.take_units.new.dump _ _ _ _ _ _ _ _ _ _ c.requires.begun c.requires.few (sym c.in-Some.ensures.value)
           c.take_units.ensures.others (ap (λ (d : HeldDump). d.over) same ∙ c.requires.is.yet) (λ i. record { line = c.args.working.lines; name = c.text.ensures.text i }) refl c.take_units.ensures.ticks

@@ -14,15 +14,15 @@ connect-requires-clause-sound g c = few_taken _ c.args.working c.requires.begun
 -- a source or a dump has the name
 pub returns-then-is_no_feeds : goal.returns-then-is_no_feeds
 returns-then-is_no_feeds g c = record {
-  keeps = keeps_all _ _ _;
+  keeps = record { lent = refl; keeps = keeps_all _ _ _ };
   did = connect_refused c.args.working _ c.args.name.now c.args.place.now _ _ c.requires.begun (sym c.is_no_feeds.ensures ∙ c.if-is_no_feeds.true) c.in_ok-refuse.ensures.text c.in_ok-refuse.ensures.next;
 }
 
 pub returns-in_err-refuse : goal.returns-in_err-refuse
 returns-in_err-refuse g c = record {
-  keeps = keeps_all _ _ _;
+  keeps = record { lent = refl; keeps = keeps_all _ _ _ };
   did = did_err c.args.working _ _ _ c.from_residual.result stops.NoMemory c.from_residual.ensures.1
-      (nothing c.args.working _ _ _ refl (ap (append_known (g.W.Sink.written c.args.out.now)) c.in_err-refuse.ensures.err) refl (omega arith));
+      (nothing c.args.working _ _ _ refl (ap (append_known (g.W.Sink.written c.args.outside.now.out.now)) c.in_err-refuse.ensures.err) refl (omega arith));
 }
 
 -- it was connected, or not
@@ -32,7 +32,7 @@ returns g c =
     let goes = c.in_ok-next.ensures.goes c.args.working.origins in
     let told = c.in_ok-next.ensures.tells in
     record {
-      keeps = keeps_links _ _ _ _ _ _ (record { attempts = goes.attempts; wire = goes.links }) c.connect.ensures.broke;
+      keeps = record { lent = refl; keeps = keeps_links _ _ _ _ _ _ (record { attempts = goes.attempts; wire = goes.links }) c.connect.ensures.broke };
       did = connected c.args.working c.args.name.now _ _ _ _ _ _ _ _ c.requires.begun refl refl c.args.place.now free _ _ _ _ (rw c.text.ensures.text at goes) refl c.in_ok-next.ensures.few
           (sound_weaker _ _ _ _ (omega arith) (c.in_ok-next.ensures.sound _ c.requires.begun.feeds))
           (told_adds _ c.args.name.now _ _ told.0 _ _ c.text-name.ensures.is_name told.2.later told.2.rose told.1) refl;
@@ -43,7 +43,7 @@ returns-in_err-next g c =
     let free = sym c.is_no_feeds.ensures ∙ c.if-is_no_feeds.false in
     let goes = c.in_err-next.ensures.part c.args.working.origins in
     record {
-      keeps = keeps_links _ _ _ _ _ _ (record { attempts = goes.attempts; wire = goes.links }) c.connect.ensures.broke;
+      keeps = record { lent = refl; keeps = keeps_links _ _ _ _ _ _ (record { attempts = goes.attempts; wire = goes.links }) c.connect.ensures.broke };
       did = did_err c.args.working _ _ _ c.from_residual-in_err-next.result stops.NoMemory c.from_residual-in_err-next.ensures.1
           (connect_stopped c.args.working c.args.name.now _ _ _ _ _ _ _ _ c.requires.begun refl refl c.args.place.now free (rw c.text.ensures.text at goes) c.in_err-next.ensures.err refl c.connect.ensures.broke.later);
     }

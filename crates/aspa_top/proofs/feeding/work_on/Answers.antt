@@ -15,7 +15,7 @@ returns g c =
     let goes = c.in_ok-next.ensures.goes in
     let told = c.in_ok-next.ensures.tells in
     record {
-      keeps = keeps_links _ _ _ _ _ _ (record { attempts = goes.attempts; wire = goes.links }) c.work.ensures.broke;
+      keeps = record { lent = refl; keeps = keeps_links _ _ _ _ _ _ (record { attempts = goes.attempts; wire = goes.links }) c.work.ensures.broke };
       did = worked c.args.working c.args.name.now _ _ _ _ _ _ _ _ c.requires.begun refl refl c.args.asked _ _ _ _ goes refl c.in_ok-next.ensures.few
           (sound_weaker _ _ _ _ (omega (arith, c.requires.begun.counted, c.requires.within)) (c.in_ok-next.ensures.sound _ c.requires.begun.feeds))
           (told_adds _ c.args.name.now _ _ told.0 _ _ c.text-name.ensures.is_name c.work.ensures.broke.later (λ same. absurd (told.2 same)) told.1);
@@ -25,7 +25,7 @@ pub returns-in_err-next : goal.returns-in_err-next
 returns-in_err-next g c =
     let goes = c.in_err-next.ensures.part in
     record {
-      keeps = keeps_links _ _ _ _ _ _ (record { attempts = goes.attempts; wire = goes.links }) c.work.ensures.broke;
+      keeps = record { lent = refl; keeps = keeps_links _ _ _ _ _ _ (record { attempts = goes.attempts; wire = goes.links }) c.work.ensures.broke };
       did = did_err c.args.working _ _ _ c.from_residual.result stops.NoMemory c.from_residual.ensures.1
           (work_stopped c.args.working c.args.name.now _ _ _ _ _ _ _ _ c.requires.begun refl refl c.args.asked goes c.in_err-next.ensures.err c.work.ensures.broke.later);
     }

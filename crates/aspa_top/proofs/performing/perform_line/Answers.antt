@@ -23,7 +23,7 @@ perform_task-requires-clause-begun g c = begun _ c.args.working c.requires.room 
 -- a line without a command
 pub returns-in-Ok-Idle : goal.returns-in-Ok-Idle
 returns-in-Ok-Idle g c = record {
-  keeps = keeps_all _ _ _;
+  keeps = record { lent = refl; keeps = keeps_all _ _ _ };
   did = record {
     reading = Ok Idle;
     reads = rw c.in-Ok-Idle.field-0-is at (c.in-Ok-Idle.ensures (λ none. cc));
@@ -42,7 +42,7 @@ pub returns-in_ok-refuse-in-Err : goal.returns-in_ok-refuse-in-Err
 returns-in_ok-refuse-in-Err g c =
     let other : c.in-Err.fault ≡ NoMemory → ⊥ = search rules in
     record {
-      keeps = keeps_all _ _ _;
+      keeps = record { lent = refl; keeps = keeps_all _ _ _ };
       did = record {
         reading = Err c.in-Err.fault;
         reads = c.in-Err.ensures (λ none. other cc);
@@ -56,7 +56,7 @@ pub returns-in_err-cause-in-Err : goal.returns-in_err-cause-in-Err
 returns-in_err-cause-in-Err g c =
     let read = some_reading c.args.line.now in
     record {
-      keeps = keeps_all _ _ _;
+      keeps = record { lent = refl; keeps = keeps_all _ _ _ };
       did = record {
         reading = read.0;
         reads = read.1;
@@ -69,11 +69,11 @@ pub returns-in_err-refuse-in-Err : goal.returns-in_err-refuse-in-Err
 returns-in_err-refuse-in-Err g c =
     let read = some_reading c.args.line.now in
     record {
-      keeps = keeps_all _ _ _;
+      keeps = record { lent = refl; keeps = keeps_all _ _ _ };
       did = record {
         reading = read.0;
         reads = read.1;
         did = did_err (counted_in c.args.working) (asked_of read.0) _ _ c.from_residual-in_err-refuse-in-Err.result stops.NoMemory c.from_residual-in_err-refuse-in-Err.ensures.1
-            (nothing (counted_in c.args.working) (asked_of read.0) _ _ refl (ap (append_known (g.W.Sink.written c.args.out.now)) c.in_err-refuse-in-Err.ensures.err) refl (omega arith));
+            (nothing (counted_in c.args.working) (asked_of read.0) _ _ refl (ap (append_known (g.W.Sink.written c.args.outside.now.out.now)) c.in_err-refuse-in-Err.ensures.err) refl (omega arith));
       };
     }

@@ -23,7 +23,7 @@ returns g c =
     let both : Some c.in-Some.dump.now ≡ Some c.requires.is.dump = c.in-Some.ensures.value ∙ c.requires.is.here in
     let same : c.in-Some.dump.now ≡ c.requires.is.dump = cc in
     record {
-      keeps = keeps_both _ _ _ _ _ _ _ _ c.take_until.ensures.others.names c.take_until.ensures.shelf_faults c.take_until.ensures.grows c.take_until.ensures.sink_faults;
+      keeps = record { lent = refl; keeps = keeps_both _ _ _ _ _ _ _ _ c.take_until.ensures.others.names c.take_until.ensures.shelf_faults c.take_until.ensures.grows c.take_until.ensures.sink_faults };
       did = until_done c.args.working c.args.name.now c.args.moment c.in-Some.dump.now c.take_until.new.dump _ _ _ _ _ _ _ _ _ _ c.requires.begun (sym c.in-Some.ensures.value)
           c.take_until.ensures.others (ap (λ (d : HeldDump). d.over) same ∙ c.requires.is.yet) (ap (λ (d : HeldDump). is_of_records d.known) same ∙ c.requires.is.records)
           (λ i. record { line = c.args.working.lines; name = c.text.ensures.text i }) refl c.take_until.ensures.ticks
@@ -37,7 +37,7 @@ returns-in_err-taken g c =
     let both : Some c.in-Some.dump.now ≡ Some c.requires.is.dump = c.in-Some.ensures.value ∙ c.requires.is.here in
     let same : c.in-Some.dump.now ≡ c.requires.is.dump = cc in
     record {
-      keeps = keeps_both _ _ _ _ _ _ _ _ c.take_until.ensures.others.names c.take_until.ensures.shelf_faults c.take_until.ensures.grows c.take_until.ensures.sink_faults;
+      keeps = record { lent = refl; keeps = keeps_both _ _ _ _ _ _ _ _ c.take_until.ensures.others.names c.take_until.ensures.shelf_faults c.take_until.ensures.grows c.take_until.ensures.sink_faults };
       did = did_err c.args.working _ _ _ c.from_residual.result _ c.from_residual.ensures.1
           (until_stopped c.args.working c.args.name.now c.args.moment c.in-Some.dump.now c.take_until.new.dump _ _ _ _ _ _ _ _ _ _ c.requires.begun (sym c.in-Some.ensures.value)
           c.take_until.ensures.others (ap (λ (d : HeldDump). d.over) same ∙ c.requires.is.yet) (ap (λ (d : HeldDump). is_of_records d.known) same ∙ c.requires.is.records)

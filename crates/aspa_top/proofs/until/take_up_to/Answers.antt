@@ -17,14 +17,14 @@ take_open-requires-clause-is g c = record {
 -- no dump has the name
 pub returns-in_default : goal.returns-in_default
 returns-in_default g c = record {
-  keeps = keeps_all _ _ _;
+  keeps = record { lent = refl; keeps = keeps_all _ _ _ };
   did = until_missing c.args.working _ c.args.name.now c.args.moment _ _ c.requires.begun c.in_ok-refuse.ensures.next (sym c.in_default.ensures.value) c.in_ok-refuse.ensures.text;
 }
 
 -- it is a dump of messages
 pub returns-then-not-is_of_records : goal.returns-then-not-is_of_records
 returns-then-not-is_of_records g c = record {
-  keeps = keeps_all _ _ _;
+  keeps = record { lent = refl; keeps = keeps_all _ _ _ };
   did = until_other c.args.working _ c.args.name.now c.args.moment _ _ c.requires.begun c.in_ok-refuse-2.ensures.next c.in-Some.dump.now (sym c.in-Some.ensures.value)
       (sym c.is_of_records.ensures ∙ c.if-not-is_of_records.true) c.in_ok-refuse-2.ensures.text;
 }
@@ -32,28 +32,28 @@ returns-then-not-is_of_records g c = record {
 -- it is over
 pub returns-then-is_over : goal.returns-then-is_over
 returns-then-is_over g c = record {
-  keeps = keeps_all _ _ _;
+  keeps = record { lent = refl; keeps = keeps_all _ _ _ };
   did = until_over c.args.working _ c.args.name.now c.args.moment _ _ c.requires.begun c.in_ok-refuse-3.ensures.next c.in-Some.dump.now (sym c.in-Some.ensures.value)
       (sym c.is_of_records.ensures ∙ c.if-not-is_of_records.false) (sym c.is_over.ensures ∙ c.if-is_over.true) c.in_ok-refuse-3.ensures.text;
 }
 
 pub returns-in_err-refuse : goal.returns-in_err-refuse
 returns-in_err-refuse g c = record {
-  keeps = keeps_all _ _ _;
+  keeps = record { lent = refl; keeps = keeps_all _ _ _ };
   did = did_err c.args.working _ _ _ c.from_residual.result stops.NoMemory c.from_residual.ensures.1
-      (nothing c.args.working _ _ _ refl (ap (append_known (g.W.Sink.written c.args.out.now)) c.in_err-refuse.ensures.err) refl (omega arith));
+      (nothing c.args.working _ _ _ refl (ap (append_known (g.W.Sink.written c.args.outside.now.out.now)) c.in_err-refuse.ensures.err) refl (omega arith));
 }
 
 pub returns-in_err-refuse-2 : goal.returns-in_err-refuse-2
 returns-in_err-refuse-2 g c = record {
-  keeps = keeps_all _ _ _;
+  keeps = record { lent = refl; keeps = keeps_all _ _ _ };
   did = did_err c.args.working _ _ _ c.from_residual-in_err-refuse-2.result stops.NoMemory c.from_residual-in_err-refuse-2.ensures.1
-      (nothing c.args.working _ _ _ refl (ap (append_known (g.W.Sink.written c.args.out.now)) c.in_err-refuse-2.ensures.err) refl (omega arith));
+      (nothing c.args.working _ _ _ refl (ap (append_known (g.W.Sink.written c.args.outside.now.out.now)) c.in_err-refuse-2.ensures.err) refl (omega arith));
 }
 
 pub returns-in_err-refuse-3 : goal.returns-in_err-refuse-3
 returns-in_err-refuse-3 g c = record {
-  keeps = keeps_all _ _ _;
+  keeps = record { lent = refl; keeps = keeps_all _ _ _ };
   did = did_err c.args.working _ _ _ c.from_residual-in_err-refuse-3.result stops.NoMemory c.from_residual-in_err-refuse-3.ensures.1
-      (nothing c.args.working _ _ _ refl (ap (append_known (g.W.Sink.written c.args.out.now)) c.in_err-refuse-3.ensures.err) refl (omega arith));
+      (nothing c.args.working _ _ _ refl (ap (append_known (g.W.Sink.written c.args.outside.now.out.now)) c.in_err-refuse-3.ensures.err) refl (omega arith));
 }

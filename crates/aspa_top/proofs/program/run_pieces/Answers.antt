@@ -5,10 +5,10 @@ use Rattle.aspa_top.specs.Standing.{IsSound}
 use Rattle.aspa_top.proofs.KeepLemmas.{Keeps-trans, keeps_all}
 use Rattle.aspa_top.proofs.ReadingLemmas.{end_room, read_failed, read_next, read_none, read_over, read_room, read_starved, read_start, read_stopped, read_stopped_last, read_whole}
 use Rattle.aspa_top.proofs.StopLemmas.{rose_later}
-use Rattle.aspa_top.proofs.program.run_script.Goals as goal
+use Rattle.aspa_top.proofs.program.run_pieces.Goals as goal
 
 pub returns-in_default-clause-keeps : goal.returns-in_default-clause-keeps
-returns-in_default-clause-keeps g c = keeps_all _ _ _
+returns-in_default-clause-keeps g c = record { lent = refl; keeps = keeps_all _ _ _ }
 
 pub returns-in_default-clause-runs : goal.returns-in_default-clause-runs
 returns-in_default-clause-runs g c = read_none SCRIPT_LIMIT _ _ _ refl
@@ -18,10 +18,12 @@ pieces-init g c =
     let none : c.in-Ok.working.lines ≡ 0 = c.in-Ok.ensures.lines in
     record {
       so_far = read_start SCRIPT_LIMIT _ _ c.in-Ok.working _ c.new-held.ensures.items none (λ world begins. c.in-Ok.ensures.stands _ _ world begins) (record {
-        sound = subst (λ (n : ℕ). IsSound (g.F.Shelf.opened c.args.shelf.now) n c.in-Ok.working) (sym none) (c.in-Ok.ensures.sound (g.F.Shelf.opened c.args.shelf.now));
+        sound = subst (λ (n : ℕ). IsSound (g.F.Shelf.opened c.args.outside.now.shelf.now) n c.in-Ok.working) (sym none) (c.in-Ok.ensures.sound (g.F.Shelf.opened c.args.outside.now.shelf.now));
         caches = λ session cache is. let no_cache : ⊥ = (let none = c.in-Ok.ensures.caches session in cc) in absurd no_cache;
         feeds = start_sound _ _ _ c.in-Ok.ensures.feeds;
       });
+      lent = refl;
+      unheld = c.requires.unheld;
       faults = omega arith;
     }
 
@@ -50,13 +52,15 @@ pieces-preserved g c =
     let end = c.in-Ok-More.end in
     let lines : c.split_at.result.0.now ≡ take end held = c.split_at.ensures.front ∙ ap (take end) c.as_slice.ensures.value in
     record {
-      so_far = rw c.let_go.ensures (read_next SCRIPT_LIMIT _ _ _ _ _ _ _ c.pieces.invariant.so_far _ held _ _ end came lines _ _ c.in-Ok-perform_lines.ensures.performed c.in-Ok-perform_lines.ensures.few c.perform_lines.ensures.keeps);
+      so_far = rw c.let_go.ensures (read_next SCRIPT_LIMIT _ _ _ _ _ _ _ c.pieces.invariant.so_far _ held _ _ end came lines _ _ c.in-Ok-perform_lines.ensures.performed c.in-Ok-perform_lines.ensures.few c.perform_lines.ensures.keeps.keeps);
+      lent = c.perform_lines.ensures.keeps.lent ∙ c.pieces.invariant.lent;
+      unheld = c.in-Ok-perform_lines.ensures.poured;
       faults = omega (arith, c.pieces.invariant.faults, c.read_piece.ensures.faults);
     }
 
 -- something stopped them
 pub returns-in-Err-clause-keeps : goal.returns-in-Err-clause-keeps
-returns-in-Err-clause-keeps g c = Keeps-trans c.pieces.invariant.so_far.keeps c.perform_lines.ensures.keeps
+returns-in-Err-clause-keeps g c = record { lent = c.perform_lines.ensures.keeps.lent ∙ c.pieces.invariant.lent; keeps = Keeps-trans c.pieces.invariant.so_far.keeps c.perform_lines.ensures.keeps.keeps }
 
 pub returns-in-Err-clause-runs : goal.returns-in-Err-clause-runs
 returns-in-Err-clause-runs g c =
@@ -68,17 +72,17 @@ returns-in-Err-clause-runs g c =
 
 -- nothing was left
 pub returns-in-Ok-perform_lines-2-clause-keeps : goal.returns-in-Ok-perform_lines-2-clause-keeps
-returns-in-Ok-perform_lines-2-clause-keeps g c = Keeps-trans c.pieces.invariant.so_far.keeps c.perform_lines-in-Ok-End.ensures.keeps
+returns-in-Ok-perform_lines-2-clause-keeps g c = record { lent = c.perform_lines-in-Ok-End.ensures.keeps.lent ∙ c.pieces.invariant.lent; keeps = Keeps-trans c.pieces.invariant.so_far.keeps c.perform_lines-in-Ok-End.ensures.keeps.keeps }
 
 pub returns-in-Ok-perform_lines-2-clause-runs : goal.returns-in-Ok-perform_lines-2-clause-runs
 returns-in-Ok-perform_lines-2-clause-runs g c =
     let came = rw c.in-Ok-End.field-0-is at c.in-Ok-End.ensures.came in
     read_whole SCRIPT_LIMIT _ _ _ _ _ _ _ c.pieces.invariant.so_far _ c.read_piece.new.held.items _ came c.as_slice-lines.ensures.value _ _ c.in-Ok-perform_lines-2.last _
-    c.in-Ok-perform_lines-2.ensures.performed c.perform_lines-in-Ok-End.ensures.keeps refl
+    c.in-Ok-perform_lines-2.ensures.performed c.perform_lines-in-Ok-End.ensures.keeps.keeps refl
     c.status_at_end.ensures.known c.status_at_end.ensures.clean c.status_at_end.ensures.refused
 
 pub returns-in-Err-perform_lines-clause-keeps : goal.returns-in-Err-perform_lines-clause-keeps
-returns-in-Err-perform_lines-clause-keeps g c = Keeps-trans c.pieces.invariant.so_far.keeps c.perform_lines-in-Ok-End.ensures.keeps
+returns-in-Err-perform_lines-clause-keeps g c = record { lent = c.perform_lines-in-Ok-End.ensures.keeps.lent ∙ c.pieces.invariant.lent; keeps = Keeps-trans c.pieces.invariant.so_far.keeps c.perform_lines-in-Ok-End.ensures.keeps.keeps }
 
 pub returns-in-Err-perform_lines-clause-runs : goal.returns-in-Err-perform_lines-clause-runs
 returns-in-Err-perform_lines-clause-runs g c =
