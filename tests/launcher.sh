@@ -92,7 +92,8 @@ checkout() {
     mkdir -p "$1"
     cp "$top/aspaview" "$1/"
     echo 'Proved with the kit rattle-kit-1a logic 00ff.' >"$1/README.md"
-    printf '%s\n' '# What came when' '' '## 1 May 2001' '' '## 1 May 2000' >"$1/CHANGELOG.md"
+    printf '%s\n' '# What came when' '' '## 1.2.3, 1 May 2001' '' '## 1 May 2000' >"$1/CHANGELOG.md"
+    echo 1.2.3 >"$1/VERSION"
     echo 'Handles allowed: Net.' >"$1/HANDLES"
     printf '%s\n' 'base: slab' 'part: base' 'aspaview: part base' 'worked: base' >"$1/crates.txt"
     for name in base part aspaview worked; do
@@ -151,7 +152,7 @@ for word in --help -h help; do
     check "$word" "0|$usage||" "$status|$out|$err|$calls"
 done
 call --version
-holds '--version' "$status|$out|$err|$calls" '^0\|aspaview of 1 May 2001, to be built with rattle-kit-1a logic 00ff\|\|$'
+holds '--version' "$status|$out|$err|$calls" '^0\|aspaview 1\.2\.3 of 1 May 2001, to be built with rattle-kit-1a logic 00ff\|\|$'
 for words in rnu 'run run' 'demo' 'demo x' 'demo 01' 'demo 4294967296' 'demo 99999999999999999999' 'demo 1 2' --demo; do
     # shellcheck disable=SC2086
     call $words
@@ -168,7 +169,7 @@ else
     call run
     refused 'no kit' "isn't built yet, and no Rattle kit is there .* rt must be on the PATH$"
     call --version
-    holds '--version without a kit' "$status|$out|$err" '^0\|aspaview of 1 May 2001, to be built with rattle-kit-1a logic 00ff\|$'
+    holds '--version without a kit' "$status|$out|$err" '^0\|aspaview 1\.2\.3 of 1 May 2001, to be built with rattle-kit-1a logic 00ff\|$'
 fi
 printf '#!/bin/sh\n' >"$work/elsewhere/rt"
 chmod 755 "$work/elsewhere/rt"
@@ -220,7 +221,7 @@ quiet 'a second call'
 POSIXLY_CORRECT=1 call run
 quiet 'a second call in a shell by POSIX'
 call --version
-holds '--version' "$status|$out|$err|$calls" '^0\|aspaview of 1 May 2001, built with rattle-kit-1a logic 00ff\|\|$'
+holds '--version' "$status|$out|$err|$calls" '^0\|aspaview 1\.2\.3 of 1 May 2001, built with rattle-kit-1a logic 00ff\|\|$'
 if ! PATH=/usr/bin:/bin command -v rt >/dev/null; then
     here_path=/usr/bin:/bin
     call run
@@ -429,7 +430,7 @@ set +m
 
 here=$work/repository
 mkdir "$here"
-tar --exclude=out --exclude=.git -cf - aspaview README.md CHANGELOG.md HANDLES crates.txt crates | tar -C "$here" -xf -
+tar --exclude=out --exclude=.git -cf - aspaview VERSION README.md CHANGELOG.md HANDLES crates.txt crates | tar -C "$here" -xf -
 call run
 ran 'the repository'"'"'s crates' ci
 holds 'the repository'"'"'s crates' "$(cat "$work/stub/copy")" '^./crates/path_model/src/lib.rt$'
@@ -470,7 +471,7 @@ fi
 # ---- what the launcher reads of the pages
 
 call --version
-holds 'the day and the kit' "$out" '^aspaview of [0-9]+ [A-Z][a-z]+ 20[0-9]+, built with rattle-kit-1a logic 00ff$'
+holds 'the version, the day and the kit' "$out" '^aspaview [0-9.]+ of [0-9]+ [A-Z][a-z]+ 20[0-9]+, built with rattle-kit-1a logic 00ff$'
 holds 'the kit that the README names' "$(cat README.md)" 'rattle-kit-[a-z0-9]+ logic [0-9a-f]+'
 
 passed=$(wc -l <"$work/passed")

@@ -7,7 +7,7 @@
 #   <!-- run: FILE -->                 it is the text of this example, which is run
 #   <!-- run -->                       it is a script, which is run
 #   <!-- text: FILE -->                it is the text of this example, which is run by a block behind it
-#   <!-- shell -->                     it is commands for the shell, which are run in a folder with the examples and ./aspaview
+#   <!-- shell -->                     it is commands for the shell, which are run in a folder with the examples, python and ./aspaview
 #   <!-- prints -->                    it is all that the run above it has written
 #   <!-- prints some -->               it is some of these lines, in their order
 #   <!-- prints of: COMMAND -->        it is all that this command writes; so with 'prints some of: COMMAND'
@@ -17,12 +17,14 @@
 #   <!-- not run: REASON -->           it is neither, or can't be run here
 #
 # Behind 'run' and 'shell' ', status N' may stand, where the status isn't 0, or ', not shown', where the page doesn't show what is written; and
-# behind each ', needs PROGRAM': it is skipped where that isn't there. A block without such a comment fails. In the manual page a line that
-# begins with '$ ' is a command, and what follows is what it writes.
+# behind each ', needs NAME', of a program or a package of Python's, or ', needs NAME N', of a program of version N or later: it is skipped where
+# that isn't there. A block without such a comment fails. In the manual page a line that begins with '$ ' is a command, and what follows is
+# what it writes.
 set -u
 cd "$(dirname "$0")/.." || exit
 top=$PWD
 program=$PWD/crates/aspaview/out/aspaview
+export ASPAVIEW=$program # for the package in python/
 pages='README.md CHANGELOG.md docs/*.md'
 manual=docs/aspaview.1
 work=$(mktemp -d)
@@ -63,6 +65,7 @@ new_box() {
     mkdir "$box"
     cp -r "$work/examples" "$box/examples"
     ln -s "$program" "$box/aspaview"
+    ln -s "$top/python" "$box/python"
 }
 
 # performs PLACE STATUS FILE: the script in the file ends with this status; what it writes is in $work/out.
@@ -126,12 +129,23 @@ shown() {
     unshown=
 }
 
+# is_there NAME VERSION: whether a program of this name is there, of this version or a later one if there is one, or a package of Python's.
+is_there() {
+    local version=0
+    if ! command -v "$1" >/dev/null; then
+        python3 -c "import $1" 2>/dev/null
+    elif [ -n "$2" ]; then
+        version=$("$1" -V 2>&1 </dev/null | grep -oE '[0-9]+' | head -n 1)
+        [ "${version:-0}" -ge "$2" ]
+    fi
+}
+
 # block PLACE MARKER FILE
 block() {
     local place=$1 how=$2 text=$3 status=0 hidden=no
-    if [[ $how =~ ^(.*),\ needs\ ([a-z0-9]+)$ ]]; then
+    if [[ $how =~ ^(.*),\ needs\ ([a-z0-9]+)(\ ([0-9]+))?$ ]]; then
         how=${BASH_REMATCH[1]}
-        command -v "${BASH_REMATCH[2]}" >/dev/null || { echo "skipped: $place needs ${BASH_REMATCH[2]}"; return; }
+        is_there "${BASH_REMATCH[2]}" "${BASH_REMATCH[4]}" || { echo "skipped: $place ${BASH_REMATCH[0]##*, }"; return; }
     fi
     if [[ $how =~ ^(.*),\ not\ shown$ ]]; then
         how=${BASH_REMATCH[1]}

@@ -1,0 +1,26 @@
+"""aspaview from Python: a session with the program, and its texts as records. docs/python.md has examples."""
+from importlib import metadata
+from pathlib import Path
+
+from .errors import AspaviewError, ProgramEnded, Refused
+from .process import find_program
+from .records import Key, Record, Witness
+from .session import Answer, Session
+from .spellings import Address, Network, NotAText, Rule, State, Verdict
+from .suspects import Suspects
+from .texts import (Change, Demo, Detail, Judged, Leak, Origin, Refusal, Route, Said, Served, Summary, Suspect, Why, parse, parse_line)
+
+__all__ = [
+    "Address", "Answer", "AspaviewError", "Change", "Demo", "Detail", "Judged", "Key", "Leak", "Network", "NotAText", "Origin",
+    "ProgramEnded", "Record", "Refusal", "Refused", "Route", "Rule", "Said", "Served", "Session", "State", "Summary", "Suspect", "Suspects",
+    "Verdict", "Why", "Witness", "find_program", "parse", "parse_line",
+]
+
+
+def _version() -> str:
+    """That of the file VERSION two folders above, as in a checkout and where the program is installed, or else what pip noted."""
+    file = Path(__file__).resolve().parents[2] / "VERSION"
+    return file.read_text(encoding="ascii").strip() if file.is_file() else metadata.version("aspaview")
+
+
+__version__ = _version()
