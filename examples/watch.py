@@ -32,7 +32,7 @@ from aspaview import AspaviewError, Change, Detail, Key, ProgramEnded, Refusal, 
 
 ALL = 100_000_000
 LONGEST = 4_194_304
-# The causes behind which a stream isn't read any further, and with them that of one that is cut.
+# The causes behind which a stream isn't read any further, with them that of one that is cut, and those of a feed's PDUs.
 BROKEN = {26, 45, 46}
 NOT_WHOLE = BROKEN | {27}
 OF_FEEDS = {*range(15, 23), 43}
@@ -303,6 +303,8 @@ def perform(given: argparse.Namespace) -> int:
 
 
 def end(*_: object) -> NoReturn:
+    # (a second one, as `timeout` sends it, would come while this one is performed)
+    signal.signal(signal.SIGTERM, signal.SIG_IGN)
     raise KeyboardInterrupt
 
 

@@ -144,12 +144,13 @@ Description: analyse recorded BGP paths with provider attestations (ASPA)
 text
 }
 
-# make_tar FILE, make_deb FILE: the package, by way of the folder $room. A .tar.gz is there as a whole or not at all. Names are in order, and owners and times fixed, so the same tree gives
-# the same bytes.
+# make_tar FILE, make_deb FILE: the package, by way of the folder $room. Names are in order, and owners and times fixed, so the same tree gives
+# the same bytes. A .tar.gz is there as a whole or not at all.
 make_tar() {
     local name=aspaview-$version
     put "$room/$name" && ln -s share/doc/aspaview/README "$room/$name/README" && dated "$room/$name" &&
-        tar -C "$room" --sort=name --format=gnu --owner=0 --group=0 --numeric-owner -cf "$room/tar" "$name" && gzip -9nc "$room/tar" >"$1.part" && mv -f -- "$1.part" "$1" && return
+        tar -C "$room" --sort=name --format=gnu --owner=0 --group=0 --numeric-owner -cf "$room/tar" "$name" &&
+        gzip -9nc "$room/tar" >"$1.part" && mv -f -- "$1.part" "$1" && return
     rm -f -- "$1.part"
     return 1
 }
