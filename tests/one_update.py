@@ -1,6 +1,6 @@
 #!/usr/bin/env python3
 """UPDATE messages with a path of 16,000 ASes and many prefixes cost about what messages of as many bytes with a short path cost: at most twice the
-time, and 24 bytes of memory for each byte of a message, beside what is kept of it: at most 128 bytes for each hop of a path, and 20 for each route.
+time, and 20 bytes of memory for each byte of a message, beside what is kept of it: at most 128 bytes for each hop of a path, and 20 for each route.
 
 Usage: one_update.py PROGRAM. Writes two dumps of such messages, has the program take each, and compares the time and the peak memory. The last
 line is 'N passed, M failed', and the status is 0 where none failed.
@@ -10,6 +10,7 @@ import struct
 import subprocess
 import sys
 import tempfile
+import time
 
 # How many messages a dump has, and how many bytes each of them: the most that its length can say.
 MESSAGES = 20
@@ -18,9 +19,12 @@ LONGEST = 65_535
 # How many ASes a long path has.
 LONG_PATH = 16_000
 
-# How many bytes of memory a byte of a message may take beside what is kept of it. The system counts pages in lots of 64, so that a peak is
-# told to within some 4 bytes a byte here.
-MESSAGE = 24
+# How many bytes of memory a byte of a message may take beside what is kept of it.
+MESSAGE = 20
+
+# The processor that the program runs on. The system counts pages in lots for each one, so a peak over several is told to within some 4 bytes for
+# each byte of a message, and over one much closer.
+PROCESSOR = {min(os.sched_getaffinity(0))}
 
 # How many bytes of memory a hop and a route that are kept may take.
 HOP = 128
@@ -85,8 +89,12 @@ def run(program, folder, script):
     with open(os.path.join(folder, "script"), "w") as file:
         file.write(script)
     with open(os.path.join(folder, "script")) as lines:
-        child = subprocess.Popen([program, "run"], stdin=lines, stdout=subprocess.PIPE)
+        child = subprocess.Popen(
+            [program, "run"], stdin=lines, stdout=subprocess.PIPE, preexec_fn=lambda: os.sched_setaffinity(0, PROCESSOR)
+        )
         written = child.stdout.readline()
+        # (until it stands still, its next piece of text unwritten)
+        time.sleep(0.05)
         peak = peak_of(child.pid)
         written += child.stdout.read()
         _, status, usage = os.wait4(child.pid, 0)
