@@ -219,6 +219,37 @@ wait
 check 'the text is whole, of messages' "$(lines valid '! line 3 d unit 1 cause 47 BmpBody' \
     'summary routes 0 valid 0 unknown 0 invalid 0 customers 0 passed 0 refused 1')" "$(cat "$work/held")"
 
+mkfifo "$work/source"
+lines 'judge customer 64501 64501' "aspa s $work/source" 'summary' | timeout 60 "$program" run >"$work/held" &
+check 'a file that is loaded is waited for' 0 "$(within 10 holds valid; echo $?)"
+: >"$work/source"
+wait
+check 'the text is whole, of a file' "$(lines valid 'summary routes 0 valid 0 unknown 0 invalid 0 customers 0 passed 0 refused 0')" \
+    "$(cat "$work/held")"
+
+# a cache that accepts and says nothing, and its place
+python3 -c '
+import socket, sys, time
+s = socket.socket(); s.bind(("127.0.0.1", 0)); s.listen()
+print(s.getsockname()[1], flush=True)
+kept = s.accept(); time.sleep(60)
+' >"$work/quiet" &
+quiet=$!
+within 10 test -s "$work/quiet"
+lines 'judge customer 64501 64501' "feed f 127.0.0.1:$(cat "$work/quiet")" 'judge customer 64501 64501' 'sync f 9' |
+    timeout 60 "$program" run >"$work/held" &
+check 'a cache is waited for' 0 "$(within 10 holds "$(lines valid valid)"; echo $?)"
+kill "$quiet"
+wait
+check 'the text is whole, of a feed' "$(lines valid valid '! line 4 f lost')" "$(cat "$work/held")"
+
+port=$(free_port)
+lines 'judge customer 64501 64501' "serve 127.0.0.1:$port 1 1" | timeout 60 "$program" run >"$work/held" &
+check 'a router is waited for' 0 "$(within 10 holds valid; echo $?)"
+python3 -c 'import socket, sys; socket.create_connection(("127.0.0.1", int(sys.argv[1]))).close()' "$port"
+wait
+check 'the text is whole, of routers' 2 "$(wc -l <"$work/held")"
+
 # ---- a script that is typed: before more of it is waited for, all lines that came are answered
 
 mkfifo "$work/typed" "$work/growing"

@@ -59,39 +59,53 @@ impl Analyser {
         ensures state { IfOk result (λ next. Happens self event next) }
         ensures ticks { TicksWithin self event steps.old steps.new }
     {
-        let Analyser { alloc, mut store } = self;
-        happen(alloc, &mut store, event, steps)?;
-        Ok(Analyser { alloc, store })
+        let mut next = self;
+        next.apply(event, steps)?;
+        Ok(next)
     }
 
-    /// The analysis once all routes are gone, in one event: the session of each peer that has routes ends. All that attests, the roles and the
-    /// marked verdicts stay. It judges nothing, and takes the time of the routes that go, with the memory of one change for each of their peers
-    /// and what the end of one session takes ([`RibStore::apply_routes`]).
-    pub fn clear<L: Ledger>(self, alloc: Global, steps: &mut Steps<L>) -> Result<Analyser, NoMemory>
-        ensures cleared { IfOk result (λ next. next ≡ record self { routes = fin.empty }) }
+    /// The same in its place ([`Analyser::step`]). Where memory is wanting nothing is promised of it.
+    pub fn apply<L: Ledger>(&mut self, event: Event, steps: &mut Steps<L>) -> Result<(), NoMemory>
+        ensures state { OnOk result (Happens self.old event self.new) }
+        ensures ticks { TicksWithin self.old event steps.old steps.new }
+    {
+        happen(self.alloc, &mut self.store, event, steps)
+    }
+
+    /// All routes go, in one event: the session of each peer that has routes ends. All that attests, the roles and the marked verdicts stay.
+    /// It judges nothing, and takes the time of the routes that go, with the memory of one change for each of their peers and what the end of
+    /// one session takes ([`RibStore::apply_routes`]). Where memory is wanting nothing is promised of it.
+    pub fn clear<L: Ledger>(&mut self, steps: &mut Steps<L>) -> Result<(), NoMemory>
+        ensures cleared { OnOk result (self.new ≡ record self.old { routes = fin.empty }) }
         ensures ticks { steps.new ≤ steps.old }
     {
-        let changes = departures(alloc, self.store())?;
-        self.step(Event::Routes(changes), steps)
+        let changes = departures(self.alloc, self.store())?;
+        self.apply(Event::Routes(changes), steps)
     }
 
     /// The analysis once all verdicts are marked as they stand. It takes no memory.
     pub fn mark(self) -> Analyser
         ensures { IsMarked self result }
     {
-        let Analyser { alloc, mut store } = self;
-        *store = taken(alloc, &mut store).mark();
-        Analyser { alloc, store }
+        let mut next = self;
+        next.mark_all();
+        next
     }
 
-    /// The analysis as it is, with what its store gathers so that a list of changes goes over the changed keys alone
-    /// ([`RibStore::gather`]).
-    pub fn gather(self) -> Result<Analyser, NoMemory>
-        ensures { IfOk result (λ a. a ≡ self) }
+    /// The same in its place ([`Analyser::mark`]).
+    pub fn mark_all(&mut self)
+        ensures { IsMarked self.old self.new }
     {
-        let Analyser { alloc, mut store } = self;
-        *store = taken(alloc, &mut store).gather()?;
-        Ok(Analyser { alloc, store })
+        *self.store = taken(self.alloc, &mut self.store).mark();
+    }
+
+    /// Gathers in its store what lets a list of changes go over the changed keys alone ([`RibStore::gather`]), and changes nothing else. Where
+    /// memory is wanting nothing is promised of it.
+    pub fn gather(&mut self) -> Result<(), NoMemory>
+        ensures { OnOk result (self.new ≡ self.old) }
+    {
+        *self.store = taken(self.alloc, &mut self.store).gather()?;
+        Ok(())
     }
 
     /// The store, for what is read of it.

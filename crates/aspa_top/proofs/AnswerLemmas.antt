@@ -13,7 +13,7 @@ use Rattle.path_model.specs.Trail.{Path}
 use Rattle.origin_model.specs.declared.origin_state.OriginState.{OriginState}
 use Rattle.origin_model.specs.Current.{Parts as Origins}
 use Rattle.origin_validation.specs.Rows.{AreOriginRows}
-use Rattle.origin_lines.specs.Rows.{origin_row}
+use Rattle.listings.specs.Origins.{origin_row}
 use Rattle.report_text.specs.declared.cause.Cause.{Cause}
 use Rattle.report_text.specs.declared.cause.Cause.TheVariants.{NoRoute}
 use Rattle.report_text.specs.declared.summary.Summary.{Summary}
@@ -23,25 +23,25 @@ use Rattle.report_text.specs.Refusals.{of_line, refusal_text}
 use Rattle.report_text.proofs.ReportedLemmas.{adds_answers, adds_answers_front}
 use Rattle.rib_store.specs.Shown.{IsExplained, Standing}
 use Rattle.rib_store.specs.State.{State as Analysis, AreRows}
-use Rattle.script_lines.specs.declared.command.Show.TheVariants.{Report, Origins as ListOrigins, Leaks as ListLeaks, Suspects as ListSuspects, Summary as SumUp}
 use Rattle.otc_check.specs.declared.leaks.Leak.{Leak}
 use Rattle.otc_check.specs.Marks.{Marked}
 use Rattle.path_model.specs.Roles.{Relations}
-use Rattle.stream_lines.specs.Leaks.{AreLeaks, leak_row}
-use Rattle.stream_lines.specs.Listing.{Lists, Pouring}
-use Rattle.stream_lines.specs.Rows.{row_of}
-use Rattle.stream_lines.specs.Summary.{IsSummary}
-use Rattle.stream_lines.specs.declared.stop.Stop.{Stop}
-use Rattle.stream_lines.specs.declared.stop.Stop.TheVariants as stops
+use Rattle.listings.specs.Leaks.{AreLeaks, leak_row}
+use Rattle.listings.specs.Listing.{Lists, Pouring}
+use Rattle.listings.specs.Rows.{row_of}
+use Rattle.listings.specs.Summary.{IsSummary}
+use Rattle.listings.specs.declared.stop.Stop.{Stop}
+use Rattle.listings.specs.declared.stop.Stop.TheVariants as stops
 use Rattle.stream_lines.proofs.FrameLemmas.{Leaves-refl}
 use Rattle.serve_lines.specs.Routers.{NoneMore}
 use Rattle.suspects.specs.declared.tally.Tally.{Tally}
 use Rattle.suspects.specs.Suspects.{AreSuspects}
-use Rattle.suspect_lines.specs.Details.{AreDetails, detail_row}
-use Rattle.suspect_lines.specs.Suspected.{suspect_row}
+use Rattle.listings.specs.Details.{AreDetails, detail_row}
+use Rattle.listings.specs.Suspected.{suspect_row}
 use Rattle.valleys.specs.declared.valley.Valley.{Valley}
+use Rattle.aspa_top.specs.Working.{refused_in}
 use Rattle.aspa_top.specs.declared.task.Question.{Question}
-use Rattle.aspa_top.specs.declared.task.Question.TheVariants.{Show, Details, Why}
+use Rattle.aspa_top.specs.declared.task.Question.TheVariants.{Report, Origins as ListOrigins, Leaks as ListLeaks, Suspects as ListSuspects, Summary as SumUp, Details, Why}
 use Rattle.aspa_top.specs.declared.task.Task.TheVariants.{Answer}
 use Rattle.aspa_top.specs.declared.working.Working.{Working}
 use Rattle.aspa_top.specs.Answers.{Answers, AnswersUnless, no_route, refused_for}
@@ -55,18 +55,18 @@ use Rattle.aspa_top.proofs.ReadyLemmas.{kept_all, ready_streams}
 
 -- what the working state says of an evaluation that it stands for, as far as questions are asked of it
 pub record Reads (working : Working) (state : State) : Type 0 where
-  pub analysis : working.analyser ≡ state.analysis
-  pub marks : working.marks ≡ state.marks
-  pub origins : working.origins ≡ state.origins
-  pub passed : working.passed ≡ state.passed
-  pub refused : working.refused ≡ state.refused
+  pub analysis : working.progress.analyser ≡ state.analysis
+  pub marks : working.progress.marks ≡ state.marks
+  pub origins : working.progress.origins ≡ state.origins
+  pub passed : working.progress.passed ≡ state.passed
+  pub refused : working.progress.refused ≡ state.refused
 
 -- some such evaluation
 read_state : Working → State
 read_state working = record {
-  analysis = working.analyser;
-  marks = working.marks;
-  origins = working.origins;
+  analysis = working.progress.analyser;
+  marks = working.progress.marks;
+  origins = working.progress.origins;
   sources = λ name. false;
   dumps = λ name. None;
   feeds = λ name. None;
@@ -74,8 +74,8 @@ read_state working = record {
   begun = NoneMore;
   made = 0;
   lines = working.lines;
-  passed = working.passed;
-  refused = working.refused;
+  passed = working.progress.passed;
+  refused = working.progress.refused;
   judgements = 0;
 }
 
@@ -163,36 +163,36 @@ module _ {Row T : Type 0} {Are : List Row → Type 0} {line_of : Row → List �
 
 -- ---- the questions
 
-module _ (working : Working) (held : Analysis) (is : held ≡ working.analyser) where
-  pub report_answers : (rows : List (Key × Verdict)) → AreRows held rows → (state : State) → Reads working state → IsAnswered state (Show Report) (flat_map row_of rows)
+module _ (working : Working) (held : Analysis) (is : held ≡ working.progress.analyser) where
+  pub report_answers : (rows : List (Key × Verdict)) → AreRows held rows → (state : State) → Reads working state → IsAnswered state Report (flat_map row_of rows)
   report_answers rows are = λ state reads. record {
     there = refl;
     answers = record { rows = rows; are = subst (λ (a : Analysis). AreRows a rows) (is ∙ reads.analysis) are; text_is = refl };
   }
 
-  pub origins_answer : (rows : List (Key × OriginState)) → AreOriginRows held.routes working.origins rows → (state : State) → Reads working state → IsAnswered state (Show ListOrigins) (flat_map origin_row rows)
+  pub origins_answer : (rows : List (Key × OriginState)) → AreOriginRows held.routes working.progress.origins rows → (state : State) → Reads working state → IsAnswered state ListOrigins (flat_map origin_row rows)
   origins_answer rows are = λ state reads. record {
     there = refl;
     answers = record {
       rows = rows;
-      are = subst (λ (o : Origins). AreOriginRows state.analysis.routes o rows) reads.origins (subst (λ (a : Analysis). AreOriginRows a.routes working.origins rows) (is ∙ reads.analysis) are);
+      are = subst (λ (o : Origins). AreOriginRows state.analysis.routes o rows) reads.origins (subst (λ (a : Analysis). AreOriginRows a.routes working.progress.origins rows) (is ∙ reads.analysis) are);
       text_is = refl;
     };
   }
 
-  pub leaks_answer : (roles : Relations) → roles ≡ held.roles → (rows : List (Key × Leak)) → AreLeaks roles working.marks rows → (state : State) → Reads working state
-      → IsAnswered state (Show ListLeaks) (flat_map leak_row rows)
+  pub leaks_answer : (roles : Relations) → roles ≡ held.roles → (rows : List (Key × Leak)) → AreLeaks roles working.progress.marks rows → (state : State) → Reads working state
+      → IsAnswered state ListLeaks (flat_map leak_row rows)
   leaks_answer roles are_its rows are = λ state reads. record {
     there = refl;
     answers = record {
       rows = rows;
       are = subst (λ (m : Marked). AreLeaks state.analysis.roles m rows) reads.marks
-          (subst (λ (r : Relations). AreLeaks r working.marks rows) (are_its ∙ ap (λ (a : Analysis). a.roles) (is ∙ reads.analysis)) are);
+          (subst (λ (r : Relations). AreLeaks r working.progress.marks rows) (are_its ∙ ap (λ (a : Analysis). a.roles) (is ∙ reads.analysis)) are);
       text_is = refl;
     };
   }
 
-  pub suspects_answer : (rows : List (Valley × Tally)) → AreSuspects held rows → (state : State) → Reads working state → IsAnswered state (Show ListSuspects) (flat_map suspect_row rows)
+  pub suspects_answer : (rows : List (Valley × Tally)) → AreSuspects held rows → (state : State) → Reads working state → IsAnswered state ListSuspects (flat_map suspect_row rows)
   suspects_answer rows are = λ state reads. record {
     there = refl;
     answers = record { rows = rows; are = subst (λ (a : Analysis). AreSuspects a rows) (is ∙ reads.analysis) are; text_is = refl };
@@ -205,14 +205,14 @@ module _ (working : Working) (held : Analysis) (is : held ≡ working.analyser) 
     answers = record { rows = rows; are = subst (λ (a : Analysis). AreDetails a verdict rows) (is ∙ reads.analysis) are; text_is = refl };
   }
 
-  pub summary_answers : (summary : Summary) → IsSummary held working.passed working.refused summary → (state : State) → Reads working state
-      → IsAnswered state (Show SumUp) (summary_text summary)
+  pub summary_answers : (summary : Summary) → IsSummary held working.progress.passed working.progress.refused summary → (state : State) → Reads working state
+      → IsAnswered state SumUp (summary_text summary)
   summary_answers summary sums = λ state reads. record {
     there = refl;
     answers = record {
       summary = summary;
       is = subst (λ (a : Analysis). IsSummary a state.passed state.refused summary) (is ∙ reads.analysis)
-          (subst (λ (n : ℕ). IsSummary held n state.refused summary) reads.passed (subst (λ (n : ℕ). IsSummary held working.passed n summary) reads.refused sums));
+          (subst (λ (n : ℕ). IsSummary held n state.refused summary) reads.passed (subst (λ (n : ℕ). IsSummary held working.progress.passed n summary) reads.refused sums));
       text_is = refl;
     };
   }
@@ -234,7 +234,7 @@ module _ (working : Working) (held : Analysis) (is : held ≡ working.analyser) 
 -- the line was refused
 pub not_answered : (working next : Working) (question : Question) (cause : Cause) (old : Outside) (held : List ℕ) → IsBegun old working
     → ((state : State) → Reads working state → refused_for state question ≡ Some cause)
-    → held ≡ old.held ++ refusal_text working.lines of_line cause → next ≡ record working { refused = working.refused + 1 }
+    → held ≡ old.held ++ refusal_text working.lines of_line cause → next ≡ refused_in working
     → Done working (Ok (Answer question)) old (record old { held = held }) next
 not_answered working next question cause old held begun refuses added is =
     done_refused working (Ok (Answer question)) old (record old { held = held }) next of_line cause tt (Leaves-refl (λ other. Unit {0}) old.files) (λ n d e. tt)

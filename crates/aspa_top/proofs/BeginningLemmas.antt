@@ -9,8 +9,8 @@ use Rattle.av_base.proofs.ToldLemmas.{append_known-nil}
 use Rattle.connection_calls.specs.World.{World as Ends}
 use Rattle.connection_calls.proofs.GoingLemmas.{ComesTo-earlier, ComesTo-now}
 use Rattle.feed_lines.proofs.NamedLemmas.{holds_moved}
-use Rattle.script_lines.specs.declared.command.Command.{Command}
-use Rattle.script_lines.specs.declared.command.LineFault.{LineFault}
+use Rattle.script_lines.specs.declared.commands.Command.{Command}
+use Rattle.script_lines.specs.declared.fault.LineFault.{LineFault}
 use Rattle.script_lines.specs.Grammar.{IsReading}
 use Rattle.serve_lines.specs.Routers.{Begun, HasSentAll}
 use Rattle.aspa_top.specs.Moving.{HaveMoved}
@@ -18,7 +18,8 @@ use Rattle.aspa_top.specs.declared.task.Task.{Task}
 use Rattle.aspa_top.specs.declared.working.Working.{Working}
 use Rattle.aspa_top.specs.Bounds.{most}
 use Rattle.aspa_top.specs.Tasks.{Moves, State, feeds_of}
-use Rattle.aspa_top.specs.Evaluation.{Begins, MovesSome, asked_of, counted, task_of}
+use Rattle.aspa_top.specs.Evaluation.{Begins, MovesSome, asked_of, counted}
+use Rattle.aspa_top.specs.Task.{task_of}
 use Rattle.aspa_top.specs.Outside.{Outside, all_of}
 use Rattle.aspa_top.specs.Performing.{GoesPart}
 use Rattle.aspa_top.specs.Program.{HasMoved}

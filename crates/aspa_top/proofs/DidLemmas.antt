@@ -8,17 +8,17 @@ use Rattle.report_text.specs.declared.cause.Cause.{Cause}
 use Rattle.report_text.specs.Laws.{IsPlaceInLine}
 use Rattle.report_text.specs.Refusals.{AnyPlace, refusal_text}
 use Rattle.report_text.specs.Reported.{AddsFront, AddsLines}
-use Rattle.stream_lines.specs.declared.stop.Stop.{Stop}
-use Rattle.stream_lines.specs.declared.stop.Stop.TheVariants as stops
+use Rattle.listings.specs.declared.stop.Stop.{Stop}
+use Rattle.listings.specs.declared.stop.Stop.TheVariants as stops
 use Rattle.stream_lines.specs.Frames.{Leaves}
 use Rattle.stream_lines.specs.Held.{HeldDump}
 use Rattle.aspa_top.specs.declared.working.Working.{Working}
 use Rattle.aspa_top.specs.Evaluation.{Asked, DoesAsked}
 use Rattle.aspa_top.specs.Outside.{Outside, all_of}
-use Rattle.aspa_top.specs.Performing.{Did, Done, EndedEarly, GoesSome, IsStoppedBy}
+use Rattle.aspa_top.specs.Performing.{Did, Done, EndedEarly, GoesPart, GoesSome, IsStoppedBy}
 use Rattle.aspa_top.specs.Standing.{IsBegun, StandsFor}
 use Rattle.aspa_top.specs.Tasks.{State}
-use Rattle.aspa_top.specs.Working.{dump_in}
+use Rattle.aspa_top.specs.Working.{dump_in, refused_in}
 use Rattle.aspa_top.specs.World.{World, Tells, ending}
 use Rattle.aspa_top.proofs.ReadyLemmas.{kept_refused, ready_streams}
 use Rattle.aspa_top.proofs.ReportingLemmas.{front_none, text_refused}
@@ -43,7 +43,7 @@ module _ (working : Working) (asked : Asked) (old new : Outside) where
   pub done_refused : {P : ℕ → Type 0} (next : Working) (place : AnyPlace) (cause : Cause) → IsPlaceInLine place
       → Leaves P old.files new.files → ((name : List ℕ) (kept : HeldDump) → dump_in working name ≡ Some kept → P kept.file)
       → new.links ≡ old.links → new.written ≡ old.written → new.ticks ≡ old.ticks → old.opened ≤ new.opened → new.standings ≡ old.standings → new.link_faults ≡ old.link_faults
-      → new.held ≡ old.held ++ refusal_text working.lines place cause → next ≡ record working { refused = working.refused + 1 } → IsBegun old working
+      → new.held ≡ old.held ++ refusal_text working.lines place cause → next ≡ refused_in working → IsBegun old working
       → ((world : World) → Tells old.files world → (state : State) → StandsFor old.files old.links working state
       → DoesAsked world state asked (refusal_text state.lines place cause) (record state { refused = state.refused + 1 }))
       → Done working asked old new next
@@ -72,3 +72,71 @@ pub stopped_by_sink : (working : Working) (asked : Asked) (old new : Outside) (s
 stopped_by_sink working asked old new stops.Shelf no_shelf some rose = absurd (no_shelf refl)
 stopped_by_sink working asked old new stops.Sink no_shelf some rose = (some refl, rose refl)
 stopped_by_sink working asked old new stops.NoMemory no_shelf some rose = tt
+
+-- What is held may be written first: what was done then was done.
+module _ (working : Working) (asked : Asked) (old : Outside) (written : Option (List ℕ)) (faults : ℕ) (held : List ℕ) (same : append_known written held ≡ all_of old)
+    (later : old.sink_faults ≤ faults) where
+  abbrev poured : Outside
+  poured = record old { written = written; sink_faults = faults; held = held }
+
+  went_poured : (new : Outside) → GoesPart working asked poured new → GoesPart working asked old new
+  went_poured new (inl none) = inl (none.0, none.1 ∙ same, none.2)
+  went_poured new (inr (inl some)) = inr (inl (
+    some.0,
+    λ world tells state stands.
+        let went = some.1 world tells state stands in
+        record {
+          part = went.part;
+          rest = went.rest;
+          after = went.after;
+          does = went.does;
+          added = went.added ∙ ap (λ (all : Option (List ℕ)). append_known all went.part) same;
+          ticked = went.ticked;
+          came_to = went.came_to;
+        },
+  ))
+  went_poured new (inr (inr (task, is, moves))) = inr (inr (
+    task,
+    is,
+    λ world state stands.
+        let moved = moves world state stands in
+        record {
+          part = moved.part;
+          after = moved.after;
+          moves = moved.moves;
+          added = moved.added ∙ ap (λ (all : Option (List ℕ)). append_known all moved.part) same;
+          sent = moved.sent;
+          ticked = moved.ticked;
+        },
+  ))
+
+  cause_poured : (new : Outside) (stop : Stop) → IsStoppedBy working asked poured new stop → IsStoppedBy working asked old new stop
+  cause_poured new stops.Shelf cause = cause
+  cause_poured new stops.Sink cause = (cause.0, let rose = cause.1 in omega (arith, rose, later))
+  cause_poured new stops.NoMemory cause = tt
+
+  pub did_poured : (new : Outside) (result : Result Working Stop) → Did working asked poured new result → Did working asked old new result
+  did_poured new (Ok next) done = record {
+    goes = λ world tells state stands.
+        let does = done.goes world tells state stands in
+        record {
+          text = does.text;
+          after = does.after;
+          does = does.does;
+          added = does.added ∙ ap (λ (all : Option (List ℕ)). append_known all does.text) same;
+          stands = does.stands;
+          ticked = does.ticked;
+        };
+    ready = done.ready;
+    lines = done.lines;
+    adds = subst (λ (all : Option (List ℕ)). AddsLines all (all_of new) old.link_faults new.link_faults) same done.adds;
+  }
+  did_poured new (Err stop) ended = record {
+    part = went_poured new ended.part;
+    adds = subst (λ (all : Option (List ℕ)). AddsFront all (all_of new) old.link_faults new.link_faults) same ended.adds;
+    cause = cause_poured new stop ended.cause;
+  }
+
+  -- the sink failed in it
+  pub pour_stopped : 0 < length held → Rose old.sink_faults faults → EndedEarly working asked old poured stops.Sink
+  pour_stopped some rose = record { part = inl (refl, same, refl); adds = front_none (all_of old) (all_of poured) old.link_faults old.link_faults (omega arith) same; cause = (some, rose) }

@@ -15,15 +15,15 @@ use Rattle.report_text.specs.Refusals.{of_line, refusal_text}
 use Rattle.report_text.specs.Reported.{AddsQuiet}
 use Rattle.report_text.proofs.ReportedLemmas.{adds_front}
 use Rattle.stream_lines.specs.declared.kind.DumpKind.{DumpKind}
-use Rattle.stream_lines.specs.declared.stop.Stop.{Stop}
-use Rattle.stream_lines.specs.declared.stop.Stop.TheVariants as stops
+use Rattle.listings.specs.declared.stop.Stop.{Stop}
+use Rattle.listings.specs.declared.stop.Stop.TheVariants as stops
 use Rattle.stream_lines.specs.Frames.{Leaves}
 use Rattle.stream_lines.specs.Holding.{HoldsDump}
 use Rattle.stream_lines.specs.Taking.{GrewBy, StandsAt, TookFirst}
 use Rattle.stream_lines.specs.Units.{first_known}
 use Rattle.stream_lines.specs.Streams.{Dump, Taking, Asking, TakesUnits}
 use Rattle.stream_lines.specs.Held.{HeldDump}
-use Rattle.stream_lines.specs.declared.taking.Progress.{Progress}
+use Rattle.analyser.specs.declared.progress.Progress.{Progress}
 use Rattle.stream_lines.proofs.FrameLemmas.{Leaves-refl, Leaves-opens}
 use Rattle.stream_lines.proofs.LawLemmas.{some_units}
 use Rattle.stream_lines.proofs.UnitsLemmas.{TakesUnits-join}
@@ -35,7 +35,7 @@ use Rattle.aspa_top.specs.Outside.{Outside, all_of}
 use Rattle.aspa_top.specs.Performing.{Done, EndedEarly, GoesSome, IsStoppedBy}
 use Rattle.aspa_top.specs.Standing.{IsBegun, StandsFor}
 use Rattle.aspa_top.specs.Tasks.{CameTo, DoesTask, State, OpensNamed, Takes, TakesNamed, TakesOpen, TaskUsesFile, is_stream, new_dump, with_dump, same_name, asking_of, taking_of, after_taking}
-use Rattle.aspa_top.specs.Working.{NamesDump, cache_in, dump_in, has_source, has_stream}
+use Rattle.aspa_top.specs.Working.{NamesDump, cache_in, dump_in, has_source, has_stream, refused_in}
 use Rattle.aspa_top.specs.World.{Links, World, ending, names_of}
 use Rattle.aspa_top.proofs.DidLemmas.{done_refused, some_done}
 use Rattle.aspa_top.proofs.ReadyLemmas.{IsSound-put, caches_kept, feeds_kept}
@@ -57,7 +57,7 @@ module _ (working next : Working) (kind : DumpKind) (name file : List ℕ) (old 
 
   -- the name is in use
   pub open_used : (has_source working name || has_stream working name) ≡ true → held ≡ old.held ++ refusal_text working.lines of_line causes.NameTaken
-      → next ≡ record working { refused = working.refused + 1 } → Done working (Ok (Open kind name file)) old (record old { held = held }) next
+      → next ≡ refused_in working → Done working (Ok (Open kind name file)) old (record old { held = held }) next
   open_used used added is =
       done_refused working (Ok (Open kind name file)) old (record old { held = held }) next of_line causes.NameTaken tt (Leaves-refl (λ other. Unit {0}) old.files) (λ n d e. tt)
       refl refl refl (omega arith) refl refl added is begun
@@ -68,7 +68,7 @@ module _ (working next : Working) (kind : DumpKind) (name file : List ℕ) (old 
   module _ (files : Option Files) (opened faults : ℕ) (told : List ℕ) (free : (has_source working name || has_stream working name) ≡ false) (same : told ≡ file) where
     -- the file isn't there
     pub open_misses : Misses old.files files old.opened opened told → held ≡ old.held ++ refusal_text working.lines of_line causes.NoFile
-        → next ≡ record working { refused = working.refused + 1 }
+        → next ≡ refused_in working
         → Done working (Ok (Open kind name file)) old (record old { files = files; opened = opened; shelf_faults = faults; held = held }) next
     open_misses misses added is =
         done_refused working (Ok (Open kind name file)) old (record old { files = files; opened = opened; shelf_faults = faults; held = held }) next of_line causes.NoFile tt
@@ -85,8 +85,8 @@ module _ (working next : Working) (kind : DumpKind) (name file : List ℕ) (old 
     open_new number kept is_new opens count silent names =
         let new : Outside = record old { files = files; opened = opened; shelf_faults = faults; held = held } in
         let is = names.left in
-        let passed : next.passed ≡ working.passed = ap (λ (w : Working). w.passed) is in
-        let refused : next.refused ≡ working.refused = ap (λ (w : Working). w.refused) is in
+        let passed : next.progress.passed ≡ working.progress.passed = ap (λ (w : Working). w.progress.passed) is in
+        let refused : next.progress.refused ≡ working.progress.refused = ap (λ (w : Working). w.progress.refused) is in
         let lines : next.lines ≡ working.lines = ap (λ (w : Working). w.lines) is in
         let own : kept.file ≡ number = ap (λ (d : HeldDump). d.file) is_new in
         let taken : kept.taken ≡ 0 = ap (λ (d : HeldDump). d.taken) is_new in
@@ -102,9 +102,9 @@ module _ (working next : Working) (kind : DumpKind) (name file : List ℕ) (old 
                 does = λ ends comes. rw (sym (same_use old.files old.links state stands) ∙ free, named) (refl, refl);
                 added = ap (append_known old.written) silent ∙ sym (append_known-nil (all_of old));
                 stands = record {
-                  analysis = ap (λ (w : Working). w.analyser) is ∙ stands.analysis;
-                  marks = ap (λ (w : Working). w.marks) is ∙ stands.marks;
-                  origins = ap (λ (w : Working). w.origins) is ∙ stands.origins;
+                  analysis = ap (λ (w : Working). w.progress.analyser) is ∙ stands.analysis;
+                  marks = ap (λ (w : Working). w.progress.marks) is ∙ stands.marks;
+                  origins = ap (λ (w : Working). w.progress.origins) is ∙ stands.origins;
                   sources = λ q. ap (λ (w : Working). has_source w q) is ∙ stands.sources q;
                   dumps = λ q. rw (names.dumps q) (HoldsOr-put (same_name name q) files kept (new_dump kind opens.bytes) (dump_in working q) (state.dumps q)
                       (rw is_new (record { kind = refl; over = refl; taken = refl; left = λ yet. ap (prepend_known []) (left ∙ bytes); known = λ yet. refl })) (λ other. stayed.dumps q));
@@ -140,17 +140,16 @@ open_failed working kind name file old files opened faults rose = record {
 
 -- ---- what a line takes of a dump
 
-module _ (working : Working) (name : List ℕ) (before : HeldDump) (asking : Asking) (first : Progress) (old : Outside)
-    (asks : asking ≡ record { line = working.lines; name = name })
-    (starts : first ≡ record { analyser = working.analyser; marks = working.marks; passed = working.passed; refused = working.refused }) where
+module _ (working : Working) (name : List ℕ) (before : HeldDump) (asking : Asking) (old : Outside)
+    (asks : asking ≡ record { line = working.lines; name = name }) where
   -- what is taken begins at the state that the working state stands for
-  pub begins_at : (state : State) (dump : Dump) → StandsFor old.files old.links working state → HoldsDump old.files before dump → StandsAt old.files before first (taking_of state dump)
+  pub begins_at : (state : State) (dump : Dump) → StandsFor old.files old.links working state → HoldsDump old.files before dump → StandsAt old.files before working.progress (taking_of state dump)
   begins_at state dump stands holds = record {
     holds = holds;
-    state = ap (λ (p : Progress). p.analyser) starts ∙ stands.analysis;
-    marks = ap (λ (p : Progress). p.marks) starts ∙ stands.marks;
-    passed = ap (λ (p : Progress). p.passed) starts ∙ stands.passed;
-    refused = ap (λ (p : Progress). p.refused) starts ∙ stands.refused;
+    state = stands.analysis;
+    marks = stands.marks;
+    passed = stands.passed;
+    refused = stands.refused;
   }
 
   -- the line asks as the definition has it
@@ -205,35 +204,32 @@ some_rest asking count old all_old all_new before now done =
     }
 
 -- A task took what it takes of an open dump, and that is what the task does from any state that the working state stands for.
-module _ (working : Working) (name : List ℕ) (task : Task) (count : ℕ) (before after : HeldDump) (asking : Asking) (first : Progress) (old : Outside)
+module _ (working : Working) (name : List ℕ) (task : Task) (count : ℕ) (before after : HeldDump) (asking : Asking) (old : Outside)
     (files : Option Files) (opened shelf_faults : ℕ) (written : Option (List ℕ)) (sink_faults : ℕ) (held : List ℕ) (now : ℕ)
     (begun : IsBegun old working) (few : count ≤ most) (here : dump_in working name ≡ Some before)
     (leaves : Leaves (λ other. other ≢ before.file) old.files files)
     (asks : asking ≡ record { line = working.lines; name = name })
-    (starts : first ≡ record { analyser = working.analyser; marks = working.marks; passed = working.passed; refused = working.refused })
     (quiet : AddsQuiet (all_of old) (append_known written held)) (Takes_all : Taking → List ℕ → Taking → Type 0)
-    (ticks : (from to : Taking) (text : List ℕ) → StandsAt old.files before first from → Takes_all from text to → now + from.judgements ≤ old.ticks + to.judgements)
+    (ticks : (from to : Taking) (text : List ℕ) → StandsAt old.files before working.progress from → Takes_all from text to → now + from.judgements ≤ old.ticks + to.judgements)
     (does : (world : World) (state : State) (dump : Dump) (text : List ℕ) (end : Taking) → StandsFor old.files old.links working state → state.dumps name ≡ Some dump
     → HoldsDump old.files before dump → Takes_all (taking_of state dump) text end → DoesTask world state task text (after_taking state name end)) where
   pub all_done : (next : Working) (last : Progress)
-      → ((from : Taking) → StandsAt old.files before first from → (to : Taking) × StandsAt files after last to
+      → ((from : Taking) → StandsAt old.files before working.progress from → (to : Taking) × StandsAt files after last to
       × (text : List ℕ) × Takes_all from text to × (append_known written held ≡ append_known (all_of old) text))
       → ((q : List ℕ) → dump_in next q ≡ cond (same_name name q) (Some after) (dump_in working q))
-      → next ≡ record working { analyser = last.analyser; marks = last.marks; dumps = next.dumps; passed = last.passed; refused = last.refused }
-      → opened ≡ old.opened → after.file ≡ before.file → GrewBy count before after first last
+      → next ≡ record working { progress = last; dumps = next.dumps }
+      → opened ≡ old.opened → after.file ≡ before.file → GrewBy count before after working.progress last
       → Done working (Ok task) old
       (record old { files = files; opened = opened; shelf_faults = shelf_faults; written = written; sink_faults = sink_faults; held = held; ticks = now }) next
   all_done next last took dumps is same file grew =
       let lines : next.lines ≡ working.lines = ap (λ (w : Working). w.lines) is in
-      let passed : next.passed ≡ last.passed = ap (λ (w : Working). w.passed) is in
-      let refused : next.refused ≡ last.refused = ap (λ (w : Working). w.refused) is in
-      let passed_at : first.passed ≡ working.passed = ap (λ (p : Progress). p.passed) starts in
-      let refused_at : first.refused ≡ working.refused = ap (λ (p : Progress). p.refused) starts in
+      let passed : next.progress.passed ≡ last.passed = ap (λ (w : Working). w.progress.passed) is in
+      let refused : next.progress.refused ≡ last.refused = ap (λ (w : Working). w.progress.refused) is in
       let given = begun.sound.given name before here in
       record {
         goes = λ world tells state stands.
             let there = HoldsOr-some old.files (dump_in working name) (state.dumps name) before (stands.dumps name) here in
-            let at = begins_at working name before asking first old asks starts state there.0 stands there.2 in
+            let at = begins_at working name before asking old asks state there.0 stands there.2 in
             let done = took (taking_of state there.0) at in
             record {
               text = done.2;
@@ -241,9 +237,9 @@ module _ (working : Working) (name : List ℕ) (task : Task) (count : ℕ) (befo
               does = λ ends comes. does (ending world ends) state there.0 done.2 done.0 stands there.1 there.2 done.3;
               added = done.4;
               stands = record {
-                analysis = ap (λ (w : Working). w.analyser) is ∙ done.1.state;
-                marks = ap (λ (w : Working). w.marks) is ∙ done.1.marks;
-                origins = ap (λ (w : Working). w.origins) is ∙ stands.origins;
+                analysis = ap (λ (w : Working). w.progress.analyser) is ∙ done.1.state;
+                marks = ap (λ (w : Working). w.progress.marks) is ∙ done.1.marks;
+                origins = ap (λ (w : Working). w.progress.origins) is ∙ grew.origins ∙ stands.origins;
                 sources = λ q. ap (λ (w : Working). has_source w q) is ∙ stands.sources q;
                 dumps = λ q. rw (dumps q) (HoldsOr-put (same_name name q) files after done.0.dump (dump_in working q) (state.dumps q) done.1.holds
                     (λ other. HoldsOr-leaves old.files files (dump_in working q) (state.dumps q) (λ d e. leaves.files d.file (λ equal. begun.sound.apart name q before d (differ name q other) here e (sym equal))) (stands.dumps q)));
@@ -261,7 +257,7 @@ module _ (working : Working) (name : List ℕ) (task : Task) (count : ℕ) (befo
           sound = IsSound-put old.opened opened (working.lines - 1) next.lines name after working next (omega (arith, lines, begun.counted)) (omega (arith, same)) begun.sound dumps
               (omega (arith, given.0, file, same)) (omega (arith, given.1, grew.taken, few, lines, begun.counted))
               (λ q d other there equal. begun.sound.apart name q before d other here there (sym file ∙ equal))
-              (omega (arith, grew.passed, few, passed, passed_at)) (omega (arith, grew.refused, few, refused, refused_at));
+              (omega (arith, grew.passed, few, passed)) (omega (arith, grew.refused, few, refused));
           caches = caches_kept (working.lines - 1) next.lines working next (omega (arith, lines)) (λ q. ap (λ (w : Working). cache_in w q) is) begun.caches;
           feeds = feeds_kept old.standings (working.lines - 1) next.lines working next (omega (arith, lines)) (ap (λ (w : Working). w.feeds) is) begun.feeds;
         };

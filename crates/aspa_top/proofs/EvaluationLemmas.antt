@@ -9,26 +9,25 @@ use Rattle.feed_lines.specs.declared.working.Work.TheVariants.{Take as TakePdus}
 use Rattle.feed_lines.specs.Feeds.{Feed}
 use Rattle.feed_lines.specs.Lines.{WorksBy}
 use Rattle.feed_lines.specs.Lines.{State as FeedState}
-use Rattle.script_lines.specs.declared.command.Command.{Command}
-use Rattle.script_lines.specs.declared.command.Command.TheVariants.{Idle, Aspa, Aspa64, Validated, Slurm, At, Filter, Unfilter, Assert, Unassert, Role as SetRole, RoleDefault, Open as OpenDump, Bmp as OpenBmp, Take as TakeUnits, Until as UntilLine, Feed as FeedLine, Ask, Sync, Serve as ServeLine, Judge as JudgePath, Clear as ClearLine, Changes as ListChanges, Details as DetailsLine, Say as SayLine, Why as WhyRoute, Show as ShowAll}
-use Rattle.script_lines.specs.declared.command.LineFault.{LineFault}
-use Rattle.script_lines.specs.declared.command.LineFault.TheVariants.{Long, Command as NoCommand, Words, Number, NoMemory}
+use Rattle.script_lines.specs.declared.commands.Command.{Command}
+use Rattle.script_lines.specs.declared.commands.Command.TheVariants.{Feed as FeedLine, Serve as ServeLine}
+use Rattle.script_lines.specs.declared.fault.LineFault.{LineFault}
+use Rattle.script_lines.specs.declared.fault.LineFault.TheVariants.{Long, Command as NoCommand, Words, Number, NoMemory}
 use Rattle.script_lines.specs.Grammar.{IsReading}
 use Rattle.script_lines.proofs.LawLemmas.{IsReading-unique, some_reading}
 use Rattle.stream_lines.specs.declared.kind.DumpKind.{DumpKind}
 use Rattle.stream_lines.specs.Streams.{Dump}
 use Rattle.stream_lines.specs.Units.{is_of_records}
-use Rattle.aspa_top.specs.declared.loading.FileKind.{FileKind}
-use Rattle.aspa_top.specs.declared.loading.Outcome.{Outcome}
-use Rattle.aspa_top.specs.declared.loading.Outcome.TheVariants.{NoFile, Long as FileLong, Flawed, Good}
-use Rattle.aspa_top.specs.declared.task.Short.{Short as ShortTask}
-use Rattle.aspa_top.specs.declared.task.Short.TheVariants.{Idle as Nothing, Happen, Clear, Judge, Say}
+use Rattle.aspa_top.specs.declared.files.FileKind.{FileKind}
+use Rattle.aspa_top.specs.declared.files.Outcome.{Outcome}
+use Rattle.aspa_top.specs.declared.files.Outcome.TheVariants.{NoFile, Long as FileLong, Flawed, Good}
 use Rattle.aspa_top.specs.declared.task.Question.{Question}
 use Rattle.aspa_top.specs.declared.task.Task.{Task}
-use Rattle.aspa_top.specs.declared.task.Task.TheVariants.{Short, Load, Open, Take, Until, Connect, OnFeed, Serve, Answer, Changes}
-use Rattle.aspa_top.specs.Tasks.{State, Moves, TakesFile, LoadsUnless, OpensNamed, TakesOpen, TakesNamed, TakesRecordsUnless, TakesUntilNamed, Works, DoesShort, DoesTask, feeds_of, is_stream, is_taken}
+use Rattle.aspa_top.specs.declared.task.Task.TheVariants.{Idle as Nothing, Happen, Clear, Judge, Say, Load, Open, Take, Until, Connect, OnFeed, Serve, Answer, Changes}
+use Rattle.aspa_top.specs.Tasks.{State, Moves, TakesFile, LoadsUnless, OpensNamed, TakesOpen, TakesNamed, TakesRecordsUnless, TakesUntilNamed, Works, DoesTask, feeds_of, is_stream, is_taken}
 use Rattle.aspa_top.specs.Answers.{AnswersUnless, Replies, refused_for}
-use Rattle.aspa_top.specs.Evaluation.{Asked, Begins, Does, DoesAsked, asked_of, counted, task_of, Performs, Evaluates}
+use Rattle.aspa_top.specs.Evaluation.{Asked, Begins, Does, DoesAsked, asked_of, counted, Performs, Evaluates}
+use Rattle.aspa_top.specs.Task.{task_of}
 use Rattle.aspa_top.specs.Laws.{NeedNoAttempts, NeedsNoAttempt}
 use Rattle.std.proofs.lemmas.List.Elements.{All-head, All-tail}
 use Rattle.aspa_top.specs.Program.{BeginsNext}
@@ -43,13 +42,6 @@ abbrev pub HasNoFeeds : State → Type 0
 HasNoFeeds state = (name : List ℕ) → state.feeds name ≡ None
 
 -- such a line leaves none either
-short_keeps : (state : State) (short : ShortTask) (text : List ℕ) (next : State) → DoesShort state short text next → next.feeds ≡ state.feeds
-short_keeps state Nothing text next does = ap (λ (s : State). s.feeds) does.1
-short_keeps state (Happen event) text next does = ap (λ (s : State). s.feeds) does.left
-short_keeps state Clear text next does = ap (λ (s : State). s.feeds) does.1
-short_keeps state (Say words) text next does = ap (λ (s : State). s.feeds) does.1
-short_keeps state (Judge role neighbour path) text next does = ap (λ (s : State). s.feeds) does.1
-
 reply_keeps : (state : State) (question : Question) (text : List ℕ) (next : State) → Replies state question text next → next.feeds ≡ state.feeds
 reply_keeps state question text next replies = by_cause (refused_for state question) replies where
   by_cause : (cause : Option Cause) → AnswersUnless cause state question text next → next.feeds ≡ state.feeds
@@ -101,7 +93,11 @@ take_keeps (Some dump) world state name count text next none takes = dump_keeps 
 
 task_keeps : (world : World) (state : State) (task : Task) (text : List ℕ) (next : State) → ConnectsNone task → HasNoFeeds state → DoesTask world state task text next
     → next.feeds ≡ state.feeds
-task_keeps world state (Short short) text next other none does = short_keeps state short text next does
+task_keeps world state Nothing text next other none does = ap (λ (s : State). s.feeds) does.1
+task_keeps world state (Happen event) text next other none does = ap (λ (s : State). s.feeds) does.left
+task_keeps world state Clear text next other none does = ap (λ (s : State). s.feeds) does.1
+task_keeps world state (Say words) text next other none does = ap (λ (s : State). s.feeds) does.1
+task_keeps world state (Judge role neighbour path) text next other none does = ap (λ (s : State). s.feeds) does.1
 task_keeps world state (Load kind file) text next other none does = load_keeps (is_taken state kind) world state kind file text next does
 task_keeps world state (Open kind name file) text next other none does = open_keeps (state.sources name || is_stream state name) (world.named file) state kind name text next does
 task_keeps world state (Take name count) text next other none does = take_keeps (state.dumps name) world state name count text next (none name) does
@@ -134,33 +130,9 @@ AsksNoAttempt (Err cause) = Unit {0}
 
 no_attempt : (line : List ℕ) (reading : Result Command LineFault) → IsReading line reading → NeedsNoAttempt line → AsksNoAttempt (asked_of reading)
 no_attempt line (Ok (FeedLine name place)) reads other = other.no_feed name place reads
-no_attempt line (Ok Idle) reads other = tt
-no_attempt line (Ok (Aspa name file)) reads other = tt
-no_attempt line (Ok (Aspa64 name file)) reads other = tt
-no_attempt line (Ok (Validated name file)) reads other = tt
-no_attempt line (Ok (Slurm file)) reads other = tt
-no_attempt line (Ok (At moment)) reads other = tt
-no_attempt line (Ok (Filter customer)) reads other = tt
-no_attempt line (Ok (Unfilter customer)) reads other = tt
-no_attempt line (Ok (Assert customer providers)) reads other = tt
-no_attempt line (Ok (Unassert customer)) reads other = tt
-no_attempt line (Ok (SetRole asn role)) reads other = tt
-no_attempt line (Ok (RoleDefault role)) reads other = tt
-no_attempt line (Ok (OpenDump name file)) reads other = tt
-no_attempt line (Ok (OpenBmp name file post)) reads other = tt
-no_attempt line (Ok (TakeUnits name count)) reads other = tt
-no_attempt line (Ok (UntilLine name moment)) reads other = tt
-no_attempt line (Ok (Ask name)) reads other = tt
-no_attempt line (Ok (Sync name count)) reads other = tt
 no_attempt line (Ok (ServeLine place session count)) reads other = other.no_serve place session count reads
-no_attempt line (Ok (JudgePath role neighbour path)) reads other = tt
-no_attempt line (Ok ClearLine) reads other = tt
-no_attempt line (Ok ListChanges) reads other = tt
-no_attempt line (Ok (DetailsLine verdict)) reads other = tt
-no_attempt line (Ok (SayLine words)) reads other = tt
-no_attempt line (Ok (WhyRoute addr asn prefix path)) reads other = tt
-no_attempt line (Ok (ShowAll show)) reads other = tt
 no_attempt line (Err fault) reads other = tt
+no_attempt line (Ok command) reads other = tt
 
 -- what a line writes, and leaves
 pub record DoesSome (world : World) (state : State) (asked : Asked) : Type 0 where
@@ -275,7 +247,11 @@ front_of_task world attempts told state (Connect name place) part text moved nex
 front_of_task world attempts told state (OnFeed name work) part text moved next moves does = (text, ap (λ (t : List ℕ). t ++ text) (sym moves.0))
 front_of_task world attempts told state (Serve place session count) part text moved next moves does = table_front world attempts told state place session count part text moved next moves does
 front_of_task world attempts told state (Until name moment) part text moved next moves does = absurd moves
-front_of_task world attempts told state (Short short) part text moved next moves does = absurd moves
+front_of_task world attempts told state Nothing part text moved next moves does = absurd moves
+front_of_task world attempts told state (Happen event) part text moved next moves does = absurd moves
+front_of_task world attempts told state Clear part text moved next moves does = absurd moves
+front_of_task world attempts told state (Say words) part text moved next moves does = absurd moves
+front_of_task world attempts told state (Judge role neighbour path) part text moved next moves does = absurd moves
 front_of_task world attempts told state (Load kind file) part text moved next moves does = absurd moves
 front_of_task world attempts told state (Open kind name file) part text moved next moves does = absurd moves
 front_of_task world attempts told state (Answer question) part text moved next moves does = absurd moves

@@ -9,7 +9,7 @@ use Rattle.av_base.specs.declared.standing.Standing.{Standing}
 use Rattle.av_base.specs.Files.{Files}
 use Rattle.av_base.proofs.ToldLemmas.{append_known-nil}
 use Rattle.feed_lines.specs.declared.feed.Feeds.{Feeds}
-use Rattle.feed_lines.specs.declared.lines.Progress.{Progress}
+use Rattle.analyser.specs.declared.progress.Progress.{Progress}
 use Rattle.feed_lines.specs.declared.working.Work.{Work}
 use Rattle.feed_lines.specs.declared.working.Work.TheVariants.{Take as TakePdus}
 use Rattle.feed_lines.specs.Holding.{AreWithin, HasMoved, Holds}
@@ -17,11 +17,10 @@ use Rattle.feed_lines.specs.Holding.{Goes as FeedsGo, IsSound as FeedsAreSound}
 use Rattle.feed_lines.specs.Lines.{ConnectLine, ConnectPart, WorkLine, WorkPart}
 use Rattle.feed_lines.specs.Lines.{State as FeedState}
 use Rattle.feed_lines.specs.Tellings.{Asking as FeedAsking}
-use Rattle.origin_model.specs.Current.{Parts as Origins}
 use Rattle.report_text.specs.declared.cause.Cause.TheVariants as causes
 use Rattle.report_text.specs.Refusals.{of_line, refusal_text}
-use Rattle.stream_lines.specs.declared.stop.Stop.{Stop}
-use Rattle.stream_lines.specs.declared.stop.Stop.TheVariants as stops
+use Rattle.listings.specs.declared.stop.Stop.{Stop}
+use Rattle.listings.specs.declared.stop.Stop.TheVariants as stops
 use Rattle.stream_lines.specs.Streams.{Dump}
 use Rattle.stream_lines.proofs.FrameLemmas.{Leaves-refl}
 use Rattle.serve_lines.specs.Routers.{Begun, HasSentAll}
@@ -34,7 +33,7 @@ use Rattle.aspa_top.specs.Performing.{Did, Done, EndedEarly, GoesPart, IsStopped
 use Rattle.aspa_top.specs.Reporting.{AddsEnds}
 use Rattle.aspa_top.specs.Standing.{IsBegun, IsReady, StandsFor}
 use Rattle.aspa_top.specs.Tasks.{State, ConnectsUnless, TakesNamed, asking_on, feeds_of, with_feeds}
-use Rattle.aspa_top.specs.Working.{cache_in, dump_in, has_source}
+use Rattle.aspa_top.specs.Working.{cache_in, dump_in, has_source, refused_in}
 use Rattle.aspa_top.specs.World.{Links, ending}
 use Rattle.aspa_top.proofs.DidLemmas.{done_refused}
 use Rattle.aspa_top.proofs.ReadyLemmas.{IsSound-kept, caches_kept}
@@ -52,24 +51,24 @@ asks_for files links working state name asking asks stands = asks ∙ (λ i. rec
 pub no_router : (wire : Option (List Link)) (old : Outside) {working : Working} (state : State) → StandsFor old.files old.links working state → HasSentAll wire state.begun
 no_router wire old state stands = subst (λ (b : Begun). HasSentAll wire b) (sym stands.begun) tt
 
-module _ (working : Working) (name : List ℕ) (old : Outside) (links : Links) (standings : List Standing) (faults : ℕ) (held : List ℕ) (ticks : ℕ) (progress : Progress) (asking : FeedAsking)
-    (begun : IsBegun old working) (starts : progress ≡ record { analyser = working.analyser; refused = working.refused }) (asks : asking ≡ record { line = working.lines; name = name }) where
+module _ (working : Working) (name : List ℕ) (old : Outside) (links : Links) (standings : List Standing) (faults : ℕ) (held : List ℕ) (ticks : ℕ) (asking : FeedAsking)
+    (begun : IsBegun old working) (asks : asking ≡ record { line = working.lines; name = name }) where
   -- what is held of the feeds stands for those of the evaluation
-  feeds_held : (state : State) → StandsFor old.files old.links working state → Holds old.links.attempts old.links.wire working.feeds progress working.origins (feeds_of state)
-  feeds_held state stands = rw starts (record {
+  feeds_held : (state : State) → StandsFor old.files old.links working state → Holds old.links.attempts old.links.wire working.feeds working.progress (feeds_of state)
+  feeds_held state stands = record {
     held = record { made = stands.made; each = stands.feeds };
     analysis = stands.analysis;
     parts_are = stands.origins;
     refused = stands.refused;
-  })
+  }
 
   -- the working state goes on with the feeds
-  stands_after : (state : State) (next : Working) (feeds : Feeds) (origins : Origins) (last : Progress) (after : FeedState)
-      → next ≡ record working { analyser = last.analyser; origins = origins; feeds = feeds; refused = last.refused } → StandsFor old.files old.links working state
-      → Holds links.attempts links.wire feeds last origins after → StandsFor old.files links next (with_feeds state after)
-  stands_after state next feeds origins last after is stands holds = rw is (record {
+  stands_after : (state : State) (next : Working) (feeds : Feeds) (last : Progress) (after : FeedState)
+      → next ≡ record working { progress = last; feeds = feeds } → last.marks ≡ working.progress.marks → last.passed ≡ working.progress.passed → StandsFor old.files old.links working state
+      → Holds links.attempts links.wire feeds last after → StandsFor old.files links next (with_feeds state after)
+  stands_after state next feeds last after is marks passed stands holds = rw is (record {
     analysis = holds.analysis;
-    marks = stands.marks;
+    marks = marks ∙ stands.marks;
     origins = holds.parts_are;
     sources = stands.sources;
     dumps = stands.dumps;
@@ -78,21 +77,20 @@ module _ (working : Working) (name : List ℕ) (old : Outside) (links : Links) (
     begun = stands.begun;
     made = holds.held.made;
     lines = stands.lines;
-    passed = stands.passed;
+    passed = passed ∙ stands.passed;
     refused = holds.refused;
   })
 
   -- it moves no dump, and its feeds stay sound
-  ready_after : (next : Working) (feeds : Feeds) (origins : Origins) (last : Progress) → next ≡ record working { analyser = last.analyser; origins = origins; feeds = feeds; refused = last.refused } → last.refused ≤ progress.refused + 1
+  ready_after : (next : Working) (feeds : Feeds) (last : Progress) → next ≡ record working { progress = last; feeds = feeds } → last.passed ≡ working.progress.passed → last.refused ≤ working.progress.refused + 1
       → FeedsAreSound standings (next.lines * most) feeds → IsReady (record old { links = links; standings = standings; link_faults = faults; held = held; ticks = ticks }) next
-  ready_after next feeds origins last is few sound =
+  ready_after next feeds last is stays few sound =
       let lines : next.lines ≡ working.lines = ap (λ (w : Working). w.lines) is in
-      let passed : next.passed ≡ working.passed = ap (λ (w : Working). w.passed) is in
-      let refused : next.refused ≡ last.refused = ap (λ (w : Working). w.refused) is in
-      let before : progress.refused ≡ working.refused = ap (λ (p : Progress). p.refused) starts in
+      let passed : next.progress.passed ≡ working.progress.passed = ap (λ (w : Working). w.progress.passed) is ∙ stays in
+      let refused : next.progress.refused ≡ last.refused = ap (λ (w : Working). w.progress.refused) is in
       record {
         sound = IsSound-kept old.opened old.opened (working.lines - 1) next.lines working next (omega (arith, lines, begun.counted)) (omega arith) begun.sound
-            (λ q. ap (λ (w : Working). dump_in w q) is) (omega (arith, passed)) (omega (arith, refused, few, before));
+            (λ q. ap (λ (w : Working). dump_in w q) is) (omega (arith, passed)) (omega (arith, refused, few));
         caches = caches_kept (working.lines - 1) next.lines working next (omega (arith, lines)) (λ q. ap (λ (w : Working). cache_in w q) is) begun.caches;
         feeds = subst (λ (f : Feeds). FeedsAreSound standings (next.lines * most) f) (sym (ap (λ (w : Working). w.feeds) is)) sound;
       }
@@ -104,14 +102,14 @@ module _ (working : Working) (name : List ℕ) (old : Outside) (links : Links) (
     free_in state stands =
         (λ i. sym (stands.sources name) i || sym (HoldsOr-is_some old.files (dump_in working name) (state.dumps name) (stands.dumps name)) i) ∙ free
 
-    pub connected : (next : Working) (feeds : Feeds) (origins : Origins) (last : Progress)
-        → FeedsGo old.links.attempts links.attempts old.links.wire links.wire (Holds old.links.attempts old.links.wire working.feeds progress working.origins)
-        (λ before now. Holds links.attempts links.wire feeds last origins now × (now.judgements ≡ before.judgements)) old.held held
+    pub connected : (next : Working) (feeds : Feeds) (last : Progress)
+        → FeedsGo old.links.attempts links.attempts old.links.wire links.wire (Holds old.links.attempts old.links.wire working.feeds working.progress)
+        (λ before now. Holds links.attempts links.wire feeds last now × (now.judgements ≡ before.judgements)) old.held held
         (λ world before added now. ConnectLine world asking place before added now)
-        → next ≡ record working { analyser = last.analyser; origins = origins; feeds = feeds; refused = last.refused } → last.refused ≤ progress.refused + 1
+        → next ≡ record working { progress = last; feeds = feeds } → last.marks ≡ working.progress.marks → last.passed ≡ working.progress.passed → last.refused ≤ working.progress.refused + 1
         → FeedsAreSound standings (next.lines * most) feeds → AddsEnds old.held held old.link_faults faults → ticks ≡ old.ticks
         → Done working (Ok (Connect name place)) old (record old { links = links; standings = standings; link_faults = faults; held = held; ticks = ticks }) next
-    connected next feeds origins last goes is few sound adds unticked = record {
+    connected next feeds last goes is marks passed few sound adds unticked = record {
       goes = λ world tells state stands.
           let did = goes.goes (feeds_of state) (feeds_held state stands) in
           let asks_same = asks_for old.files old.links working state name asking asks stands in
@@ -122,15 +120,15 @@ module _ (working : Working) (name : List ℕ) (old : Outside) (links : Links) (
                 (sym (free_in state stands))
                 (record { after = did.0; does = subst (λ (a : FeedAsking). ConnectLine ends a place (feeds_of state) goes.text did.0) asks_same (did.2 ends comes); left = refl });
             added = added_text old.written old.held held goes.text goes.added;
-            stands = stands_after state next feeds origins last did.0 is stands did.1.0;
+            stands = stands_after state next feeds last did.0 is marks passed stands did.1.0;
             ticked = omega (arith, did.1.1, unticked);
           };
-      ready = ready_after next feeds origins last is few sound;
+      ready = ready_after next feeds last is passed few sound;
       lines = ap (λ (w : Working). w.lines) is;
       adds = adds old.written;
     }
 
-    pub connect_stopped : FeedsGo old.links.attempts links.attempts old.links.wire links.wire (Holds old.links.attempts old.links.wire working.feeds progress working.origins)
+    pub connect_stopped : FeedsGo old.links.attempts links.attempts old.links.wire links.wire (Holds old.links.attempts old.links.wire working.feeds working.progress)
         (λ before now. HasMoved links.attempts links.wire now × (now.judgements ≡ before.judgements)) old.held held
         (λ world before added now. ConnectPart world asking place before now) → held ≡ old.held → ticks ≡ old.ticks → old.link_faults ≤ faults
         → EndedEarly working (Ok (Connect name place)) old (record old { links = links; standings = standings; link_faults = faults; held = held; ticks = ticks }) stops.NoMemory
@@ -157,14 +155,14 @@ module _ (working : Working) (name : List ℕ) (old : Outside) (links : Links) (
   -- ---- `ask`, `take`, `sync`
 
   module _ (work : Work) where
-    pub worked : (next : Working) (feeds : Feeds) (origins : Origins) (last : Progress)
-        → FeedsGo old.links.attempts links.attempts old.links.wire links.wire (Holds old.links.attempts old.links.wire working.feeds progress working.origins)
-        (λ before now. Holds links.attempts links.wire feeds last origins now × AreWithin old.ticks ticks before.judgements now.judgements) old.held held
+    pub worked : (next : Working) (feeds : Feeds) (last : Progress)
+        → FeedsGo old.links.attempts links.attempts old.links.wire links.wire (Holds old.links.attempts old.links.wire working.feeds working.progress)
+        (λ before now. Holds links.attempts links.wire feeds last now × AreWithin old.ticks ticks before.judgements now.judgements) old.held held
         (λ world before added now. WorkLine world asking work before added now)
-        → next ≡ record working { analyser = last.analyser; origins = origins; feeds = feeds; refused = last.refused } → last.refused ≤ progress.refused + 1
+        → next ≡ record working { progress = last; feeds = feeds } → last.marks ≡ working.progress.marks → last.passed ≡ working.progress.passed → last.refused ≤ working.progress.refused + 1
         → FeedsAreSound standings (next.lines * most) feeds → AddsEnds old.held held old.link_faults faults
         → Done working (Ok (OnFeed name work)) old (record old { links = links; standings = standings; link_faults = faults; held = held; ticks = ticks }) next
-    worked next feeds origins last goes is few sound adds = record {
+    worked next feeds last goes is marks passed few sound adds = record {
       goes = λ world tells state stands.
           let did = goes.goes (feeds_of state) (feeds_held state stands) in
           let asks_same = asks_for old.files old.links working state name asking asks stands in
@@ -173,15 +171,15 @@ module _ (working : Working) (name : List ℕ) (old : Outside) (links : Links) (
             after = with_feeds state did.0;
             does = λ ends comes. record { after = did.0; does = subst (λ (a : FeedAsking). WorkLine ends a work (feeds_of state) goes.text did.0) asks_same (did.2 ends comes); left = refl };
             added = added_text old.written old.held held goes.text goes.added;
-            stands = stands_after state next feeds origins last did.0 is stands did.1.0;
+            stands = stands_after state next feeds last did.0 is marks passed stands did.1.0;
             ticked = did.1.1;
           };
-      ready = ready_after next feeds origins last is few sound;
+      ready = ready_after next feeds last is passed few sound;
       lines = ap (λ (w : Working). w.lines) is;
       adds = adds old.written;
     }
 
-    pub work_stopped : FeedsGo old.links.attempts links.attempts old.links.wire links.wire (Holds old.links.attempts old.links.wire working.feeds progress working.origins)
+    pub work_stopped : FeedsGo old.links.attempts links.attempts old.links.wire links.wire (Holds old.links.attempts old.links.wire working.feeds working.progress)
         (λ before now. HasMoved links.attempts links.wire now × AreWithin old.ticks ticks before.judgements now.judgements) old.held held
         (λ world before added now. WorkPart world asking work before now) → held ≡ old.held → old.link_faults ≤ faults
         → EndedEarly working (Ok (OnFeed name work)) old (record old { links = links; standings = standings; link_faults = faults; held = held; ticks = ticks }) stops.NoMemory
@@ -208,7 +206,7 @@ module _ (working : Working) (name : List ℕ) (old : Outside) (links : Links) (
 -- a source or a dump has the name
 pub connect_refused : (working next : Working) (name place : List ℕ) (old : Outside) (held : List ℕ) → IsBegun old working
     → (has_source working name || is_some (dump_in working name)) ≡ true → held ≡ old.held ++ refusal_text working.lines of_line causes.NameTaken
-    → next ≡ record working { refused = working.refused + 1 } → Done working (Ok (Connect name place)) old (record old { held = held }) next
+    → next ≡ refused_in working → Done working (Ok (Connect name place)) old (record old { held = held }) next
 connect_refused working next name place old held begun used added is =
     done_refused working (Ok (Connect name place)) old (record old { held = held }) next of_line causes.NameTaken tt (Leaves-refl (λ other. Unit {0}) old.files) (λ n d e. tt)
     refl refl refl (omega arith) refl refl added is begun

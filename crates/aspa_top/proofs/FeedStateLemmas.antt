@@ -12,23 +12,22 @@ use Rattle.feed_lines.proofs.SourceLemmas.{source_other}
 use Rattle.stream_lines.specs.declared.kind.DumpKind.{DumpKind}
 use Rattle.stream_lines.specs.Streams.{Dump}
 use Rattle.stream_lines.specs.Units.{is_of_records}
-use Rattle.aspa_top.specs.declared.loading.Amendment.{Amendment}
-use Rattle.aspa_top.specs.declared.loading.Amendment.TheVariants as amendments
-use Rattle.aspa_top.specs.declared.loading.FileKind.{FileKind}
-use Rattle.aspa_top.specs.declared.loading.FileKind.TheVariants.{Payloads, PayloadLines, Validated, Slurm as SlurmFile}
-use Rattle.aspa_top.specs.declared.loading.Made.{Made}
-use Rattle.aspa_top.specs.declared.loading.Outcome.{Outcome}
-use Rattle.aspa_top.specs.declared.loading.Outcome.TheVariants.{NoFile, Long as FileLong, Flawed, Good}
-use Rattle.aspa_top.specs.declared.task.Short.{Short as ShortTask}
-use Rattle.aspa_top.specs.declared.task.Short.TheVariants.{Idle as Nothing, Happen, Clear, Judge as JudgePath, Say}
+use Rattle.aspa_top.specs.declared.files.Amendment.{Amendment}
+use Rattle.aspa_top.specs.declared.files.Amendment.TheVariants as amendments
+use Rattle.aspa_top.specs.declared.files.FileKind.{FileKind}
+use Rattle.aspa_top.specs.declared.files.FileKind.TheVariants.{Source, Slurm as SlurmFile}
+use Rattle.aspa_top.specs.declared.files.Format.TheVariants.{Payloads, PayloadLines, Validated}
+use Rattle.aspa_top.specs.declared.files.Made.{Made}
+use Rattle.aspa_top.specs.declared.files.Outcome.{Outcome}
+use Rattle.aspa_top.specs.declared.files.Outcome.TheVariants.{NoFile, Long as FileLong, Flawed, Good}
 use Rattle.aspa_top.specs.declared.task.Question.{Question}
 use Rattle.aspa_top.specs.declared.task.Task.{Task}
-use Rattle.aspa_top.specs.declared.task.Task.TheVariants.{Short, Load, Open, Take, Until, Connect, OnFeed, Serve, Answer, Changes}
+use Rattle.aspa_top.specs.declared.task.Task.TheVariants.{Idle as Nothing, Happen, Clear, Judge as JudgePath, Say, Load, Open, Take, Until, Connect, OnFeed, Serve, Answer, Changes}
 use Rattle.aspa_top.specs.Answers.{AnswersUnless, Replies, refused_for}
 use Rattle.aspa_top.specs.Evaluation.{Asked, DoesAsked, Evaluates, asked_of, counted}
-use Rattle.aspa_top.specs.Loading.{ComesOf, Makes}
+use Rattle.aspa_top.specs.Files.{ComesOf, Makes}
 use Rattle.aspa_top.specs.Serving.{ServesTable}
-use Rattle.aspa_top.specs.Tasks.{ConnectsUnless, DoesShort, DoesTask, LoadsUnless, OpensNamed, State, TakesFile, TakesNamed, TakesOpen, TakesRecordsUnless, TakesUntilNamed, Works, amended, is_stream, is_taken, same_name}
+use Rattle.aspa_top.specs.Tasks.{ConnectsUnless, DoesTask, LoadsUnless, OpensNamed, State, TakesFile, TakesNamed, TakesOpen, TakesRecordsUnless, TakesUntilNamed, Works, amended, is_stream, is_taken, same_name}
 use Rattle.aspa_top.specs.World.{World}
 use Rattle.aspa_top.proofs.StandsLemmas.{is_same}
 
@@ -64,9 +63,9 @@ put_keeps state name payloads free q there = by_name (same_name name q) refl whe
   by_name false miss = source_other name payloads q miss state.origins.sources
 
 made_keeps : (state : State) (kind : FileKind) (bytes : List ℕ) (made : Made) → is_taken state kind ≡ false → Makes kind bytes made → KeepsSources state made.amends
-made_keeps state (Payloads name) bytes made free makes = subst (λ (m : Made). KeepsSources state m.amends) (sym makes.2) (put_keeps state name [] free)
-made_keeps state (PayloadLines name) bytes made free makes = subst (λ (m : Made). KeepsSources state m.amends) (sym makes.2) (put_keeps state name [] free)
-made_keeps state (Validated name) bytes made free makes =
+made_keeps state (Source name Payloads) bytes made free makes = subst (λ (m : Made). KeepsSources state m.amends) (sym makes.2) (put_keeps state name [] free)
+made_keeps state (Source name PayloadLines) bytes made free makes = subst (λ (m : Made). KeepsSources state m.amends) (sym makes.2) (put_keeps state name [] free)
+made_keeps state (Source name Validated) bytes made free makes =
     subst (λ (m : Made). KeepsSources state m.amends) (sym makes.2) (put_keeps state name (unwrap_or makes.0.payloads []) free)
 made_keeps state SlurmFile bytes made free makes = subst (λ (m : Made). KeepsSources state m.amends) (sym makes.2) (λ q there. refl)
 
@@ -113,13 +112,6 @@ Replies-keeps state question text next replies = by_cause (refused_for state que
   by_cause (Some cause) refuses = kept state next _ refl refl refl refuses.1
   by_cause None answers = kept state next state refl refl refl answers.1
 
-DoesShort-keeps : (state : State) (short : ShortTask) (text : List ℕ) (next : State) → DoesShort state short text next → KeepsFeeds state next
-DoesShort-keeps state Nothing text next does = kept state next _ refl refl refl does.1
-DoesShort-keeps state (Happen event) text next does = kept state next _ refl refl refl does.left
-DoesShort-keeps state Clear text next does = kept state next _ refl refl refl does.1
-DoesShort-keeps state (Say words) text next does = kept state next _ refl refl refl does.1
-DoesShort-keeps state (JudgePath role neighbour path) text next does = kept state next _ refl refl refl does.1
-
 ServesTable-keeps : (world : World) (state : State) (place : List ℕ) (session count : ℕ) (text : List ℕ) (next : State) → ServesTable world state place session count text next → KeepsFeeds state next
 ServesTable-keeps world state place session count text next (inl refuses) = kept state next _ refl refl refl refuses.1.1
 ServesTable-keeps world state place session count text next (inr serves) =
@@ -144,7 +136,11 @@ module _ (world : World) (Is : State → Type 0) (left : IsLeft world Is) where
   Takes-left (Some dump) state next name count text is takes = left.keeps state next (TakesOpen-keeps dump.over state name count dump text next takes) is
 
   DoesTask-left : (state next : State) (task : Task) (text : List ℕ) → Is state → DoesTask world state task text next → Is next
-  DoesTask-left state next (Short short) text is does = left.keeps state next (DoesShort-keeps state short text next does) is
+  DoesTask-left state next Nothing text is does = left.keeps state next (kept state next _ refl refl refl does.1) is
+  DoesTask-left state next (Happen event) text is does = left.keeps state next (kept state next _ refl refl refl does.left) is
+  DoesTask-left state next Clear text is does = left.keeps state next (kept state next _ refl refl refl does.1) is
+  DoesTask-left state next (Say words) text is does = left.keeps state next (kept state next _ refl refl refl does.1) is
+  DoesTask-left state next (JudgePath role neighbour path) text is does = left.keeps state next (kept state next _ refl refl refl does.1) is
   DoesTask-left state next (Load kind file) text is does = left.keeps state next (Loads-keeps (is_taken state kind) world state kind file text next refl does) is
   DoesTask-left state next (Open kind name file) text is does =
       left.keeps state next (Opens-keeps (state.sources name || is_stream state name) (world.named file) state kind name text next does) is

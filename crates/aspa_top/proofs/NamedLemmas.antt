@@ -4,16 +4,15 @@ use Rattle.std.specs.declared.result.Result.{Result}
 use Rattle.av_text.specs.Spellings.{IsInLine}
 use Rattle.av_text.proofs.AnySpellingLemmas.{names_in_line}
 use Rattle.report_text.proofs.RefusalLemmas.{slurm-in_line}
-use Rattle.script_lines.specs.declared.command.Command.{Command}
-use Rattle.script_lines.specs.declared.command.Command.TheVariants.{Idle, Aspa, Aspa64, Validated, Slurm, At, Filter, Unfilter, Assert, Unassert, Role as SetRole, RoleDefault, Open, Bmp, Take, Until, Feed, Ask, Sync, Serve, Judge, Clear, Changes, Details, Say, Why, Show}
-use Rattle.script_lines.specs.declared.command.LineFault.{LineFault}
+use Rattle.script_lines.specs.declared.commands.Command.{Command}
+use Rattle.script_lines.specs.declared.commands.Command.TheVariants.{Aspa, Aspa64, Validated, Slurm, Open, Bmp, Take, Until, Feed, Ask, Sync, Say}
+use Rattle.script_lines.specs.declared.fault.LineFault.{LineFault}
 use Rattle.script_lines.specs.Grammar.{IsReading}
-use Rattle.script_lines.proofs.SourceNameLemmas.{reading_named}
-use Rattle.aspa_top.specs.declared.task.Short.TheVariants.{Say as SayWords}
+use Rattle.script_lines.proofs.CommandLemmas.{reading_bounded}
 use Rattle.aspa_top.specs.declared.task.Task.{Task}
-use Rattle.aspa_top.specs.declared.task.Task.TheVariants.{Load, Open as OpenDump, Take as TakeUnits, Until as TakeUntil, Connect, OnFeed, Short}
+use Rattle.aspa_top.specs.declared.task.Task.TheVariants.{Load, Open as OpenDump, Take as TakeUnits, Until as TakeUntil, Connect, OnFeed, Say as SayWords}
 use Rattle.aspa_top.specs.Evaluation.{Asked, asked_of}
-use Rattle.aspa_top.specs.Loading.{unit_name}
+use Rattle.aspa_top.specs.Files.{unit_name}
 use Rattle.aspa_top.proofs.ReportingLemmas.{said_in_line}
 
 -- the name of the stream or of the file's units has no line feed, nor have words that are said
@@ -22,7 +21,7 @@ IsNamedInLine (Load kind file) = IsInLine (unit_name kind)
 IsNamedInLine (OpenDump kind name file) = IsInLine name
 IsNamedInLine (TakeUnits name count) = IsInLine name
 IsNamedInLine (TakeUntil name moment) = IsInLine name
-IsNamedInLine (Short (SayWords words)) = IsInLine words
+IsNamedInLine (SayWords words) = IsInLine words
 IsNamedInLine (Connect name place) = IsInLine name
 IsNamedInLine (OnFeed name work) = IsInLine name
 IsNamedInLine task = Unit {0}
@@ -32,31 +31,16 @@ IsAskedInLine (Ok task) = IsNamedInLine task
 IsAskedInLine (Err cause) = Unit {0}
 
 pub reading_in_line : (line : List ℕ) (reading : Result Command LineFault) → IsReading line reading → IsAskedInLine (asked_of reading)
-reading_in_line line (Ok Idle) reads = tt
-reading_in_line line (Ok (Aspa name file)) reads = names_in_line name (reading_named line (Aspa name file) reads)
-reading_in_line line (Ok (Aspa64 name file)) reads = names_in_line name (reading_named line (Aspa64 name file) reads)
-reading_in_line line (Ok (Validated name file)) reads = names_in_line name (reading_named line (Validated name file) reads)
+reading_in_line line (Ok (Aspa name file)) reads = names_in_line name (reading_bounded line (Aspa name file) reads)
+reading_in_line line (Ok (Aspa64 name file)) reads = names_in_line name (reading_bounded line (Aspa64 name file) reads)
+reading_in_line line (Ok (Validated name file)) reads = names_in_line name (reading_bounded line (Validated name file) reads)
 reading_in_line line (Ok (Slurm file)) reads = slurm-in_line
-reading_in_line line (Ok (At moment)) reads = tt
-reading_in_line line (Ok (Filter customer)) reads = tt
-reading_in_line line (Ok (Unfilter customer)) reads = tt
-reading_in_line line (Ok (Assert customer providers)) reads = tt
-reading_in_line line (Ok (Unassert customer)) reads = tt
-reading_in_line line (Ok (SetRole asn role)) reads = tt
-reading_in_line line (Ok (RoleDefault role)) reads = tt
-reading_in_line line (Ok (Open name file)) reads = names_in_line name (reading_named line (Open name file) reads)
-reading_in_line line (Ok (Bmp name file post)) reads = names_in_line name (reading_named line (Bmp name file post) reads)
-reading_in_line line (Ok (Take name count)) reads = names_in_line name (reading_named line (Take name count) reads).0
-reading_in_line line (Ok (Until name moment)) reads = names_in_line name (reading_named line (Until name moment) reads)
-reading_in_line line (Ok (Feed name place)) reads = names_in_line name (reading_named line (Feed name place) reads)
-reading_in_line line (Ok (Ask name)) reads = names_in_line name (reading_named line (Ask name) reads)
-reading_in_line line (Ok (Sync name count)) reads = names_in_line name (reading_named line (Sync name count) reads).0
-reading_in_line line (Ok (Serve place session count)) reads = tt
-reading_in_line line (Ok (Judge role neighbour path)) reads = tt
-reading_in_line line (Ok Clear) reads = tt
-reading_in_line line (Ok Changes) reads = tt
-reading_in_line line (Ok (Say words)) reads = said_in_line words (reading_named line (Say words) reads)
-reading_in_line line (Ok (Details verdict)) reads = tt
-reading_in_line line (Ok (Why addr asn prefix path)) reads = tt
-reading_in_line line (Ok (Show show)) reads = tt
-reading_in_line line (Err fault) reads = tt
+reading_in_line line (Ok (Open name file)) reads = names_in_line name (reading_bounded line (Open name file) reads)
+reading_in_line line (Ok (Bmp name file post)) reads = names_in_line name (reading_bounded line (Bmp name file post) reads)
+reading_in_line line (Ok (Take name count)) reads = names_in_line name (reading_bounded line (Take name count) reads).0
+reading_in_line line (Ok (Until name moment)) reads = names_in_line name (reading_bounded line (Until name moment) reads)
+reading_in_line line (Ok (Feed name place)) reads = names_in_line name (reading_bounded line (Feed name place) reads)
+reading_in_line line (Ok (Ask name)) reads = names_in_line name (reading_bounded line (Ask name) reads)
+reading_in_line line (Ok (Sync name count)) reads = names_in_line name (reading_bounded line (Sync name count) reads).0
+reading_in_line line (Ok (Say words)) reads = said_in_line words (reading_bounded line (Say words) reads)
+reading_in_line line other reads = tt

@@ -23,13 +23,14 @@ use Rattle.validated.specs.Reading.{IsReading as IsValidatedReading}
 use Rattle.validated.specs.declared.fault.ValidatedFault.{ValidatedFault}
 use Rattle.validated.specs.declared.fault.ValidatedFault.TheVariants as validated_faults
 use Rattle.validated.proofs.LawLemmas.{each_file as each_validated_file}
-use Rattle.aspa_top.specs.declared.loading.FileKind.{FileKind}
-use Rattle.aspa_top.specs.declared.loading.FileKind.TheVariants.{Payloads, PayloadLines, Validated, Slurm}
-use Rattle.aspa_top.specs.declared.loading.Flaw.{Flaw}
-use Rattle.aspa_top.specs.declared.loading.Made.{Made}
-use Rattle.aspa_top.specs.declared.loading.Outcome.{Outcome}
-use Rattle.aspa_top.specs.declared.loading.Outcome.TheVariants.{NoFile, Long, Flawed, Good}
-use Rattle.aspa_top.specs.Loading.{Makes, Fails, IsWithin, IsBeyond, ComesOf, of_slurm, of_source, of_validated, payload_cause, slurm_cause, validated_cause}
+use Rattle.aspa_top.specs.declared.files.FileKind.{FileKind}
+use Rattle.aspa_top.specs.declared.files.FileKind.TheVariants.{Source, Slurm}
+use Rattle.aspa_top.specs.declared.files.Format.TheVariants.{Payloads, PayloadLines, Validated}
+use Rattle.aspa_top.specs.declared.files.Flaw.{Flaw}
+use Rattle.aspa_top.specs.declared.files.Made.{Made}
+use Rattle.aspa_top.specs.declared.files.Outcome.{Outcome}
+use Rattle.aspa_top.specs.declared.files.Outcome.TheVariants.{NoFile, Long, Flawed, Good}
+use Rattle.aspa_top.specs.Files.{Makes, Fails, IsWithin, IsBeyond, ComesOf, of_slurm, of_source, of_validated, payload_cause, slurm_cause, validated_cause}
 
 -- ---- what is inside two answers that are equal
 
@@ -81,21 +82,21 @@ module _ {A : Type 0} (Due : Result A FileFault → Type 0) (the : HasOne Due) w
 -- ---- each kind of file makes one change, or fails in one way
 
 makes_one : (kind : FileKind) (bytes : List ℕ) (one other : Made) → Makes kind bytes one → Makes kind bytes other → one ≡ other
-makes_one (Payloads name) bytes one other a b = one_change (IsFileReading bytes) (each_file bytes) (λ rows. of_source name (terms_of rows) []) one other a b
-makes_one (PayloadLines name) bytes one other a b = one_change (IsLinesReading bytes) (each_file_of_lines bytes) (λ terms. of_source name terms []) one other a b
-makes_one (Validated name) bytes one other a b = one_change (IsValidatedReading bytes) (each_validated_file bytes) (of_validated name) one other a b
+makes_one (Source name Payloads) bytes one other a b = one_change (IsFileReading bytes) (each_file bytes) (λ rows. of_source name (terms_of rows) []) one other a b
+makes_one (Source name PayloadLines) bytes one other a b = one_change (IsLinesReading bytes) (each_file_of_lines bytes) (λ terms. of_source name terms []) one other a b
+makes_one (Source name Validated) bytes one other a b = one_change (IsValidatedReading bytes) (each_validated_file bytes) (of_validated name) one other a b
 makes_one Slurm bytes one other a b = one_change (IsSlurmReading bytes) (each_slurm_file bytes) of_slurm one other a b
 
 fails_one : (kind : FileKind) (bytes : List ℕ) (one other : Flaw) → Fails kind bytes one → Fails kind bytes other → one ≡ other
-fails_one (Payloads name) bytes one other a b = one_flaw (IsFileReading bytes) (each_file bytes) one other a b
-fails_one (PayloadLines name) bytes one other a b = one_flaw (IsLinesReading bytes) (each_file_of_lines bytes) one other a b
-fails_one (Validated name) bytes one other a b = one_unit_flaw (IsValidatedReading bytes) (each_validated_file bytes) validated_cause one other a b
+fails_one (Source name Payloads) bytes one other a b = one_flaw (IsFileReading bytes) (each_file bytes) one other a b
+fails_one (Source name PayloadLines) bytes one other a b = one_flaw (IsLinesReading bytes) (each_file_of_lines bytes) one other a b
+fails_one (Source name Validated) bytes one other a b = one_unit_flaw (IsValidatedReading bytes) (each_validated_file bytes) validated_cause one other a b
 fails_one Slurm bytes one other a b = one_unit_flaw (IsSlurmReading bytes) (each_slurm_file bytes) slurm_cause one other a b
 
 makes_or_fails : (kind : FileKind) (bytes : List ℕ) (change : Made) (flaw : Flaw) → Makes kind bytes change → Fails kind bytes flaw → ⊥
-makes_or_fails (Payloads name) bytes change flaw a b = no_change_and_flaw (IsFileReading bytes) (each_file bytes) a.0 (Bad flaw.unit b.0) a.1 b.1
-makes_or_fails (PayloadLines name) bytes change flaw a b = no_change_and_flaw (IsLinesReading bytes) (each_file_of_lines bytes) a.0 (Bad flaw.unit b.0) a.1 b.1
-makes_or_fails (Validated name) bytes change flaw a b = no_change_and_flaw (IsValidatedReading bytes) (each_validated_file bytes) a.0 b.0 a.1 b.1
+makes_or_fails (Source name Payloads) bytes change flaw a b = no_change_and_flaw (IsFileReading bytes) (each_file bytes) a.0 (Bad flaw.unit b.0) a.1 b.1
+makes_or_fails (Source name PayloadLines) bytes change flaw a b = no_change_and_flaw (IsLinesReading bytes) (each_file_of_lines bytes) a.0 (Bad flaw.unit b.0) a.1 b.1
+makes_or_fails (Source name Validated) bytes change flaw a b = no_change_and_flaw (IsValidatedReading bytes) (each_validated_file bytes) a.0 b.0 a.1 b.1
 makes_or_fails Slurm bytes change flaw a b = no_change_and_flaw (IsSlurmReading bytes) (each_slurm_file bytes) a.0 b.0 a.1 b.1
 
 -- ---- one outcome
@@ -200,15 +201,15 @@ unit_within {A} {F} made cause_of kind bytes Due within makes fails has_cause (E
     (Flawed (record { unit = 1; cause = cause.0 }), record { bytes = bytes; is = refl; within = within; holds = fails fault cause.0 reads cause.1 })
 
 some_within : (kind : FileKind) (bytes : List ℕ) → length bytes ≤ 67108864 → (outcome : Outcome) × ComesOf kind (Some bytes) outcome
-some_within (Payloads name) bytes within =
+some_within (Source name Payloads) bytes within =
     let the = each_file bytes in
-    read_within terms_of (Payloads name) name bytes (IsFileReading bytes) within (λ rows reads. (rows, reads, refl)) (λ unit fault cause reads is. (fault, reads, is)) (λ unit fault reads. unit_remembers bytes unit fault reads) (λ none. none) the.one the.is
-some_within (PayloadLines name) bytes within =
+    read_within terms_of (Source name Payloads) name bytes (IsFileReading bytes) within (λ rows reads. (rows, reads, refl)) (λ unit fault cause reads is. (fault, reads, is)) (λ unit fault reads. unit_remembers bytes unit fault reads) (λ none. none) the.one the.is
+some_within (Source name PayloadLines) bytes within =
     let the = each_file_of_lines bytes in
-    read_within (λ terms. terms) (PayloadLines name) name bytes (IsLinesReading bytes) within (λ rows reads. (rows, reads, refl)) (λ unit fault cause reads is. (fault, reads, is)) (λ unit fault reads. line_remembers bytes unit fault reads) (λ none. none) the.one the.is
-some_within (Validated name) bytes within =
+    read_within (λ terms. terms) (Source name PayloadLines) name bytes (IsLinesReading bytes) within (λ rows reads. (rows, reads, refl)) (λ unit fault cause reads is. (fault, reads, is)) (λ unit fault reads. line_remembers bytes unit fault reads) (λ none. none) the.one the.is
+some_within (Source name Validated) bytes within =
     let the = each_validated_file bytes in
-    unit_within (of_validated name) validated_cause (Validated name) bytes (IsValidatedReading bytes) within (λ said reads. (said, reads, refl)) (λ fault cause reads is. (fault, reads, refl, is)) (λ fault reads. validated_has_cause bytes fault reads) the.one the.is
+    unit_within (of_validated name) validated_cause (Source name Validated) bytes (IsValidatedReading bytes) within (λ said reads. (said, reads, refl)) (λ fault cause reads is. (fault, reads, refl, is)) (λ fault reads. validated_has_cause bytes fault reads) the.one the.is
 some_within Slurm bytes within =
     let the = each_slurm_file bytes in
     unit_within of_slurm slurm_cause Slurm bytes (IsSlurmReading bytes) within (λ slurm reads. (slurm, reads, refl)) (λ fault cause reads is. (fault, reads, refl, is)) (λ fault reads. slurm_has_cause bytes fault reads) the.one the.is

@@ -1,15 +1,14 @@
 -- One line performed.
-use Rattle.std.proofs.Common.{◌≡◌, ℕ, ◌+◌, ◌^◌, ◌<◌, ◌≤◌, ◌==◌, true, false, List, [], ◌∷◌, ◌++◌, length, Ok, Err, Some, inl, inr, refl, sym, subst, arith}
+use Rattle.std.proofs.Common.{◌≡◌, ℕ, ◌^◌, ◌<◌, ◌≤◌, ◌==◌, true, false, List, [], ◌∷◌, ◌++◌, length, Ok, Err, Some, inl, inr, refl, sym, subst, arith}
 use Rattle.std.specs.declared.option.Option.{Option}
 use Rattle.std.proofs.lemmas.Bool.Decides.{nat_tests}
 use Rattle.report_text.specs.declared.cause.Cause.{Cause}
 use Rattle.report_text.specs.Refusals.{of_line, refusal_text}
-use Rattle.script_lines.specs.declared.command.Command.{Command}
-use Rattle.script_lines.specs.declared.command.Command.TheVariants.{Idle, Aspa, Aspa64, Validated, Slurm, At, Filter, Unfilter, Assert, Unassert, Role as SetRole, RoleDefault, Open, Bmp, Take, Until, Feed, Ask, Sync, Serve, Judge, Clear, Changes, Details, Say, Why, Show}
-use Rattle.script_lines.specs.declared.command.LineFault.{LineFault}
+use Rattle.script_lines.specs.declared.commands.Command.{Command}
+use Rattle.script_lines.specs.declared.commands.Command.TheVariants.{Idle, Take, Ask, Sync, Serve, Judge}
+use Rattle.script_lines.specs.declared.fault.LineFault.{LineFault}
 use Rattle.script_lines.specs.Grammar.{IsReading}
-use Rattle.script_lines.proofs.LengthLemmas.{judged_short}
-use Rattle.script_lines.proofs.SourceNameLemmas.{reading_named}
+use Rattle.script_lines.proofs.CommandLemmas.{reading_bounded}
 use Rattle.stream_lines.proofs.FrameLemmas.{Leaves-refl}
 use Rattle.aspa_top.specs.declared.working.Working.{Working}
 use Rattle.aspa_top.specs.Bounds.{IsWithinBounds, most}
@@ -17,10 +16,10 @@ use Rattle.aspa_top.specs.Evaluation.{line_cause}
 use Rattle.aspa_top.specs.Outside.{Outside}
 use Rattle.aspa_top.specs.Performing.{DidLine, Done}
 use Rattle.aspa_top.specs.Standing.{IsBegun, IsReady}
-use Rattle.aspa_top.specs.Working.{counted_in}
+use Rattle.aspa_top.specs.Working.{counted_in, refused_in}
 use Rattle.aspa_top.proofs.DidLemmas.{done_refused}
 use Rattle.aspa_top.proofs.ReadyLemmas.{begun}
-use Rattle.aspa_top.proofs.ShortLemmas.{idle}
+use Rattle.aspa_top.proofs.MemoryLemmas.{idle}
 
 -- a count that a line may name is no more than the most that a line takes
 within_most : {count : ℕ} → count ≤ 100000000 → count ≤ most
@@ -28,37 +27,16 @@ within_most {count} within = omega (arith, within)
 
 -- a line is too short for a path that is too long, and names no count over the most
 pub IsWithinBounds-IsReading : (line : List ℕ) (command : Command) → IsReading line (Ok command) → IsWithinBounds command
-IsWithinBounds-IsReading line Idle is = tt
-IsWithinBounds-IsReading line (Aspa name file) is = tt
-IsWithinBounds-IsReading line (Aspa64 name file) is = tt
-IsWithinBounds-IsReading line (Validated name file) is = tt
-IsWithinBounds-IsReading line (Slurm file) is = tt
-IsWithinBounds-IsReading line (At moment) is = tt
-IsWithinBounds-IsReading line (Filter customer) is = tt
-IsWithinBounds-IsReading line (Unfilter customer) is = tt
-IsWithinBounds-IsReading line (Assert customer providers) is = tt
-IsWithinBounds-IsReading line (Unassert customer) is = tt
-IsWithinBounds-IsReading line (SetRole asn role) is = tt
-IsWithinBounds-IsReading line (RoleDefault role) is = tt
-IsWithinBounds-IsReading line (Open name file) is = tt
-IsWithinBounds-IsReading line (Bmp name file post) is = tt
-IsWithinBounds-IsReading line (Take name count) is = within_most (reading_named line (Take name count) is).1
-IsWithinBounds-IsReading line (Until name moment) is = tt
-IsWithinBounds-IsReading line (Feed name place) is = tt
+IsWithinBounds-IsReading line (Take name count) is = within_most (reading_bounded line (Take name count) is).1
 IsWithinBounds-IsReading line (Ask name) is = omega arith
-IsWithinBounds-IsReading line (Sync name count) is = within_most (reading_named line (Sync name count) is).1
-IsWithinBounds-IsReading line (Serve place session count) is = within_most (reading_named line (Serve place session count) is).1
-IsWithinBounds-IsReading line (Judge role neighbour path) is = let short = judged_short line role neighbour path is in omega arith
-IsWithinBounds-IsReading line Clear is = tt
-IsWithinBounds-IsReading line Changes is = tt
-IsWithinBounds-IsReading line (Details verdict) is = tt
-IsWithinBounds-IsReading line (Say words) is = tt
-IsWithinBounds-IsReading line (Why addr asn prefix path) is = tt
-IsWithinBounds-IsReading line (Show show) is = tt
+IsWithinBounds-IsReading line (Sync name count) is = within_most (reading_bounded line (Sync name count) is).1
+IsWithinBounds-IsReading line (Serve place session count) is = within_most (reading_bounded line (Serve place session count) is).1
+IsWithinBounds-IsReading line (Judge role neighbour path) is = let few = reading_bounded line (Judge role neighbour path) is in omega (arith, few)
+IsWithinBounds-IsReading line other is = tt
 
 -- a line that isn't read so is refused
 pub line_refused : (working next : Working) (fault : LineFault) (cause : Cause) (old : Outside) (held : List ℕ) → IsBegun old working → line_cause fault ≡ Some cause
-    → held ≡ old.held ++ refusal_text working.lines of_line cause → next ≡ record working { refused = working.refused + 1 }
+    → held ≡ old.held ++ refusal_text working.lines of_line cause → next ≡ refused_in working
     → Done working (Err (line_cause fault)) old (record old { held = held }) next
 line_refused working next fault cause old held begun is added next_is =
     subst (λ (c : Option Cause). Done working (Err c) old (record old { held = held }) next) (sym is)

@@ -19,9 +19,9 @@ use Rattle.path_model.proofs.LawLemmas.{one_printed}
 use Rattle.attestations.proofs.PartsLemmas.{table_is_current, parts_have_one_table}
 use Rattle.path_model.proofs.WitnessLemmas.{printed_facts}
 use Rattle.origin_validation.proofs.RowLemmas.{has_one_list}
-use Rattle.origin_lines.specs.Rows.{origin_row}
+use Rattle.listings.specs.Origins.{origin_row}
 use Rattle.origin_validation.specs.Rows.{AreOriginRows}
-use Rattle.origin_lines.proofs.RowsLemmas.{line_of as origin_line_of, rows_answer as origins_answer, rows_are_lines as origins_are_lines}
+use Rattle.listings.proofs.OriginsLemmas.{line_of as origin_line_of, rows_answer as origins_answer, rows_are_lines as origins_are_lines}
 use Rattle.report_text.specs.declared.cause.Cause.{Cause}
 use Rattle.report_text.specs.Laws.{IsAnswerLine}
 use Rattle.report_text.specs.Reported.{lines_text}
@@ -31,21 +31,20 @@ use Rattle.report_text.proofs.AnswerLemmas.{summary_is_one_line, reason_is_one_l
 use Rattle.rib_store.specs.Shown.{IsExplained}
 use Rattle.rib_store.specs.State.{AreRows, State as Analysis}
 use Rattle.rib_store.proofs.ReportLemmas.{has_one_report}
-use Rattle.script_lines.specs.declared.command.Show.TheVariants.{Report, Origins as ListOrigins, Leaks as ListLeaks, Suspects, Summary as SumUp}
 use Rattle.stream_lines.specs.Counts.{refusals_in}
-use Rattle.stream_lines.specs.Leaks.{AreLeaks, leak_row}
-use Rattle.stream_lines.specs.Rows.{row_of}
-use Rattle.stream_lines.proofs.LeaksLemmas.{leak_line_of, leaks_answer, leaks_are_lines, one_list_of_leaks}
+use Rattle.listings.specs.Leaks.{AreLeaks, leak_row}
+use Rattle.listings.specs.Rows.{row_of}
+use Rattle.listings.proofs.LeaksLemmas.{leak_line_of, leaks_answer, leaks_are_lines, one_list_of_leaks}
 use Rattle.stream_lines.proofs.RefusalLemmas.{lacks, refusals_in-line}
-use Rattle.stream_lines.proofs.ReportedLemmas.{line_of, rows_answer, rows_are_lines}
-use Rattle.stream_lines.proofs.SummaryLemmas.{some_summary, one_summary}
-use Rattle.suspect_lines.specs.Details.{AreDetails, detail_row}
-use Rattle.suspect_lines.specs.Suspected.{suspect_row}
+use Rattle.listings.proofs.ReportedLemmas.{line_of, rows_answer, rows_are_lines}
+use Rattle.listings.proofs.SummaryLemmas.{some_summary, one_summary}
+use Rattle.listings.specs.Details.{AreDetails, detail_row}
+use Rattle.listings.specs.Suspected.{suspect_row}
 use Rattle.suspects.specs.Suspects.{AreSuspects}
-use Rattle.suspect_lines.proofs.DetailsLemmas.{detail_line_of, details_answer, details_are_lines, one_list_of_details}
-use Rattle.suspect_lines.proofs.SuspectedLemmas.{one_list_of_suspects, suspect_line_of, suspects_answer, suspects_are_lines}
+use Rattle.listings.proofs.DetailsLemmas.{detail_line_of, details_answer, details_are_lines, one_list_of_details}
+use Rattle.listings.proofs.SuspectedLemmas.{one_list_of_suspects, suspect_line_of, suspects_answer, suspects_are_lines}
 use Rattle.aspa_top.specs.declared.task.Question.{Question}
-use Rattle.aspa_top.specs.declared.task.Question.TheVariants.{Show, Details, Why}
+use Rattle.aspa_top.specs.declared.task.Question.TheVariants.{Report, Origins as ListOrigins, Leaks as ListLeaks, Suspects, Summary as SumUp, Details, Why}
 use Rattle.aspa_top.specs.Answers.{Answers, AnswersUnless, Replies, Shows, no_route, refused_for}
 use Rattle.aspa_top.specs.Tasks.{State}
 
@@ -93,15 +92,15 @@ one_listing Are line_of list = record {
 }
 
 pub one_answer : (state : State) (question : Question) → refused_for state question ≡ None → HasOne (Answers state question)
-one_answer state (Show Report) there =
+one_answer state Report there =
     one_listing (AreRows state.analysis) row_of (has_one_report state.analysis)
-one_answer state (Show ListOrigins) there =
+one_answer state ListOrigins there =
     one_listing (AreOriginRows state.analysis.routes state.origins) origin_row (has_one_list state.analysis.routes state.origins)
-one_answer state (Show ListLeaks) there =
+one_answer state ListLeaks there =
     one_listing (AreLeaks state.analysis.roles state.marks) leak_row (one_list_of_leaks state.analysis.roles state.marks)
-one_answer state (Show Suspects) there =
+one_answer state Suspects there =
     one_listing (AreSuspects state.analysis) suspect_row (one_list_of_suspects state.analysis)
-one_answer state (Show SumUp) there =
+one_answer state SumUp there =
     let found = some_summary state.analysis state.passed state.refused in
     record {
       one = summary_text found.0;
@@ -133,17 +132,17 @@ one_line : (line text : List ℕ) → IsAnswerLine line → text ≡ line ++ 10 
 one_line line text answer is = record { lines = line ∷ []; each = All-cons IsAnswerLine line [] answer (All-nil IsAnswerLine); is = is ∙ sym (append-nil (line ++ 10 ∷ [])) }
 
 pub answer_lines : (state : State) (question : Question) (text : List ℕ) → Answers state question text → AreAnswers text
-answer_lines state (Show Report) text reports =
+answer_lines state Report text reports =
     record { lines = map line_of reports.rows; each = rows_answer reports.rows; is = reports.text_is ∙ rows_are_lines reports.rows }
-answer_lines state (Show ListOrigins) text lists =
+answer_lines state ListOrigins text lists =
     record { lines = map origin_line_of lists.rows; each = origins_answer lists.rows; is = lists.text_is ∙ origins_are_lines lists.rows }
-answer_lines state (Show ListLeaks) text lists =
+answer_lines state ListLeaks text lists =
     record { lines = map leak_line_of lists.rows; each = leaks_answer lists.rows; is = lists.text_is ∙ leaks_are_lines lists.rows }
-answer_lines state (Show Suspects) text lists =
+answer_lines state Suspects text lists =
     record { lines = map suspect_line_of lists.rows; each = suspects_answer lists.rows; is = lists.text_is ∙ suspects_are_lines lists.rows }
 answer_lines state (Details verdict) text lists =
     record { lines = map detail_line_of lists.rows; each = details_answer lists.rows; is = lists.text_is ∙ details_are_lines lists.rows }
-answer_lines state (Show SumUp) text sums = one_line (summary_line sums.summary) text (summary_is_one_line sums.summary) sums.text_is
+answer_lines state SumUp text sums = one_line (summary_line sums.summary) text (summary_is_one_line sums.summary) sums.text_is
 answer_lines state (Why key) text explains = one_line (why_line explains.verdict explains.witness) text (reason_is_one_line explains.verdict explains.witness) explains.text_is
 
 -- ---- so much for all questions

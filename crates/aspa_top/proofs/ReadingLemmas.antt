@@ -8,8 +8,8 @@ use Rattle.av_text.specs.Lines.{lines_in}
 use Rattle.av_text.proofs.LineLemmas.{lines_read, lines_split, whole-append}
 use Rattle.report_text.specs.Reported.{AddsFront}
 use Rattle.report_text.proofs.ReportedLemmas.{adds_front, adds_more, adds_more_front, adds_none}
-use Rattle.stream_lines.specs.declared.stop.Stop.{Stop}
-use Rattle.stream_lines.specs.declared.stop.Stop.TheVariants as stops
+use Rattle.listings.specs.declared.stop.Stop.{Stop}
+use Rattle.listings.specs.declared.stop.Stop.TheVariants as stops
 use Rattle.aspa_top.specs.declared.working.Working.{Working}
 use Rattle.aspa_top.specs.Evaluated.{AllDone, Evaluated, EvaluatedIn, ReadSoFar, RunsSource, Stopped, StoppedByFault, status_of}
 use Rattle.aspa_top.specs.Lines.{performed}
@@ -273,7 +273,7 @@ module _ (limit room : ℕ) (left_old left : Option (List ℕ)) (held : List ℕ
 
     -- all lines were performed
     pub read_whole : (script_failed : Type 0) (new : Outside) (next : Working) (status : ℕ) → AllDone working (lines_in true last) now new next → Keeps now new → new.held ≡ []
-        → (status ≡ 0) ⊎ (status ≡ 1) → (status ≡ 0 → next.refused ≡ 0) → (status ≡ 1 → 0 < next.refused)
+        → (status ≡ 0) ⊎ (status ≡ 1) → (status ≡ 0 → next.progress.refused ≡ 0) → (status ≡ 1 → 0 < next.progress.refused)
         → RunsSource limit left_old left_new script_failed begun (record new { held = [] }) status
     read_whole script_failed new next status done keeps none known clean refused =
         let own = lines_in true so_far.part in
@@ -283,8 +283,8 @@ module _ (limit room : ℕ) (left_old left : Option (List ℕ)) (held : List ℕ
         let all_added = adds_more begun.written now.written new.written begun.link_faults now.link_faults new.link_faults so_far.adds done.adds in
         let fits : (bytes : List ℕ) → left_old ≡ Some bytes → length bytes ≤ limit = λ bytes is. omega (arith, so_far.size, ap length (end_told bytes is)) in
         runs_source limit left_old left_new script_failed begun end status (elim known [ inl zero ↦ inl zero | inr one ↦ inr (inl one) ])
-        (λ bytes is. runs_whole limit bytes left_new script_failed begun end status next.refused (elim known [ inl zero ↦ inl zero | inr one ↦ inr (inl one) ])
-        (λ world meets. subst (λ (ls : List (List ℕ)). EvaluatedIn world ls begun end (Ok next.refused)) (sym (end_lines bytes is))
+        (λ bytes is. runs_whole limit bytes left_new script_failed begun end status next.progress.refused (elim known [ inl zero ↦ inl zero | inr one ↦ inr (inl one) ])
+        (λ world meets. subst (λ (ls : List (List ℕ)). EvaluatedIn world ls begun end (Ok next.progress.refused)) (sym (end_lines bytes is))
         (ended_all world (front ++ (own ++ [])) begun begun.files begun.links [] next new meets
         (done.goes world (Tells-names begun.files now.files world so_far.keeps.names meets.tells) begun (front ++ (own ++ [])) [] own end_reads (so_far.so_far world meets.tells meets.begins (own ++ [])))
         kept.grows refl none))
@@ -306,10 +306,10 @@ module _ (limit room : ℕ) (left_old left : Option (List ℕ)) (held : List ℕ
 
   -- the lines so far, all of them performed
   all_so_far : (world : World) → Meets begun.files begun.links now.links world → now.held ≡ []
-      → EvaluatedIn world (lines_in false (so_far.front ++ so_far.part)) begun (record now { held = [] }) (Ok working.refused)
+      → EvaluatedIn world (lines_in false (so_far.front ++ so_far.part)) begun (record now { held = [] }) (Ok working.progress.refused)
   all_so_far world meets none =
       let front = so_far.front in
-      subst (λ (ls : List (List ℕ)). EvaluatedIn world ls begun (record now { held = [] }) (Ok working.refused))
+      subst (λ (ls : List (List ℕ)). EvaluatedIn world ls begun (record now { held = [] }) (Ok working.progress.refused))
       (append-nil (lines_in false front) ∙ sym (lines_read front so_far.part so_far.whole so_far.is_part))
       (ended_all world (lines_in false front ++ []) begun begun.files begun.links [] working now meets (so_far.so_far world meets.tells meets.begins []) so_far.keeps.grows refl none)
 
@@ -330,7 +330,7 @@ module _ (limit room : ℕ) (left_old left : Option (List ℕ)) (held : List ℕ
         taken = read;
         told = sym is ∙ told;
         within = omega (arith, so_far.size);
-        refusals = working.refused;
+        refusals = working.progress.refused;
         ended = (all_so_far world meets none).ended;
       }))
       (λ done. absurd (elim done [ inl zero ↦ omega (arith, zero) | inr one ↦ omega (arith, one) ])) (λ three. inl failed) (λ four. absurd (omega (arith, four)))
@@ -356,8 +356,8 @@ module _ (limit room : ℕ) (left_old left : Option (List ℕ)) (held : List ℕ
       (λ bytes is.
       let more = known bytes is in
       let lines : performed limit bytes ≡ lines_in false read = ap (performed limit) more.1 ∙ performed-front limit read more.0 full more.2 in
-      runs_whole limit bytes left_new script_failed begun end 6 working.refused (inr (inr refl))
-      (λ world meets. subst (λ (ls : List (List ℕ)). EvaluatedIn world ls begun end (Ok working.refused)) (sym lines) (all_so_far world meets none))
+      runs_whole limit bytes left_new script_failed begun end 6 working.progress.refused (inr (inr refl))
+      (λ world meets. subst (λ (ls : List (List ℕ)). EvaluatedIn world ls begun end (Ok working.progress.refused)) (sym lines) (all_so_far world meets none))
       (λ zero. absurd (omega (arith, zero))) (λ one. absurd (omega (arith, one))) (λ six. omega (arith, full, more.2, ap length more.1, length-append read more.0)))
       (λ done. absurd (elim done [ inl zero ↦ omega (arith, zero) | inr one ↦ omega (arith, one) ])) (λ three. absurd (omega (arith, three))) (λ four. absurd (omega (arith, four)))
       (λ either shelf. so_far.adds)

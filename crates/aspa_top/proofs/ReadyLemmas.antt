@@ -11,14 +11,14 @@ use Rattle.aspa_top.specs.Bounds.{most}
 use Rattle.aspa_top.specs.Outside.{Outside}
 use Rattle.aspa_top.specs.Standing.{AreFewUpdates, AreSound, IsBegun, IsReady, IsSound}
 use Rattle.aspa_top.specs.Tasks.{same_name}
-use Rattle.aspa_top.specs.Working.{KeepsStreams, cache_in, counted_in, dump_in}
+use Rattle.aspa_top.specs.Working.{KeepsStreams, cache_in, counted_in, dump_in, refused_in}
 use Rattle.aspa_top.proofs.StandsLemmas.{differ, is_same}
 
 -- ---- dumps
 
 -- no dump changed
 pub IsSound-kept : (opened more fewer lines : ℕ) (working next : Working) → fewer + 1 ≤ lines → opened ≤ more → IsSound opened fewer working
-    → ((q : List ℕ) → dump_in next q ≡ dump_in working q) → next.passed ≤ working.passed + most → next.refused ≤ working.refused + 2 * most
+    → ((q : List ℕ) → dump_in next q ≡ dump_in working q) → next.progress.passed ≤ working.progress.passed + most → next.progress.refused ≤ working.progress.refused + 2 * most
     → IsSound more lines next
 IsSound-kept opened more fewer lines working next later within sound dumps passed refused = record {
   given = λ n d e. let g = sound.given n d (sym (dumps n) ∙ e) in (omega (arith, g.0, within), omega (arith, g.1, later));
@@ -49,7 +49,7 @@ module _ (opened more fewer lines : ℕ) (name : List ℕ) (new : HeldDump) (wor
   apart_put a b d e apart (inr x) (inl y) = λ same. others a d (differ name a x.0) x.1 (ap (λ (o : HeldDump). o.file) y.1 ∙ sym same)
   apart_put a b d e apart (inr x) (inr y) = sound.apart a b d e apart x.1 y.1
 
-  pub IsSound-put : next.passed ≤ working.passed + most → next.refused ≤ working.refused + 2 * most → IsSound more lines next
+  pub IsSound-put : next.progress.passed ≤ working.progress.passed + most → next.progress.refused ≤ working.progress.refused + 2 * most → IsSound more lines next
   IsSound-put passed refused = record {
     given = λ q d e. given_put q d (found_put (same_name name q) new d (dump_in working q) (sym (dumps q) ∙ e));
     apart = λ a b d e apart x y. apart_put a b d e apart (found_put (same_name name a) new d (dump_in working a) (sym (dumps a) ∙ x)) (found_put (same_name name b) new e (dump_in working b) (sym (dumps b) ∙ y));
@@ -91,7 +91,7 @@ begun now working few ready =
     }
 
 -- so few lines were refused so far
-pub few_refused : (now : Outside) (working : Working) → IsBegun now working → working.refused < 2 ^ 62
+pub few_refused : (now : Outside) (working : Working) → IsBegun now working → working.progress.refused < 2 ^ 62
 few_refused now working begun = omega (arith, begun.sound.refused, begun.few)
 
 -- and so few PDUs taken of a feed
@@ -111,38 +111,38 @@ ready_streams old new working next opened stands begun keeps = record {
 pub kept_all : (working : Working) → KeepsStreams working working
 kept_all working = record { feeds = refl; caches = λ session. refl; dumps = λ name. refl; lines = refl; passed = refl; refused = omega arith }
 
-pub kept_refused : (working next : Working) → next ≡ record working { refused = working.refused + 1 } → KeepsStreams working next
+pub kept_refused : (working next : Working) → next ≡ refused_in working → KeepsStreams working next
 kept_refused working next is =
-    let refused : next.refused ≡ working.refused + 1 = ap (λ (w : Working). w.refused) is in
+    let refused : next.progress.refused ≡ working.progress.refused + 1 = ap (λ (w : Working). w.progress.refused) is in
     record {
       feeds = ap (λ (w : Working). w.feeds) is;
       caches = λ session. ap (λ (w : Working). cache_in w session) is;
       dumps = λ name. ap (λ (w : Working). dump_in w name) is;
       lines = ap (λ (w : Working). w.lines) is;
-      passed = ap (λ (w : Working). w.passed) is;
+      passed = ap (λ (w : Working). w.progress.passed) is;
       refused = omega (arith, refused);
     }
 
-pub kept_analysed : (working next : Working) → next ≡ record working { analyser = next.analyser } → KeepsStreams working next
+pub kept_analysed : (working next : Working) → next ≡ record working { progress = record working.progress { analyser = next.progress.analyser } } → KeepsStreams working next
 kept_analysed working next is =
-    let refused : next.refused ≡ working.refused = ap (λ (w : Working). w.refused) is in
+    let refused : next.progress.refused ≡ working.progress.refused = ap (λ (w : Working). w.progress.refused) is in
     record {
       feeds = ap (λ (w : Working). w.feeds) is;
       caches = λ session. ap (λ (w : Working). cache_in w session) is;
       dumps = λ name. ap (λ (w : Working). dump_in w name) is;
       lines = ap (λ (w : Working). w.lines) is;
-      passed = ap (λ (w : Working). w.passed) is;
+      passed = ap (λ (w : Working). w.progress.passed) is;
       refused = omega (arith, refused);
     }
 
-pub kept_cleared : (working next : Working) → next ≡ record working { analyser = record working.analyser { routes = fin.empty }; marks = fin.empty } → KeepsStreams working next
+pub kept_cleared : (working next : Working) → next ≡ record working { progress = record working.progress { analyser = record working.progress.analyser { routes = fin.empty }; marks = fin.empty } } → KeepsStreams working next
 kept_cleared working next is =
-    let refused : next.refused ≡ working.refused = ap (λ (w : Working). w.refused) is in
+    let refused : next.progress.refused ≡ working.progress.refused = ap (λ (w : Working). w.progress.refused) is in
     record {
       feeds = ap (λ (w : Working). w.feeds) is;
       caches = λ session. ap (λ (w : Working). cache_in w session) is;
       dumps = λ name. ap (λ (w : Working). dump_in w name) is;
       lines = ap (λ (w : Working). w.lines) is;
-      passed = ap (λ (w : Working). w.passed) is;
+      passed = ap (λ (w : Working). w.progress.passed) is;
       refused = omega (arith, refused);
     }

@@ -27,8 +27,8 @@ use Rattle.serve_lines.specs.declared.routers.Served.{Served}
 use Rattle.serve_lines.specs.Outcomes.{outcomes_text}
 use Rattle.serve_lines.specs.Routers.{AreMade, HaltedAs, ServedAs, attempts_begun, attempts_in}
 use Rattle.serve_lines.proofs.ReportLemmas.{outcomes_add, served_adds}
-use Rattle.stream_lines.specs.declared.stop.Stop.{Stop}
-use Rattle.stream_lines.specs.declared.stop.Stop.TheVariants as stops
+use Rattle.listings.specs.declared.stop.Stop.{Stop}
+use Rattle.listings.specs.declared.stop.Stop.TheVariants as stops
 use Rattle.stream_lines.proofs.FrameLemmas.{Leaves-refl}
 use Rattle.aspa_top.specs.declared.task.Task.TheVariants.{Serve}
 use Rattle.aspa_top.specs.declared.working.Working.{Working}
@@ -39,7 +39,7 @@ use Rattle.aspa_top.specs.Serving.{HasCache, TakesTable, with_cache}
 use Rattle.aspa_top.specs.Standing.{AreSound, HasRoom, HoldsOr, IsBegun, StandsFor}
 use Rattle.aspa_top.specs.State.{State}
 use Rattle.aspa_top.specs.Tasks.{feeds_of}
-use Rattle.aspa_top.specs.Working.{cache_in, dump_in, has_source}
+use Rattle.aspa_top.specs.Working.{cache_in, dump_in, has_source, refused_in}
 use Rattle.aspa_top.specs.World.{Links}
 use Rattle.aspa_top.proofs.DidLemmas.{done_refused}
 use Rattle.aspa_top.proofs.FeedLemmas.{no_router}
@@ -104,7 +104,7 @@ module _ (working : Working) (old : Outside) (links : Links) (standings : List S
 -- ---- a line that serves
 
 module _ (working : Working) (place : List ℕ) (session count : ℕ) (cache : Versions) (old : Outside) (links : Links) (standings : List Standing) (faults : ℕ)
-    (written : Option (List ℕ)) (sink_faults : ℕ) (begun : IsBegun old working) (fits : FitsPdus working.analyser.parts) (takes : TakesTable (cache_in working session) session working.analyser.parts cache)
+    (written : Option (List ℕ)) (sink_faults : ℕ) (begun : IsBegun old working) (fits : FitsPdus working.progress.analyser.parts) (takes : TakesTable (cache_in working session) session working.progress.analyser.parts cache)
     (others : Spares (λ other. other < length old.standings) old.links.wire links.wire old.standings standings) (broke : BreaksByFault old.link_faults faults old.standings standings) where
   -- the evaluation's cache is the one that is held
   abbrev has_cache : (state : State) → StandsFor old.files old.links working state → HasCache state session
@@ -129,13 +129,13 @@ module _ (working : Working) (place : List ℕ) (session count : ℕ) (cache : V
       → served.refused ≤ 2 * count → count ≤ most → (served.reached ≡ false → Rose old.link_faults faults)
       → held ≡ mid ++ served_text served.accepted served.answers → ticks ≡ old.ticks
       → ((other : ℕ) → cache_in next other ≡ cond (nat_eq session other) (Some cache) (cache_in working other))
-      → next ≡ record working { caches = next.caches; refused = working.refused + served.refused }
+      → next ≡ record working { caches = next.caches; progress = record working.progress { refused = working.progress.refused + served.refused } }
       → Done working (Ok (Serve place session count)) old
       (record old { links = links; standings = standings; link_faults = faults; written = written; sink_faults = sink_faults; held = held; ticks = ticks }) next
   serve_done next served mid held ticks did few within rose said unticked caches is =
       let lines : next.lines ≡ working.lines = ap (λ (w : Working). w.lines) is in
-      let passed : next.passed ≡ working.passed = ap (λ (w : Working). w.passed) is in
-      let refused : next.refused ≡ working.refused + served.refused = ap (λ (w : Working). w.refused) is in
+      let passed : next.progress.passed ≡ working.progress.passed = ap (λ (w : Working). w.progress.passed) is in
+      let refused : next.progress.refused ≡ working.progress.refused + served.refused = ap (λ (w : Working). w.progress.refused) is in
       let last = served_text served.accepted served.answers in
       let whole : append_known written held ≡ append_known (append_known written mid) last = added_text written mid held last said in
       record {
@@ -161,9 +161,9 @@ module _ (working : Working) (place : List ℕ) (session count : ℕ) (cache : V
               );
               added = whole ∙ ap (λ (m : Option (List ℕ)). append_known m last) there.added ∙ append_known-append (all_of old) there.text last;
               stands = record {
-                analysis = ap (λ (w : Working). w.analyser) is ∙ stands.analysis;
-                marks = ap (λ (w : Working). w.marks) is ∙ stands.marks;
-                origins = ap (λ (w : Working). w.origins) is ∙ stands.origins;
+                analysis = ap (λ (w : Working). w.progress.analyser) is ∙ stands.analysis;
+                marks = ap (λ (w : Working). w.progress.marks) is ∙ stands.marks;
+                origins = ap (λ (w : Working). w.progress.origins) is ∙ stands.origins;
                 sources = λ q. ap (λ (w : Working). has_source w q) is ∙ stands.sources q;
                 dumps = λ q. subst (λ d. HoldsOr old.files d (state.dumps q)) (sym (ap (λ (w : Working). dump_in w q) is)) (stands.dumps q);
                 feeds = λ q. subst (λ f. HoldsFeed links.wire f (state.feeds q)) (sym (ap (λ (w : Working). feed_in w.feeds q) is))
@@ -181,7 +181,7 @@ module _ (working : Working) (place : List ℕ) (session count : ℕ) (cache : V
           sound = IsSound-kept old.opened old.opened (working.lines - 1) next.lines working next (omega (arith, lines, begun.counted)) (omega arith) begun.sound
               (λ q. ap (λ (w : Working). dump_in w q) is) (omega (arith, passed)) (omega (arith, refused, few, within));
           caches = λ q other there. put_few (nat_eq session q) cache other (cache_in working q) next.lines
-              (let serial = serial_takes (cache_in working session) session working.analyser.parts cache (working.lines - 1) (begun.caches session) takes in omega (arith, serial, lines, begun.counted))
+              (let serial = serial_takes (cache_in working session) session working.progress.analyser.parts cache (working.lines - 1) (begun.caches session) takes in omega (arith, serial, lines, begun.counted))
               (λ c had. let below = begun.caches q c had in omega (arith, below, lines)) (sym (caches q) ∙ there);
           feeds = feeds_kept standings (working.lines - 1) next.lines working next (omega (arith, lines)) (ap (λ (w : Working). w.feeds) is)
               (feeds_sound working old links standings (working.lines - 1) others begun.feeds);
@@ -271,8 +271,8 @@ module _ (working : Working) (place : List ℕ) (session count : ℕ) (cache : V
   }
 
 -- some row of the current table fits no PDU
-pub serve_refused : (working next : Working) (place : List ℕ) (session count : ℕ) (old : Outside) (held : List ℕ) → IsBegun old working → ¬ FitsPdus working.analyser.parts
-    → held ≡ old.held ++ refusal_text working.lines of_line causes.RowLong → next ≡ record working { refused = working.refused + 1 }
+pub serve_refused : (working next : Working) (place : List ℕ) (session count : ℕ) (old : Outside) (held : List ℕ) → IsBegun old working → ¬ FitsPdus working.progress.analyser.parts
+    → held ≡ old.held ++ refusal_text working.lines of_line causes.RowLong → next ≡ refused_in working
     → Done working (Ok (Serve place session count)) old (record old { held = held }) next
 serve_refused working next place session count old held begun unfit added is =
     done_refused working (Ok (Serve place session count)) old (record old { held = held }) next of_line causes.RowLong tt (Leaves-refl (λ other. Unit {0}) old.files) (λ n d e. tt)

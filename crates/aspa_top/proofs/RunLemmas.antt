@@ -8,8 +8,8 @@ use Rattle.av_base.specs.Told.{AppendsFront, Grows, Rose}
 use Rattle.av_base.proofs.ToldLemmas.{append_known-nil, append_known-append}
 use Rattle.av_base.proofs.PouringLemmas.{Grows-refl, written_front, written_part}
 use Rattle.connection_calls.specs.World.{World as Ends}
-use Rattle.stream_lines.specs.declared.stop.Stop.{Stop}
-use Rattle.stream_lines.specs.declared.stop.Stop.TheVariants as stops
+use Rattle.listings.specs.declared.stop.Stop.{Stop}
+use Rattle.listings.specs.declared.stop.Stop.TheVariants as stops
 use Rattle.stream_lines.specs.Counts.{refusals_in}
 use Rattle.aspa_top.specs.Moving.{HaveMoved}
 use Rattle.aspa_top.specs.declared.working.Working.{Working}
@@ -262,7 +262,7 @@ module _ (world : World) (lines : List (List ℕ)) (begun : Outside) where
   -- all lines were performed, and all their text was written
   pub ended_all : (files : Option Files) (before : Links) (left : List (List ℕ)) (working : Working) (now : Outside) → Meets files before now.links world
       → Performing world lines left begun now working → Grows begun.written now.written → left ≡ [] → now.held ≡ []
-      → EvaluatedIn world lines begun (record now { held = [] }) (Ok working.refused)
+      → EvaluatedIn world lines begun (record now { held = [] }) (Ok working.progress.refused)
   ended_all files before left working now meets so_far grows none all =
       let whole : lines ≡ so_far.done = so_far.lines_are ∙ ap (λ (ls : List (List ℕ)). so_far.done ++ ls) none ∙ append-nil so_far.done in
       let evaluates = so_far.evaluates world.ends (comes_here files before now.links world meets) in

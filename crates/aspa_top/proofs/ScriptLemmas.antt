@@ -10,9 +10,9 @@ use Rattle.std.proofs.lemmas.List.{length-append, length-take, length-take-le, t
 use Rattle.std.proofs.lemmas.List.Elements.{All-append, All-take}
 use Rattle.av_text.specs.Lines.{AreWhole, IsPart, lines_in}
 use Rattle.av_text.proofs.LineLemmas.{line_of, lines_onto, lines_split}
-use Rattle.script_lines.specs.declared.command.Command.{Command}
-use Rattle.script_lines.specs.declared.command.LineFault.{LineFault}
-use Rattle.script_lines.specs.declared.command.LineFault.TheVariants.{Long, Command as NoCommand, Words, Number, NoMemory}
+use Rattle.script_lines.specs.declared.commands.Command.{Command}
+use Rattle.script_lines.specs.declared.fault.LineFault.{LineFault}
+use Rattle.script_lines.specs.declared.fault.LineFault.TheVariants.{Long, Command as NoCommand, Words, Number, NoMemory}
 use Rattle.script_lines.specs.Grammar.{IsReading}
 use Rattle.aspa_top.specs.Lines.{performed}
 use Rattle.aspa_top.specs.Script.{CameMore, ReadAs, ReadsAs, end_of, held_of}

@@ -16,11 +16,11 @@ use Rattle.stream_lines.specs.Holding.{HoldsDump}
 use Rattle.stream_lines.specs.Streams.{Dump}
 use Rattle.stream_lines.specs.Held.{HeldDump}
 use Rattle.aspa_top.specs.declared.working.Working.{Working}
-use Rattle.aspa_top.specs.declared.loading.FileKind.{FileKind}
+use Rattle.aspa_top.specs.declared.files.FileKind.{FileKind}
 use Rattle.aspa_top.specs.Tasks.{State, Loads, LoadsUnless, same_name, is_stream, is_taken}
 use Rattle.aspa_top.specs.Evaluation.{counted}
 use Rattle.aspa_top.specs.Standing.{HoldsOr, StandsFor}
-use Rattle.aspa_top.specs.Working.{counted_in, dump_in, has_stream}
+use Rattle.aspa_top.specs.Working.{counted_in, dump_in, has_stream, refused_in}
 use Rattle.aspa_top.specs.World.{Links, World, Tells, ending}
 
 -- ---- names
@@ -150,7 +150,7 @@ Tells-ending files world ends tells = record { told = tells.told; is = tells.is;
 -- ---- a working state that goes on
 
 -- where one moment stands for what another does but for what was refused
-pub stands_refused : (files : Option Files) (links : Links) (working next : Working) (state : State) → next ≡ record working { refused = working.refused + 1 }
+pub stands_refused : (files : Option Files) (links : Links) (working next : Working) (state : State) → next ≡ refused_in working
     → StandsFor files links working state → StandsFor files links next (record state { refused = state.refused + 1 })
 stands_refused files links working next state is stands = rw is (record {
   analysis = stands.analysis;
@@ -169,7 +169,7 @@ stands_refused files links working next state is stands = rw is (record {
 
 -- or for another analysis, or another count of judgements
 pub stands_analysed : (files : Option Files) (links : Links) (working next : Working) (state : State) (analysis : Analysis) (judgements : ℕ)
-    → next ≡ record working { analyser = analysis } → StandsFor files links working state
+    → next ≡ record working { progress = record working.progress { analyser = analysis } } → StandsFor files links working state
     → StandsFor files links next (record state { analysis = analysis; judgements = judgements })
 stands_analysed files links working next state analysis judgements is stands = rw is (record {
   analysis = refl;

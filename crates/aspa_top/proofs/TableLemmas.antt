@@ -14,32 +14,32 @@ use Rattle.report_text.specs.Refusals.{AnyPlace, of_line, of_unit, refusal_text}
 use Rattle.feed_lines.specs.declared.feed.Feeds.{Feeds}
 use Rattle.feed_lines.specs.Holding.{feed_in}
 use Rattle.feed_lines.specs.Holding.{HoldsOr as HoldsFeed}
-use Rattle.stream_lines.specs.declared.stop.ReadFault.{ReadFault}
-use Rattle.stream_lines.specs.declared.stop.ReadFault.TheVariants as faults
-use Rattle.stream_lines.specs.declared.stop.Stop.TheVariants as stops
+use Rattle.listings.specs.declared.stop.ReadFault.{ReadFault}
+use Rattle.listings.specs.declared.stop.ReadFault.TheVariants as faults
+use Rattle.listings.specs.declared.stop.Stop.TheVariants as stops
 use Rattle.stream_lines.specs.Frames.{Leaves}
 use Rattle.stream_lines.specs.Held.{HeldDump}
-use Rattle.stream_lines.specs.Stops.{stop_of}
+use Rattle.listings.specs.Stops.{stop_of}
 use Rattle.rib_store.specs.State.{State as Analysis}
 use Rattle.analyser.specs.declared.event.Event.TheVariants.{Table as TableEvent}
 use Rattle.analyser.specs.Events.{Happens}
 use Rattle.analyser.specs.Touched.{Costs, TicksWithin}
 use Rattle.analyser.proofs.CostLemmas.{some_cost}
 use Rattle.analyser.proofs.EventLemmas.{one_outcome_of}
-use Rattle.aspa_top.specs.declared.loading.FileKind.{FileKind}
-use Rattle.aspa_top.specs.declared.loading.FileKind.TheVariants.{Payloads, PayloadLines, Validated, Slurm as SlurmFile}
-use Rattle.aspa_top.specs.declared.loading.Made.{Made}
-use Rattle.aspa_top.specs.declared.loading.Outcome.{Outcome}
-use Rattle.aspa_top.specs.declared.loading.Outcome.TheVariants.{NoFile, Long as FileLong, Flawed, Good}
+use Rattle.aspa_top.specs.declared.files.FileKind.{FileKind}
+use Rattle.aspa_top.specs.declared.files.FileKind.TheVariants.{Source, Slurm as SlurmFile}
+use Rattle.aspa_top.specs.declared.files.Made.{Made}
+use Rattle.aspa_top.specs.declared.files.Outcome.{Outcome}
+use Rattle.aspa_top.specs.declared.files.Outcome.TheVariants.{NoFile, Long as FileLong, Flawed, Good}
 use Rattle.aspa_top.specs.declared.task.Task.TheVariants.{Load}
 use Rattle.aspa_top.specs.declared.working.Working.{Working}
-use Rattle.aspa_top.specs.Loading.{ComesOf, unit_name}
-use Rattle.aspa_top.specs.LoadingSteps.{ComesTold}
+use Rattle.aspa_top.specs.Files.{ComesOf, unit_name}
+use Rattle.aspa_top.specs.FileSteps.{ComesTold}
 use Rattle.aspa_top.specs.Outside.{Outside, all_of}
 use Rattle.aspa_top.specs.Performing.{Done, EndedEarly, GoesSome}
 use Rattle.aspa_top.specs.Standing.{HoldsOr, IsBegun, StandsFor}
 use Rattle.aspa_top.specs.Tasks.{State, Refuses, TakesFile, LoadsUnless, amended, is_taken, same_name, with_name}
-use Rattle.aspa_top.specs.Working.{Acted, ActedWithin, Loaded, IsTakenIn, KeepsStreams, NamesBy, cache_in, dump_in, has_source}
+use Rattle.aspa_top.specs.Working.{Acted, ActedWithin, Loaded, IsTakenIn, KeepsStreams, NamesBy, cache_in, dump_in, has_source, refused_in}
 use Rattle.aspa_top.specs.World.{Links, World, Tells}
 use Rattle.aspa_top.proofs.DidLemmas.{done_refused, some_done}
 use Rattle.aspa_top.proofs.ReadyLemmas.{ready_streams}
@@ -57,37 +57,31 @@ comes_world files world kind told name outcome tells same comes =
 -- whether the name is taken is the same in what the working state stands for
 pub taken_is : (files : Option Files) (links : Links) (working : Working) (state : State) (kind : FileKind) (taken : Bool) → StandsFor files links working state
     → IsTakenIn working kind taken → is_taken state kind ≡ taken
-taken_is files links working state (Payloads name) taken stands is = sym (same_stream files links working state name stands) ∙ sym is
-taken_is files links working state (PayloadLines name) taken stands is = sym (same_stream files links working state name stands) ∙ sym is
-taken_is files links working state (Validated name) taken stands is = sym (same_stream files links working state name stands) ∙ sym is
+taken_is files links working state (Source name format) taken stands is = sym (same_stream files links working state name stands) ∙ sym is
 taken_is files links working state SlurmFile taken stands is = sym is
 
 named_after : (kind : FileKind) (mid next : Working) (state : State) → NamesBy kind mid next → ((q : List ℕ) → has_source mid q ≡ state.sources q)
     → (q : List ℕ) → has_source next q ≡ with_name kind state.sources q
-named_after (Payloads name) mid next state names sources q = names.sources q ∙ ap (λ (b : Bool). cond (same_name name q) true b) (sources q)
-named_after (PayloadLines name) mid next state names sources q = names.sources q ∙ ap (λ (b : Bool). cond (same_name name q) true b) (sources q)
-named_after (Validated name) mid next state names sources q = names.sources q ∙ ap (λ (b : Bool). cond (same_name name q) true b) (sources q)
+named_after (Source name format) mid next state names sources q = names.sources q ∙ ap (λ (b : Bool). cond (same_name name q) true b) (sources q)
 named_after SlurmFile mid next state names sources q = ap (λ (w : Working). has_source w q) names ∙ sources q
 
 -- all but the names of sources is as before
 left_after : (kind : FileKind) (mid next : Working) → NamesBy kind mid next → next ≡ record mid { sources = next.sources }
-left_after (Payloads name) mid next names = names.left
-left_after (PayloadLines name) mid next names = names.left
-left_after (Validated name) mid next names = names.left
+left_after (Source name format) mid next names = names.left
 left_after SlurmFile mid next names = names ∙ ap (λ (w : Working). record mid { sources = w.sources }) (sym names)
 
 -- a good file leaves the streams and the counts as they were
 Loaded-kept : (kind : FileKind) (working next : Working) (made : Made) → Loaded working kind made next → KeepsStreams working next
 Loaded-kept kind working next made held =
     let is : next ≡ record held.after { sources = next.sources } = left_after kind held.after next held.names in
-    let mid = held.amends ∙ ap (λ (w : Working). record w { origins = amended made.amends w.origins }) held.happened.left in
-    let refused : next.refused ≡ working.refused = ap (λ (w : Working). w.refused) is ∙ ap (λ (w : Working). w.refused) mid in
+    let mid = held.amends ∙ ap (λ (w : Working). record w { progress = record w.progress { origins = amended made.amends w.progress.origins } }) held.happened.left in
+    let refused : next.progress.refused ≡ working.progress.refused = ap (λ (w : Working). w.progress.refused) is ∙ ap (λ (w : Working). w.progress.refused) mid in
     record {
       feeds = ap (λ (w : Working). w.feeds) is ∙ ap (λ (w : Working). w.feeds) mid;
       caches = λ q. ap (λ (w : Working). cache_in w q) is ∙ ap (λ (w : Working). cache_in w q) mid;
       dumps = λ q. ap (λ (w : Working). dump_in w q) is ∙ ap (λ (w : Working). dump_in w q) mid;
       lines = ap (λ (w : Working). w.lines) is ∙ ap (λ (w : Working). w.lines) mid;
-      passed = ap (λ (w : Working). w.passed) is ∙ ap (λ (w : Working). w.passed) mid;
+      passed = ap (λ (w : Working). w.progress.passed) is ∙ ap (λ (w : Working). w.progress.passed) mid;
       refused = omega (arith, refused);
     }
 
@@ -97,7 +91,7 @@ module _ (working : Working) (kind : FileKind) (file : List ℕ) (old : Outside)
   -- the line is refused
   pub load_refused : (next : Working) (taken : Bool) (place : AnyPlace) (cause : Cause) → IsPlaceInLine place → IsTakenIn working kind taken
       → ((world : World) (state : State) (text : List ℕ) (after : State) → Tells old.files world → Refuses state place cause text after → LoadsUnless taken world state kind file text after)
-      → held ≡ old.held ++ refusal_text working.lines place cause → ticks ≡ old.ticks → next ≡ record working { refused = working.refused + 1 }
+      → held ≡ old.held ++ refusal_text working.lines place cause → ticks ≡ old.ticks → next ≡ refused_in working
       → Done working (Ok (Load kind file)) old (record old { files = files; opened = opened; shelf_faults = faulted; held = held; ticks = ticks }) next
   load_refused next taken place cause in_line is does added unticked next_is =
       done_refused working (Ok (Load kind file)) old (record old { files = files; opened = opened; shelf_faults = faulted; held = held; ticks = ticks }) next place cause in_line leaves given
@@ -111,7 +105,7 @@ module _ (working : Working) (kind : FileKind) (file : List ℕ) (old : Outside)
   load_flawed : (next : Working) (told : List ℕ) (outcome : Outcome) (place : AnyPlace) (cause : Cause) → IsPlaceInLine place → IsTakenIn working kind false
       → told ≡ file → ComesTold old.files kind told outcome
       → ((state : State) (text : List ℕ) (after : State) → Refuses state place cause text after → TakesFile state kind outcome text after)
-      → held ≡ old.held ++ refusal_text working.lines place cause → ticks ≡ old.ticks → next ≡ record working { refused = working.refused + 1 }
+      → held ≡ old.held ++ refusal_text working.lines place cause → ticks ≡ old.ticks → next ≡ refused_in working
       → Done working (Ok (Load kind file)) old (record old { files = files; opened = opened; shelf_faults = faulted; held = held; ticks = ticks }) next
   load_flawed next told outcome place cause in_line is same comes takes added unticked next_is =
       load_refused next false place cause in_line is
@@ -120,14 +114,14 @@ module _ (working : Working) (kind : FileKind) (file : List ℕ) (old : Outside)
 
   -- the file is good, and changes the table
   load_held : (next : Working) (told : List ℕ) (made : Made) → IsTakenIn working kind false → told ≡ file → ComesTold old.files kind told (Good made)
-      → Loaded working kind made next → TicksWithin working.analyser (TableEvent made.table) old.ticks ticks → held ≡ old.held
+      → Loaded working kind made next → TicksWithin working.progress.analyser (TableEvent made.table) old.ticks ticks → held ≡ old.held
       → Done working (Ok (Load kind file)) old (record old { files = files; opened = opened; shelf_faults = faulted; held = held; ticks = ticks }) next
   load_held next told made is same comes holds within kept =
       let new : Outside = record old { files = files; opened = opened; shelf_faults = faulted; held = held; ticks = ticks } in
       let event = holds.happened in
-      let mid_is = holds.amends ∙ ap (λ (w : Working). record w { origins = amended made.amends w.origins }) event.left in
+      let mid_is = holds.amends ∙ ap (λ (w : Working). record w { progress = record w.progress { origins = amended made.amends w.progress.origins } }) event.left in
       let next_is = left_after kind holds.after next holds.names in
-      let cost = some_cost working.analyser (TableEvent made.table) event.analysis in
+      let cost = some_cost working.progress.analyser (TableEvent made.table) event.analysis in
       let keeps = Loaded-kept kind working next made holds in
       record {
         goes = λ world tells state stands.
@@ -152,9 +146,9 @@ module _ (working : Working) (kind : FileKind) (file : List ℕ) (old : Outside)
                   }));
               added = ap (append_known old.written) kept ∙ sym (append_known-nil (all_of old));
               stands = record {
-                analysis = ap (λ (w : Working). w.analyser) next_is ∙ ap (λ (w : Working). w.analyser) mid_is;
-                marks = ap (λ (w : Working). w.marks) next_is ∙ ap (λ (w : Working). w.marks) mid_is ∙ stands.marks;
-                origins = ap (λ (w : Working). w.origins) next_is ∙ ap (λ (w : Working). w.origins) mid_is ∙ ap (amended made.amends) stands.origins;
+                analysis = ap (λ (w : Working). w.progress.analyser) next_is ∙ ap (λ (w : Working). w.progress.analyser) mid_is;
+                marks = ap (λ (w : Working). w.progress.marks) next_is ∙ ap (λ (w : Working). w.progress.marks) mid_is ∙ stands.marks;
+                origins = ap (λ (w : Working). w.progress.origins) next_is ∙ ap (λ (w : Working). w.progress.origins) mid_is ∙ ap (amended made.amends) stands.origins;
                 sources = named_after kind holds.after next state holds.names (λ q. ap (λ (w : Working). has_source w q) mid_is ∙ stands.sources q);
                 dumps = λ q. subst (λ (d : Option HeldDump). HoldsOr files d (state.dumps q)) (sym (keeps.dumps q)) (stayed.dumps q);
                 feeds = subst (λ (held : Feeds). (q : List ℕ) → HoldsFeed old.links.wire (feed_in held q) (state.feeds q)) (sym keeps.feeds) stayed.feeds;
@@ -163,7 +157,7 @@ module _ (working : Working) (kind : FileKind) (file : List ℕ) (old : Outside)
                 made = stayed.made;
                 lines = keeps.lines ∙ stands.lines;
                 passed = keeps.passed ∙ stands.passed;
-                refused = ap (λ (w : Working). w.refused) next_is ∙ ap (λ (w : Working). w.refused) mid_is ∙ stands.refused;
+                refused = ap (λ (w : Working). w.progress.refused) next_is ∙ ap (λ (w : Working). w.progress.refused) mid_is ∙ stands.refused;
               };
               ticked = omega (arith, within event.analysis cost.0 event.happens cost.1);
             };
@@ -221,8 +215,8 @@ module _ (working : Working) (kind : FileKind) (file : List ℕ) (old : Outside)
       by_outcome FileLong comes within world tells state stands = unticked world state within
       by_outcome (Flawed flaw) comes within world tells state stands = unticked world state within
       by_outcome (Good made) comes within world tells state stands =
-          let one = one_outcome_of working.analyser (TableEvent made.table) in
-          let cost = some_cost working.analyser (TableEvent made.table) one.one in
+          let one = one_outcome_of working.progress.analyser (TableEvent made.table) in
+          let cost = some_cost working.progress.analyser (TableEvent made.table) one.one in
           let after : State = record state { analysis = one.one; origins = amended made.amends state.origins; sources = with_name kind state.sources; judgements = state.judgements + cost.0 } in (
             [],
             after,

@@ -1,6 +1,7 @@
 -- A task has one text, and leaves one state.
 use Rattle.std.proofs.Common.{◌≡◌, ℕ, ◌+◌, Bool, true, false, ◌||◌, is_some, List, [], ◌∷◌, ◌++◌, None, Some, refl, sym, ap, subst, ◌∙◌, flat_map}
 use Rattle.std.specs.declared.option.Option.{Option}
+use Rattle.path_model.specs.declared.role.Role.{Role}
 use Rattle.path_model.specs.Trail.{path_of}
 use Rattle.attestations.specs.ComputedTable.{table_of}
 use Rattle.attestations.proofs.PartsLemmas.{table_is_current}
@@ -23,20 +24,18 @@ use Rattle.analyser.specs.declared.event.Event.TheVariants.{Table as TableEvent}
 use Rattle.analyser.proofs.CostLemmas.{some_cost}
 use Rattle.analyser.proofs.EventLemmas.{one_outcome_of}
 use Rattle.stream_lines.specs.declared.kind.DumpKind.{DumpKind}
-use Rattle.stream_lines.specs.Changes.{change_row}
+use Rattle.listings.specs.Changes.{change_row}
 use Rattle.stream_lines.specs.Streams.{Dump}
 use Rattle.stream_lines.specs.Units.{is_of_records}
 use Rattle.stream_lines.proofs.LawLemmas.{outcome_and_cost, some_units, units_unique}
 use Rattle.stream_lines.proofs.UntilLemmas.{one_until}
-use Rattle.aspa_top.specs.declared.loading.FileKind.{FileKind}
-use Rattle.aspa_top.specs.declared.loading.Amendment.{Amendment}
-use Rattle.aspa_top.specs.declared.loading.Outcome.{Outcome}
-use Rattle.aspa_top.specs.declared.loading.Outcome.TheVariants.{NoFile, Long as FileLong, Flawed, Good}
-use Rattle.aspa_top.specs.declared.task.Short.{Short as ShortTask}
-use Rattle.aspa_top.specs.declared.task.Short.TheVariants.{Idle, Happen, Clear, Judge, Say}
+use Rattle.aspa_top.specs.declared.files.FileKind.{FileKind}
+use Rattle.aspa_top.specs.declared.files.Amendment.{Amendment}
+use Rattle.aspa_top.specs.declared.files.Outcome.{Outcome}
+use Rattle.aspa_top.specs.declared.files.Outcome.TheVariants.{NoFile, Long as FileLong, Flawed, Good}
 use Rattle.aspa_top.specs.declared.task.Task.{Task}
-use Rattle.aspa_top.specs.declared.task.Task.TheVariants.{Short, Load, Open, Take, Until, Connect, OnFeed, Serve, Answer, Changes}
-use Rattle.aspa_top.specs.Tasks.{State, MakesHappen, Holds, TakesFile, LoadsUnless, OpensNamed, TakesOpen, TakesNamed, TakesRecordsUnless, TakesUntilNamed, Works, ConnectsUnless, ShowsChanges, DoesShort, DoesTask, amended, is_stream, is_taken, with_name, asking_of, asking_on, feeds_of, with_feeds, taking_of, after_taking, most_records}
+use Rattle.aspa_top.specs.declared.task.Task.TheVariants.{Idle, Happen, Clear, Judge, Say, Load, Open, Take, Until, Connect, OnFeed, Serve, Answer, Changes}
+use Rattle.aspa_top.specs.Tasks.{State, MakesHappen, Holds, TakesFile, LoadsUnless, OpensNamed, TakesOpen, TakesNamed, TakesRecordsUnless, TakesUntilNamed, Works, ConnectsUnless, ShowsChanges, DoesTask, amended, is_stream, is_taken, with_name, asking_of, asking_on, feeds_of, with_feeds, taking_of, after_taking, most_records}
 use Rattle.aspa_top.specs.World.{World}
 use Rattle.aspa_top.proofs.JudgedLemmas.{IsJudged-unique}
 use Rattle.aspa_top.proofs.OutcomeLemmas.{some_outcome, outcome_unique}
@@ -133,12 +132,8 @@ some_changes state =
       record { changes = list.one; are = list.is; text_is = refl; analysis = marking.one; marked = marking.is; left = refl },
     )
 
-pub some_short : (state : State) (short : ShortTask) → Some_that (DoesShort state short)
-some_short state Idle = ([], state, (refl, refl))
-some_short state (Happen event) = some_event state event
-some_short state Clear = ([], _, (refl, refl))
-some_short state (Say words) = (said_text words, state, (refl, refl))
-some_short state (Judge role neighbour path) =
+pub some_judgement : (world : World) (state : State) (role : Role) (neighbour : ℕ) (path : List ℕ) → Some_that (DoesTask world state (Judge role neighbour path))
+some_judgement world state role neighbour path =
     let parts = state.analysis.parts in
     let found = some_right (table_of parts) role neighbour (path_of false path) in
     (verdict_text found.0 ++ 10 ∷ [], _, (record { table = table_of parts; current = table_is_current parts; verdict = found.0; right = found.1; text_is = refl }, refl))
@@ -151,7 +146,11 @@ ConnectsNone other = Unit {0}
 
 -- each task has a text that connects no feed, where there is none
 pub some_task : (world : World) (state : State) (task : Task) → ConnectsNone task → ((name : List ℕ) → state.feeds name ≡ None) → Some_that (DoesTask world state task)
-some_task world state (Short short) other none = some_short state short
+some_task world state Idle other none = ([], state, (refl, refl))
+some_task world state (Happen event) other none = some_event state event
+some_task world state Clear other none = ([], _, (refl, refl))
+some_task world state (Say words) other none = (said_text words, state, (refl, refl))
+some_task world state (Judge role neighbour path) other none = some_judgement world state role neighbour path
 some_task world state (Load kind file) other none = some_load (is_taken state kind) world state kind file
 some_task world state (Open kind name file) other none = some_opening (state.sources name || is_stream state name) (world.named file) state kind name
 some_task world state (Take name count) other none = some_take (state.dumps name) world state name count (none name)
@@ -257,19 +256,15 @@ ShowsChanges-unique state one other end last a b =
       a.left ∙ ap (λ (n : Analysis). record state { analysis = n }) (marking.only a.analysis a.marked ∙ sym (marking.only b.analysis b.marked)) ∙ sym b.left,
     )
 
-DoesShort-unique : (state : State) (short : ShortTask) (one other : List ℕ) (end last : State)
-    → DoesShort state short one end → DoesShort state short other last → (one ≡ other) × (end ≡ last)
-DoesShort-unique state Idle one other end last a b = both one other _ end last _ a b
-DoesShort-unique state (Happen event) one other end last a b = MakesHappen-unique state event one other end last a b
-DoesShort-unique state Clear one other end last a b = both one other _ end last _ a b
-DoesShort-unique state (Say words) one other end last a b = both one other _ end last _ a b
-DoesShort-unique state (Judge role neighbour path) one other end last a b =
-    (IsJudged-unique state.analysis.parts role neighbour path one other a.0 b.0, a.1 ∙ sym b.1)
-
 -- a task has no two texts, and leaves no two states, where the attempts are told
 pub DoesTask-unique : (world : World) (attempts : List Attempt) → world.ends.attempts ≡ Some attempts → (state : State) (task : Task) (one other : List ℕ) (end last : State)
     → DoesTask world state task one end → DoesTask world state task other last → (one ≡ other) × (end ≡ last)
-DoesTask-unique world attempts told state (Short short) one other end last a b = DoesShort-unique state short one other end last a b
+DoesTask-unique world attempts told state Idle one other end last a b = both one other _ end last _ a b
+DoesTask-unique world attempts told state (Happen event) one other end last a b = MakesHappen-unique state event one other end last a b
+DoesTask-unique world attempts told state Clear one other end last a b = both one other _ end last _ a b
+DoesTask-unique world attempts told state (Say words) one other end last a b = both one other _ end last _ a b
+DoesTask-unique world attempts told state (Judge role neighbour path) one other end last a b =
+    (IsJudged-unique state.analysis.parts role neighbour path one other a.0 b.0, a.1 ∙ sym b.1)
 DoesTask-unique world attempts told state (Load kind file) one other end last a b = Loads-unique (is_taken state kind) world state kind file one other end last a b
 DoesTask-unique world attempts told state (Open kind name file) one other end last a b =
     Opens-unique (state.sources name || is_stream state name) (world.named file) state kind name one other end last a b

@@ -27,7 +27,7 @@ use Rattle.report_text.proofs.AnswerLemmas.{change_is_one_line, saying_is_one_li
 use Rattle.analyser.specs.declared.event.Event.{Event}
 use Rattle.rib_store.specs.declared.journal.ChangedKey.{ChangedKey}
 use Rattle.stream_lines.specs.declared.kind.DumpKind.{DumpKind}
-use Rattle.stream_lines.specs.Changes.{change_row}
+use Rattle.listings.specs.Changes.{change_row}
 use Rattle.stream_lines.specs.Counts.{refusals_in}
 use Rattle.stream_lines.specs.Streams.{Dump}
 use Rattle.stream_lines.specs.Units.{is_of_records}
@@ -42,16 +42,14 @@ use Rattle.report_text.specs.Served.{served_line, served_text}
 use Rattle.report_text.proofs.RefusalLemmas.{feed_end_is_one_line, refusal_is_one_line, serve-in_line}
 use Rattle.report_text.proofs.AnswerLemmas.{served_is_one_line}
 use Rattle.aspa_top.specs.Serving.{ServesTable}
-use Rattle.aspa_top.specs.declared.loading.FileKind.{FileKind}
-use Rattle.aspa_top.specs.declared.loading.Outcome.{Outcome}
-use Rattle.aspa_top.specs.declared.loading.Outcome.TheVariants.{NoFile, Long as FileLong, Flawed, Good}
-use Rattle.aspa_top.specs.declared.task.Short.{Short as ShortTask}
-use Rattle.aspa_top.specs.declared.task.Short.TheVariants.{Idle as Nothing, Happen, Clear, Judge as JudgePath, Say}
+use Rattle.aspa_top.specs.declared.files.FileKind.{FileKind}
+use Rattle.aspa_top.specs.declared.files.Outcome.{Outcome}
+use Rattle.aspa_top.specs.declared.files.Outcome.TheVariants.{NoFile, Long as FileLong, Flawed, Good}
 use Rattle.aspa_top.specs.declared.task.Question.{Question}
 use Rattle.aspa_top.specs.declared.task.Task.{Task}
-use Rattle.aspa_top.specs.declared.task.Task.TheVariants.{Short, Load, Open, Take, Until, Connect, OnFeed, Serve, Answer, Changes}
-use Rattle.aspa_top.specs.Loading.{unit_name}
-use Rattle.aspa_top.specs.Tasks.{State, MakesHappen, Refuses, TakesFile, LoadsUnless, OpensNamed, TakesOpen, TakesNamed, TakesRecordsUnless, TakesUntilNamed, Works, ConnectsUnless, DoesShort, DoesTask, is_stream, is_taken, asking_of, asking_on, feeds_of, with_feeds, taking_of}
+use Rattle.aspa_top.specs.declared.task.Task.TheVariants.{Idle as Nothing, Happen, Clear, Judge as JudgePath, Say, Load, Open, Take, Until, Connect, OnFeed, Serve, Answer, Changes}
+use Rattle.aspa_top.specs.Files.{unit_name}
+use Rattle.aspa_top.specs.Tasks.{State, MakesHappen, Refuses, TakesFile, LoadsUnless, OpensNamed, TakesOpen, TakesNamed, TakesRecordsUnless, TakesUntilNamed, Works, ConnectsUnless, DoesTask, is_stream, is_taken, asking_of, asking_on, feeds_of, with_feeds, taking_of}
 use Rattle.aspa_top.specs.Answers.{AnswersUnless, Replies, refused_for}
 use Rattle.aspa_top.specs.Evaluation.{Asked, DoesAsked, asked_of, counted, Evaluates}
 use Rattle.aspa_top.specs.World.{World}
@@ -235,19 +233,15 @@ Replies-refused state question text next rest replies = by_cause (refused_for st
   by_cause (Some cause) refuses = Refuses-refused state of_line cause text next rest tt refuses
   by_cause None answers = answered state next text text rest refl (answers_counted text rest (answer_lines state question text answers.0)) (ap (λ (s : State). s.refused) answers.1)
 
-DoesShort-refused : (state : State) (short : ShortTask) (text : List ℕ) (next : State) (rest : List ℕ) → IsNamedInLine (Short short)
-    → DoesShort state short text next → next.refused + refusals_in rest ≡ state.refused + refusals_in (text ++ rest)
-DoesShort-refused state Nothing text next rest in_line does = silent text rest state.refused next.refused does.0 (ap (λ (s : State). s.refused) does.1)
-DoesShort-refused state (Happen event) text next rest in_line does = MakesHappen-refused state event text next rest does
-DoesShort-refused state Clear text next rest in_line does = silent text rest state.refused next.refused does.0 (ap (λ (s : State). s.refused) does.1)
-DoesShort-refused state (Say words) text next rest in_line does =
-    answered state next text (said_text words) rest does.0 (answer_counted (said_line words) rest (saying_is_one_line words in_line)) (ap (λ (s : State). s.refused) does.1)
-DoesShort-refused state (JudgePath role neighbour path) text next rest in_line does =
-    answered state next text (verdict_text does.0.verdict ++ 10 ∷ []) rest does.0.text_is (refusals_in-verdict does.0.verdict rest) (ap (λ (s : State). s.refused) does.1)
-
 DoesTask-refused : (world : World) (state : State) (task : Task) (text : List ℕ) (next : State) (rest : List ℕ) → IsNamedInLine task
     → DoesTask world state task text next → next.refused + refusals_in rest ≡ state.refused + refusals_in (text ++ rest)
-DoesTask-refused world state (Short short) text next rest in_line does = DoesShort-refused state short text next rest in_line does
+DoesTask-refused world state Nothing text next rest in_line does = silent text rest state.refused next.refused does.0 (ap (λ (s : State). s.refused) does.1)
+DoesTask-refused world state (Happen event) text next rest in_line does = MakesHappen-refused state event text next rest does
+DoesTask-refused world state Clear text next rest in_line does = silent text rest state.refused next.refused does.0 (ap (λ (s : State). s.refused) does.1)
+DoesTask-refused world state (Say words) text next rest in_line does =
+    answered state next text (said_text words) rest does.0 (answer_counted (said_line words) rest (saying_is_one_line words in_line)) (ap (λ (s : State). s.refused) does.1)
+DoesTask-refused world state (JudgePath role neighbour path) text next rest in_line does =
+    answered state next text (verdict_text does.0.verdict ++ 10 ∷ []) rest does.0.text_is (refusals_in-verdict does.0.verdict rest) (ap (λ (s : State). s.refused) does.1)
 DoesTask-refused world state (Load kind file) text next rest in_line does = Loads-refused (is_taken state kind) world state kind file text next rest in_line does
 DoesTask-refused world state (Open kind name file) text next rest in_line does = Opens-refused (state.sources name || is_stream state name) (world.named file) state kind name text next rest does
 DoesTask-refused world state (Take name count) text next rest in_line does = Takes-refused (state.dumps name) world state name count text next rest in_line does

@@ -7,9 +7,9 @@ use Rattle.av_base.specs.Files.{Files}
 use Rattle.report_text.specs.declared.cause.Cause.TheVariants as causes
 use Rattle.report_text.specs.Refusals.{of_line, refusal_text}
 use Rattle.report_text.specs.Reported.{AddsQuiet}
-use Rattle.stream_lines.specs.declared.stop.Stop.{Stop}
-use Rattle.stream_lines.specs.declared.stop.Stop.TheVariants as stops
-use Rattle.stream_lines.specs.declared.taking.Progress.{Progress}
+use Rattle.listings.specs.declared.stop.Stop.{Stop}
+use Rattle.listings.specs.declared.stop.Stop.TheVariants as stops
+use Rattle.analyser.specs.declared.progress.Progress.{Progress}
 use Rattle.stream_lines.specs.Frames.{Leaves}
 use Rattle.stream_lines.specs.Held.{HeldDump}
 use Rattle.stream_lines.specs.Holding.{HoldsDump}
@@ -26,7 +26,7 @@ use Rattle.aspa_top.specs.Outside.{Outside, all_of}
 use Rattle.aspa_top.specs.Performing.{Done, EndedEarly, GoesSome}
 use Rattle.aspa_top.specs.Standing.{IsBegun, StandsFor}
 use Rattle.aspa_top.specs.Tasks.{DoesTask, State, TakesRecordsUnless, TakesUntilNamed, after_taking, asking_of, most_records, same_name, taking_of}
-use Rattle.aspa_top.specs.Working.{dump_in}
+use Rattle.aspa_top.specs.Working.{dump_in, refused_in}
 use Rattle.aspa_top.specs.World.{World, ending}
 use Rattle.aspa_top.proofs.DidLemmas.{done_refused}
 use Rattle.aspa_top.proofs.DumpLemmas.{all_done, all_stopped, asks_as, begins_at, came, some_rest}
@@ -36,7 +36,7 @@ use Rattle.aspa_top.proofs.TakeLemmas.{take_uses}
 -- ---- lines that are refused
 
 module _ (working next : Working) (name : List ℕ) (moment : ℕ) (old : Outside) (held : List ℕ) (begun : IsBegun old working)
-    (is : next ≡ record working { refused = working.refused + 1 }) where
+    (is : next ≡ refused_in working) where
   -- no dump has the name
   pub until_missing : dump_in working name ≡ None → held ≡ old.held ++ refusal_text working.lines of_line causes.NoName
       → Done working (Ok (Until name moment)) old (record old { held = held }) next
@@ -77,13 +77,12 @@ module _ (working next : Working) (name : List ℕ) (moment : ℕ) (old : Outsid
 
 -- ---- records
 
-module _ (working : Working) (name : List ℕ) (moment : ℕ) (before after : HeldDump) (asking : Asking) (first : Progress) (old : Outside)
+module _ (working : Working) (name : List ℕ) (moment : ℕ) (before after : HeldDump) (asking : Asking) (old : Outside)
     (files : Option Files) (opened shelf_faults : ℕ) (written : Option (List ℕ)) (sink_faults : ℕ) (held : List ℕ) (now : ℕ)
     (begun : IsBegun old working) (here : dump_in working name ≡ Some before)
     (leaves : Leaves (λ other. other ≢ before.file) old.files files) (open_yet : before.over ≡ false) (records : is_of_records before.known ≡ true)
     (asks : asking ≡ record { line = working.lines; name = name })
-    (starts : first ≡ record { analyser = working.analyser; marks = working.marks; passed = working.passed; refused = working.refused })
-    (ticks : TicksWithinUntil asking moment most_records before first old.files old.ticks now)
+    (ticks : TicksWithinUntil asking moment most_records before working.progress old.files old.ticks now)
     (quiet : AddsQuiet (all_of old) (append_known written held)) where
   -- what the line does from any state
   does : (world : World) (state : State) (dump : Dump) (text : List ℕ) (end : Taking) → StandsFor old.files old.links working state → state.dumps name ≡ Some dump
@@ -94,28 +93,28 @@ module _ (working : Working) (name : List ℕ) (moment : ℕ) (before after : He
       (subst (λ (b : Bool). TakesRecordsUnless b dump.over state name moment dump text next) (sym (sym holds.kind ∙ records))
       (subst (λ (b : Bool). TakesRecordsUnless true b state name moment dump text next) (sym (sym holds.over ∙ open_yet)) (record {
         end = end;
-        takes = subst (λ (a : Asking). TakesUntil a moment most_records (taking_of state dump) text end) (asks_as working name before asking first old asks starts state stands) takes;
+        takes = subst (λ (a : Asking). TakesUntil a moment most_records (taking_of state dump) text end) (asks_as working name before asking old asks state stands) takes;
         next_is = refl;
       })))
 
   -- the records were taken
-  pub until_done : (next : Working) (last : Progress) → TookUntil asking moment most_records before after first old.files files (all_of old) (append_known written held) last
+  pub until_done : (next : Working) (last : Progress) → TookUntil asking moment most_records before after working.progress old.files files (all_of old) (append_known written held) last
       → ((q : List ℕ) → dump_in next q ≡ cond (same_name name q) (Some after) (dump_in working q))
-      → next ≡ record working { analyser = last.analyser; marks = last.marks; dumps = next.dumps; passed = last.passed; refused = last.refused }
-      → opened ≡ old.opened → after.file ≡ before.file → GrewBy most_records before after first last
+      → next ≡ record working { progress = last; dumps = next.dumps }
+      → opened ≡ old.opened → after.file ≡ before.file → GrewBy most_records before after working.progress last
       → Done working (Ok (Until name moment)) old
       (record old { files = files; opened = opened; shelf_faults = shelf_faults; written = written; sink_faults = sink_faults; held = held; ticks = now }) next
   until_done next last took dumps is same file grew =
-      all_done working name (Until name moment) most_records before after asking first old files opened shelf_faults written sink_faults held now begun (omega arith) here leaves asks starts quiet
+      all_done working name (Until name moment) most_records before after asking old files opened shelf_faults written sink_faults held now begun (omega arith) here leaves asks quiet
       (λ from text to. TakesUntil asking moment most_records from text to) (λ from to text at takes. ticks.within from to text at takes) does next last
       (λ from at. let done = took from at in (done.0, done.1, done.2.text, done.2.takes, done.2.added)) dumps is same file grew
 
   -- some of the records were taken
-  until_part : TookSomeUntil asking moment most_records before first old.files (all_of old) (append_known written held) old.ticks now → GoesSome working (Ok (Until name moment)) old
+  until_part : TookSomeUntil asking moment most_records before working.progress old.files (all_of old) (append_known written held) old.ticks now → GoesSome working (Ok (Until name moment)) old
       (record old { files = files; opened = opened; shelf_faults = shelf_faults; written = written; sink_faults = sink_faults; held = held; ticks = now })
   until_part some = λ world tells state stands.
       let there = HoldsOr-some old.files (dump_in working name) (state.dumps name) before (stands.dumps name) here in
-      let at = begins_at working name before asking first old asks starts state there.0 stands there.2 in
+      let at = begins_at working name before asking old asks state there.0 stands there.2 in
       let all = some (taking_of state there.0) at in
       let done = all.some in
       let whole = some_rest asking all.count (taking_of state there.0) (all_of old) (append_known written held) old.ticks now done in
@@ -138,16 +137,16 @@ module _ (working : Working) (name : List ℕ) (moment : ℕ) (before after : He
               end = all.new;
               counted = subst (λ (d : Dump). TakesCount (asking_of state name) moment most_records all.count (taking_of state d) all.text all.new) one
                   (subst (λ (a : Asking). TakesCount a moment most_records all.count (taking_of state there.0) all.text all.new)
-                  (asks_as working name before asking first old asks starts state stands) all.counted);
-              came = came working name before asking first old asks starts (ending world ends) state there.0 all.count (append_known written held) now stands there.1 (sym there.2.over ∙ open_yet) done;
+                  (asks_as working name before asking old asks state stands) all.counted);
+              came = came working name before asking old asks (ending world ends) state there.0 all.count (append_known written held) now stands there.1 (sym there.2.over ∙ open_yet) done;
             };
       }
 
-  pub until_stopped : (stop : Stop) → TookSomeUntil asking moment most_records before first old.files (all_of old) (append_known written held) old.ticks now
+  pub until_stopped : (stop : Stop) → TookSomeUntil asking moment most_records before working.progress old.files (all_of old) (append_known written held) old.ticks now
       → (stop ≡ stops.Shelf → Rose old.shelf_faults shelf_faults) → (stop ≡ stops.Sink → (0 < length held) × Rose old.sink_faults sink_faults)
       → EndedEarly working (Ok (Until name moment)) old
       (record old { files = files; opened = opened; shelf_faults = shelf_faults; written = written; sink_faults = sink_faults; held = held; ticks = now }) stop
   until_stopped stop some shelf sink =
-      all_stopped working name (Until name moment) most_records before after asking first old files opened shelf_faults written sink_faults held now begun (omega arith) here leaves asks starts quiet
+      all_stopped working name (Until name moment) most_records before after asking old files opened shelf_faults written sink_faults held now begun (omega arith) here leaves asks quiet
       (λ from text to. TakesUntil asking moment most_records from text to) (λ from to text at takes. ticks.within from to text at takes) does stop (until_part some)
       (λ state stands. take_uses old.files old.links working name before state here stands) shelf sink

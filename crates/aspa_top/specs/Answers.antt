@@ -8,7 +8,7 @@ use Rattle.path_model.specs.declared.verdict.Verdict.{Verdict}
 use Rattle.path_model.specs.declared.witness.Witness.{Witness}
 use Rattle.path_model.specs.Trail.{Path}
 use Rattle.origin_validation.specs.Rows.{AreOriginRows}
-use Rattle.origin_lines.specs.Rows.{origin_row}
+use Rattle.listings.specs.Origins.{origin_row}
 use Rattle.report_text.specs.declared.cause.Cause.{Cause}
 use Rattle.report_text.specs.declared.cause.Cause.TheVariants.{NoRoute}
 use Rattle.report_text.specs.declared.summary.Summary.{Summary}
@@ -17,15 +17,14 @@ use Rattle.report_text.specs.Summary.{summary_text}
 use Rattle.report_text.specs.Why.{why_text}
 use Rattle.rib_store.specs.Shown.{IsExplained}
 use Rattle.rib_store.specs.State.{AreRows}
-use Rattle.script_lines.specs.declared.command.Show.TheVariants.{Report, Origins, Leaks, Suspects, Summary as SumUp}
-use Rattle.stream_lines.specs.Leaks.{AreLeaks, leak_row}
-use Rattle.stream_lines.specs.Rows.{row_of}
-use Rattle.stream_lines.specs.Summary.{IsSummary}
+use Rattle.listings.specs.Leaks.{AreLeaks, leak_row}
+use Rattle.listings.specs.Rows.{row_of}
+use Rattle.listings.specs.Summary.{IsSummary}
 use Rattle.suspects.specs.Suspects.{AreSuspects}
-use Rattle.suspect_lines.specs.Details.{AreDetails, detail_row}
-use Rattle.suspect_lines.specs.Suspected.{suspect_row}
+use Rattle.listings.specs.Details.{AreDetails, detail_row}
+use Rattle.listings.specs.Suspected.{suspect_row}
 use Rattle.aspa_top.specs.declared.task.Question.{Question}
-use Rattle.aspa_top.specs.declared.task.Question.TheVariants.{Show, Details, Why}
+use Rattle.aspa_top.specs.declared.task.Question.TheVariants.{Report, Origins, Leaks, Suspects, Summary as SumUp, Details, Why}
 use Rattle.aspa_top.specs.State.{State, Refuses}
 
 -- a listing: some rows, which are as they are to be, and their lines
@@ -50,14 +49,14 @@ pub record Explains (state : State) (key : Key) (text : List ℕ) : Type 0 where
 -- the text answers the question
 abbrev pub Answers : State → Question → List ℕ → Type 0
 -- `report`: one line for each route in key order, with its current verdict
-Answers state (Show Report) text = Shows (AreRows state.analysis) row_of text
+Answers state Report text = Shows (AreRows state.analysis) row_of text
 -- `origins`: one line for each route in key order, with the state of its origin by the records that are current
-Answers state (Show Origins) text = Shows (AreOriginRows state.analysis.routes state.origins) origin_row text
+Answers state Origins text = Shows (AreOriginRows state.analysis.routes state.origins) origin_row text
 -- `leaks`: one line for each route whose attribute Only-to-Customer makes it a leak, in key order, by the present roles
-Answers state (Show Leaks) text = Shows (AreLeaks state.analysis.roles state.marks) leak_row text
+Answers state Leaks text = Shows (AreLeaks state.analysis.roles state.marks) leak_row text
 -- `suspects`: one line for each valley of the routes that no completion makes valid, in ascending order, with how many have it
-Answers state (Show Suspects) text = Shows (AreSuspects state.analysis) suspect_row text
-Answers state (Show SumUp) text = SumsUp state text
+Answers state Suspects text = Shows (AreSuspects state.analysis) suspect_row text
+Answers state SumUp text = SumsUp state text
 -- `details`: one line for each route in key order, or for each with this verdict, with its current verdict, its printed witness and its path
 Answers state (Details verdict) text = Shows (AreDetails state.analysis verdict) detail_row text
 Answers state (Why key) text = Explains state key text
@@ -69,9 +68,8 @@ no_route (Some path) = None
 
 -- the cause for which a question is refused, if it is
 abbrev pub refused_for : State → Question → Option Cause
-refused_for state (Show show) = None
-refused_for state (Details verdict) = None
 refused_for state (Why key) = no_route (fin.get state.analysis.routes key)
+refused_for state question = None
 
 -- a question is refused, or answered, and then nothing changes
 abbrev pub AnswersUnless : Option Cause → State → Question → List ℕ → State → Type 0

@@ -1,24 +1,18 @@
 -- How much one line may take; private contracts alone cite it.
 use Rattle.std.specs.Prelude.{ℕ, ◌≤◌, length}
 use Rattle.feed_lines.specs.Lines.{units_of}
-use Rattle.script_lines.specs.declared.command.Command.{Command}
-use Rattle.aspa_top.specs.declared.task.Short.{Short as ShortTask}
-use Rattle.aspa_top.specs.declared.task.Short.TheVariants.{Judge}
+use Rattle.script_lines.specs.declared.commands.Command.{Command}
 use Rattle.aspa_top.specs.declared.task.Task.{Task}
-use Rattle.aspa_top.specs.declared.task.Task.TheVariants.{Short, Take, OnFeed, Serve}
-use Rattle.aspa_top.specs.Evaluation.{task_of}
+use Rattle.aspa_top.specs.declared.task.Task.TheVariants.{Judge, Take, OnFeed, Serve}
+use Rattle.aspa_top.specs.Task.{task_of}
 
 -- the most units that a line takes
 abbrev pub most : ℕ
 most = 500000000
 
 -- The path of a judgement isn't longer than a path can be, and a line takes no more units than it may.
-abbrev pub IsWithinShort : ShortTask → Type 0
-IsWithinShort (Judge role neighbour path) = length path ≤ 65535
-IsWithinShort short = Unit {0}
-
 abbrev pub IsWithinTask : Task → Type 0
-IsWithinTask (Short short) = IsWithinShort short
+IsWithinTask (Judge role neighbour path) = length path ≤ 65535
 IsWithinTask (Take name count) = count ≤ most
 IsWithinTask (OnFeed name work) = units_of work ≤ most
 IsWithinTask (Serve place session count) = count ≤ most

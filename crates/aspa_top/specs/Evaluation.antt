@@ -1,28 +1,18 @@
 -- The text of a script, by evaluating each line from scratch: from the world, what the lines before have left, and the line itself.
-use Rattle.std.specs.Prelude.{◌≡◌, ℕ, ◌+◌, ◌-◌, ◌≤◌, ◌⊎◌, Bool, true, false, List, [], ◌∷◌, ◌++◌}
+use Rattle.std.specs.Prelude.{◌≡◌, ℕ, ◌+◌, ◌-◌, ◌≤◌, ◌⊎◌, List, [], ◌∷◌, ◌++◌}
 use Rattle.std.specs.declared.option.Option.{Option}
 use Rattle.std.specs.declared.option.Option.TheVariants.{Some, None}
 use Rattle.std.specs.declared.result.Result.{Result}
 use Rattle.std.specs.declared.result.Result.TheVariants.{Ok, Err}
-use Rattle.vap_table.specs.declared.change.TableChange.{TableChange}
-use Rattle.vap_table.specs.declared.change.TableChange.TheVariants.{At as SetMoment, Filter as FilterByHand, Unfilter as UnfilterByHand, Assert as AssertByHand, Unassert as UnassertByHand}
-use Rattle.analyser.specs.declared.event.Event.TheVariants.{Table as TableEvent, Role as RoleEvent, DefaultRole}
-use Rattle.script_lines.specs.declared.command.Command.{Command}
-use Rattle.script_lines.specs.declared.command.Command.TheVariants.{Idle, Aspa, Aspa64, Validated, Slurm, At, Filter, Unfilter, Assert, Unassert, Role as SetRole, RoleDefault, Open, Bmp, Take, Until, Feed, Ask, Sync, Serve, Judge, Clear, Changes, Details, Say, Why, Show}
-use Rattle.script_lines.specs.declared.command.LineFault.{LineFault}
-use Rattle.script_lines.specs.declared.command.LineFault.TheVariants.{Long, Command as NoCommand, Words, Number, NoMemory}
-use Rattle.stream_lines.specs.declared.kind.DumpKind.{DumpKind}
-use Rattle.stream_lines.specs.declared.kind.DumpKind.TheVariants as kinds
-use Rattle.feed_lines.specs.declared.working.Work.TheVariants.{Ask as AskNow, Sync as SyncTo}
+use Rattle.script_lines.specs.declared.commands.Command.{Command}
+use Rattle.script_lines.specs.declared.fault.LineFault.{LineFault}
+use Rattle.script_lines.specs.declared.fault.LineFault.TheVariants.{Long, Command as NoCommand, Words, Number, NoMemory}
 use Rattle.script_lines.specs.Grammar.{IsReading}
 use Rattle.report_text.specs.declared.cause.Cause.{Cause}
 use Rattle.report_text.specs.declared.cause.Cause.TheVariants as causes
 use Rattle.report_text.specs.Refusals.{of_line}
-use Rattle.aspa_top.specs.declared.loading.FileKind.TheVariants.{Payloads, PayloadLines, Validated as ValidatedFile, Slurm as SlurmFile}
-use Rattle.aspa_top.specs.declared.task.Question.TheVariants.{Show as ShowAll, Details as DetailsOf, Why as WhyRoute}
-use Rattle.aspa_top.specs.declared.task.Short.TheVariants.{Idle as Nothing, Happen, Clear as ClearAll, Judge as JudgePath, Say as SayWords}
 use Rattle.aspa_top.specs.declared.task.Task.{Task}
-use Rattle.aspa_top.specs.declared.task.Task.TheVariants.{Short, Load, Open as OpenDump, Take as TakeUnits, Until as TakeUntil, Connect, OnFeed, Serve as ServeRouters, Answer, Changes as ListChanges}
+use Rattle.aspa_top.specs.Task.{task_of}
 use Rattle.aspa_top.specs.Tasks.{State, Refuses, DoesTask, Moves, TaskCostsWhatItCameTo, TaskUsesFile}
 use Rattle.aspa_top.specs.World.{World}
 
@@ -33,45 +23,6 @@ line_cause NoCommand = Some causes.NoCommand
 line_cause Words = Some causes.Words
 line_cause Number = Some causes.Number
 line_cause NoMemory = None
-
--- the table changes
-abbrev pub table_event : TableChange → Task
-table_event change = Short (Happen (TableEvent change))
-
--- the kind of dump that a `bmp` line opens, by its view: `post`, or `pre`
-abbrev pub bmp_kind : Bool → DumpKind
-bmp_kind true = kinds.BmpPost
-bmp_kind false = kinds.BmpPre
-
--- what a command asks for
-abbrev pub task_of : Command → Task
-task_of Idle = Short Nothing
-task_of (Aspa name file) = Load (Payloads name) file
-task_of (Aspa64 name file) = Load (PayloadLines name) file
-task_of (Validated name file) = Load (ValidatedFile name) file
-task_of (Slurm file) = Load SlurmFile file
-task_of (At moment) = table_event (SetMoment moment)
-task_of (Filter customer) = table_event (FilterByHand customer)
-task_of (Unfilter customer) = table_event (UnfilterByHand customer)
-task_of (Assert customer providers) = table_event (AssertByHand customer providers)
-task_of (Unassert customer) = table_event (UnassertByHand customer)
-task_of (SetRole asn role) = Short (Happen (RoleEvent asn role))
-task_of (RoleDefault role) = Short (Happen (DefaultRole role))
-task_of (Open name file) = OpenDump kinds.Mrt name file
-task_of (Bmp name file post) = OpenDump (bmp_kind post) name file
-task_of (Take name count) = TakeUnits name count
-task_of (Until name moment) = TakeUntil name moment
-task_of (Feed name place) = Connect name place
-task_of (Ask name) = OnFeed name AskNow
-task_of (Sync name count) = OnFeed name (SyncTo count)
-task_of (Serve place session count) = ServeRouters place session count
-task_of (Judge role neighbour path) = Short (JudgePath role neighbour path)
-task_of Clear = Short ClearAll
-task_of Changes = ListChanges
-task_of (Say words) = Short (SayWords words)
-task_of (Details verdict) = Answer (DetailsOf verdict)
-task_of (Why addr asn prefix path) = Answer (WhyRoute (record { peer = record { addr = addr; asn = asn }; prefix = prefix; path = path }))
-task_of (Show show) = Answer (ShowAll show)
 
 -- what is asked for, or the cause for which it is refused
 abbrev pub Asked : Type 0

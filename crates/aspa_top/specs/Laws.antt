@@ -4,7 +4,7 @@ use Rattle.std.specs.Io.KnownBytes.{append_known, prepend_known}
 use Rattle.std.specs.List.{All, Contains}
 use Rattle.std.specs.declared.option.Option.{Option}
 use Rattle.std.specs.declared.result.Result.TheVariants.{Ok}
-use Rattle.script_lines.specs.declared.command.Command.TheVariants.{Feed, Serve}
+use Rattle.script_lines.specs.declared.commands.Command.TheVariants.{Feed, Serve}
 use Rattle.script_lines.specs.Grammar.{IsReading}
 use Rattle.stream_lines.specs.Counts.{refusals_in}
 use Rattle.av_base.specs.Files.{Files}

@@ -3,10 +3,10 @@ pub mod Bounds
 pub mod Dumps
 pub mod Evaluated
 pub mod Evaluation
+pub mod FileSteps
+pub mod Files
 pub mod Laws
 pub mod Lines
-pub mod Loading
-pub mod LoadingSteps
 pub mod Moving
 pub mod Outside
 pub mod Passed
@@ -17,6 +17,7 @@ pub mod Script
 pub mod Serving
 pub mod Standing
 pub mod State
+pub mod Task
 pub mod Tasks
 pub mod Words
 pub mod Working

@@ -10,8 +10,8 @@ use Rattle.stated_workload.specs.Text as demo
 use Rattle.av_base.specs.Connections.{Attempt}
 use Rattle.av_base.specs.Files.{Files}
 use Rattle.av_base.specs.Told.{AppendsFront, AppendsPart}
-use Rattle.script_lines.specs.declared.command.Command.{Command}
-use Rattle.script_lines.specs.declared.command.LineFault.{LineFault}
+use Rattle.script_lines.specs.declared.commands.Command.{Command}
+use Rattle.script_lines.specs.declared.fault.LineFault.{LineFault}
 use Rattle.aspa_top.specs.Lines.{performed}
 use Rattle.script_lines.specs.Grammar.{IsReading}
 use Rattle.aspa_top.specs.World.{Links, World, world_of}

@@ -27,9 +27,9 @@ HoldsOr files (Some kept) (Some dump) = HoldsDump files kept dump
 
 -- the working state keeps what the evaluation has left
 pub record StandsFor (files : Option Files) (links : Links) (working : Working) (state : State) : Type 0 where
-  pub analysis : working.analyser ≡ state.analysis
-  pub marks : working.marks ≡ state.marks
-  pub origins : working.origins ≡ state.origins
+  pub analysis : working.progress.analyser ≡ state.analysis
+  pub marks : working.progress.marks ≡ state.marks
+  pub origins : working.progress.origins ≡ state.origins
   pub sources : (name : List ℕ) → has_source working name ≡ state.sources name
   pub dumps : (name : List ℕ) → HoldsOr files (dump_in working name) (state.dumps name)
   pub feeds : (name : List ℕ) → HoldsFeed links.wire (feed_in working.feeds name) (state.feeds name)
@@ -37,16 +37,16 @@ pub record StandsFor (files : Option Files) (links : Links) (working : Working) 
   pub begun : state.begun ≡ NoneMore
   pub made : (attempts : List Attempt) → links.attempts ≡ Some attempts → state.made ≡ length attempts
   pub lines : working.lines ≡ state.lines
-  pub passed : working.passed ≡ state.passed
-  pub refused : working.refused ≡ state.refused
+  pub passed : working.progress.passed ≡ state.passed
+  pub refused : working.progress.refused ≡ state.refused
 
 -- Whatever the world: after so many lines each dump's file was opened, no two share one, and the counts are small: of each unit of a line,
 -- two refusals at most.
 pub record IsSound (opened lines : ℕ) (working : Working) : Type 0 where
   pub given : (name : List ℕ) (dump : HeldDump) → dump_in working name ≡ Some dump → (dump.file < opened) × (dump.taken ≤ lines * most)
   pub apart : (one other : List ℕ) (a b : HeldDump) → one ≢ other → dump_in working one ≡ Some a → dump_in working other ≡ Some b → a.file ≢ b.file
-  pub passed : working.passed ≤ lines * most
-  pub refused : working.refused ≤ lines * (2 * most)
+  pub passed : working.progress.passed ≤ lines * most
+  pub refused : working.progress.refused ≤ lines * (2 * most)
 
 -- after so many lines each feed that goes on has a connection of its own that may be used, and hasn't taken too many PDUs
 abbrev pub AreSound : List Standing → ℕ → Working → Type 0

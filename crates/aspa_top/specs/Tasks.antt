@@ -25,23 +25,21 @@ use Rattle.feed_lines.specs.Tellings.{Asking as FeedAsking}
 use Rattle.report_text.specs.declared.cause.Cause.TheVariants as causes
 use Rattle.report_text.specs.Refusals.{of_line, of_unit}
 use Rattle.report_text.specs.Sayings.{said_text}
-use Rattle.stream_lines.specs.Changes.{change_row}
+use Rattle.listings.specs.Changes.{change_row}
 use Rattle.stream_lines.specs.Streams.{Dump, Taking}
 use Rattle.stream_lines.specs.Until.{TakesCount}
 use Rattle.origin_model.specs.Current.{Parts as Origins}
 use Rattle.origin_validation.specs.Records.{with_source}
-use Rattle.aspa_top.specs.declared.loading.Amendment.{Amendment}
-use Rattle.aspa_top.specs.declared.loading.Amendment.TheVariants as amendments
-use Rattle.aspa_top.specs.declared.loading.FileKind.{FileKind}
-use Rattle.aspa_top.specs.declared.loading.FileKind.TheVariants.{Payloads, PayloadLines, Validated, Slurm as SlurmFile}
-use Rattle.aspa_top.specs.declared.loading.Outcome.{Outcome}
-use Rattle.aspa_top.specs.declared.loading.Outcome.TheVariants.{NoFile, Long as FileLong, Flawed, Good}
-use Rattle.aspa_top.specs.declared.task.Short.{Short as ShortTask}
-use Rattle.aspa_top.specs.declared.task.Short.TheVariants.{Idle, Happen, Clear, Judge, Say}
+use Rattle.aspa_top.specs.declared.files.Amendment.{Amendment}
+use Rattle.aspa_top.specs.declared.files.Amendment.TheVariants as amendments
+use Rattle.aspa_top.specs.declared.files.FileKind.{FileKind}
+use Rattle.aspa_top.specs.declared.files.FileKind.TheVariants.{Source, Slurm as SlurmFile}
+use Rattle.aspa_top.specs.declared.files.Outcome.{Outcome}
+use Rattle.aspa_top.specs.declared.files.Outcome.TheVariants.{NoFile, Long as FileLong, Flawed, Good}
 use Rattle.aspa_top.specs.declared.task.Task.{Task}
-use Rattle.aspa_top.specs.declared.task.Task.TheVariants.{Short, Load, Open, Take, Until, Connect, OnFeed, Serve, Answer, Changes}
+use Rattle.aspa_top.specs.declared.task.Task.TheVariants.{Idle, Happen, Clear, Judge, Say, Load, Open, Take, Until, Connect, OnFeed, Serve, Answer, Changes}
 use Rattle.aspa_top.specs.Answers.{Replies}
-use Rattle.aspa_top.specs.Loading.{ComesOf, unit_name}
+use Rattle.aspa_top.specs.Files.{ComesOf, unit_name}
 use Rattle.aspa_top.specs.Serving.{ServesTable, ServesTablePart}
 pub use Rattle.aspa_top.specs.Dumps.{new_dump, with_dump, OpensNamed, Opens, asking_of, taking_of, after_taking, TakesAll, TakesOpen, TakesRecords, TakesRecordsUnless, TakesUntilNamed, TakesUpTo, most_records}
 pub use Rattle.aspa_top.specs.State.{State, start, same_name, is_stream, Refuses}
@@ -60,16 +58,12 @@ pub record MakesHappen (state : State) (event : Event) (text : List ℕ) (next :
 
 -- whether the name that the file would go under is one
 abbrev pub is_taken : State → FileKind → Bool
-is_taken state (Payloads name) = is_stream state name
-is_taken state (PayloadLines name) = is_stream state name
-is_taken state (Validated name) = is_stream state name
+is_taken state (Source name format) = is_stream state name
 is_taken state SlurmFile = false
 
 -- the names of sources with the one that a good file goes under
 abbrev pub with_name : FileKind → (List ℕ → Bool) → List ℕ → Bool
-with_name (Payloads name) sources other = cond (same_name name other) true (sources other)
-with_name (PayloadLines name) sources other = cond (same_name name other) true (sources other)
-with_name (Validated name) sources other = cond (same_name name other) true (sources other)
+with_name (Source name format) sources other = cond (same_name name other) true (sources other)
 with_name SlurmFile sources other = sources other
 
 -- The payloads of a source, or the filters and assertions of payloads by a SLURM file, stand in place of those before.
@@ -205,18 +199,14 @@ pub record ShowsChanges (state : State) (text : List ℕ) (next : State) : Type 
 
 -- ---- what a command asks for
 
--- What a short task writes, and what it leaves.
-abbrev pub DoesShort : State → ShortTask → List ℕ → State → Type 0
-DoesShort state Idle text next = (text ≡ []) × (next ≡ state)
-DoesShort state (Happen event) text next = MakesHappen state event text next
-DoesShort state Clear text next = Clears state text next
-DoesShort state (Say words) text next = Says state words text next
-DoesShort state (Judge role neighbour path) text next =
-    IsJudged state.analysis.parts role neighbour path text × (next ≡ record state { judgements = state.judgements + 1 })
-
 -- What a task writes, and what it leaves. The state counts the line already.
 abbrev pub DoesTask : World → State → Task → List ℕ → State → Type 0
-DoesTask world state (Short short) text next = DoesShort state short text next
+DoesTask world state Idle text next = (text ≡ []) × (next ≡ state)
+DoesTask world state (Happen event) text next = MakesHappen state event text next
+DoesTask world state Clear text next = Clears state text next
+DoesTask world state (Say words) text next = Says state words text next
+DoesTask world state (Judge role neighbour path) text next =
+    IsJudged state.analysis.parts role neighbour path text × (next ≡ record state { judgements = state.judgements + 1 })
 DoesTask world state (Load kind file) text next = Loads world state kind file text next
 DoesTask world state (Open kind name file) text next = Opens world state kind name file text next
 DoesTask world state (Take name count) text next = Takes world state name count text next

@@ -5,7 +5,7 @@ use Rattle.std.specs.BTreeSet.{contains}
 use Rattle.std.specs.Cmp.Lexicographic.{slice_cmp}
 use Rattle.std.specs.Ordering.{nat_cmp}
 use Rattle.std.specs.declared.option.Option.{Option}
-use Rattle.std.specs.declared.option.Option.TheVariants.{Some}
+use Rattle.std.specs.declared.option.Option.TheVariants.{Some, None}
 use Rattle.feed_lines.specs.Holding.{feed_in}
 use Rattle.path_model.specs.declared.role.Role.{Role}
 use Rattle.attestations.specs.CurrentTable.{Parts}
@@ -21,15 +21,18 @@ use Rattle.report_text.specs.Refusals.{AnyPlace, of_line, of_unit, refusal_text}
 use Rattle.rtr_cache.specs.Cache.{Versions}
 use Rattle.stream_lines.specs.Held.{HeldDump}
 use Rattle.stream_lines.specs.Units.{is_of_records}
-use Rattle.aspa_top.specs.declared.loading.Amendment.{Amendment}
-use Rattle.aspa_top.specs.declared.loading.FileKind.{FileKind}
-use Rattle.aspa_top.specs.declared.loading.Made.{Made}
-use Rattle.aspa_top.specs.declared.loading.FileKind.TheVariants.{Payloads, PayloadLines, Validated, Slurm as SlurmFile}
-use Rattle.aspa_top.specs.declared.loading.Outcome.{Outcome}
-use Rattle.aspa_top.specs.declared.loading.Outcome.TheVariants.{NoFile, Long, Flawed, Good}
+use Rattle.aspa_top.specs.declared.files.Amendment.{Amendment}
+use Rattle.aspa_top.specs.declared.files.FileKind.{FileKind}
+use Rattle.aspa_top.specs.declared.files.Made.{Made}
+use Rattle.aspa_top.specs.declared.files.FileKind.TheVariants.{Source, Slurm as SlurmFile}
+use Rattle.aspa_top.specs.declared.files.Outcome.{Outcome}
+use Rattle.aspa_top.specs.declared.files.Outcome.TheVariants.{NoFile, Long, Flawed, Good}
+use Rattle.aspa_top.specs.declared.task.Task.{Task}
+use Rattle.aspa_top.specs.declared.task.Task.TheVariants.{Take, Until}
 use Rattle.aspa_top.specs.declared.working.Working.{Working}
-use Rattle.aspa_top.specs.Loading.{unit_name}
-use Rattle.aspa_top.specs.Tasks.{IsJudged, amended, same_name}
+use Rattle.aspa_top.specs.Bounds.{most}
+use Rattle.aspa_top.specs.Files.{unit_name}
+use Rattle.aspa_top.specs.Tasks.{IsJudged, amended, most_records, same_name}
 
 -- the dump that is open under a name
 abbrev pub dump_in : Working → List ℕ → Option HeldDump
@@ -51,13 +54,13 @@ Judges parts role neighbour path text_old text_new =
 -- an event happened, and nothing else
 pub record Happened (working : Working) (event : Event) (next : Working) : Type 0 where
   pub analysis : Analysis
-  pub happens : Happens working.analyser event analysis
-  pub left : next ≡ record working { analyser = analysis }
+  pub happens : Happens working.progress.analyser event analysis
+  pub left : next ≡ record working { progress = record working.progress { analyser = analysis } }
 
 -- all verdicts were marked as they stand, and nothing else is altered
 pub record Marked (working next : Working) : Type 0 where
-  pub marked : IsMarked working.analyser next.analyser
-  pub left : next ≡ record working { analyser = next.analyser }
+  pub marked : IsMarked working.progress.analyser next.progress.analyser
+  pub left : next ≡ record working { progress = record working.progress { analyser = next.progress.analyser } }
 
 -- The name of a source is noted, and nothing else.
 pub record Names (working : Working) (name : List ℕ) (next : Working) : Type 0 where
@@ -71,14 +74,12 @@ pub record NamesDump (working : Working) (name : List ℕ) (dump : HeldDump) (ne
 
 -- the same where a good file goes under a name
 abbrev pub NamesBy : FileKind → Working → Working → Type 0
-NamesBy (Payloads name) working next = Names working name next
-NamesBy (PayloadLines name) working next = Names working name next
-NamesBy (Validated name) working next = Names working name next
+NamesBy (Source name format) working next = Names working name next
 NamesBy SlurmFile working next = next ≡ working
 
 -- the payloads of a source are those of its file, or the filters and assertions of payloads those of a SLURM file, and nothing else is altered
 abbrev pub Amended : Working → Amendment → Working → Type 0
-Amended working amends next = next ≡ record working { origins = amended amends working.origins }
+Amended working amends next = next ≡ record working { progress = record working.progress { origins = amended amends working.progress.origins } }
 
 -- the change of a good file is made, and its name is noted
 pub record Loaded (working : Working) (kind : FileKind) (made : Made) (next : Working) : Type 0 where
@@ -88,10 +89,14 @@ pub record Loaded (working : Working) (kind : FileKind) (made : Made) (next : Wo
   pub amends : Amended mid made.amends after
   pub names : NamesBy kind after next
 
+-- one refusal more is counted
+abbrev pub refused_in : Working → Working
+refused_in working = record working { progress = record working.progress { refused = working.progress.refused + 1 } }
+
 -- the line is refused at this place for this cause, and nothing else changes
 abbrev pub IsRefused : Working → AnyPlace → Cause → List ℕ → List ℕ → Working → Type 0
 IsRefused working place cause text_old text_new next =
-    (text_new ≡ text_old ++ refusal_text working.lines place cause) × (next ≡ record working { refused = working.refused + 1 })
+    (text_new ≡ text_old ++ refusal_text working.lines place cause) × (next ≡ refused_in working)
 
 -- what comes of a file makes its change, or the line is refused by it
 abbrev pub Acted : Working → FileKind → Outcome → List ℕ → List ℕ → Working → Type 0
@@ -105,7 +110,7 @@ abbrev pub ActedWithin : Working → Outcome → ℕ → ℕ → Type 0
 ActedWithin working NoFile ticks_old ticks_new = ticks_new ≡ ticks_old
 ActedWithin working Long ticks_old ticks_new = ticks_new ≡ ticks_old
 ActedWithin working (Flawed flaw) ticks_old ticks_new = ticks_new ≡ ticks_old
-ActedWithin working (Good made) ticks_old ticks_new = TicksWithin working.analyser (TableEvent made.table) ticks_old ticks_new
+ActedWithin working (Good made) ticks_old ticks_new = TicksWithin working.progress.analyser (TableEvent made.table) ticks_old ticks_new
 
 -- whether the name is a dump's or a feed's
 abbrev pub has_stream : Working → List ℕ → Bool
@@ -113,9 +118,7 @@ has_stream working name = is_some (dump_in working name) || is_some (feed_in wor
 
 -- whether the name that a file would go under is one
 abbrev pub IsTakenIn : Working → FileKind → Bool → Type 0
-IsTakenIn working (Payloads name) taken = taken ≡ has_stream working name
-IsTakenIn working (PayloadLines name) taken = taken ≡ has_stream working name
-IsTakenIn working (Validated name) taken = taken ≡ has_stream working name
+IsTakenIn working (Source name format) taken = taken ≡ has_stream working name
 IsTakenIn working SlurmFile taken = taken ≡ false
 
 -- a dump is open under the name, and not over
@@ -131,6 +134,16 @@ pub record HasRecordsIn (working : Working) (name : List ℕ) : Type 0 where
   pub records : is_of_records dump.known ≡ true
   pub yet : dump.over ≡ false
 
+-- the task that takes of a dump: so many units, or its records up to a moment
+abbrev pub taking_task : List ℕ → Option ℕ → ℕ → Task
+taking_task name None count = Take name count
+taking_task name (Some moment) count = Until name moment
+
+-- the dump is one of which it may take, and the line takes no more than it may
+abbrev pub MayTake : Option ℕ → ℕ → Working → List ℕ → Type 0
+MayTake None count working name = (count ≤ most) × IsOpenIn working name
+MayTake (Some moment) count working name = (count ≡ most_records) × HasRecordsIn working name
+
 -- the line is counted
 abbrev pub counted_in : Working → Working
 counted_in working = record working { lines = working.lines + 1 }
@@ -141,5 +154,5 @@ pub record KeepsStreams (working next : Working) : Type 0 where
   pub caches : (session : ℕ) → cache_in next session ≡ cache_in working session
   pub dumps : (name : List ℕ) → dump_in next name ≡ dump_in working name
   pub lines : next.lines ≡ working.lines
-  pub passed : next.passed ≡ working.passed
-  pub refused : next.refused ≤ working.refused + 1
+  pub passed : next.progress.passed ≡ working.progress.passed
+  pub refused : next.progress.refused ≤ working.progress.refused + 1

@@ -1,24 +1,28 @@
-//! `open`, `bmp` and `take`: dumps.
-ghost use Rattle.std.specs.Prelude.{is_some, true, ◌≡◌, ◌≤◌, Ok, IfOk};
-ghost use Rattle.aspa_top.specs.declared.task.Task.TheVariants.{Open, Take};
+//! `open`, `bmp`, `take` and `until`: dumps.
+ghost use Rattle.std.specs.Prelude.{◌≤◌, Ok, IfOk};
+ghost use Rattle.aspa_top.specs.declared.task.Task.TheVariants.{Open, Take, Until};
 ghost use Rattle.aspa_top.specs.Bounds.{most};
 ghost use Rattle.aspa_top.specs.Passed.{KeepsAll, told};
 ghost use Rattle.aspa_top.specs.Performing.{Did};
 ghost use Rattle.aspa_top.specs.Standing.{IsBegun};
-ghost use Rattle.aspa_top.specs.Working.{IsOpenIn, NamesDump, dump_in};
+ghost use Rattle.aspa_top.specs.Working.{MayTake, NamesDump, taking_task};
 
-use crate::acting::refuse;
-use crate::feeding::work_on;
+use crate::effects::refuse;
+use crate::feeds::work_on;
 use crate::outside::Outside;
 use crate::working::Working;
 use av_base::{Links, NoMemory, Shelf, Sink};
 use feed_lines::Work;
+use listings::Stop;
 use path_model::Name;
 use report_text::{Cause, Place};
 use script_lines::Word;
 use std::alloc::Global;
 use std::sync::ledger::Ledger;
-use stream_lines::{Asked, DumpKind, OpenDump, Progress, Stop, take_units};
+use stream_lines::{Asked, DumpKind, OpenDump, take as take_of_dump};
+
+// The most records that an `until` takes.
+const MOST: u32 = 500_000_000;
 
 /// Opens a dump of this kind under a new name.
 #[inline(never)]
@@ -79,71 +83,70 @@ pub(crate) fn take<F: Shelf, K: Links, W: Sink, L: Ledger>(
     if dump.is_over() {
         return Ok(refuse(working, Place::Line, Cause::StreamOver, outside.text)?);
     }
-    take_open(alloc, working, name, count, outside)
+    take_open(alloc, working, name, None, count, outside)
 }
 
-// Takes the next units of a dump that isn't over.
-fn take_open<F: Shelf, K: Links, W: Sink, L: Ledger>(
+/// Takes the records of the dump of this name up to the first whose time isn't below the moment, which stays.
+#[inline(never)]
+pub(crate) fn take_up_to<F: Shelf, K: Links, W: Sink, L: Ledger>(
     alloc: Global,
     working: Working,
     name: &Name,
-    count: u32,
+    moment: u32,
     outside: &mut Outside<F, K, W, L>,
 ) -> Result<Working, Stop>
-    requires few { count ≤ most }
-    requires is { IsOpenIn working name.now }
     requires begun { IsBegun (told F.Shelf K.Links W.Sink outside.old) working }
     ensures keeps { KeepsAll F.Shelf K.Links W.Sink outside.old outside.new }
-    ensures did { Did working (Ok (Take name.now count))
+    ensures did { Did working (Ok (Until name.now moment))
         (told F.Shelf K.Links W.Sink outside.old)
         (told F.Shelf K.Links W.Sink outside.new) result }
 {
-    let Working {
-        analyser,
-        marks,
-        origins,
-        sources,
-        mut dumps,
-        feeds,
-        caches,
-        lines,
-        passed,
-        refused,
-    } = working;
+    let Some(dump) = working.dumps.get(name) else {
+        return Ok(refuse(working, Place::Line, Cause::NoName, outside.text)?);
+    };
+    if !dump.is_of_records() {
+        return Ok(refuse(working, Place::Line, Cause::NoName, outside.text)?);
+    }
+    if dump.is_over() {
+        return Ok(refuse(working, Place::Line, Cause::StreamOver, outside.text)?);
+    }
+    take_open(alloc, working, name, Some(moment), MOST, outside)
+}
+
+// Takes what a line asks for of a dump that isn't over.
+fn take_open<F: Shelf, K: Links, W: Sink, L: Ledger>(
+    alloc: Global,
+    mut working: Working,
+    name: &Name,
+    until: Option<u32>,
+    count: u32,
+    outside: &mut Outside<F, K, W, L>,
+) -> Result<Working, Stop>
+    requires may { MayTake until count working name.now }
+    requires begun { IsBegun (told F.Shelf K.Links W.Sink outside.old) working }
+    ensures keeps { KeepsAll F.Shelf K.Links W.Sink outside.old outside.new }
+    ensures did { Did working (Ok (taking_task name.now until count))
+        (told F.Shelf K.Links W.Sink outside.old)
+        (told F.Shelf K.Links W.Sink outside.new) result }
+{
     let asked = Asked {
-        line: lines,
+        line: working.lines,
         name: name.text(),
         count,
+        until,
     };
-    let progress = Progress {
-        analyser,
-        marks,
-        passed,
-        refused,
-    };
-    let Some(dump) = dumps.get_mut(name) else {
+    let Some(dump) = working.dumps.get_mut(name) else {
         unreachable!();
     };
-    let taken = take_units(
+    take_of_dump(
         alloc,
         dump,
         asked,
-        progress,
+        &mut working.progress,
         outside.shelf,
         outside.out,
         outside.text,
         outside.steps,
     )?;
-    Ok(Working {
-        analyser: taken.analyser,
-        marks: taken.marks,
-        origins,
-        sources,
-        dumps,
-        feeds,
-        caches,
-        lines,
-        passed: taken.passed,
-        refused: taken.refused,
-    })
+    Ok(working)
 }

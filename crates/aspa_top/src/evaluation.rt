@@ -1,23 +1,23 @@
 //! Lines performed one after another.
-ghost use Rattle.std.specs.Prelude.{◌≡◌, ◌+◌, ◌^◌, ◌<◌, ◌≤◌, [], length, IfOk, OnErr};
+ghost use Rattle.std.specs.Prelude.{◌≡◌, ◌+◌, ◌^◌, ◌<◌, ◌≤◌, [], length, IfOk};
 ghost use Rattle.std.specs.Io.KnownBytes.{append_known};
-ghost use Rattle.av_base.specs.Told.{Grows, HasCause, Rose};
+ghost use Rattle.av_base.specs.Told.{Grows, Rose};
 ghost use Rattle.av_text.specs.Lines.{lines_in};
 ghost use Rattle.aspa_top.specs.Evaluated.{Performed, Poured};
 ghost use Rattle.aspa_top.specs.Passed.{KeepsAll, told_unheld};
 ghost use Rattle.aspa_top.specs.Standing.{IsReady};
 
+use crate::line::perform_line;
 use crate::outside::Outside;
-use crate::performing::perform_line;
 use crate::working::Working;
-use av_base::{Fault, Links, Shelf, Sink, pour, pour_piece};
+use av_base::{Links, Shelf, Sink, pour, pour_piece};
 use av_text::next_line;
+use listings::Stop;
 use std::alloc::Global;
 use std::sync::ledger::Ledger;
-use stream_lines::Stop;
 
-/// Performs lines, the last of a script or others, and writes all their text: it is held, and written in pieces, and before a line that may
-/// wait. Where the shelf fails, or memory runs out, the text before that is written first; there the sink's own faults count for
+/// Performs lines, the last of a script or others, and writes all their text: it is held, and written in pieces, and all of it before a
+/// line waits for others. Where the shelf fails, or memory runs out, the text before that is written first; there the sink's own faults count for
 /// nothing where memory ran out.
 pub(crate) fn perform_lines<F: Shelf, K: Links, W: Sink, L: Ledger>(
     alloc: Global,
@@ -44,7 +44,7 @@ pub(crate) fn perform_lines<F: Shelf, K: Links, W: Sink, L: Ledger>(
             working.lines += 1;
             continue;
         }
-        pour_before(line, outside.out, outside.text)?;
+        pour_piece(outside.out, outside.text)?;
         match perform_line(alloc, working, line, outside) {
             Ok(next) => working = next,
             Err(stop) => return Err(write_held(stop, outside.out, outside.text)),
@@ -52,44 +52,6 @@ pub(crate) fn perform_lines<F: Shelf, K: Links, W: Sink, L: Ledger>(
     }
     pour(outside.out, outside.text)?;
     Ok(working)
-}
-
-// Writes what is held once that is a whole piece, and all of it before a line that may wait.
-fn pour_before<W: Sink>(line: &[u8], out: &mut W, text: &mut Vec<u8>) -> Result<(), Fault>
-    ensures same { append_known (W.written out.new) text.new.items
-        ≡ append_known (W.written out.old) text.old.items }
-    ensures grows { Grows (W.written out.old) (W.written out.new) }
-    ensures err { OnErr result (0 < length text.new.items) }
-    ensures cause { HasCause (W.faults out.old) (W.faults out.new) result }
-{
-    if may_wait(line) {
-        pour(out, text)
-    } else {
-        pour_piece(out, text)
-    }
-}
-
-// Whether the line may wait for others when it is performed: it opens or reads a file, or speaks with a cache or a router.
-fn may_wait(line: &[u8]) -> bool {
-    let waiting: [&[u8]; 11] = [
-        b"ask",
-        b"aspa",
-        b"bmp",
-        b"feed",
-        b"open",
-        b"serve",
-        b"slurm",
-        b"sync",
-        b"take",
-        b"until",
-        b"validated",
-    ];
-    let blanks = line
-        .iter()
-        .take_while(|byte| matches!(byte, b' ' | b'\t'))
-        .count();
-    let (_, words) = line.split_at(blanks);
-    waiting.iter().any(|word| words.starts_with(word))
 }
 
 // Writes what is held where a line ended early, unless the sink failed in it, and answers what stops the lines.

@@ -18,10 +18,10 @@ use crate::script::{Piece, let_go, read_piece};
 use crate::words::{Form, form_of};
 use crate::working::Working;
 use av_base::{Links, PIECE, Shelf, Sink, Source, Steps};
+use listings::{ReadFault, Stop};
 use std::alloc::Global;
 use std::mem;
 use std::sync::ledger::Ledger;
-use stream_lines::{ReadFault, Stop};
 
 /// The most bytes that a script may have.
 pub const SCRIPT_LIMIT: usize = 67_108_864;
@@ -218,10 +218,10 @@ fn status_of(stop: Stop) -> u8
 // The status where all lines were performed.
 fn status_at_end(working: Working) -> u8
     ensures known { (result ≡ 0) ⊎ (result ≡ 1) }
-    ensures clean { result ≡ 0 → working.refused ≡ 0 }
-    ensures refused { result ≡ 1 → 0 < working.refused }
+    ensures clean { result ≡ 0 → working.progress.refused ≡ 0 }
+    ensures refused { result ≡ 1 → 0 < working.progress.refused }
 {
-    let status = if working.refused == 0 { 0 } else { 1 };
+    let status = if working.progress.refused == 0 { 0 } else { 1 };
     leave(working, status)
 }
 

@@ -8,18 +8,18 @@ ghost use Rattle.aspa_top.specs.Performing.{Did};
 ghost use Rattle.aspa_top.specs.Standing.{IsBegun};
 ghost use Rattle.aspa_top.specs.Working.{Acted, ActedWithin, Amended, Loaded, Names};
 
-use crate::acting::{happen, refuse};
-use crate::loading::{Amendment, FileKind, Made, Outcome, load_file};
+use crate::effects::{happen, refuse};
+use crate::files::{Amendment, FileKind, Made, Outcome, load_file};
 use crate::outside::Outside;
 use crate::working::Working;
 use analyser::Event;
 use av_base::{Links, NoMemory, Shelf, Sink, Steps};
+use listings::Stop;
 use path_model::Name;
 use report_text::{Cause, Place};
 use script_lines::Word;
 use std::alloc::Global;
 use std::sync::ledger::Ledger;
-use stream_lines::Stop;
 
 /// Loads the file of this name: a good one changes what attests, and by another one the line is refused.
 #[inline(never)]
@@ -53,7 +53,7 @@ fn act_on<L: Ledger>(
     text: &mut Vec<u8>,
     steps: &mut Steps<L>,
 ) -> Result<Working, NoMemory>
-    requires room { working.refused < 2 ^ 62 }
+    requires room { working.progress.refused < 2 ^ 62 }
     ensures acted { IfOk result (Acted working kind outcome text.old.items text.new.items) }
     ensures ticks { ActedWithin working outcome steps.old steps.new }
     ensures err { OnErr result (text.new.items ≡ text.old.items) }
@@ -80,21 +80,13 @@ fn hold<L: Ledger>(
     steps: &mut Steps<L>,
 ) -> Result<Working, NoMemory>
     ensures held { IfOk result (Loaded working kind made) }
-    ensures ticks { TicksWithin working.analyser (TableEvent made.table) steps.old steps.new }
+    ensures ticks { TicksWithin working.progress.analyser (TableEvent made.table) steps.old steps.new }
 {
     let Made { table, amends } = made;
     let changed = happen(working, Event::Table(table), steps)?;
     let amended = amend(changed, amends)?;
     match kind {
-        FileKind::Payloads(name) => {
-            let named = name_source(amended, name)?;
-            Ok(named)
-        }
-        FileKind::PayloadLines(name) => {
-            let named = name_source(amended, name)?;
-            Ok(named)
-        }
-        FileKind::Validated(name) => {
+        FileKind::Source(name, _) => {
             let named = name_source(amended, name)?;
             Ok(named)
         }
@@ -108,11 +100,11 @@ fn amend(mut working: Working, amends: Amendment) -> Result<Working, NoMemory>
 {
     match amends {
         Amendment::Source(name, payloads) => {
-            working.origins.replace(name, payloads)?;
+            working.progress.origins.replace(name, payloads)?;
             Ok(working)
         }
         Amendment::Slurm(filters, assertions) => {
-            working.origins.slurm(filters, assertions);
+            working.progress.origins.slurm(filters, assertions);
             Ok(working)
         }
     }

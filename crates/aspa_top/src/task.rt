@@ -1,20 +1,28 @@
 //! What a command asks for.
 ghost use Rattle.std.specs.Prelude.{◌≡◌};
-ghost use Rattle.aspa_top.specs.Evaluation.{bmp_kind, table_event, task_of};
+ghost use Rattle.aspa_top.specs.Task.{bmp_kind, may_wait, table_event, task_of};
 
-use crate::loading::FileKind;
+use crate::files::{FileKind, Format};
 use analyser::Event;
 use feed_lines::Work;
 use path_model::{AsList, Key, Name, Peer, Role, Verdict};
-use script_lines::{Command, Saying, Show, Word};
+use script_lines::{Command, Saying, Word};
 use stream_lines::DumpKind;
 use vap_table::TableChange;
 
 /// What a line does to the world, or with it.
 #[derive(Drop)]
 pub(crate) enum Task {
-    /// It uses no file, and adds one line at most.
-    Short(Short),
+    /// Nothing.
+    Idle,
+    /// An event happens.
+    Happen(Event),
+    /// All routes go, with their marks.
+    Clear,
+    /// A written path is judged.
+    Judge(Role, u32, AsList),
+    /// Words are said.
+    Say(Saying),
     /// It loads a file that changes the table.
     Load(FileKind, Word),
     /// It opens a dump of this kind under a name.
@@ -35,26 +43,33 @@ pub(crate) enum Task {
     Changes,
 }
 
-/// What is done within memory.
-#[derive(Drop)]
-pub(crate) enum Short {
-    /// Nothing.
-    Idle,
-    /// An event happens.
-    Happen(Event),
-    /// All routes go, with their marks.
-    Clear,
-    /// A written path is judged.
-    Judge(Role, u32, AsList),
-    /// Words are said.
-    Say(Saying),
+impl Task {
+    /// Whether it may wait for others: for a file, a cache or a router.
+    pub(crate) fn may_wait(&self) -> bool
+        ensures { result ≡ may_wait self.now }
+    {
+        match self {
+            Task::Idle | Task::Happen(_) | Task::Clear | Task::Judge(_, _, _) => false,
+            Task::Say(_) | Task::Answer(_) | Task::Changes => false,
+            Task::Load(_, _) | Task::Open(_, _, _) | Task::Take(_, _) | Task::Until(_, _) => true,
+            Task::Connect(_, _) | Task::Serve(_, _, _) | Task::OnFeed(_, _) => true,
+        }
+    }
 }
 
 /// What is only asked, of all that the lines before have left.
 #[derive(Clone, Copy)]
 pub(crate) enum Question {
-    /// What is shown of all.
-    Show(Show),
+    /// Each route, with the verdict of its path.
+    Report,
+    /// Each route, with the state of its origin.
+    Origins,
+    /// Each route that Only-to-Customer marks as a leak.
+    Leaks,
+    /// The valleys of the paths.
+    Suspects,
+    /// How much there is of all.
+    Summary,
     /// Each route with what shows its verdict, or each with this verdict.
     Details(Option<Verdict>),
     /// Why the route of this key has its verdict.
@@ -66,10 +81,16 @@ pub(crate) fn task_of(command: Command) -> Task
     ensures { result ≡ task_of command }
 {
     match command {
-        Command::Idle => Task::Short(Short::Idle),
-        Command::Aspa(name, file) => Task::Load(FileKind::Payloads(name), file),
-        Command::Aspa64(name, file) => Task::Load(FileKind::PayloadLines(name), file),
-        Command::Validated(name, file) => Task::Load(FileKind::Validated(name), file),
+        Command::Idle => Task::Idle,
+        Command::Aspa(name, file) => Task::Load(FileKind::Source(name, Format::Payloads), file),
+        Command::Aspa64(name, file) => Task::Load(
+            FileKind::Source(name, Format::PayloadLines),
+            file,
+        ),
+        Command::Validated(name, file) => Task::Load(
+            FileKind::Source(name, Format::Validated),
+            file,
+        ),
         Command::Slurm(file) => Task::Load(FileKind::Slurm, file),
         Command::At(moment) => table_event(TableChange::At(moment)),
         Command::Filter(customer) => table_event(TableChange::Filter(customer)),
@@ -78,8 +99,8 @@ pub(crate) fn task_of(command: Command) -> Task
             table_event(TableChange::Assert(customer, providers))
         }
         Command::Unassert(customer) => table_event(TableChange::Unassert(customer)),
-        Command::Role(asn, role) => Task::Short(Short::Happen(Event::Role(asn, role))),
-        Command::RoleDefault(role) => Task::Short(Short::Happen(Event::DefaultRole(role))),
+        Command::Role(asn, role) => Task::Happen(Event::Role(asn, role)),
+        Command::RoleDefault(role) => Task::Happen(Event::DefaultRole(role)),
         Command::Open(name, file) => Task::Open(DumpKind::Mrt, name, file),
         Command::Bmp(name, file, post) => Task::Open(bmp_kind(post), name, file),
         Command::Take(name, count) => Task::Take(name, count),
@@ -88,18 +109,20 @@ pub(crate) fn task_of(command: Command) -> Task
         Command::Ask(name) => Task::OnFeed(name, Work::Ask),
         Command::Sync(name, count) => Task::OnFeed(name, Work::Sync(count)),
         Command::Serve(place, session, count) => Task::Serve(place, session, count),
-        Command::Judge(role, neighbour, path) => {
-            Task::Short(Short::Judge(role, neighbour, path))
-        }
-        Command::Clear => Task::Short(Short::Clear),
+        Command::Judge(role, neighbour, path) => { Task::Judge(role, neighbour, path) }
+        Command::Clear => Task::Clear,
         Command::Changes => Task::Changes,
-        Command::Say(saying) => Task::Short(Short::Say(saying)),
+        Command::Say(saying) => Task::Say(saying),
         Command::Details(verdict) => Task::Answer(Question::Details(verdict)),
         Command::Why(addr, asn, prefix, path) => {
             let peer = Peer { addr, asn };
             Task::Answer(Question::Why(Key { peer, prefix, path }))
         }
-        Command::Show(show) => Task::Answer(Question::Show(show)),
+        Command::Report => Task::Answer(Question::Report),
+        Command::Origins => Task::Answer(Question::Origins),
+        Command::Leaks => Task::Answer(Question::Leaks),
+        Command::Suspects => Task::Answer(Question::Suspects),
+        Command::Summary => Task::Answer(Question::Summary),
     }
 }
 
@@ -118,5 +141,5 @@ fn bmp_kind(post: bool) -> DumpKind
 fn table_event(change: TableChange) -> Task
     ensures { result ≡ table_event change }
 {
-    Task::Short(Short::Happen(Event::Table(change)))
+    Task::Happen(Event::Table(change))
 }

@@ -2,8 +2,8 @@
 ghost use Rattle.std.specs.Prelude.{◌≡◌, IfOk};
 ghost use Rattle.rib_store.specs.State.{no_state};
 
-use crate::loading::FileKind;
-use analyser::Analyser;
+use crate::files::FileKind;
+use analyser::{Analyser, Progress};
 use av_base::NoMemory;
 use feed_lines::Feeds;
 use origin_validation::Origins;
@@ -17,12 +17,8 @@ use stream_lines::OpenDump;
 /// What the lines that were performed have left.
 #[derive(Drop)]
 pub(crate) struct Working {
-    /// What attests, the roles and the routes.
-    pub(crate) analyser: Analyser,
-    /// What the routes say of Only-to-Customer.
-    pub(crate) marks: Marks,
-    /// The payloads of origin validation.
-    pub(crate) origins: Origins,
+    /// The analysis, what stands beside it, and what was counted.
+    pub(crate) progress: Progress,
     /// The names of the attestation sources.
     pub(crate) sources: BTreeSet<Name>,
     /// The dumps that were opened, by name.
@@ -33,10 +29,6 @@ pub(crate) struct Working {
     pub(crate) caches: BTreeMap<u16, Cache>,
     /// How many lines there were.
     pub(crate) lines: u64,
-    /// How many units of dumps were passed over.
-    pub(crate) passed: u64,
-    /// How many lines of the text so far report a refusal, or a feed's end.
-    pub(crate) refused: u64,
 }
 
 impl Working {
@@ -73,17 +65,20 @@ impl Working {
         ensures caches { (session : ℕ) → cache_in result session ≡ None }
         ensures lines { result.lines ≡ 0 }
     {
-        Working {
+        let progress = Progress {
             analyser,
             marks: Marks::new(alloc),
             origins: Origins::new(alloc),
+            passed: 0,
+            refused: 0,
+        };
+        Working {
+            progress,
             sources: BTreeSet::new(alloc),
             dumps: BTreeMap::new(alloc),
             feeds: Feeds::new(alloc),
             caches: BTreeMap::new(alloc),
             lines: 0,
-            passed: 0,
-            refused: 0,
         }
     }
 
@@ -113,9 +108,7 @@ impl Working {
         ensures { IsTakenIn self.now kind.now result }
     {
         match kind {
-            FileKind::Payloads(name) => self.has_stream(name),
-            FileKind::PayloadLines(name) => self.has_stream(name),
-            FileKind::Validated(name) => self.has_stream(name),
+            FileKind::Source(name, _) => self.has_stream(name),
             FileKind::Slurm => false,
         }
     }

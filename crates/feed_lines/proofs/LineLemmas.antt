@@ -5,17 +5,15 @@ use Rattle.std.specs.declared.option.Option.{Option}
 use Rattle.av_base.specs.Connections.{Agrees, Attempt, Link, ToldLater}
 use Rattle.av_base.specs.declared.standing.Standing.{Standing}
 use Rattle.av_base.proofs.LaterLemmas.{ToldLater-refl}
-use Rattle.origin_model.specs.Current.{Parts}
-use Rattle.rib_store.specs.State.{State as Analysis}
+use Rattle.analyser.specs.declared.progress.Progress.{Progress}
 use Rattle.feed_lines.specs.declared.feed.Feeds.{Feeds}
-use Rattle.feed_lines.specs.declared.lines.Progress.{Progress}
 use Rattle.feed_lines.specs.declared.telling.Telling.{Telling}
 use Rattle.feed_lines.specs.declared.working.Work.{Work}
 use Rattle.connection_calls.specs.World.{AddsAttempts}
 use Rattle.feed_lines.specs.Holding.{AreWithin, Goes, HasMoved, Holds, HoldsFeeds, IsSound}
 use Rattle.feed_lines.specs.Lines.{ConnectLine, ConnectPart, State, WorkLine, WorkPart}
 use Rattle.feed_lines.specs.Named.{BeganNamed, ConnectedNamed, WorkedNamed, made_of}
-use Rattle.feed_lines.specs.Steps.{Made, made}
+use Rattle.feed_lines.specs.Steps.{Made, StaysBeside, made, made_in}
 use Rattle.feed_lines.specs.Tellings.{Asking, tells_text}
 use Rattle.connection_calls.proofs.GoingLemmas.{AddsAttempts-refl}
 use Rattle.feed_lines.proofs.NamedLemmas.{holds_moved}
@@ -27,15 +25,24 @@ counted state told = record state { refused = state.refused + length (option_to_
 counted_holds : (attempts : Option (List Attempt)) (wire : Option (List Link)) (feeds : Feeds) (state : State) (told : Option Telling) → HoldsFeeds attempts wire feeds state → HoldsFeeds attempts wire feeds (counted state told)
 counted_holds attempts wire feeds state told holds = record { made = holds.made; each = holds.each }
 
+-- what a line leaves of the progress, with what is counted
+pub work_stays : (old mid next : Progress) → StaysBeside old mid → next ≡ record mid { refused = next.refused }
+    → next ≡ record old { analyser = next.analyser; origins = next.origins; refused = next.refused }
+work_stays old mid next beside is =
+    let same : mid ≡ record mid { analyser = next.analyser; origins = next.origins } =
+    λ i. record mid { analyser = sym (ap (λ (p : Progress). p.analyser) is) i; origins = sym (ap (λ (p : Progress). p.origins) is) i } in
+    is ∙ ap (λ (p : Progress). record p { refused = next.refused }) same
+    ∙ ap (λ (p : Progress). record p { analyser = next.analyser; origins = next.origins; refused = next.refused }) beside
+
 module _ (attempts_old attempts_new : Option (List Attempt)) (wire_old wire_new : Option (List Link)) (feeds_old : Feeds) (progress : Progress) (text_old text_new : List ℕ) (asking : Asking) where
   -- ---- connecting
 
-  module _ (place : List ℕ) (feeds_new : Feeds) (told : Option Telling) (parts : Parts) (connected : ConnectedNamed attempts_old attempts_new wire_old wire_new asking.name place feeds_old feeds_new told) where
+  module _ (place : List ℕ) (feeds_new : Feeds) (told : Option Telling) (connected : ConnectedNamed attempts_old attempts_new wire_old wire_new asking.name place feeds_old feeds_new told) where
     pub connect_goes : (next : Progress) → text_new ≡ text_old ++ tells_text asking (option_to_list told)
-        → next ≡ record { analyser = progress.analyser; refused = progress.refused + length (option_to_list told) }
-        → Goes attempts_old attempts_new wire_old wire_new (Holds attempts_old wire_old feeds_old progress parts)
-        (λ old new. Holds attempts_new wire_new feeds_new next parts new × (new.judgements ≡ old.judgements)) text_old text_new (λ world old added new. ConnectLine world asking place old added new)
-    connect_goes next added is = record {
+        → next ≡ record progress { refused = next.refused } → next.refused ≡ progress.refused + length (option_to_list told)
+        → Goes attempts_old attempts_new wire_old wire_new (Holds attempts_old wire_old feeds_old progress)
+        (λ old new. Holds attempts_new wire_new feeds_new next new × (new.judgements ≡ old.judgements)) text_old text_new (λ world old added new. ConnectLine world asking place old added new)
+    connect_goes next added is count = record {
       attempts = connected.attempts;
       links = connected.links;
       text = tells_text asking (option_to_list told);
@@ -47,8 +54,8 @@ module _ (attempts_old attempts_new : Option (List Attempt)) (wire_old wire_new 
               record {
                 held = counted_holds attempts_new wire_new feeds_new had.0 told had.1;
                 analysis = ap (λ (p : Progress). p.analyser) is ∙ holds.analysis ∙ sym (ap (λ (m : Made). m.analysis) had.2);
-                parts_are = holds.parts_are ∙ sym (ap (λ (m : Made). m.parts) had.2);
-                refused = ap (λ (p : Progress). p.refused) is ∙ ap (λ n. n + length (option_to_list told)) (holds.refused ∙ sym had.3);
+                parts_are = ap (λ (p : Progress). p.origins) is ∙ holds.parts_are ∙ sym (ap (λ (m : Made). m.parts) had.2);
+                refused = count ∙ ap (λ n. n + length (option_to_list told)) (holds.refused ∙ sym had.3);
               },
               had.4,
             ),
@@ -58,7 +65,7 @@ module _ (attempts_old attempts_new : Option (List Attempt)) (wire_old wire_new 
 
     -- all but the text
     pub connect_unwritten : text_new ≡ text_old → (stands : List Standing) (most : ℕ) → Agrees wire_new stands → IsSound stands most feeds_new
-        → Goes attempts_old attempts_new wire_old wire_new (Holds attempts_old wire_old feeds_old progress parts)
+        → Goes attempts_old attempts_new wire_old wire_new (Holds attempts_old wire_old feeds_old progress)
         (λ old new. HasMoved attempts_new wire_new new × (new.judgements ≡ old.judgements)) text_old text_new (λ world old added new. ConnectPart world asking place old new)
     connect_unwritten same stands most agrees sound = record {
       attempts = connected.attempts;
@@ -74,10 +81,10 @@ module _ (attempts_old attempts_new : Option (List Attempt)) (wire_old wire_new 
     }
 
   -- nothing was done
-  pub connect_nothing : (place : List ℕ) (parts : Parts) (stands : List Standing) (most : ℕ) → Agrees wire_old stands → IsSound stands most feeds_old → attempts_new ≡ attempts_old → wire_new ≡ wire_old → text_new ≡ text_old
-      → Goes attempts_old attempts_new wire_old wire_new (Holds attempts_old wire_old feeds_old progress parts)
+  pub connect_nothing : (place : List ℕ) (stands : List Standing) (most : ℕ) → Agrees wire_old stands → IsSound stands most feeds_old → attempts_new ≡ attempts_old → wire_new ≡ wire_old → text_new ≡ text_old
+      → Goes attempts_old attempts_new wire_old wire_new (Holds attempts_old wire_old feeds_old progress)
       (λ old new. HasMoved attempts_new wire_new new × (new.judgements ≡ old.judgements)) text_old text_new (λ world old added new. ConnectPart world asking place old new)
-  connect_nothing place parts stands most agrees sound same_attempts same_wire same = record {
+  connect_nothing place stands most agrees sound same_attempts same_wire same = record {
     attempts = subst (λ (a : Option (List Attempt)). AddsAttempts wire_old attempts_old a) (sym same_attempts) (AddsAttempts-refl wire_old attempts_old);
     links = subst (λ (w : Option (List Link)). ToldLater wire_old w) (sym same_wire) (ToldLater-refl wire_old);
     text = [];
@@ -94,20 +101,20 @@ module _ (attempts_old attempts_new : Option (List Attempt)) (wire_old wire_new 
 
   -- ---- works
 
-  module _ (work : Work) (parts_old : Parts) (steps_old steps_new : ℕ) (same_attempts : attempts_new ≡ attempts_old) (later : ToldLater wire_old wire_new) where
-    as_held : (old : State) → Holds attempts_old wire_old feeds_old progress parts_old old → made progress.analyser parts_old ≡ made_of old
+  module _ (work : Work) (steps_old steps_new : ℕ) (same_attempts : attempts_new ≡ attempts_old) (later : ToldLater wire_old wire_new) where
+    as_held : (old : State) → Holds attempts_old wire_old feeds_old progress old → made_in progress ≡ made_of old
     as_held old holds = λ i. made (holds.analysis i) (holds.parts_are i)
 
     adds_none : AddsAttempts wire_old attempts_old attempts_new
     adds_none = subst (λ (a : Option (List Attempt)). AddsAttempts wire_old attempts_old a) (sym same_attempts) (AddsAttempts-refl wire_old attempts_old)
 
-    module _ (feeds_new : Feeds) (told : Option Telling) (after : Analysis) (parts_new : Parts)
-        (worked : WorkedNamed attempts_old attempts_new wire_old wire_new asking.name work feeds_old feeds_new (made progress.analyser parts_old) told (made after parts_new) steps_old steps_new) where
+    module _ (feeds_new : Feeds) (told : Option Telling) (mid : Progress) (beside : StaysBeside progress mid)
+        (worked : WorkedNamed attempts_old attempts_new wire_old wire_new asking.name work feeds_old feeds_new (made_in progress) told (made_in mid) steps_old steps_new) where
       pub work_goes : (next : Progress) → text_new ≡ text_old ++ tells_text asking (option_to_list told)
-          → next ≡ record { analyser = after; refused = progress.refused + length (option_to_list told) }
-          → Goes attempts_old attempts_new wire_old wire_new (Holds attempts_old wire_old feeds_old progress parts_old)
-          (λ old new. Holds attempts_new wire_new feeds_new next parts_new new × AreWithin steps_old steps_new old.judgements new.judgements) text_old text_new (λ world old added new. WorkLine world asking work old added new)
-      work_goes next added is = record {
+          → next ≡ record mid { refused = next.refused } → next.refused ≡ mid.refused + length (option_to_list told)
+          → Goes attempts_old attempts_new wire_old wire_new (Holds attempts_old wire_old feeds_old progress)
+          (λ old new. Holds attempts_new wire_new feeds_new next new × AreWithin steps_old steps_new old.judgements new.judgements) text_old text_new (λ world old added new. WorkLine world asking work old added new)
+      work_goes next added is count = record {
         attempts = adds_none;
         links = later;
         text = tells_text asking (option_to_list told);
@@ -119,8 +126,8 @@ module _ (attempts_old attempts_new : Option (List Attempt)) (wire_old wire_new 
                 record {
                   held = counted_holds attempts_new wire_new feeds_new had.0 told had.1;
                   analysis = ap (λ (p : Progress). p.analyser) is ∙ ap (λ (m : Made). m.analysis) had.2;
-                  parts_are = ap (λ (m : Made). m.parts) had.2;
-                  refused = ap (λ (p : Progress). p.refused) is ∙ ap (λ n. n + length (option_to_list told)) (holds.refused ∙ sym had.3);
+                  parts_are = ap (λ (p : Progress). p.origins) is ∙ ap (λ (m : Made). m.parts) had.2;
+                  refused = count ∙ ap (λ n. n + length (option_to_list told)) (ap (λ (p : Progress). p.refused) beside ∙ holds.refused ∙ sym had.3);
                 },
                 had.4,
               ),
@@ -130,7 +137,7 @@ module _ (attempts_old attempts_new : Option (List Attempt)) (wire_old wire_new 
 
       -- all but the text
       pub work_unwritten : text_new ≡ text_old → (stands : List Standing) (most : ℕ) → Agrees wire_new stands → IsSound stands most feeds_new
-          → Goes attempts_old attempts_new wire_old wire_new (Holds attempts_old wire_old feeds_old progress parts_old)
+          → Goes attempts_old attempts_new wire_old wire_new (Holds attempts_old wire_old feeds_old progress)
           (λ old new. HasMoved attempts_new wire_new new × AreWithin steps_old steps_new old.judgements new.judgements) text_old text_new (λ world old added new. WorkPart world asking work old new)
       work_unwritten same stands most agrees sound = record {
         attempts = adds_none;
@@ -146,8 +153,8 @@ module _ (attempts_old attempts_new : Option (List Attempt)) (wire_old wire_new 
       }
 
     -- some first moves
-    pub work_began : BeganNamed attempts_old attempts_new wire_old wire_new asking.name work feeds_old (made progress.analyser parts_old) steps_old steps_new → text_new ≡ text_old
-        → Goes attempts_old attempts_new wire_old wire_new (Holds attempts_old wire_old feeds_old progress parts_old)
+    pub work_began : BeganNamed attempts_old attempts_new wire_old wire_new asking.name work feeds_old (made_in progress) steps_old steps_new → text_new ≡ text_old
+        → Goes attempts_old attempts_new wire_old wire_new (Holds attempts_old wire_old feeds_old progress)
         (λ old new. HasMoved attempts_new wire_new new × AreWithin steps_old steps_new old.judgements new.judgements) text_old text_new (λ world old added new. WorkPart world asking work old new)
     work_began began same = record {
       attempts = adds_none;

@@ -220,10 +220,10 @@ TakesPdus-stays t until name (suc count) old none = record {
 TakesPdus-one : (t : Link) (until : Bool) (name : List ℕ) (old new : Taking) (tells : List Telling) → TakesUnit t until name old tells new → TakesPdus t until name 1 old tells new
 TakesPdus-one t until name old new tells takes = record { first = tells; rest = []; mid = new; takes = takes; goes_on = (refl, refl); tells_are = sym (append-nil tells) }
 
-pub asked_feed : (until : Bool) (feed : Feed) → is_enough_at until feed.session.phase ≡ false → asked_of until (Some feed) ≡ Some feed
+asked_feed : (until : Bool) (feed : Feed) → is_enough_at until feed.session.phase ≡ false → asked_of until (Some feed) ≡ Some feed
 asked_feed until feed more = ap (λ (b : Bool). cond b None (Some feed)) more
 
-pub asked_none : (until : Bool) (feed : Feed) → is_enough_at until feed.session.phase ≡ true → asked_of until (Some feed) ≡ None
+asked_none : (until : Bool) (feed : Feed) → is_enough_at until feed.session.phase ≡ true → asked_of until (Some feed) ≡ None
 asked_none until feed enough = ap (λ (b : Bool). cond b None (Some feed)) enough
 
 -- one more after those so far

@@ -1,8 +1,13 @@
 -- What a line does with a feed that goes on.
-use Rattle.std.proofs.Common.{◌≡◌, ◌≢◌, ℕ, Bool, true, false, List, [], ◌∷◌, ◌++◌, None, Some, refl, sym, ◌∙◌, ap, subst, arith}
+use Rattle.std.proofs.Common.{◌≡◌, ◌≢◌, ℕ, Bool, true, false, cond, List, [], ◌∷◌, ◌++◌, None, Some, refl, sym, ◌∙◌, ap, subst, arith}
+use Rattle.std.specs.Prelude.{IfOk, OnErr}
+use Rattle.std.specs.Option.{option_to_list}
 use Rattle.std.specs.declared.option.Option.{Option}
+use Rattle.std.specs.declared.result.Result.{Result}
+use Rattle.std.specs.declared.result.Result.TheVariants.{Ok, Err}
 use Rattle.av_base.specs.Connections.{Agrees, IsUsable, Link}
 use Rattle.av_base.specs.declared.standing.Standing.{Standing}
+use Rattle.rtr_session.specs.declared.act.Phase.{Phase}
 use Rattle.rtr_session.specs.declared.act.Query.{Query}
 use Rattle.rtr_session.specs.State.{State as Session}
 use Rattle.rtr_session.specs.Client.{Asks as AsksSession}
@@ -11,54 +16,59 @@ use Rattle.feed_lines.specs.declared.feed.OpenFeed.{OpenFeed}
 use Rattle.feed_lines.specs.declared.taking.Outcome.TheVariants.{Open as GoesOn, Ended}
 use Rattle.feed_lines.specs.declared.telling.Telling.{Telling}
 use Rattle.feed_lines.specs.declared.telling.Telling.TheVariants.{End as FeedEnds}
-use Rattle.feed_lines.specs.declared.working.Work.TheVariants.{Ask, Take, Sync}
+use Rattle.feed_lines.specs.declared.working.Work.TheVariants.{Ask}
 use Rattle.connection_calls.specs.Connection.{Now, Has}
 use Rattle.connection_calls.specs.Moves.{KeepsSent, SendsOrCloses}
-use Rattle.feed_lines.specs.Feeds.{AsksFeed, Feed, Taking, TakesPdus, is_enough_at, query_bytes, short_of}
+use Rattle.feed_lines.specs.Feeds.{AsksFeed, Feed, Taking, TakesPdus, asked_of, is_enough_at, query_bytes, short_of}
 use Rattle.feed_lines.specs.Holding.{AreWithin, StandsFor}
-use Rattle.feed_lines.specs.Lines.{Begins, Does}
-use Rattle.feed_lines.specs.Steps.{Halted, LeftAs, Made, TookAs, WorkedAs, going}
+use Rattle.feed_lines.specs.Lines.{Begins, Does, TakesSome}
+use Rattle.feed_lines.specs.Steps.{Halted, LeftAs, Made, TookAs, WorkedAs, going, told_at, work_at}
 use Rattle.connection_calls.proofs.ConnectionLemmas.{Now-map, Ever-map}
 use Rattle.connection_calls.proofs.StandingLemmas.{still_open}
-use Rattle.feed_lines.proofs.TakingLemmas.{asked_feed, asked_none, query_whole, query_lost}
+use Rattle.feed_lines.proofs.TakingLemmas.{query_whole, query_lost}
 
-module _ (wire : Option (List Link)) (link : ℕ) (few : ℕ → Type 0) (name : List ℕ) (count : ℕ) (feed : Feed) (old : Taking) (after : Made) where
-  pub took_on : (kept : OpenFeed) → TookAs wire link few (λ t. TakesPdus t false name count old) (GoesOn kept) after
-      → WorkedAs wire link few (λ t. Does t name (Take count) feed old) (Some kept) None after
-  took_on kept took = record { feed = Some took.0; judgements = took.1; few = took.4; stands = took.2; done = took.5 }
+-- ---- PDUs that are wanted
 
-  pub took_ended : (telling : Telling) → TookAs wire link few (λ t. TakesPdus t false name count old) (Ended telling) after
-      → WorkedAs wire link few (λ t. Does t name (Take count) feed old) None (Some telling) after
-  took_ended telling took = record { feed = None; judgements = took.0; few = took.1; stands = tt; done = took.2 }
+-- what is reported of a feed that goes on
+short_is : (enough : Bool) (feed : Feed) → option_to_list (cond enough None (Some (FeedEnds Short))) ≡ short_of (cond enough None (Some feed))
+short_is true feed = refl
+short_is false feed = refl
 
-  pub synced : (kept : OpenFeed) → is_enough_at true kept.session.phase ≡ true → TookAs wire link few (λ t. TakesPdus t true name count old) (GoesOn kept) after
-      → WorkedAs wire link few (λ t. Does t name (Sync count) feed old) (Some kept) None after
-  synced kept enough took =
-      let ready : is_enough_at true took.0.session.phase ≡ true = ap (λ (s : Session). is_enough_at true s.phase) (sym took.2.session) ∙ enough in
+module _ (wire : Option (List Link)) (link : ℕ) (few : ℕ → Type 0) (name : List ℕ) (count : ℕ) (feed : Feed) (old : Taking) where
+  pub took_kept : (until : Bool) (after : Made) (kept : OpenFeed) (told : Option Telling) → told ≡ told_at until kept.session.phase
+      → TookAs wire link few (λ t. TakesPdus t until name count old) (GoesOn kept) after
+      → WorkedAs wire link few (λ t. Does t name (work_at until count) feed old) (Some kept) told after
+  took_kept false after kept told is took = rw is (record { feed = Some took.0; judgements = took.1; few = took.4; stands = took.2; done = took.5 })
+  took_kept true after kept told is took =
+      let short : option_to_list told ≡ short_of (asked_of true (Some took.0)) =
+      ap (λ (o : Option Telling). option_to_list o) is ∙ short_is (is_enough_at true kept.session.phase) took.0
+      ∙ ap (λ (s : Session). short_of (cond (is_enough_at true s.phase) None (Some took.0))) took.2.session in
       record {
         feed = Some took.0;
         judgements = took.1;
         few = took.4;
         stands = took.2;
-        done = Ever-map (λ t takes. record { first = []; takes = takes; tells_are = sym (ap (λ (o : Option Feed). [] ++ short_of o) (asked_none true took.0 ready)) }) took.5;
+        done = Ever-map (λ t takes. record { first = []; takes = takes; tells_are = short }) took.5;
       }
 
-  pub synced_short : (kept : OpenFeed) → is_enough_at true kept.session.phase ≡ false → TookAs wire link few (λ t. TakesPdus t true name count old) (GoesOn kept) after
-      → WorkedAs wire link few (λ t. Does t name (Sync count) feed old) (Some kept) (Some (FeedEnds Short)) after
-  synced_short kept more took =
-      let yet : is_enough_at true took.0.session.phase ≡ false = ap (λ (s : Session). is_enough_at true s.phase) (sym took.2.session) ∙ more in
-      record {
-        feed = Some took.0;
-        judgements = took.1;
-        few = took.4;
-        stands = took.2;
-        done = Ever-map (λ t takes. record { first = []; takes = takes; tells_are = sym (ap (λ (o : Option Feed). [] ++ short_of o) (asked_feed true took.0 yet)) }) took.5;
-      }
-
-  pub synced_ended : (telling : Telling) → TookAs wire link few (λ t. TakesPdus t true name count old) (Ended telling) after
-      → WorkedAs wire link few (λ t. Does t name (Sync count) feed old) None (Some telling) after
-  synced_ended telling took =
+  pub took_over : (until : Bool) (after : Made) (telling : Telling) → TookAs wire link few (λ t. TakesPdus t until name count old) (Ended telling) after
+      → WorkedAs wire link few (λ t. Does t name (work_at until count) feed old) None (Some telling) after
+  took_over false after telling took = record { feed = None; judgements = took.0; few = took.1; stands = tt; done = took.2 }
+  took_over true after telling took =
       record { feed = None; judgements = took.0; few = took.1; stands = tt; done = Ever-map (λ t takes. record { first = telling ∷ []; takes = takes; tells_are = refl }) took.2 }
+
+  pub took_halted : (until : Bool) → Halted wire link few (λ t. TakesSome t until name count old) → Halted wire link few (λ t. Begins t name (work_at until count) old)
+  took_halted false halted = halted
+  took_halted true halted = halted
+
+short_reached : (enough : Bool) → cond enough None (Some (FeedEnds Short)) ≢ Some (FeedEnds Unreachable)
+short_reached true = λ e. cc
+short_reached false = λ e. cc
+
+-- a feed that goes on had a connection
+pub told_reached : (until : Bool) (phase : Phase) (told : Option Telling) → told ≡ told_at until phase → told ≢ Some (FeedEnds Unreachable)
+told_reached false phase told is = λ e. cc
+told_reached true phase told is = λ e. short_reached (is_enough_at true phase) (sym is ∙ e)
 
 -- ---- a query by command
 
@@ -93,15 +103,20 @@ module _ (wire new : Option (List Link)) (kept : OpenFeed) (session : Session) (
         let had = query_lost wire new (record { framer = kept.framer; session = session; taken = kept.taken; link = kept.link }) (record feed { session = session }) one bytes stands_then spelled whole went sends in
         record { feed = None; stands = tt; done = Ever-map (λ t q. record { query = Some one; session = session; asks = asks_then (Some one) is; sends = q }) had }
 
-module _ (new : Option (List Link)) (name : List ℕ) (kept : OpenFeed) (state : Made) (steps : ℕ) (feed : Feed) (judgements : ℕ) where
-  pub worked_ask : (slot : Option OpenFeed) (told : Option Telling) → LeftAs new kept.link (λ t. AsksFeed t feed) slot told
-      → WorkedAs new kept.link (AreWithin steps steps judgements) (λ t. Does t name Ask feed (going feed state judgements)) slot told state
-  worked_ask slot told left = record { feed = left.feed; judgements = judgements; few = omega arith; stands = left.stands; done = Ever-map (λ t asks. (asks, refl)) left.done }
+module _ {E : Type 0} (old new : Option (List Link)) (name : List ℕ) (kept : OpenFeed) (state : Made) (steps : ℕ) where
+  pub asks_worked : (result : Result (Option OpenFeed × Option Telling) E) → IfOk result (λ r. (feed : Feed) → StandsFor old kept feed → LeftAs new kept.link (λ t. AsksFeed t feed) r.0 r.1)
+      → IfOk result (λ r. (feed : Feed) (judgements : ℕ) → StandsFor old kept feed
+      → WorkedAs new kept.link (AreWithin steps steps judgements) (λ t. Does t name Ask feed (going feed state judgements)) r.0 r.1 state)
+  asks_worked (Err e) asks = tt
+  asks_worked (Ok r) asks = λ feed judgements stands.
+      let left = asks feed stands in
+      record { feed = left.feed; judgements = judgements; few = omega arith; stands = left.stands; done = Ever-map (λ t asks. (asks, refl)) left.done }
 
   -- nothing was done
-  pub asked_halted : (old : Option (List Link)) → StandsFor old kept feed → KeepsSent kept.link old new → (standings : List Standing) → Agrees new standings → IsUsable standings kept.link
-      → Halted new kept.link (AreWithin steps steps judgements) (λ t. Begins t name Ask (going feed state judgements))
-  asked_halted old stands keeps standings agrees usable = record {
+  pub asks_halted : (result : Result (Option OpenFeed × Option Telling) E) (standings : List Standing) → Agrees new standings → OnErr result (KeepsSent kept.link old new) → OnErr result (IsUsable standings kept.link)
+      → OnErr result ((feed : Feed) (judgements : ℕ) → StandsFor old kept feed → Halted new kept.link (AreWithin steps steps judgements) (λ t. Begins t name Ask (going feed state judgements)))
+  asks_halted (Ok r) standings agrees keeps usable = tt
+  asks_halted (Err e) standings agrees keeps usable = λ feed judgements stands. record {
     end = going feed state judgements;
     few = omega arith;
     done = λ links final told goes t there. refl;

@@ -8,12 +8,11 @@ use Rattle.std.specs.declared.option.Option.TheVariants.{None}
 use Rattle.av_base.specs.Connections.{Attempt, IsUsable, Link, ToldLater}
 use Rattle.av_base.specs.declared.standing.Standing.{Standing}
 use Rattle.av_base.specs.Told.{Rose}
-use Rattle.origin_model.specs.Current.{Parts}
+use Rattle.analyser.specs.declared.progress.Progress.{Progress}
 use Rattle.rtr_session.specs.declared.act.Phase.TheVariants.{Over}
 use Rattle.report_text.specs.declared.feed.FeedEnd.TheVariants.{Unreachable}
 use Rattle.feed_lines.specs.declared.feed.OpenFeed.{OpenFeed}
 use Rattle.feed_lines.specs.declared.feed.Feeds.{Feeds}
-use Rattle.feed_lines.specs.declared.lines.Progress.{Progress}
 use Rattle.feed_lines.specs.declared.telling.Telling.{Telling}
 use Rattle.feed_lines.specs.declared.telling.Telling.TheVariants.{End as FeedEnds}
 use Rattle.connection_calls.specs.Connection.{Now, Has, IsOpenWith}
@@ -50,10 +49,10 @@ pub record HoldsFeeds (attempts : Option (List Attempt)) (wire : Option (List Li
   pub each : (name : List ℕ) → HoldsOr wire (feed_in feeds name) (state.feeds name)
 
 -- and what the lines made so far for the rest of it
-pub record Holds (attempts : Option (List Attempt)) (wire : Option (List Link)) (feeds : Feeds) (progress : Progress) (parts : Parts) (state : State) : Type 0 where
+pub record Holds (attempts : Option (List Attempt)) (wire : Option (List Link)) (feeds : Feeds) (progress : Progress) (state : State) : Type 0 where
   pub held : HoldsFeeds attempts wire feeds state
   pub analysis : progress.analyser ≡ state.analysis
-  pub parts_are : parts ≡ state.parts
+  pub parts_are : progress.origins ≡ state.parts
   pub refused : progress.refused ≡ state.refused
 
 -- so many attempts were made, and these bytes were sent on the connections of the feeds that go on, as in this state; none of those is

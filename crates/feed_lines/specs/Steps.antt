@@ -1,5 +1,5 @@
 -- How the steps of a line stand for the definitions; only private contracts cite this.
-use Rattle.std.specs.Prelude.{◌≡◌, ◌≢◌, ℕ, ◌≤◌, ◌⊎◌, List, [], ◌∷◌, Some, IfOk}
+use Rattle.std.specs.Prelude.{◌≡◌, ◌≢◌, ℕ, ◌≤◌, ◌⊎◌, Bool, true, false, cond, List, [], ◌∷◌, Some, OnOk}
 use Rattle.std.specs.Option.{option_to_list}
 use Rattle.std.specs.declared.option.Option.{Option}
 use Rattle.std.specs.declared.option.Option.TheVariants.{None}
@@ -8,19 +8,24 @@ use Rattle.av_base.specs.Connections.{Link, IsUsable}
 use Rattle.av_base.specs.declared.standing.Standing.{Standing}
 use Rattle.rtr_session.specs.declared.act.Act.{Act}
 use Rattle.rtr_session.specs.declared.act.Act.TheVariants.{Nothing, Send, Apply, End}
+use Rattle.rtr_session.specs.declared.act.Phase.{Phase}
 use Rattle.rtr_session.specs.declared.act.Phase.TheVariants.{Over}
+use Rattle.analyser.specs.declared.progress.Progress.{Progress}
 use Rattle.origin_model.specs.Current.{Parts}
 use Rattle.rib_store.specs.State.{State as Analysis}
 use Rattle.feed_lines.specs.declared.changing.SourceChange.{SourceChange}
 use Rattle.feed_lines.specs.declared.feed.OpenFeed.{OpenFeed}
 use Rattle.feed_lines.specs.declared.taking.Outcome.{Outcome}
 use Rattle.feed_lines.specs.declared.taking.Outcome.TheVariants.{Open as GoesOn, Ended}
+use Rattle.feed_lines.specs.declared.taking.Wanted.{Wanted}
 use Rattle.feed_lines.specs.declared.telling.Telling.{Telling}
 use Rattle.feed_lines.specs.declared.telling.Telling.TheVariants.{End as FeedEnds}
-use Rattle.report_text.specs.declared.feed.FeedEnd.TheVariants.{Unreachable}
+use Rattle.feed_lines.specs.declared.working.Work.{Work}
+use Rattle.feed_lines.specs.declared.working.Work.TheVariants.{Take, Sync}
+use Rattle.report_text.specs.declared.feed.FeedEnd.TheVariants.{Short, Unreachable}
 use Rattle.connection_calls.specs.Connection.{IsOpenWith, Now}
 use Rattle.connection_calls.specs.Moves.{Ever}
-use Rattle.feed_lines.specs.Feeds.{Feed, Taking, Follows}
+use Rattle.feed_lines.specs.Feeds.{Feed, Taking, Follows, is_enough_at}
 use Rattle.feed_lines.specs.Holding.{AreWithin, StandsFor}
 
 -- the feed's connection may be used, and its session isn't over
@@ -62,6 +67,13 @@ pub record Made : Type 0 where
 abbrev pub made : Analysis → Parts → Made
 made analysis parts = record { analysis = analysis; parts = parts }
 
+abbrev pub made_in : Progress → Made
+made_in progress = made progress.analyser progress.origins
+
+-- all but the analysis and the origin records stays as it was
+abbrev pub StaysBeside : Progress → Progress → Type 0
+StaysBeside old new = new ≡ record old { analyser = new.analyser; origins = new.origins }
+
 -- a feed that goes on, or none where its session is over, with these and what is counted so far
 abbrev pub taking : Option Feed → Made → ℕ → Taking
 taking slot state judgements = record { feed = slot; state = state.analysis; parts = state.parts; judgements = judgements }
@@ -74,10 +86,10 @@ over state judgements = taking None state judgements
 
 -- The analysis and the origin records went on so from those that were held, whether or not there was memory for the next ones, and no more
 -- steps were taken than judgements were counted.
-pub record Passes {E : Type 0} (result : Result Analysis E) (parts : Parts) (steps_old steps_new : ℕ) (old : Taking) (does : Taking → Type 0) (slot : Option Feed) : Type 0 where
+pub record Passes {E : Type 0} (result : Result (Unit {0}) E) (next : Made) (steps_old steps_new : ℕ) (old : Taking) (does : Taking → Type 0) (slot : Option Feed) : Type 0 where
   pub state : Made
   pub judgements : ℕ
-  pub is : IfOk result (λ next. made next parts ≡ state)
+  pub is : OnOk result (next ≡ state)
   pub within : AreWithin steps_old steps_new old.judgements judgements
   pub done : does (taking slot state judgements)
 
@@ -124,3 +136,18 @@ pub record Halted (wire : Option (List Link)) (link : ℕ) (within : ℕ → Typ
 -- this was done, or nothing
 abbrev pub MayDo : (List Telling → Taking → Type 0) → Taking → Taking → Type 0
 MayDo does old new = (new ≡ old) ⊎ ((tells : List Telling) × does tells new)
+
+-- ---- what is wanted of a feed
+
+-- the work of a line that wants so many PDUs, or at most so many until the session is ready
+abbrev pub work_at : Bool → ℕ → Work
+work_at false count = Take count
+work_at true count = Sync count
+
+abbrev pub work_of : Wanted → Work
+work_of wanted = work_at wanted.until_ready wanted.count
+
+-- what is reported of a feed that goes on: too few PDUs came where it was to be ready
+abbrev pub told_at : Bool → Phase → Option Telling
+told_at false phase = None
+told_at true phase = cond (is_enough_at true phase) None (Some (FeedEnds Short))

@@ -6,6 +6,7 @@ use Rattle.report_text.specs.declared.cause.Cause.{Cause}
 use Rattle.report_text.specs.declared.cause.Cause.TheVariants.{Unexpected, UnknownWithdrawal, SessionChanged, PeerReported, NoName as NameIsNone, StreamOver as StreamIsOver}
 use Rattle.report_text.specs.Feeds.{feed_text}
 use Rattle.report_text.specs.Refusals.{of_line, of_unit, refusal_text}
+use Rattle.feed_lines.specs.declared.telling.Asker.{Asker}
 use Rattle.feed_lines.specs.declared.telling.Telling.{Telling}
 use Rattle.feed_lines.specs.declared.telling.Telling.TheVariants.{NoName, StreamOver, Pdu, End}
 
@@ -13,6 +14,9 @@ use Rattle.feed_lines.specs.declared.telling.Telling.TheVariants.{NoName, Stream
 pub record Asking : Type 0 where
   pub line : ℕ
   pub name : List ℕ
+
+abbrev pub asking_by : Asker → Asking
+asking_by asker = record { line = asker.line; name = asker.name.now }
 
 -- the cause of a PDU that ends its session
 abbrev pub cause_of_end : Ending → Cause

@@ -2,9 +2,9 @@
 ghost use Rattle.std.specs.Prelude.{◌≡◌, Option, IfOk, OnOk};
 ghost use Rattle.rtr_session.specs.declared.act.Act.TheVariants.{End as EndAct};
 ghost use Rattle.feed_lines.specs.Feeds.{ChangesPayloads, Feed, Follows, Taking, change_by, change_due};
-ghost use Rattle.feed_lines.specs.Steps.{Passes};
+ghost use Rattle.feed_lines.specs.Steps.{Passes, StaysBeside, made_in};
 
-use analyser::{Analyser, Event};
+use analyser::{Event, Progress};
 use attestations::Terms;
 use av_base::{NoMemory, Steps};
 use origin_model::{VrpChanges, VrpSet};
@@ -80,24 +80,25 @@ pub(crate) fn clearing(
 /// A change that is due is one event, and then one of the origin records.
 pub(crate) fn follow<L: Ledger>(
     change: Option<SourceChange>,
-    analyser: Analyser,
-    origins: &mut Origins,
+    progress: &mut Progress,
     steps: &mut Steps<L>,
-) -> Result<Analyser, NoMemory>
-    ensures { (old : Taking) (slot : Option Feed) → old.state ≡ analyser → old.parts ≡ origins.old
-        → Passes result origins.new steps.old steps.new old (Follows change old) slot }
+) -> Result<(), NoMemory>
+    ensures follows { (old : Taking) (slot : Option Feed)
+        → old.state ≡ progress.old.analyser → old.parts ≡ progress.old.origins
+        → Passes result (made_in progress.new) steps.old steps.new old (Follows change old) slot }
+    ensures stays { StaysBeside progress.old progress.new }
 {
     match change {
-        None => Ok(analyser),
+        None => Ok(()),
         Some(change) => {
             let SourceChange {
                 name,
                 rows,
                 payloads,
             } = change;
-            let next = analyser.step(Event::Table(rows), steps)?;
-            change_payloads(name, payloads, origins)?;
-            Ok(next)
+            progress.analyser.apply(Event::Table(rows), steps)?;
+            change_payloads(name, payloads, &mut progress.origins)?;
+            Ok(())
         }
     }
 }

@@ -1,7 +1,8 @@
 //! What one line of a script does with a feed: the program as a client of RPKI caches.
 //!
 //! The layer above uses two contracts. [`connect`] performs a `feed` line: it closes the feed's old connection, connects, and asks for
-//! everything. [`work`] performs an `ask`, `take` or `sync` line on the feed of a name. What they do and report is defined in
+//! everything. [`work`] performs an `ask`, `take` or `sync` line on the feed of a name. Both are lent the run's `Progress`, of which they
+//! change the count of refusals, and `work` the analysis and the origin records too. What they do and report is defined in
 //! `specs/Lines.antt`, over what one PDU and several make of a feed (`specs/Feeds.antt`): begin reading there. Each relation reads the
 //! connection as it stands when the run ends, so what is proved of a line stays true whatever the later lines do; how the [`Feeds`] that
 //! are held stand for those of the definitions is said in `specs/Holding.antt`. What the events may cost in judgements is counted, and
@@ -31,6 +32,6 @@ pub use laws::{
     each_telling_is_one_line, feed_lines_have_one_outcome, feeds_have_their_payloads,
     lost_feeds_broke_or_ended,
 };
-pub use lines::{Progress, connect, work};
-pub use telling::Telling;
+pub use lines::{connect, work};
+pub use telling::{Asker, Telling};
 pub use working::Work;

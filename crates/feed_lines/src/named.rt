@@ -7,14 +7,13 @@ ghost use Rattle.feed_lines.specs.declared.telling.Telling.TheVariants.{End as F
 ghost use Rattle.feed_lines.specs.Holding.{IsNoFeeds, IsSound, feed_in};
 ghost use Rattle.feed_lines.specs.Lines.{units_of};
 ghost use Rattle.feed_lines.specs.Named.{BeganNamed, Puts, Same, WasHeld, WorkedNamed};
-ghost use Rattle.feed_lines.specs.Steps.{made};
+ghost use Rattle.feed_lines.specs.Steps.{StaysBeside, made_in};
 
 use crate::feed::{Feeds, OpenFeed};
 use crate::telling::Telling;
-use crate::working::{Work, Worked, work_on};
-use analyser::Analyser;
+use crate::working::{Work, work_on};
+use analyser::Progress;
 use av_base::{Links, NoMemory, Steps};
-use origin_validation::Origins;
 use path_model::Name;
 use std::alloc::Global;
 use std::mem;
@@ -26,22 +25,22 @@ pub(crate) fn work_named<K: Links, L: Ledger>(
     name: &Name,
     work: Work,
     feeds: &mut Feeds,
-    analyser: Analyser,
-    origins: &mut Origins,
+    progress: &mut Progress,
     links: &mut K,
     steps: &mut Steps<L>,
-) -> Result<(Option<Telling>, Analyser), NoMemory>
+) -> Result<Option<Telling>, NoMemory>
     requires sound { IsSound (K.standings links.old) (2 ^ 61) feeds.old }
-    ensures works { IfOk result (λ r. WorkedNamed (K.attempts links.old) (K.attempts links.new)
+    ensures works { IfOk result (λ told. WorkedNamed (K.attempts links.old) (K.attempts links.new)
         (K.wire links.old) (K.wire links.new) name.now work feeds.old feeds.new
-        (made analyser origins.old) r.0 (made r.1 origins.new) steps.old steps.new) }
+        (made_in progress.old) told (made_in progress.new) steps.old steps.new) }
     ensures halts { OnErr result (BeganNamed (K.attempts links.old) (K.attempts links.new)
         (K.wire links.old) (K.wire links.new) name.now work feeds.old
-        (made analyser origins.old) steps.old steps.new) }
-    ensures sound { IfOk result (λ r. (most : ℕ)
+        (made_in progress.old) steps.old steps.new) }
+    ensures stays { StaysBeside progress.old progress.new }
+    ensures sound { OnOk result ((most : ℕ)
         → IsSound (K.standings links.old) most feeds.old
         → IsSound (K.standings links.new) (most + units_of work) feeds.new) }
-    ensures reached { IfOk result (λ r. r.0 ≢ Some (FeedEnds Unreachable)) }
+    ensures reached { IfOk result (λ told. told ≢ Some (FeedEnds Unreachable)) }
     ensures others { Spares (IsNoFeeds (K.standings links.old) feeds.old)
         (K.wire links.old) (K.wire links.new) (K.standings links.old) (K.standings links.new) }
     ensures attempts { K.attempts links.new ≡ K.attempts links.old }
@@ -49,16 +48,12 @@ pub(crate) fn work_named<K: Links, L: Ledger>(
         (K.standings links.old) (K.standings links.new) }
 {
     match lend(feeds, name) {
-        None => Ok((Some(Telling::NoName), analyser)),
-        Some(None) => Ok((Some(Telling::StreamOver), analyser)),
+        None => Ok(Some(Telling::NoName)),
+        Some(None) => Ok(Some(Telling::StreamOver)),
         Some(Some(feed)) => {
-            let Worked {
-                slot,
-                told,
-                analyser,
-            } = work_on(alloc, name, feed, work, analyser, origins, links, steps)?;
+            let (slot, told) = work_on(alloc, name, feed, work, progress, links, steps)?;
             give(feeds, name, slot);
-            Ok((told, analyser))
+            Ok(told)
         }
     }
 }

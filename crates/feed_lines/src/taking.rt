@@ -7,16 +7,15 @@ ghost use Rattle.connection_calls.specs.Moves.{KeepsSent, Only};
 ghost use Rattle.feed_lines.specs.Feeds.{Feed, Moves, TakesNext, TakesPdus, change_due, is_enough_at};
 ghost use Rattle.feed_lines.specs.Holding.{AreWithin, StandsFor};
 ghost use Rattle.feed_lines.specs.Lines.{TakesSome};
-ghost use Rattle.feed_lines.specs.Steps.{Before, Halted, IsFit, IsNoEnd, MayDo, MovedAs, OutcomeFits, TookAs, going, made};
+ghost use Rattle.feed_lines.specs.Steps.{Before, Halted, IsFit, IsNoEnd, MayDo, MovedAs, OutcomeFits, StaysBeside, TookAs, going, made_in};
 
 use crate::changing::{SourceChange, change_of, clearing, follow};
 use crate::feed::OpenFeed;
 use crate::spelling::spell_query;
 use crate::telling::{Telling, cause_of_end};
-use analyser::Analyser;
+use analyser::Progress;
 use av_base::{Links, NoMemory, Steps};
 use connection_calls::{Asked, finish, next_pdu, send_or_close, spell_report};
-use origin_validation::Origins;
 use path_model::Name;
 use report_text::FeedEnd;
 use rtr_session::{Act, Phase};
@@ -32,53 +31,60 @@ pub(crate) enum Outcome {
     Ended(Telling),
 }
 
+/// How many PDUs are wanted of a feed.
+#[derive(Clone, Copy, Debug)]
+pub(crate) struct Wanted<'a> {
+    /// The feed's name.
+    pub(crate) name: &'a Name,
+    /// The most that are taken.
+    pub(crate) count: u32,
+    /// Whether none is taken any more once the session is ready.
+    pub(crate) until_ready: bool,
+}
+
 /// Takes so many PDUs, or those that come before the session is over or, where that is wanted, ready.
 pub(crate) fn take_pdus<K: Links, L: Ledger>(
     alloc: Global,
-    name: &Name,
     feed: OpenFeed,
-    count: u32,
-    until_ready: bool,
-    analyser: Analyser,
-    origins: &mut Origins,
+    wanted: Wanted<'_>,
+    progress: &mut Progress,
     links: &mut K,
     steps: &mut Steps<L>,
-) -> Result<(Outcome, Analyser), NoMemory>
+) -> Result<Outcome, NoMemory>
     requires fit { IsFit (K.standings links.old) feed }
     requires room { feed.taken < 2 ^ 62 }
-    ensures took { IfOk result (λ r. (state : Feed) (judgements : ℕ)
+    ensures took { IfOk result (λ outcome. (state : Feed) (judgements : ℕ)
         → StandsFor (K.wire links.old) feed state
         → TookAs (K.wire links.new) feed.link (AreWithin steps.old steps.new judgements)
-        (λ t. TakesPdus t until_ready name.now count
-        (going state (made analyser origins.old) judgements))
-        r.0 (made r.1 origins.new)) }
+        (λ t. TakesPdus t wanted.entry.until_ready wanted.entry.name.now wanted.entry.count
+        (going state (made_in progress.old) judgements))
+        outcome (made_in progress.new)) }
     ensures halts { OnErr result ((state : Feed) (judgements : ℕ)
         → StandsFor (K.wire links.old) feed state
         → Halted (K.wire links.new) feed.link (AreWithin steps.old steps.new judgements)
-        (λ t. TakesSome t until_ready name.now count
-        (going state (made analyser origins.old) judgements))) }
+        (λ t. TakesSome t wanted.entry.until_ready wanted.entry.name.now wanted.entry.count
+        (going state (made_in progress.old) judgements))) }
+    ensures stays { StaysBeside progress.old progress.new }
     ensures only { Only feed.link (K.wire links.old) (K.wire links.new)
         (K.standings links.old) (K.standings links.new) }
-    ensures fits { IfOk result (λ r.
-        OutcomeFits (K.standings links.new) feed.link (feed.taken + count) r.0) }
+    ensures fits { IfOk result (λ outcome.
+        OutcomeFits (K.standings links.new) feed.link (feed.taken + wanted.entry.count) outcome) }
     ensures attempts { K.attempts links.new ≡ K.attempts links.old }
     ensures broke { BreaksByFault (K.faults links.old) (K.faults links.new)
         (K.standings links.old) (K.standings links.new) }
 {
     let mut feed = feed;
-    let mut analyser = analyser;
-    for _turn in 0..count {
-        if is_enough(until_ready, &feed) {
-            return Ok((Outcome::Open(feed), analyser));
+    for _turn in 0..wanted.count {
+        if is_enough(wanted.until_ready, &feed) {
+            return Ok(Outcome::Open(feed));
         }
-        let (outcome, next) = take_pdu(alloc, name, feed, analyser, origins, links, steps)?;
+        let outcome = take_pdu(alloc, wanted.name, feed, progress, links, steps)?;
         match outcome {
             Outcome::Open(more) => feed = more,
-            Outcome::Ended(telling) => return Ok((Outcome::Ended(telling), next)),
+            Outcome::Ended(telling) => return Ok(Outcome::Ended(telling)),
         }
-        analyser = next;
     }
-    Ok((Outcome::Open(feed), analyser))
+    Ok(Outcome::Open(feed))
 }
 
 /// Whether no more PDUs are wanted.
@@ -99,35 +105,35 @@ fn take_pdu<K: Links, L: Ledger>(
     alloc: Global,
     name: &Name,
     feed: OpenFeed,
-    analyser: Analyser,
-    origins: &mut Origins,
+    progress: &mut Progress,
     links: &mut K,
     steps: &mut Steps<L>,
-) -> Result<(Outcome, Analyser), NoMemory>
+) -> Result<Outcome, NoMemory>
     requires fit { IsFit (K.standings links.old) feed }
     requires room { feed.taken < 2 ^ 63 }
-    ensures took { IfOk result (λ r. (state : Feed) (judgements : ℕ)
+    ensures took { IfOk result (λ outcome. (state : Feed) (judgements : ℕ)
         → StandsFor (K.wire links.old) feed state
         → TookAs (K.wire links.new) feed.link (AreWithin steps.old steps.new judgements)
-        (λ t. TakesNext t name.now state (going state (made analyser origins.old) judgements))
-        r.0 (made r.1 origins.new)) }
+        (λ t. TakesNext t name.now state (going state (made_in progress.old) judgements))
+        outcome (made_in progress.new)) }
     ensures halts { OnErr result ((state : Feed) (judgements : ℕ)
         → StandsFor (K.wire links.old) feed state
         → Halted (K.wire links.new) feed.link (AreWithin steps.old steps.new judgements)
         (λ t. MayDo (TakesNext t name.now state
-        (going state (made analyser origins.old) judgements))
-        (going state (made analyser origins.old) judgements))) }
+        (going state (made_in progress.old) judgements))
+        (going state (made_in progress.old) judgements))) }
+    ensures stays { StaysBeside progress.old progress.new }
     ensures only { Only feed.link (K.wire links.old) (K.wire links.new)
         (K.standings links.old) (K.standings links.new) }
-    ensures fits { IfOk result (λ r.
-        OutcomeFits (K.standings links.new) feed.link (feed.taken + 1) r.0) }
+    ensures fits { IfOk result (λ outcome.
+        OutcomeFits (K.standings links.new) feed.link (feed.taken + 1) outcome) }
     ensures attempts { K.attempts links.new ≡ K.attempts links.old }
     ensures broke { BreaksByFault (K.faults links.old) (K.faults links.new)
         (K.standings links.old) (K.standings links.new) }
 {
     let (outcome, change) = move_feed(alloc, name, feed, links)?;
-    let analyser = follow(change, analyser, origins, steps)?;
-    Ok((outcome, analyser))
+    follow(change, progress, steps)?;
+    Ok(outcome)
 }
 
 // Asks for the next PDU and does what it asks for, but for the change that is due then.

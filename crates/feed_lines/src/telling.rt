@@ -1,11 +1,20 @@
 //! What a line reports of a feed.
 ghost use Rattle.std.specs.Prelude.{◌≡◌, ◌++◌, OnOk, OnErr};
-ghost use Rattle.feed_lines.specs.Tellings.{cause_of_end as cause_ending, telling_text};
+ghost use Rattle.feed_lines.specs.Tellings.{asking_by, cause_of_end as cause_ending, telling_text};
 
 use av_base::NoMemory;
 use path_model::Name;
 use report_text::{Cause, FeedEnd, Place, put_feed, put_refusal};
 use rtr_session::Ending;
+
+/// Which line asks something, and of which feed.
+#[derive(Clone, Copy, Debug)]
+pub struct Asker<'a> {
+    /// Its number. Lines are numbered from 1.
+    pub line: u64,
+    /// The feed's name.
+    pub name: &'a Name,
+}
 
 /// What a line reports of a feed, as a line of text.
 #[derive(Clone, Copy, Debug, PartialEq, Eq)]
@@ -35,14 +44,14 @@ pub(crate) fn cause_of_end(ending: Ending) -> Cause
 /// Appends the line of text that reports this, whole or not at all.
 pub(crate) fn put_telling(
     text: &mut Vec<u8>,
-    line: u64,
-    name: &Name,
+    asker: Asker<'_>,
     telling: Telling,
 ) -> Result<(), NoMemory>
     ensures ok { OnOk result (text.new.items
-        ≡ text.old.items ++ telling_text (record { line = line; name = name.now }) telling) }
+        ≡ text.old.items ++ telling_text (asking_by asker.entry) telling) }
     ensures err { OnErr result (text.new.items ≡ text.old.items) }
 {
+    let Asker { line, name } = asker;
     match telling {
         Telling::NoName => put_refusal(text, line, Place::Line, Cause::NoName),
         Telling::StreamOver => put_refusal(text, line, Place::Line, Cause::StreamOver),

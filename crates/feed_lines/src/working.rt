@@ -3,22 +3,20 @@ ghost use Rattle.std.specs.Prelude.{◌≡◌, ◌≢◌, ℕ, ◌+◌, ◌^◌,
 ghost use Rattle.av_base.specs.Connections.{IsUsable};
 ghost use Rattle.report_text.specs.declared.feed.FeedEnd.TheVariants.{Unreachable};
 ghost use Rattle.feed_lines.specs.declared.telling.Telling.TheVariants.{End as FeedEnds};
-ghost use Rattle.feed_lines.specs.declared.working.Work.TheVariants.{Sync as SyncWork, Take as TakeWork};
 ghost use Rattle.connection_calls.specs.Faults.{BreaksByFault};
 ghost use Rattle.connection_calls.specs.Moves.{KeepsSent, Only};
 ghost use Rattle.feed_lines.specs.Feeds.{AsksFeed, Feed};
 ghost use Rattle.feed_lines.specs.Holding.{AreWithin, StandsFor};
 ghost use Rattle.feed_lines.specs.Lines.{Begins, Does, units_of};
-ghost use Rattle.feed_lines.specs.Steps.{Halted, IsFit, LeftAs, SlotFits, WorkedAs, going, made};
+ghost use Rattle.feed_lines.specs.Steps.{Halted, IsFit, LeftAs, SlotFits, StaysBeside, WorkedAs, going, made_in, told_at, work_of};
 
 use crate::feed::OpenFeed;
 use crate::spelling::spell_query;
-use crate::taking::{Outcome, is_enough, take_pdus};
+use crate::taking::{Outcome, Wanted, is_enough, take_pdus};
 use crate::telling::Telling;
-use analyser::Analyser;
+use analyser::Progress;
 use av_base::{Links, NoMemory, Steps};
 use connection_calls::send_or_close;
-use origin_validation::Origins;
 use path_model::Name;
 use report_text::FeedEnd;
 use std::alloc::Global;
@@ -35,56 +33,55 @@ pub enum Work {
     Sync(u32),
 }
 
-/// How a feed stands after a line: it is none where its session is over.
-#[derive(Drop)]
-pub(crate) struct Worked {
-    pub(crate) slot: Option<OpenFeed>,
-    pub(crate) told: Option<Telling>,
-    pub(crate) analyser: Analyser,
-}
-
-/// Does what the line asks for.
+/// Does what the line asks for. The feed is none where its session is over then.
 pub(crate) fn work_on<K: Links, L: Ledger>(
     alloc: Global,
     name: &Name,
     feed: OpenFeed,
     work: Work,
-    analyser: Analyser,
-    origins: &mut Origins,
+    progress: &mut Progress,
     links: &mut K,
     steps: &mut Steps<L>,
-) -> Result<Worked, NoMemory>
+) -> Result<(Option<OpenFeed>, Option<Telling>), NoMemory>
     requires fit { IsFit (K.standings links.old) feed }
     requires room { feed.taken < 2 ^ 62 }
     ensures works { IfOk result (λ r. (state : Feed) (judgements : ℕ)
         → StandsFor (K.wire links.old) feed state
         → WorkedAs (K.wire links.new) feed.link (AreWithin steps.old steps.new judgements)
-        (λ t. Does t name.now work state (going state (made analyser origins.old) judgements))
-        r.slot r.told (made r.analyser origins.new)) }
+        (λ t. Does t name.now work state (going state (made_in progress.old) judgements))
+        r.0 r.1 (made_in progress.new)) }
     ensures halts { OnErr result ((state : Feed) (judgements : ℕ)
         → StandsFor (K.wire links.old) feed state
         → Halted (K.wire links.new) feed.link (AreWithin steps.old steps.new judgements)
-        (λ t. Begins t name.now work (going state (made analyser origins.old) judgements))) }
+        (λ t. Begins t name.now work (going state (made_in progress.old) judgements))) }
+    ensures stays { StaysBeside progress.old progress.new }
     ensures only { Only feed.link (K.wire links.old) (K.wire links.new)
         (K.standings links.old) (K.standings links.new) }
     ensures fits { IfOk result (λ r.
-        SlotFits (K.standings links.new) feed.link (feed.taken + units_of work) r.slot) }
-    ensures reached { IfOk result (λ r. r.told ≢ Some (FeedEnds Unreachable)) }
+        SlotFits (K.standings links.new) feed.link (feed.taken + units_of work) r.0) }
+    ensures reached { IfOk result (λ r. r.1 ≢ Some (FeedEnds Unreachable)) }
     ensures attempts { K.attempts links.new ≡ K.attempts links.old }
     ensures broke { BreaksByFault (K.faults links.old) (K.faults links.new)
         (K.standings links.old) (K.standings links.new) }
 {
     match work {
-        Work::Ask => {
-            let (slot, told) = ask_feed(alloc, feed, links)?;
-            Ok(Worked {
-                slot,
-                told,
-                analyser,
-            })
+        Work::Ask => ask_feed(alloc, feed, links),
+        Work::Take(count) => {
+            let wanted = Wanted {
+                name,
+                count,
+                until_ready: false,
+            };
+            take_some(alloc, feed, wanted, progress, links, steps)
         }
-        Work::Take(count) => take_some(alloc, name, feed, count, analyser, origins, links, steps),
-        Work::Sync(count) => sync_some(alloc, name, feed, count, analyser, origins, links, steps),
+        Work::Sync(count) => {
+            let wanted = Wanted {
+                name,
+                count,
+                until_ready: true,
+            };
+            take_some(alloc, feed, wanted, progress, links, steps)
+        }
     }
 }
 
@@ -133,117 +130,54 @@ fn ask_feed<K: Links>(
     }
 }
 
-// Takes so many PDUs.
+// Takes the PDUs that are wanted.
 fn take_some<K: Links, L: Ledger>(
     alloc: Global,
-    name: &Name,
     feed: OpenFeed,
-    count: u32,
-    analyser: Analyser,
-    origins: &mut Origins,
+    wanted: Wanted<'_>,
+    progress: &mut Progress,
     links: &mut K,
     steps: &mut Steps<L>,
-) -> Result<Worked, NoMemory>
+) -> Result<(Option<OpenFeed>, Option<Telling>), NoMemory>
     requires fit { IsFit (K.standings links.old) feed }
     requires room { feed.taken < 2 ^ 62 }
     ensures works { IfOk result (λ r. (state : Feed) (judgements : ℕ)
         → StandsFor (K.wire links.old) feed state
         → WorkedAs (K.wire links.new) feed.link (AreWithin steps.old steps.new judgements)
-        (λ t. Does t name.now (TakeWork count) state
-        (going state (made analyser origins.old) judgements))
-        r.slot r.told (made r.analyser origins.new)) }
+        (λ t. Does t wanted.entry.name.now (work_of wanted.entry) state
+        (going state (made_in progress.old) judgements))
+        r.0 r.1 (made_in progress.new)) }
     ensures halts { OnErr result ((state : Feed) (judgements : ℕ)
         → StandsFor (K.wire links.old) feed state
         → Halted (K.wire links.new) feed.link (AreWithin steps.old steps.new judgements)
-        (λ t. Begins t name.now (TakeWork count)
-        (going state (made analyser origins.old) judgements))) }
+        (λ t. Begins t wanted.entry.name.now (work_of wanted.entry)
+        (going state (made_in progress.old) judgements))) }
+    ensures stays { StaysBeside progress.old progress.new }
     ensures only { Only feed.link (K.wire links.old) (K.wire links.new)
         (K.standings links.old) (K.standings links.new) }
     ensures fits { IfOk result (λ r.
-        SlotFits (K.standings links.new) feed.link (feed.taken + count) r.slot) }
-    ensures reached { IfOk result (λ r. r.told ≢ Some (FeedEnds Unreachable)) }
+        SlotFits (K.standings links.new) feed.link (feed.taken + wanted.entry.count) r.0) }
+    ensures reached { IfOk result (λ r. r.1 ≢ Some (FeedEnds Unreachable)) }
     ensures attempts { K.attempts links.new ≡ K.attempts links.old }
     ensures broke { BreaksByFault (K.faults links.old) (K.faults links.new)
         (K.standings links.old) (K.standings links.new) }
 {
-    let (outcome, analyser) = take_pdus(
-        alloc, name, feed, count, false, analyser, origins, links, steps,
-    )?;
-    match outcome {
-        Outcome::Open(feed) => Ok(goes_on(feed, analyser)),
-        Outcome::Ended(telling) => Ok(ends(telling, analyser)),
-    }
-}
-
-// Takes PDUs until the session is ready, at most so many.
-fn sync_some<K: Links, L: Ledger>(
-    alloc: Global,
-    name: &Name,
-    feed: OpenFeed,
-    count: u32,
-    analyser: Analyser,
-    origins: &mut Origins,
-    links: &mut K,
-    steps: &mut Steps<L>,
-) -> Result<Worked, NoMemory>
-    requires fit { IsFit (K.standings links.old) feed }
-    requires room { feed.taken < 2 ^ 62 }
-    ensures works { IfOk result (λ r. (state : Feed) (judgements : ℕ)
-        → StandsFor (K.wire links.old) feed state
-        → WorkedAs (K.wire links.new) feed.link (AreWithin steps.old steps.new judgements)
-        (λ t. Does t name.now (SyncWork count) state
-        (going state (made analyser origins.old) judgements))
-        r.slot r.told (made r.analyser origins.new)) }
-    ensures halts { OnErr result ((state : Feed) (judgements : ℕ)
-        → StandsFor (K.wire links.old) feed state
-        → Halted (K.wire links.new) feed.link (AreWithin steps.old steps.new judgements)
-        (λ t. Begins t name.now (SyncWork count)
-        (going state (made analyser origins.old) judgements))) }
-    ensures only { Only feed.link (K.wire links.old) (K.wire links.new)
-        (K.standings links.old) (K.standings links.new) }
-    ensures fits { IfOk result (λ r.
-        SlotFits (K.standings links.new) feed.link (feed.taken + count) r.slot) }
-    ensures reached { IfOk result (λ r. r.told ≢ Some (FeedEnds Unreachable)) }
-    ensures attempts { K.attempts links.new ≡ K.attempts links.old }
-    ensures broke { BreaksByFault (K.faults links.old) (K.faults links.new)
-        (K.standings links.old) (K.standings links.new) }
-{
-    let (outcome, analyser) = take_pdus(
-        alloc, name, feed, count, true, analyser, origins, links, steps,
-    )?;
+    let outcome = take_pdus(alloc, feed, wanted, progress, links, steps)?;
     match outcome {
         Outcome::Open(feed) => {
-            if is_enough(true, &feed) {
-                return Ok(goes_on(feed, analyser));
-            }
-            Ok(Worked {
-                slot: Some(feed),
-                told: Some(Telling::End(FeedEnd::Short)),
-                analyser,
-            })
+            let told = told_open(wanted.until_ready, &feed);
+            Ok((Some(feed), told))
         }
-        Outcome::Ended(telling) => Ok(ends(telling, analyser)),
+        Outcome::Ended(telling) => Ok((None, Some(telling))),
     }
 }
 
-// The feed goes on, and nothing is reported.
-fn goes_on(feed: OpenFeed, analyser: Analyser) -> Worked
-    ensures { result ≡ record { slot = Some feed; told = None; analyser = analyser } }
+// A feed that goes on is reported where it was to be ready and isn't.
+fn told_open(until_ready: bool, feed: &OpenFeed) -> Option<Telling>
+    ensures { result ≡ told_at until_ready feed.now.session.phase }
 {
-    Worked {
-        slot: Some(feed),
-        told: None,
-        analyser,
+    if until_ready && !is_enough(true, feed) {
+        return Some(Telling::End(FeedEnd::Short));
     }
-}
-
-// The feed is over, which is reported.
-fn ends(telling: Telling, analyser: Analyser) -> Worked
-    ensures { result ≡ record { slot = None; told = Some telling; analyser = analyser } }
-{
-    Worked {
-        slot: None,
-        told: Some(telling),
-        analyser,
-    }
+    None
 }

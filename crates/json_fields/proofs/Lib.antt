@@ -6,3 +6,4 @@ pub mod ObjectLemmas
 mod TokensLemmas
 pub mod TreeLemmas
 mod TurnsLemmas
+pub mod ValuesLemmas

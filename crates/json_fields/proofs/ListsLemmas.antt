@@ -6,11 +6,9 @@ use Rattle.std.specs.declared.result.Result.TheVariants.{Ok, Err}
 use Rattle.json.specs.Token.{Token, begin_array, begin_object}
 use Rattle.json.specs.Json.{parse_map}
 use Rattle.serde_json.specs.Data.{Data, array, object, Items, Members, put}
-use Rattle.serde_json.specs.Find.{as_array, as_number}
-use Rattle.serde_json.specs.View.{number_view}
-use Rattle.serde_json.specs.declared.number.Number.{Number}
+use Rattle.serde_json.specs.Find.{as_array}
 use Rattle.json_fields.specs.Each.{Each}
-use Rattle.json_fields.specs.Object.{ArrayIs, IsNumber, list_of}
+use Rattle.json_fields.specs.Object.{ArrayIs, list_of}
 use Rattle.json_fields.specs.Tokens.{Holds, AreOr, IsListOr, Takes, TakesItems, TakesObject, joined}
 use Rattle.json_fields.specs.declared.fault.JsonFault.{JsonFault}
 use Rattle.json_fields.proofs.FaultLemmas.{fault_by}
@@ -94,7 +92,3 @@ pub object_taken : {X : Type 0} (R : X → Data → Type 0) (depth : ℕ) (old m
 object_taken R depth old mid new (Ok kept) first some h =
     (object h.0, object_opened depth old mid first some ∙ ap (parse_map object) h.1, h.2)
 object_taken R depth old mid new (Err fault) first some h = fault_by fault (λ none. object_opened depth old mid first some ∙ ap (parse_map object) none) h
-
-pub number_or : (n : Option Number) (d : Data) → option_map number_view n ≡ as_number d → Holds number_view n (IsNumber d)
-number_or (Some n) d e = sym e
-number_or None d e = λ a h. not_some a (sym h ∙ sym e)

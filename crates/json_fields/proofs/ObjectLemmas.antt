@@ -69,6 +69,10 @@ pub some_list : {A B : Type 0} (f : A → B) (o : Option A) → is_some o ≡ is
 some_list f None = refl
 some_list f (Some x) = refl
 
+pub maps_there : {A B : Type 0} (f : A → B) (o : Option A) → option_map (option_map f) (option_map Some o) ≡ option_map Some (option_map f o)
+maps_there f None = refl
+maps_there f (Some x) = refl
+
 -- ---- whether the names are among some
 
 and_idempotent : (a b : Bool) → (a && b) ≡ (a && (a && b))

@@ -1,5 +1,5 @@
 -- What is taken from a text's tokens, a value at a time. The grammar over tokens is that of the tree.
-use Rattle.std.specs.Prelude.{◌≡◌, ℕ, ◌<◌, List, [], ◌∷◌, ◌++◌, length, Bool, true, false, is_some, option_map, Vec}
+use Rattle.std.specs.Prelude.{◌≡◌, ℕ, ◌<◌, List, [], ◌∷◌, ◌++◌, length, Bool, true, false, is_some, map, option_map, Vec}
 use Rattle.std.specs.declared.alloc.Global.{Global}
 use Rattle.std.specs.declared.option.Option.{Option}
 use Rattle.std.specs.declared.option.Option.TheVariants.{Some, None}
@@ -13,7 +13,7 @@ use Rattle.serde_json.specs.Read.{of_json, of_items, of_members, converted}
 use Rattle.serde_json.specs.View.{number_view}
 use Rattle.serde_json.specs.declared.number.Number.{Number as TreeNumber}
 use Rattle.json_fields.specs.Answers.{MemoryOr}
-use Rattle.json_fields.specs.Each.{Each}
+use Rattle.json_fields.specs.Each.{Each, IfThere}
 use Rattle.json_fields.specs.Object.{list_of}
 use Rattle.json_fields.specs.declared.fault.JsonFault.{JsonFault}
 use Rattle.json_fields.specs.declared.kind.Kind.{Kind}
@@ -122,6 +122,10 @@ Holds see None P = (a : _) → P a → ⊥
 abbrev pub IsOr : {X A : Type 0} → (X → A) → (Data → A → Type 0) → Option X → Data → Type 0
 IsOr see R found d = Holds see found (R d)
 
+-- what is kept of a member that may be absent: none where it stands for nothing
+abbrev pub Keeps : {X A : Type 0} → (X → A) → (Data → A → Type 0) → Option (Option X) → Option Data → Type 0
+Keeps see R kept o = Holds (option_map see) kept (IfThere R o)
+
 -- the elements, each
 abbrev pub AreOr : {X A : Type 0} → (X → List A) → (Data → A → Type 0) → Option X → List Data → Type 0
 AreOr see R found ds = Holds see found (Each R ds)
@@ -141,6 +145,9 @@ joined (Some list) None = None
 joined (Some list) (Some item) = Some (list ++ item ∷ [])
 
 -- ---- how what is kept of members is seen
+
+abbrev pub items_view : {X A : Type 0} → (X → A) → Vec X Global → List A
+items_view see v = map see v.items
 
 abbrev pub numbers_kept : Option (Option TreeNumber) → Option (Option Num)
 numbers_kept kept = option_map (option_map number_view) kept

@@ -16,6 +16,9 @@ pub enum JsonFault {
     NoMemory,
 }
 
+/// What a call answers that reads.
+pub type Read<T> = Result<T, JsonFault>;
+
 impl From<json::Invalid> for JsonFault {
     ghost from_gives = { λ _ e. e ≡ NoJson };
 

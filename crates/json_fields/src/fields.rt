@@ -1,15 +1,16 @@
 //! What is kept of an object: its members are read in order, and of those of one name the last counts.
-ghost use Rattle.std.specs.Prelude.{◌≡◌, None, Some, IfOk, IfErr, is_some, map, option_map};
+ghost use Rattle.std.specs.Prelude.{◌≡◌, true, false, None, Some, IfOk, IfErr, is_some, map, option_map};
 ghost use Rattle.serde_json.specs.Data.{Data, Members, object, no_members, put};
 ghost use Rattle.serde_json.specs.Find.{as_object};
 ghost use Rattle.serde_json.specs.View.{number_view};
 ghost use Rattle.json_fields.specs.Object.{number_at, number_if_there, text_if_there, array_at, has_only, may_have_text};
 ghost use Rattle.json_fields.specs.Tokens.{KindIs, Takes, TakesObject, kind_text, numbers_kept, texts_kept};
 
-use crate::fault::JsonFault;
+use crate::fault::{JsonFault, Read};
 use crate::kind::Kind;
 use crate::names::is_among;
 use crate::passing::opens_object;
+use crate::values::there;
 use json::Reader;
 use serde_json::Number;
 use std::alloc::Global;
@@ -18,53 +19,36 @@ use std::alloc::Global;
 pub trait Fields: Drop {
     ghost keeps: { Self → Data → Type 0 };
 
-    /// Of an object that has no member.
-    fn of_empty() -> Self
-        ensures { keeps result (object no_members) };
-
-    /// Of what is no object.
-    fn of_other() -> Self
-        ensures { (d : Data) → as_object d ≡ None → keeps result d };
+    /// Of an object that has no member, or else of what is no object.
+    fn new(is_object: bool) -> Self
+        ensures object { is_object ≡ true → keeps result (object no_members) }
+        ensures other { (d : Data) → is_object ≡ false → as_object d ≡ None → keeps result d };
 
     /// Reads one more member, after its name.
-    fn read_member(
-        self,
-        alloc: Global,
-        name: &str,
-        reader: &mut Reader<'_>,
-        depth: usize,
-    ) -> Result<Self, JsonFault>
+    fn keep(self, alloc: Global, name: &str, reader: &mut Reader, depth: usize) -> Read<Self>
         ensures { Takes
             (λ kept d. (ms : Members) → keeps self (object ms) → keeps kept (object (put name.now d ms)))
             depth reader.old reader.new result };
 }
 
 /// What is kept of the next value.
-pub fn read_object<F: Fields>(
-    alloc: Global,
-    reader: &mut Reader<'_>,
-    depth: usize,
-) -> Result<F, JsonFault>
+pub fn read_object<F: Fields>(alloc: Global, reader: &mut Reader<'_>, depth: usize) -> Read<F>
     ensures { Takes F.keeps depth reader.old reader.new result }
 {
     let opens = opens_object(reader, depth)?;
     if !opens {
-        return Ok(F::of_other());
+        return Ok(F::new(false));
     }
     read_members(alloc, reader, depth - 1)
 }
 
 // What is kept of an object, after its opening bracket.
-fn read_members<F: Fields>(
-    alloc: Global,
-    reader: &mut Reader<'_>,
-    depth: usize,
-) -> Result<F, JsonFault>
+fn read_members<F: Fields>(alloc: Global, reader: &mut Reader<'_>, depth: usize) -> Read<F>
     ensures { TakesObject F.keeps depth reader.old reader.new result }
 {
-    let mut kept = F::of_empty();
+    let mut kept = F::new(true);
     'members: while let Some(name) = reader.next_key()? {
-        let more = kept.read_member(alloc, name, reader, depth)?;
+        let more = kept.keep(alloc, name, reader, depth)?;
         kept = more;
     }
     Ok(kept)
@@ -122,10 +106,7 @@ pub fn number_if_there_after(
         → numbers_kept result ≡ number_if_there wanted.now (object (put name.now d ms)) }
 {
     if name == wanted {
-        match kind.number() {
-            Some(number) => Some(Some(number)),
-            None => None,
-        }
+        there(kind.number())
     } else {
         before
     }
@@ -138,7 +119,7 @@ pub fn text_if_there_after(
     wanted: &str,
     name: &str,
     kind: Kind<'_>,
-) -> Result<Option<Option<Vec<u8>>>, JsonFault>
+) -> Read<Option<Option<Vec<u8>>>>
     ensures ok { IfOk result (λ r. (d : Data) (ms : Members) → KindIs kind.entry d
         → texts_kept before ≡ text_if_there wanted.now (object ms)
         → texts_kept r ≡ text_if_there wanted.now (object (put name.now d ms))) }
@@ -153,7 +134,7 @@ pub fn text_if_there_after(
 }
 
 // A copy of a text's bytes, and none of another value.
-fn kept_text(alloc: Global, kind: Kind<'_>) -> Result<Option<Option<Vec<u8>>>, JsonFault>
+fn kept_text(alloc: Global, kind: Kind<'_>) -> Read<Option<Option<Vec<u8>>>>
     ensures ok { IfOk result (λ r. texts_kept r ≡ option_map Some (kind_text kind.entry)) }
     ensures err { IfErr result (λ e. e ≡ JsonFault.NoMemory) }
 {

@@ -2,7 +2,7 @@
 ghost use Rattle.std.specs.Prelude.{◌≡◌};
 ghost use Rattle.json_fields.specs.Tree.{IsOfFile, IsOfText};
 
-use crate::fault::JsonFault;
+use crate::fault::{JsonFault, Read};
 use crate::fields::{Fields, read_object};
 use json::{Reader, Scratch};
 use simdutf8::basic::from_utf8;
@@ -12,7 +12,7 @@ use std::alloc::Global;
 const MAX_DEPTH: usize = 127;
 
 /// What is kept of a file. It takes one pass, and beside what is kept memory for a copy of the file at most.
-pub fn read_file<F: Fields>(alloc: Global, bytes: &[u8]) -> Result<F, JsonFault>
+pub fn read_file<F: Fields>(alloc: Global, bytes: &[u8]) -> Read<F>
     ensures { IsOfFile F.keeps bytes.now result }
 {
     let Ok(text) = from_utf8(bytes) else {
@@ -22,7 +22,7 @@ pub fn read_file<F: Fields>(alloc: Global, bytes: &[u8]) -> Result<F, JsonFault>
 }
 
 // What is kept of a text.
-fn read_text<F: Fields>(alloc: Global, text: &str) -> Result<F, JsonFault>
+fn read_text<F: Fields>(alloc: Global, text: &str) -> Read<F>
     ensures { IsOfText F.keeps text.now result }
 {
     let mut scratch = Scratch::new(alloc);

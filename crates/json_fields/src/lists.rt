@@ -4,7 +4,7 @@ ghost use Rattle.serde_json.specs.Data.{Data};
 ghost use Rattle.json_fields.specs.Tokens.{AreOr, IsListOr, IsOr, Takes, TakesItems, joined};
 ghost use Rattle.json_fields.specs.declared.fault.JsonFault.TheVariants.{NoMemory as OutOfMemory};
 
-use crate::fault::JsonFault;
+use crate::fault::{JsonFault, Read};
 use crate::passing::opens_array;
 use json::Reader;
 use std::alloc::Global;
@@ -22,11 +22,7 @@ pub trait Element {
     ghost stands_for: { Data → Seen → Type 0 };
 
     /// Reads the next value, and answers what it stands for, if for anything.
-    fn read(
-        alloc: Global,
-        reader: &mut Reader<'_>,
-        depth: usize,
-    ) -> Result<Option<Self::Item>, JsonFault>
+    fn read(alloc: Global, reader: &mut Reader<'_>, depth: usize) -> Read<Option<Self::Item>>
         ensures { Takes (IsOr see stands_for) depth reader.old reader.new result };
 }
 
@@ -35,7 +31,7 @@ pub fn read_list<E: Element>(
     alloc: Global,
     reader: &mut Reader<'_>,
     depth: usize,
-) -> Result<Option<Vec<E::Item>>, JsonFault>
+) -> Read<Option<Vec<E::Item>>>
     ensures { Takes (IsListOr (λ v. map E.see v.items) E.stands_for) depth reader.old reader.new result }
 {
     let opens = opens_array(reader, depth)?;
@@ -50,7 +46,7 @@ fn read_items<E: Element>(
     alloc: Global,
     reader: &mut Reader<'_>,
     depth: usize,
-) -> Result<Option<Vec<E::Item>>, JsonFault>
+) -> Read<Option<Vec<E::Item>>>
     ensures { TakesItems (AreOr (λ v. map E.see v.items) E.stands_for) depth reader.old reader.new result }
 {
     let mut list = Some(Vec::new(alloc));
@@ -63,7 +59,7 @@ fn read_items<E: Element>(
 }
 
 // The list with one more item, where there are both.
-fn with<T: Drop>(list: Option<Vec<T>>, item: Option<T>) -> Result<Option<Vec<T>>, JsonFault>
+fn with<T: Drop>(list: Option<Vec<T>>, item: Option<T>) -> Read<Option<Vec<T>>>
     ensures ok { IfOk result
         (λ r. option_map (λ v. v.items) r ≡ joined (option_map (λ v. v.items) list) item) }
     ensures err { IfErr result (λ e. e ≡ OutOfMemory) }

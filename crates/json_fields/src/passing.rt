@@ -2,13 +2,13 @@
 ghost use Rattle.std.specs.Prelude.{◌≡◌};
 ghost use Rattle.json_fields.specs.Tokens.{Anything, KindIs, Opens, OpensArray, OpensObject, Takes, TakesItems, TakesObject};
 
-use crate::fault::JsonFault;
+use crate::fault::{JsonFault, Read};
 use crate::kind::Kind;
 use crate::numeral::read_number;
 use json::{Reader, Token};
 
 // What the next value is. Of an array and an object the opening bracket alone is taken.
-pub(crate) fn open<'a>(reader: &mut Reader<'a>, depth: usize) -> Result<Kind<'a>, JsonFault>
+pub(crate) fn open<'a>(reader: &mut Reader<'a>, depth: usize) -> Read<Kind<'a>>
     ensures { Opens depth reader.old reader.new result }
 {
     let token = reader.next().ok_or(JsonFault::Json)?;
@@ -36,7 +36,7 @@ pub(crate) fn open<'a>(reader: &mut Reader<'a>, depth: usize) -> Result<Kind<'a>
 
 /// Passes the next value over, and tells what it was.
 #[cycle(pass)]
-pub fn pass<'a>(reader: &mut Reader<'a>, depth: usize) -> Result<Kind<'a>, JsonFault>
+pub fn pass<'a>(reader: &mut Reader<'a>, depth: usize) -> Read<Kind<'a>>
     ensures { Takes KindIs depth reader.old reader.new result }
 {
     let kind = open(reader, depth)?;
@@ -54,7 +54,7 @@ pub fn pass<'a>(reader: &mut Reader<'a>, depth: usize) -> Result<Kind<'a>, JsonF
 }
 
 #[cycle(pass)]
-fn pass_items(reader: &mut Reader<'_>, depth: usize) -> Result<(), JsonFault>
+fn pass_items(reader: &mut Reader<'_>, depth: usize) -> Read<()>
     ensures { TakesItems Anything depth reader.old reader.new result }
 {
     'items: while !reader.take_end_array() {
@@ -64,7 +64,7 @@ fn pass_items(reader: &mut Reader<'_>, depth: usize) -> Result<(), JsonFault>
 }
 
 #[cycle(pass)]
-fn pass_members(reader: &mut Reader<'_>, depth: usize) -> Result<(), JsonFault>
+fn pass_members(reader: &mut Reader<'_>, depth: usize) -> Read<()>
     ensures { TakesObject Anything depth reader.old reader.new result }
 {
     'members: while let Some(_) = reader.next_key()? {
@@ -74,7 +74,7 @@ fn pass_members(reader: &mut Reader<'_>, depth: usize) -> Result<(), JsonFault>
 }
 
 // Whether an array comes, of which the bracket is taken. Any other value is passed over.
-pub(crate) fn opens_array(reader: &mut Reader<'_>, depth: usize) -> Result<bool, JsonFault>
+pub(crate) fn opens_array(reader: &mut Reader<'_>, depth: usize) -> Read<bool>
     ensures { OpensArray depth reader.old reader.new result }
 {
     let kind = open(reader, depth)?;
@@ -89,7 +89,7 @@ pub(crate) fn opens_array(reader: &mut Reader<'_>, depth: usize) -> Result<bool,
 }
 
 // Whether an object comes, likewise.
-pub(crate) fn opens_object(reader: &mut Reader<'_>, depth: usize) -> Result<bool, JsonFault>
+pub(crate) fn opens_object(reader: &mut Reader<'_>, depth: usize) -> Read<bool>
     ensures { OpensObject depth reader.old reader.new result }
 {
     let kind = open(reader, depth)?;

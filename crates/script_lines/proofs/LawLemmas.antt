@@ -5,11 +5,11 @@ use Rattle.std.specs.declared.result.Result.{Result}
 use Rattle.std.proofs.lemmas.Bool.{cases_eq, cases_lt}
 use Rattle.path_model.proofs.Decide.{Decided, decided_either, decided_both}
 use Rattle.av_text.specs.Words.{words_of}
-use Rattle.script_lines.specs.declared.command.Command.{Command}
-use Rattle.script_lines.specs.declared.command.Command.TheVariants.{Idle}
-use Rattle.script_lines.specs.declared.command.CommandName.{CommandName}
-use Rattle.script_lines.specs.declared.command.LineFault.{LineFault}
-use Rattle.script_lines.specs.declared.command.LineFault.TheVariants.{Long, Command as NoCommand, Words, Number, NoMemory}
+use Rattle.script_lines.specs.declared.commands.Command.{Command}
+use Rattle.script_lines.specs.declared.commands.Command.TheVariants.{Idle}
+use Rattle.script_lines.specs.declared.commands.CommandName.{CommandName}
+use Rattle.script_lines.specs.declared.fault.LineFault.{LineFault}
+use Rattle.script_lines.specs.declared.fault.LineFault.TheVariants.{Long, Command as NoCommand, Words, Number, NoMemory}
 use Rattle.script_lines.specs.Forms.{Fits, SomeNoNumber}
 use Rattle.script_lines.specs.Commands.{name_text, form_of, made_by, SpellsCommand}
 use Rattle.script_lines.specs.Grammar.{IsComment, IsRead, IsPrintable, IsNamed, IsReading}

@@ -2,11 +2,10 @@
 use Rattle.std.proofs.Common.{◌≡◌, ℕ, List, [], ◌∷◌, refl}
 use Rattle.path_model.proofs.Decide.{Decided}
 use Rattle.av_text.proofs.SpellingLemmas.{value_among, found_injective, found_or_none}
-use Rattle.script_lines.specs.declared.command.CommandName.{CommandName}
-use Rattle.script_lines.specs.declared.command.CommandName.TheVariants.{Aspa as AspaName, Aspa64 as Aspa64Name, Validated as ValidatedName, Slurm as SlurmName, Filter as FilterName, Unfilter as UnfilterName, Assert as AssertName, Unassert as UnassertName, At as AtName, Role as RoleName, Open as OpenName, Bmp as BmpName, Take as TakeName, Until as UntilName, Feed as FeedName, Ask as AskName, Sync as SyncName, Serve as ServeName, Judge as JudgeName, Clear as ClearName, Changes as ChangesName, Why as WhyName, Details as DetailsName, Say as SayName, Show as ShowName}
-use Rattle.script_lines.specs.declared.command.Show.TheVariants.{Report, Origins, Leaks, Suspects, Summary}
+use Rattle.script_lines.specs.declared.commands.CommandName.{CommandName}
+use Rattle.script_lines.specs.declared.commands.CommandName.TheVariants.{Aspa as AspaName, Aspa64 as Aspa64Name, Validated as ValidatedName, Slurm as SlurmName, Filter as FilterName, Unfilter as UnfilterName, Assert as AssertName, Unassert as UnassertName, At as AtName, Role as RoleName, Open as OpenName, Bmp as BmpName, Take as TakeName, Until as UntilName, Feed as FeedName, Ask as AskName, Sync as SyncName, Serve as ServeName, Judge as JudgeName, Clear as ClearName, Changes as ChangesName, Why as WhyName, Details as DetailsName, Say as SayName, Report as ReportName, Origins as OriginsName, Leaks as LeaksName, Suspects as SuspectsName, Summary as SummaryName}
 use Rattle.script_lines.specs.Commands.{name_text}
-use Rattle.script_lines.specs.Grammar.{IsCommandName}
+use Rattle.script_lines.specs.Commands.{IsCommandName}
 
 -- the command that a word could name
 name_of : List ℕ → CommandName
@@ -14,7 +13,7 @@ name_of = value_among name_text JudgeName
     (AspaName ∷ Aspa64Name ∷ ValidatedName ∷ SlurmName ∷ FilterName ∷ UnfilterName ∷ AssertName ∷ UnassertName
     ∷ AtName ∷ RoleName ∷ OpenName ∷ BmpName ∷ TakeName ∷ UntilName ∷ FeedName ∷ AskName ∷ SyncName ∷ ServeName ∷ ClearName ∷ ChangesName ∷ WhyName
     ∷ DetailsName ∷ SayName
-    ∷ ShowName Report ∷ ShowName Origins ∷ ShowName Leaks ∷ ShowName Suspects ∷ ShowName Summary ∷ [])
+    ∷ ReportName ∷ OriginsName ∷ LeaksName ∷ SuspectsName ∷ SummaryName ∷ [])
 
 name_of-name_text : (name : CommandName) → name_of (name_text name) ≡ name
 unfolding name_of value_among
@@ -42,11 +41,11 @@ name_of-name_text ChangesName = refl
 name_of-name_text WhyName = refl
 name_of-name_text DetailsName = refl
 name_of-name_text SayName = refl
-name_of-name_text (ShowName Report) = refl
-name_of-name_text (ShowName Origins) = refl
-name_of-name_text (ShowName Leaks) = refl
-name_of-name_text (ShowName Suspects) = refl
-name_of-name_text (ShowName Summary) = refl
+name_of-name_text ReportName = refl
+name_of-name_text OriginsName = refl
+name_of-name_text LeaksName = refl
+name_of-name_text SuspectsName = refl
+name_of-name_text SummaryName = refl
 
 -- two commands with one name are one
 pub name_text_injective : (one other : CommandName) → name_text one ≡ name_text other → one ≡ other

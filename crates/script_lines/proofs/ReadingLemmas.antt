@@ -3,9 +3,9 @@ use Rattle.std.proofs.Common.{◌≢◌, inr, ℕ, List, IfOk, IfErr, refl}
 use Rattle.std.specs.List.{All}
 use Rattle.std.specs.declared.result.Result.{Result}
 use Rattle.std.specs.declared.result.Result.TheVariants.{Ok, Err}
-use Rattle.script_lines.specs.declared.command.Command.{Command}
-use Rattle.script_lines.specs.declared.command.LineFault.{LineFault}
-use Rattle.script_lines.specs.declared.command.LineFault.TheVariants.{Long, Command as NoCommand, Words, Number, NoMemory}
+use Rattle.script_lines.specs.declared.commands.Command.{Command}
+use Rattle.script_lines.specs.declared.fault.LineFault.{LineFault}
+use Rattle.script_lines.specs.declared.fault.LineFault.TheVariants.{Long, Command as NoCommand, Words, Number, NoMemory}
 use Rattle.script_lines.specs.Fields.{RefusesWords}
 use Rattle.script_lines.specs.Commands.{form_of, SpellsCommand}
 use Rattle.script_lines.specs.Grammar.{IsNamed, IsPrintable, IsReading}

@@ -19,7 +19,7 @@ use Rattle.av_text.specs.VerdictText.{verdict_text}
 use Rattle.av_text.proofs.AnySpellingLemmas.{addr_or_none, prefix_or_none, prefix_text_injective, peer_text_injective}
 use Rattle.av_text.proofs.NumberLemmas.{number_or_none, no_number-other, map-decimal_injective}
 use Rattle.av_text.proofs.SpellingLemmas.{value_among, found_injective, found_or_none, decided_text, role_text_injective, decided_role}
-use Rattle.script_lines.specs.declared.command.Command.{Command}
+use Rattle.script_lines.specs.declared.commands.Command.{Command}
 use Rattle.script_lines.specs.Word.{IsVisible}
 use Rattle.script_lines.specs.Kinds.{view_text, WordKind, NAME, TEXT, ROLE, VIEW, VERDICT, ADDRESS, PREFIX, NUMBER, WHOM, ValueOf, Spells, HasForm, LacksNumber}
 use Rattle.script_lines.specs.Forms.{Form, end, ases, texts, optional, ◌then◌, sentence, Builds, IsSpelled, Fits, SomeNoAs, SomeNoNumber}

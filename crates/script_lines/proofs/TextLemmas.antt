@@ -6,8 +6,8 @@ use Rattle.std.specs.declared.result.Result.{Result}
 use Rattle.std.specs.declared.result.Result.TheVariants.{Ok, Err}
 use Rattle.std.proofs.lemmas.List.Elements.{All-append, All-cons, All-head, All-nil, All-tail, All-weaker}
 use Rattle.script_lines.specs.Word.{IsVisible, IsSaid}
-use Rattle.script_lines.specs.declared.command.LineFault.{LineFault}
-use Rattle.script_lines.specs.declared.command.LineFault.TheVariants.{Long, Command as NoCommand, Words, Number, NoMemory}
+use Rattle.script_lines.specs.declared.fault.LineFault.{LineFault}
+use Rattle.script_lines.specs.declared.fault.LineFault.TheVariants.{Long, Command as NoCommand, Words, Number, NoMemory}
 use Rattle.script_lines.specs.Kinds.{TEXT, HasForm}
 use Rattle.script_lines.specs.Forms.{AreTexts, texts, sentence}
 use Rattle.script_lines.specs.Fields.{AreSpelled, RefusesWord, RefusesTexts, RefusesWords}

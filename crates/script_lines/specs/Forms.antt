@@ -4,7 +4,7 @@ use Rattle.std.specs.List.{join_with_byte}
 use Rattle.std.specs.declared.option.Option.{Option}
 use Rattle.std.specs.declared.option.Option.TheVariants.{Some, None}
 use Rattle.av_text.specs.Number.{Is32Bit, IsNoNumber}
-use Rattle.script_lines.specs.declared.command.Command.{Command}
+use Rattle.script_lines.specs.declared.commands.Command.{Command}
 use Rattle.script_lines.specs.Kinds.{WordKind, TEXT, ValueOf, Spells, HasForm, LacksNumber}
 
 infixr 5 ◌then◌

@@ -4,17 +4,13 @@ use Rattle.std.specs.declared.option.Option.TheVariants.{Some}
 use Rattle.std.specs.declared.result.Result.{Result}
 use Rattle.std.specs.declared.result.Result.TheVariants.{Ok, Err}
 use Rattle.av_text.specs.Words.{words_of}
-use Rattle.script_lines.specs.declared.command.Command.{Command}
-use Rattle.script_lines.specs.declared.command.Command.TheVariants.{Idle}
-use Rattle.script_lines.specs.declared.command.CommandName.{CommandName}
-use Rattle.script_lines.specs.declared.command.LineFault.{LineFault}
-use Rattle.script_lines.specs.declared.command.LineFault.TheVariants.{Long, Command as NoCommand, Words, Number, NoMemory}
+use Rattle.script_lines.specs.declared.commands.Command.{Command}
+use Rattle.script_lines.specs.declared.commands.Command.TheVariants.{Idle}
+use Rattle.script_lines.specs.declared.commands.CommandName.{CommandName}
+use Rattle.script_lines.specs.declared.fault.LineFault.{LineFault}
+use Rattle.script_lines.specs.declared.fault.LineFault.TheVariants.{Long, Command as NoCommand, Words, Number, NoMemory}
 use Rattle.script_lines.specs.Forms.{Fits, SomeNoNumber}
-use Rattle.script_lines.specs.Commands.{name_text, form_of, SpellsCommand}
-
--- a word that some command begins with
-abbrev pub IsCommandName : List ℕ → Type 0
-IsCommandName word = (name : CommandName) × (word ≡ name_text name)
+use Rattle.script_lines.specs.Commands.{IsCommandName, name_text, form_of, SpellsCommand}
 
 -- the first byte is `#`
 abbrev pub IsComment : List ℕ → Type 0

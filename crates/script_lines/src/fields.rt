@@ -4,7 +4,7 @@ ghost use Rattle.av_text.specs.Words.{words_left};
 ghost use Rattle.script_lines.specs.Fields.{joined, RefusesTexts};
 ghost use Rattle.script_lines.specs.Forms.{AreAses, AreTexts, SomeNoAs, sentence};
 
-use crate::command::LineFault;
+use crate::fault::LineFault;
 use crate::kinds::{Kind, TextWord};
 use crate::saying::Saying;
 use av_text::{Words, read_u32};
@@ -16,7 +16,7 @@ use std::marker::PhantomData;
 pub(crate) trait Fields {
     ghost use Rattle.script_lines.specs.Forms.{Form, Builds};
     ghost use Rattle.script_lines.specs.Fields.{AreSpelled, RefusesWords};
-    ghost use Rattle.script_lines.specs.declared.command.Command.{Command};
+    ghost use Rattle.script_lines.specs.declared.commands.Command.{Command};
 
     type Values: Drop;
 

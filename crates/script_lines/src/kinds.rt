@@ -2,9 +2,10 @@
 ghost use Rattle.std.specs.Prelude.{◌≡◌, ◌≢◌, ◌↔◌, Bool, codes, IfOk, IfErr, IfSome, IfNone, IsTrue};
 ghost use Rattle.path_model.specs.declared.verdict.Verdict.{Verdict as AnyVerdict};
 ghost use Rattle.av_text.specs.VerdictText.{verdict_text};
-ghost use Rattle.script_lines.specs.Kinds.{view_text};
+ghost use Rattle.script_lines.specs.Commands.{SESSION};
+ghost use Rattle.script_lines.specs.Kinds.{ADDRESS, NAME, NUMBER, PREFIX, ROLE, TEXT, VERDICT, VIEW, WHOM, view_text};
 
-use crate::command::LineFault;
+use crate::fault::LineFault;
 use crate::word::Word;
 use av_text::{read_addr, read_name, read_prefix, read_role, read_u32};
 use path_model::{Addr, Name, Prefix, Role, Verdict};
@@ -31,8 +32,6 @@ pub(crate) trait Kind {
 pub(crate) struct NameWord;
 
 impl Kind for NameWord {
-    ghost use Rattle.script_lines.specs.Kinds.{NAME};
-
     type Value = Name;
 
     ghost kind = { NAME };
@@ -51,8 +50,6 @@ impl Kind for NameWord {
 pub(crate) struct TextWord;
 
 impl Kind for TextWord {
-    ghost use Rattle.script_lines.specs.Kinds.{TEXT};
-
     type Value = Word;
 
     ghost kind = { TEXT };
@@ -71,8 +68,6 @@ impl Kind for TextWord {
 pub(crate) struct RoleWord;
 
 impl Kind for RoleWord {
-    ghost use Rattle.script_lines.specs.Kinds.{ROLE};
-
     type Value = Role;
 
     ghost kind = { ROLE };
@@ -91,8 +86,6 @@ impl Kind for RoleWord {
 pub(crate) struct ViewWord;
 
 impl Kind for ViewWord {
-    ghost use Rattle.script_lines.specs.Kinds.{VIEW};
-
     type Value = bool;
 
     ghost kind = { VIEW };
@@ -123,8 +116,6 @@ fn read_view(word: &[u8]) -> Option<bool>
 pub(crate) struct VerdictWord;
 
 impl Kind for VerdictWord {
-    ghost use Rattle.script_lines.specs.Kinds.{VERDICT};
-
     type Value = Verdict;
 
     ghost kind = { VERDICT };
@@ -156,8 +147,6 @@ fn read_verdict(word: &[u8]) -> Option<Verdict>
 pub(crate) struct AddressWord;
 
 impl Kind for AddressWord {
-    ghost use Rattle.script_lines.specs.Kinds.{ADDRESS};
-
     type Value = Addr;
 
     ghost kind = { ADDRESS };
@@ -176,8 +165,6 @@ impl Kind for AddressWord {
 pub(crate) struct PrefixWord;
 
 impl Kind for PrefixWord {
-    ghost use Rattle.script_lines.specs.Kinds.{PREFIX};
-
     type Value = Prefix;
 
     ghost kind = { PREFIX };
@@ -209,8 +196,6 @@ pub(crate) type CountWord = NumberWord<1, 100_000_000>;
 
 #[tactic(auto, using(crate::proofs::KindLemmas::number_steps))]
 impl<const LEAST: u32, const MOST: u32> Kind for NumberWord<LEAST, MOST> {
-    ghost use Rattle.script_lines.specs.Kinds.{NUMBER};
-
     type Value = u32;
 
     ghost kind = { NUMBER LEAST MOST };
@@ -230,8 +215,6 @@ pub(crate) struct SessionWord;
 
 #[tactic(auto, using(crate::proofs::KindLemmas::number_steps))]
 impl Kind for SessionWord {
-    ghost use Rattle.script_lines.specs.Commands.{SESSION};
-
     type Value = u16;
 
     ghost kind = { SESSION };
@@ -251,8 +234,6 @@ pub(crate) struct WhomWord;
 
 #[tactic(auto, using(crate::proofs::KindLemmas::whom_steps))]
 impl Kind for WhomWord {
-    ghost use Rattle.script_lines.specs.Kinds.{WHOM};
-
     type Value = Option<u32>;
 
     ghost kind = { WHOM };

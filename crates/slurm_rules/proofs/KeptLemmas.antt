@@ -1,45 +1,46 @@
--- What is kept of a file's objects says what they are.
-use Rattle.std.proofs.Common.{◌≡◌, List, ℕ, codes, Option, None, Vec, subst}
+-- What is kept of a part says what it is.
+use Rattle.std.proofs.Common.{◌≡◌, ℕ, List, Bool, Option, Some, None, Vec, subst}
 use Rattle.std.specs.declared.alloc.Global.{Global}
-use Rattle.serde_json.specs.Data.{Num, Data}
+use Rattle.serde_json.specs.Data.{Data, Num}
 use Rattle.serde_json.specs.Find.{get}
-use Rattle.serde_json.specs.declared.number.Number.{Number}
-use Rattle.json_fields.specs.Object.{IsNumber, ArrayIs, MemberIs}
-use Rattle.slurm_rules.specs.Form.{Assertion, Assertions, Filters, PrefixAssertionText, PrefixFilterText, IsAssertion, IsAssertionPart, IsFilter, IsFilterPart, IsPrefixAssertion, IsPrefixFilter, drafts_view, numbers_view, prefix_assertions_view, prefix_filters_view}
-use Rattle.slurm_rules.specs.Kept.{AssertionIs, AssertionPartAt, AssertionPartIs, FilterPartAt, FilterPartIs}
-use Rattle.json_fields.specs.Tokens.{Holds}
+use Rattle.serde_json.specs.View.{number_view}
+use Rattle.json_fields.specs.Tokens.{items_view}
+use Rattle.json_fields.specs.Object.{ArrayIs, MemberIs}
+use Rattle.json_fields.proofs.ValuesLemmas.{holds_none}
+use Rattle.slurm_rules.specs.Form.{Assertion, Assertions, Filters, IsAssertion, IsAssertionPart, IsFilter, IsFilterPart, IsPrefixAssertion, IsPrefixFilter, PrefixAssertionText, PrefixFilterText, assertion_view, prefix_assertion_view, prefix_filter_view}
+use Rattle.slurm_rules.specs.Kept.{ArrayNames, IsPart, Lists, PartAt, PartIs, assertion_names, filter_names}
 use Rattle.slurm_rules.specs.declared.draft.Version.{Version}
-use Rattle.slurm_rules.specs.declared.element.AssertionFields.{AssertionFields}
-use Rattle.slurm_rules.specs.declared.part.AssertionPart.{AssertionPart}
-use Rattle.slurm_rules.specs.declared.part.FilterPart.{FilterPart}
+use Rattle.slurm_rules.specs.declared.draft.Version.TheVariants.{One, Two}
 
--- a part that has no list of such elements
-array_fails : {X A : Type 0} (see : X → List A) (R : Data → A → Type 0) (name : List ℕ) (d : Data) (found : Option X) → found ≡ None → Holds see found (ArrayIs R name d) → (list : List A) → ArrayIs R name d list → ⊥
-array_fails {X} see R name d found none holds = subst (λ (o : Option X). Holds see o (ArrayIs R name d)) none holds
+-- under other names that are the same
+pub renamed : {X Y A B : Type 0} {see : X → A} {R : Data → A → Type 0} {look : Y → B} {S : Data → B → Type 0} {one two bgpsec : Bool} {prefixes : Option (Vec Y Global)}
+    {aspas : Option (Vec X Global)} {d : Data} {these those : ArrayNames} → these ≡ those → PartIs see R look S these one two bgpsec prefixes aspas d
+    → PartIs see R look S those one two bgpsec prefixes aspas d
+renamed {see = see} {R = R} {look = look} {S = S} {one = one} {two = two} {bgpsec = bgpsec} {prefixes = prefixes} {aspas = aspas} {d = d} same is =
+    subst (λ (n : ArrayNames). PartIs see R look S n one two bgpsec prefixes aspas d) same is
 
-module _ (kept : FilterPart) where
-  pub filter_prefixes_fail : kept.prefixes ≡ None → (d : Data) → FilterPartIs kept d → (list : List PrefixFilterText) → ArrayIs IsPrefixFilter (codes "prefixFilters") d list → ⊥
-  filter_prefixes_fail none d is = array_fails prefix_filters_view IsPrefixFilter (codes "prefixFilters") d kept.prefixes none is.prefixes_are
+module _ {X Y A B : Type 0} (see : X → A) (R : Data → A → Type 0) (look : Y → B) (S : Data → B → Type 0) (one two bgpsec : Bool) (prefixes : Option (Vec Y Global)) (aspas : Option (Vec X Global)) where
+  module _ (names : ArrayNames) (name : List ℕ) (d m : Data) (is : PartAt see R look S names one two bgpsec prefixes aspas (get name d)) (there : get name d ≡ Some m) where
+    here : PartIs see R look S names one two bgpsec prefixes aspas m
+    here = subst (λ (o : Option Data). PartAt see R look S names one two bgpsec prefixes aspas o) there is
 
-  pub customers_fail : kept.customers ≡ None → (d : Data) → FilterPartIs kept d → (list : List Num) → ArrayIs IsFilter (codes "aspaFilters") d list → ⊥
-  customers_fail none d is = array_fails numbers_view IsFilter (codes "aspaFilters") d kept.customers none is.list_is
+    -- a part without one of its arrays
+    pub no_prefixes : prefixes ≡ None → (list : List B) → ArrayIs S names.prefixes m list → ⊥
+    no_prefixes none = holds_none (items_view look) (ArrayIs S names.prefixes m) prefixes none here.prefixes_are
 
-  pub no_filters : (version : Version) → ((d : Data) → FilterPartIs kept d → (f : Filters) → IsFilterPart version d f → ⊥) → (name : List ℕ) (d : Data) → FilterPartAt kept (get name d)
-      → (f : Filters) → MemberIs (IsFilterPart version) name d f → ⊥
-  no_filters version none name d is f h = none h.member (subst (λ (o : Option Data). FilterPartAt kept o) h.is is) f h.holds
+    pub no_aspas : aspas ≡ None → (list : List A) → ArrayIs R names.aspas m list → ⊥
+    no_aspas none = holds_none (items_view see) (ArrayIs R names.aspas m) aspas none here.aspas_are
 
-module _ (kept : AssertionPart) where
-  pub assertion_prefixes_fail : kept.prefixes ≡ None → (d : Data) → AssertionPartIs kept d → (list : List PrefixAssertionText) → ArrayIs IsPrefixAssertion (codes "prefixAssertions") d list → ⊥
-  assertion_prefixes_fail none d is = array_fails prefix_assertions_view IsPrefixAssertion (codes "prefixAssertions") d kept.prefixes none is.prefixes_are
+-- ---- no part of a version, whatever its elements are, is none of the filters, and none of the assertions
 
-  pub attestations_fail : kept.attestations ≡ None → (d : Data) → AssertionPartIs kept d → (list : List Assertion) → ArrayIs IsAssertion (codes "aspaAssertions") d list → ⊥
-  attestations_fail none d is = array_fails drafts_view IsAssertion (codes "aspaAssertions") d kept.attestations none is.list_is
+pub no_filters : (version : Version) (name : List ℕ) (d : Data)
+    → ((a : Lists Num PrefixFilterText) → MemberIs (IsPart number_view IsFilter prefix_filter_view IsPrefixFilter filter_names version) name d a → ⊥)
+    → (f : Filters) → MemberIs (IsFilterPart version) name d f → ⊥
+no_filters One name d none f h = none (record { aspas = f.customers; prefixes = f.prefixes }) (record { member = h.member; is = h.is; holds = h.holds })
+no_filters Two name d none f h = none (record { aspas = f.customers; prefixes = f.prefixes }) (record { member = h.member; is = h.is; holds = h.holds })
 
-  pub no_assertions : (version : Version) → ((d : Data) → AssertionPartIs kept d → (a : Assertions) → IsAssertionPart version d a → ⊥) → (name : List ℕ) (d : Data) → AssertionPartAt kept (get name d)
-      → (a : Assertions) → MemberIs (IsAssertionPart version) name d a → ⊥
-  no_assertions version none name d is a h = none h.member (subst (λ (o : Option Data). AssertionPartAt kept o) h.is is) a h.holds
-
-pub no_providers : (kept : AssertionFields) (d : Data) → AssertionIs kept d → kept.providers ≡ None → (a : Assertion) → IsAssertion d a → ⊥
-no_providers kept d is none a h =
-    subst (λ (o : Option (Vec Number Global)). Holds numbers_view o (ArrayIs IsNumber (codes "providerAsns") d)) none is.providers a.providers
-    (record { items = h.providers; is = h.attests; each = h.numbers })
+pub no_assertions : (version : Version) (name : List ℕ) (d : Data)
+    → ((a : Lists Assertion PrefixAssertionText) → MemberIs (IsPart assertion_view IsAssertion prefix_assertion_view IsPrefixAssertion assertion_names version) name d a → ⊥)
+    → (f : Assertions) → MemberIs (IsAssertionPart version) name d f → ⊥
+no_assertions One name d none f h = none (record { aspas = f.attestations; prefixes = f.prefixes }) (record { member = h.member; is = h.is; holds = h.holds })
+no_assertions Two name d none f h = none (record { aspas = f.attestations; prefixes = f.prefixes }) (record { member = h.member; is = h.is; holds = h.holds })

@@ -15,8 +15,7 @@ use Rattle.slurm_rules.specs.declared.draft.Version.TheVariants.{One, Two}
 use Rattle.slurm_rules.specs.declared.draft.DraftAssertion.{DraftAssertion}
 use Rattle.slurm_rules.specs.declared.draft.DraftPrefixFilter.{DraftPrefixFilter}
 use Rattle.slurm_rules.specs.declared.draft.DraftPrefixAssertion.{DraftPrefixAssertion}
-use Rattle.slurm_rules.specs.declared.draft.DraftFilters.{DraftFilters}
-use Rattle.slurm_rules.specs.declared.draft.DraftAssertions.{DraftAssertions}
+use Rattle.slurm_rules.specs.declared.draft.DraftPart.{DraftPart}
 use Rattle.slurm_rules.specs.declared.draft.Draft.{Draft}
 
 -- a customer and its providers, as numbers of the tree
@@ -110,17 +109,8 @@ pub record IsFile (version : Version) (d : Data) (form : Form) : Type 0 where
 abbrev pub assertion_view : DraftAssertion → Assertion
 assertion_view a = record { customer = number_view a.customer; providers = map number_view a.providers.items }
 
-abbrev pub numbers_view : Vec Number Global → List Num
-numbers_view v = map number_view v.items
-
-abbrev pub drafts_view : Vec DraftAssertion Global → List Assertion
-drafts_view v = map assertion_view v.items
-
 abbrev pub prefix_filter_view : DraftPrefixFilter → PrefixFilterText
 prefix_filter_view f = record { prefix = text_view f.prefix; asn = option_map number_view f.asn }
-
-abbrev pub prefix_filters_view : Vec DraftPrefixFilter Global → List PrefixFilterText
-prefix_filters_view v = map prefix_filter_view v.items
 
 abbrev pub prefix_assertion_view : DraftPrefixAssertion → PrefixAssertionText
 prefix_assertion_view a = record { prefix = a.prefix.items; asn = number_view a.asn; max = option_map number_view a.max }
@@ -128,11 +118,11 @@ prefix_assertion_view a = record { prefix = a.prefix.items; asn = number_view a.
 abbrev pub prefix_assertions_view : Vec DraftPrefixAssertion Global → List PrefixAssertionText
 prefix_assertions_view v = map prefix_assertion_view v.items
 
-abbrev pub filters_view : DraftFilters → Filters
-filters_view f = record { customers = map number_view f.customers.items; prefixes = map prefix_filter_view f.prefixes.items }
+abbrev pub filters_view : DraftPart Number DraftPrefixFilter → Filters
+filters_view f = record { customers = map number_view f.aspas.items; prefixes = map prefix_filter_view f.prefixes.items }
 
-abbrev pub added_view : DraftAssertions → Assertions
-added_view a = record { attestations = map assertion_view a.attestations.items; prefixes = map prefix_assertion_view a.prefixes.items }
+abbrev pub added_view : DraftPart DraftAssertion DraftPrefixAssertion → Assertions
+added_view a = record { attestations = map assertion_view a.aspas.items; prefixes = map prefix_assertion_view a.prefixes.items }
 
 abbrev pub draft_view : Draft → Form
 draft_view d = record { filters = filters_view d.filters; assertions = added_view d.assertions }

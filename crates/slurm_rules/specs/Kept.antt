@@ -1,34 +1,32 @@
 -- What is kept of a file's objects while they are read; private contracts alone cite it.
-use Rattle.std.specs.Prelude.{◌≡◌, ℕ, List, [], ◌∷◌, Bool, false, codes, is_some, option_map}
+use Rattle.std.specs.Prelude.{◌≡◌, ℕ, List, [], ◌∷◌, Bool, false, bytes_eq, codes, is_some, map, option_map, Vec}
+use Rattle.std.specs.declared.alloc.Global.{Global}
 use Rattle.std.specs.declared.option.Option.{Option}
 use Rattle.std.specs.declared.option.Option.TheVariants.{Some, None}
 use Rattle.serde_json.specs.Data.{Num, Data, unsigned}
 use Rattle.serde_json.specs.Find.{get}
 use Rattle.serde_json.specs.View.{number_view}
-use Rattle.json_fields.specs.Object.{ArrayIs, IsNumber, number_at, number_if_there, text_if_there, array_at, may_have_text, has_only}
-use Rattle.slurm_rules.specs.Form.{IsFilter, IsAssertion, IsPrefixFilter, IsPrefixAssertion, drafts_view, numbers_view, prefix_assertions_view, prefix_filters_view}
+use Rattle.json_fields.specs.Object.{ArrayIs, IsNumber, MemberIs, number_at, number_if_there, text_if_there, array_at, may_have_text, has_only}
+use Rattle.slurm_rules.specs.Form.{HasArrays, IsFilter, IsAssertion, IsPrefixFilter, IsPrefixAssertion, assertion_view, prefix_assertion_view, prefix_filter_view}
 use Rattle.slurm_rules.specs.Reading.{version_number}
-use Rattle.json_fields.specs.Tokens.{Holds, numbers_kept, texts_kept}
+use Rattle.json_fields.specs.Tokens.{Holds, numbers_kept, texts_kept, items_view}
 use Rattle.slurm_rules.specs.declared.draft.Version.{Version}
-use Rattle.slurm_rules.specs.declared.element.FilterFields.{FilterFields}
-use Rattle.slurm_rules.specs.declared.element.AssertionFields.{AssertionFields}
+use Rattle.slurm_rules.specs.declared.draft.Version.TheVariants.{One, Two}
+use Rattle.slurm_rules.specs.declared.draft.DraftPart.{DraftPart}
+use Rattle.slurm_rules.specs.declared.element.CustomerFields.{CustomerFields}
 use Rattle.slurm_rules.specs.declared.prefix_element.PrefixFields.{PrefixFields}
-use Rattle.slurm_rules.specs.declared.part.FilterPart.{FilterPart}
-use Rattle.slurm_rules.specs.declared.part.AssertionPart.{AssertionPart}
 use Rattle.slurm_rules.specs.declared.file.File.{File}
+use Rattle.slurm_rules.specs.declared.part.PartNames.{PartNames}
 
 -- ---- an element
 
-pub record FilterIs (kept : FilterFields) (d : Data) : Type 0 where
-  pub only : kept.only ≡ has_only (codes "comment" ∷ codes "customerAsn" ∷ []) d
+-- an element of `aspaFilters` or of `aspaAssertions`
+pub record CustomerIs (kept : CustomerFields) (d : Data) : Type 0 where
+  pub filter : kept.filter ≡ has_only (codes "comment" ∷ codes "customerAsn" ∷ []) d
+  pub assertion : kept.assertion ≡ has_only (codes "comment" ∷ codes "customerAsn" ∷ codes "providerAsns" ∷ []) d
   pub comment : kept.comment ≡ may_have_text (codes "comment") d
   pub customer : option_map number_view kept.customer ≡ number_at (codes "customerAsn") d
-
-pub record AssertionIs (kept : AssertionFields) (d : Data) : Type 0 where
-  pub only : kept.only ≡ has_only (codes "comment" ∷ codes "customerAsn" ∷ codes "providerAsns" ∷ []) d
-  pub comment : kept.comment ≡ may_have_text (codes "comment") d
-  pub customer : option_map number_view kept.customer ≡ number_at (codes "customerAsn") d
-  pub providers : Holds numbers_view kept.providers (ArrayIs IsNumber (codes "providerAsns") d)
+  pub providers : Holds (items_view number_view) kept.providers (ArrayIs IsNumber (codes "providerAsns") d)
 
 -- an element of `prefixFilters` or of `prefixAssertions`
 pub record PrefixIs (kept : PrefixFields) (d : Data) : Type 0 where
@@ -41,49 +39,68 @@ pub record PrefixIs (kept : PrefixFields) (d : Data) : Type 0 where
 
 -- ---- a part
 
--- what both versions ask of a part: whose names its members have, whether its bgpsec array is there, and what the elements of its other
--- arrays are
-pub record PartIs {X A Y B : Type 0} (see : X → List A) (R : Data → A → Type 0) (look : Y → List B) (S : Data → B → Type 0) (own bgpsec prefix : List ℕ)
-    (one two has_bgpsec : Bool) (prefixes : Option Y) (list : Option X) (d : Data) : Type 0 where
-  pub one_is : one ≡ has_only (bgpsec ∷ prefix ∷ []) d
-  pub two_is : two ≡ has_only (own ∷ bgpsec ∷ prefix ∷ []) d
-  pub bgpsec_is : has_bgpsec ≡ is_some (array_at bgpsec d)
-  pub prefixes_are : Holds look prefixes (ArrayIs S prefix d)
-  pub list_is : Holds see list (ArrayIs R own d)
+-- the names of a part's arrays
+pub record ArrayNames : Type 0 where
+  pub aspas : List ℕ
+  pub bgpsec : List ℕ
+  pub prefixes : List ℕ
 
--- the same of the member that a part is, if it is there
-abbrev pub PartAt : {X A Y B : Type 0} → (X → List A) → (Data → A → Type 0) → (Y → List B) → (Data → B → Type 0) → List ℕ → List ℕ → List ℕ → Bool → Bool → Bool
-    → Option Y → Option X → Option Data → Type 0
-PartAt see R look S own bgpsec prefix one two has_bgpsec prefixes list None = (one ≡ false) × (two ≡ false)
-PartAt see R look S own bgpsec prefix one two has_bgpsec prefixes list (Some d) = PartIs see R look S own bgpsec prefix one two has_bgpsec prefixes list d
+abbrev pub names_view : PartNames → ArrayNames
+names_view n = record { aspas = n.aspas.now; bgpsec = n.bgpsec.now; prefixes = n.prefixes.now }
 
-abbrev pub FilterPartIs : FilterPart → Data → Type 0
-FilterPartIs kept d =
-    PartIs numbers_view IsFilter prefix_filters_view IsPrefixFilter (codes "aspaFilters") (codes "bgpsecFilters") (codes "prefixFilters")
-    kept.one kept.two kept.bgpsec kept.prefixes kept.customers d
+abbrev pub filter_names : ArrayNames
+filter_names = record { aspas = codes "aspaFilters"; bgpsec = codes "bgpsecFilters"; prefixes = codes "prefixFilters" }
 
-abbrev pub FilterPartAt : FilterPart → Option Data → Type 0
-FilterPartAt kept o =
-    PartAt numbers_view IsFilter prefix_filters_view IsPrefixFilter (codes "aspaFilters") (codes "bgpsecFilters") (codes "prefixFilters")
-    kept.one kept.two kept.bgpsec kept.prefixes kept.customers o
+abbrev pub assertion_names : ArrayNames
+assertion_names = record { aspas = codes "aspaAssertions"; bgpsec = codes "bgpsecAssertions"; prefixes = codes "prefixAssertions" }
 
-abbrev pub AssertionPartIs : AssertionPart → Data → Type 0
-AssertionPartIs kept d =
-    PartIs drafts_view IsAssertion prefix_assertions_view IsPrefixAssertion (codes "aspaAssertions") (codes "bgpsecAssertions") (codes "prefixAssertions")
-    kept.one kept.two kept.bgpsec kept.prefixes kept.attestations d
+-- no two of them are one
+pub record AreDistinct (names : ArrayNames) : Type 0 where
+  pub aspas_bgpsec : bytes_eq names.aspas names.bgpsec ≡ false
+  pub aspas_prefixes : bytes_eq names.aspas names.prefixes ≡ false
+  pub prefixes_bgpsec : bytes_eq names.prefixes names.bgpsec ≡ false
 
-abbrev pub AssertionPartAt : AssertionPart → Option Data → Type 0
-AssertionPartAt kept o =
-    PartAt drafts_view IsAssertion prefix_assertions_view IsPrefixAssertion (codes "aspaAssertions") (codes "bgpsecAssertions") (codes "prefixAssertions")
-    kept.one kept.two kept.bgpsec kept.prefixes kept.attestations o
+-- What stands in a part of a version, whatever its elements are: in version 1 it has no attestations.
+pub record Lists (A B : Type 0) : Type 0 where
+  pub aspas : List A
+  pub prefixes : List B
+
+module _ {X Y A B : Type 0} (see : X → A) (R : Data → A → Type 0) (look : Y → B) (S : Data → B → Type 0) (names : ArrayNames) where
+  abbrev pub IsPart : Version → Data → Lists A B → Type 0
+  IsPart One d lists = HasArrays (names.bgpsec ∷ names.prefixes ∷ []) d × (lists.aspas ≡ []) × ArrayIs S names.prefixes d lists.prefixes
+  IsPart Two d lists = HasArrays (names.aspas ∷ names.bgpsec ∷ names.prefixes ∷ []) d × ArrayIs R names.aspas d lists.aspas × ArrayIs S names.prefixes d lists.prefixes
+
+  abbrev pub part_view : DraftPart X Y → Lists A B
+  part_view part = record { aspas = map see part.aspas.items; prefixes = map look part.prefixes.items }
+
+  -- what both versions ask of a part: whose names its members have, whether its bgpsec array is there, and what the elements of its other
+  -- arrays are
+  pub record PartIs (one two bgpsec : Bool) (prefixes : Option (Vec Y Global)) (aspas : Option (Vec X Global)) (d : Data) : Type 0 where
+    pub one_is : one ≡ has_only (names.bgpsec ∷ names.prefixes ∷ []) d
+    pub two_is : two ≡ has_only (names.aspas ∷ names.bgpsec ∷ names.prefixes ∷ []) d
+    pub bgpsec_is : bgpsec ≡ is_some (array_at names.bgpsec d)
+    pub prefixes_are : Holds (items_view look) prefixes (ArrayIs S names.prefixes d)
+    pub aspas_are : Holds (items_view see) aspas (ArrayIs R names.aspas d)
+
+  -- the same of the member that a part is, if it is there
+  abbrev pub PartAt : Bool → Bool → Bool → Option (Vec Y Global) → Option (Vec X Global) → Option Data → Type 0
+  PartAt one two bgpsec prefixes aspas None = (one ≡ false) × (two ≡ false)
+  PartAt one two bgpsec prefixes aspas (Some d) = PartIs one two bgpsec prefixes aspas d
+
+  -- what is drafted of a part
+  abbrev pub Drafts : Version → Bool → Bool → Bool → Option (Vec Y Global) → Option (Vec X Global) → Option (DraftPart X Y) → Type 0
+  Drafts version one two bgpsec prefixes aspas drafted = (name : List ℕ) (d : Data) → PartAt one two bgpsec prefixes aspas (get name d)
+      → Holds part_view drafted (MemberIs (IsPart version) name d)
 
 -- ---- the file
 
 pub record FileIs (kept : File) (d : Data) : Type 0 where
   pub only : kept.only ≡ has_only (codes "locallyAddedAssertions" ∷ codes "slurmVersion" ∷ codes "validationOutputFilters" ∷ []) d
   pub version : option_map number_view kept.version ≡ number_at (codes "slurmVersion") d
-  pub filters : FilterPartAt kept.filters (get (codes "validationOutputFilters") d)
-  pub assertions : AssertionPartAt kept.assertions (get (codes "locallyAddedAssertions") d)
+  pub filters : PartAt number_view IsFilter prefix_filter_view IsPrefixFilter filter_names
+      kept.filters.one kept.filters.two kept.filters.bgpsec kept.filters.prefixes kept.filters.aspas (get (codes "validationOutputFilters") d)
+  pub assertions : PartAt assertion_view IsAssertion prefix_assertion_view IsPrefixAssertion assertion_names
+      kept.assertions.one kept.assertions.two kept.assertions.bgpsec kept.assertions.prefixes kept.assertions.aspas (get (codes "locallyAddedAssertions") d)
 
 -- this number is a version's
 abbrev pub IsVersion : Option Num → Version → Type 0

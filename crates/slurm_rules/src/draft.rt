@@ -11,22 +11,15 @@ pub(crate) enum Version {
 // What a file says.
 #[derive(Drop)]
 pub(crate) struct Draft {
-    pub(crate) filters: DraftFilters,
-    pub(crate) assertions: DraftAssertions,
+    pub(crate) filters: DraftPart<Number, DraftPrefixFilter>,
+    pub(crate) assertions: DraftPart<DraftAssertion, DraftPrefixAssertion>,
 }
 
-// What is filtered out.
+// What is filtered out, or what is asserted: of attestations, and of prefixes.
 #[derive(Drop)]
-pub(crate) struct DraftFilters {
-    pub(crate) customers: Vec<Number>,
-    pub(crate) prefixes: Vec<DraftPrefixFilter>,
-}
-
-// What is asserted.
-#[derive(Drop)]
-pub(crate) struct DraftAssertions {
-    pub(crate) attestations: Vec<DraftAssertion>,
-    pub(crate) prefixes: Vec<DraftPrefixAssertion>,
+pub(crate) struct DraftPart<A, P> {
+    pub(crate) aspas: Vec<A>,
+    pub(crate) prefixes: Vec<P>,
 }
 
 // One customer with its providers.

@@ -8,9 +8,9 @@ ghost use Rattle.slurm_rules.specs.Reading.{HasVersion};
 ghost use Rattle.json_fields.specs.Tokens.{Holds};
 
 use crate::draft::{Draft, Version};
-use crate::part::{AssertionPart, FilterPart};
+use crate::part::{Assertions, Filters, Part};
 use json::Reader;
-use json_fields::{Fields, JsonFault, number_after, only_after, pass, read_object};
+use json_fields::{Fields, Read, number_after, only_after, pass, read_object};
 use serde_json::Number;
 use std::alloc::Global;
 
@@ -20,39 +20,24 @@ pub(crate) struct File {
     // its members are those that are listed
     only: bool,
     version: Option<Number>,
-    filters: FilterPart,
-    assertions: AssertionPart,
+    filters: Part<Filters>,
+    assertions: Part<Assertions>,
 }
 
 impl Fields for File {
     ghost keeps = { FileIs };
 
-    fn of_empty() -> File {
+    fn new(is_object: bool) -> File {
         File {
-            only: true,
+            only: is_object,
             version: None,
-            filters: FilterPart::absent(),
-            assertions: AssertionPart::absent(),
+            filters: Part::new(false),
+            assertions: Part::new(false),
         }
     }
 
-    fn of_other() -> File {
-        File {
-            only: false,
-            version: None,
-            filters: FilterPart::absent(),
-            assertions: AssertionPart::absent(),
-        }
-    }
-
-    fn read_member(
-        self,
-        alloc: Global,
-        name: &str,
-        reader: &mut Reader<'_>,
-        depth: usize,
-    ) -> Result<File, JsonFault> {
-        let only = only_after(
+    fn keep(mut self, alloc: Global, name: &str, reader: &mut Reader, depth: usize) -> Read<Self> {
+        self.only = only_after(
             self.only,
             &[
                 "locallyAddedAssertions",
@@ -62,31 +47,16 @@ impl Fields for File {
             name,
         );
         if name == "validationOutputFilters" {
-            let filters: FilterPart = read_object(alloc, reader, depth)?;
-            return Ok(File {
-                only,
-                version: self.version,
-                filters,
-                assertions: self.assertions,
-            });
+            self.filters = read_object(alloc, reader, depth)?;
+            return Ok(self);
         }
         if name == "locallyAddedAssertions" {
-            let assertions: AssertionPart = read_object(alloc, reader, depth)?;
-            return Ok(File {
-                only,
-                version: self.version,
-                filters: self.filters,
-                assertions,
-            });
+            self.assertions = read_object(alloc, reader, depth)?;
+            return Ok(self);
         }
         let kind = pass(reader, depth)?;
-        let version = number_after(self.version, "slurmVersion", name, kind);
-        Ok(File {
-            only,
-            version,
-            filters: self.filters,
-            assertions: self.assertions,
-        })
+        self.version = number_after(self.version, "slurmVersion", name, kind);
+        Ok(self)
     }
 }
 
@@ -105,12 +75,8 @@ impl File {
         if !self.only {
             return None;
         }
-        let Some(filters) = self.filters.into_filters(alloc, version) else {
-            return None;
-        };
-        let Some(assertions) = self.assertions.into_assertions(alloc, version) else {
-            return None;
-        };
+        let filters = self.filters.into_draft(alloc, version)?;
+        let assertions = self.assertions.into_draft(alloc, version)?;
         Some(Draft {
             filters,
             assertions,

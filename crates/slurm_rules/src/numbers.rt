@@ -25,8 +25,8 @@ pub(crate) struct Attested {
 pub(crate) fn read_content(alloc: Global, draft: &Draft) -> Result<Slurm, SlurmFault>
     ensures { ContentIs (draft_view draft.now) result }
 {
-    let filters = read_asns(alloc, &draft.filters.customers)?;
-    let assertions = read_assertions(alloc, &draft.assertions.attestations)?;
+    let filters = read_asns(alloc, &draft.filters.aspas)?;
+    let assertions = read_assertions(alloc, &draft.assertions.aspas)?;
     if !are_filtered_asns(&draft.filters.prefixes) {
         return Err(SlurmFault::Number);
     }

@@ -1,115 +1,134 @@
-//! The two parts of a file. What both versions ask is kept, since the version may stand last.
-ghost use Rattle.std.specs.Prelude.{◌≡◌, ℕ, List, None};
-ghost use Rattle.serde_json.specs.Data.{Data};
-ghost use Rattle.serde_json.specs.Find.{as_object, get};
-ghost use Rattle.json_fields.specs.Object.{MemberIs};
-ghost use Rattle.slurm_rules.specs.Form.{IsFilterPart, IsAssertionPart, added_view, filters_view};
-ghost use Rattle.slurm_rules.specs.Kept.{AssertionPartAt, AssertionPartIs, FilterPartAt, FilterPartIs};
-ghost use Rattle.json_fields.specs.Tokens.{Holds};
+//! The two parts of a file, what is filtered out and what is asserted. What both versions ask is kept, since the version may stand last.
+ghost use Rattle.std.specs.Prelude.{◌≡◌, refl};
+ghost use Rattle.slurm_rules.specs.Kept.{ArrayNames, AreDistinct, Drafts, PartIs, assertion_names, filter_names, names_view};
 
-use crate::draft::{
-    DraftAssertion, DraftAssertions, DraftFilters, DraftPrefixAssertion, DraftPrefixFilter, Version,
-};
-use crate::element::{AssertionElement, FilterElement};
-use crate::prefix_element::{PrefixAssertionElement, PrefixFilterElement};
+use crate::draft::{DraftAssertion, DraftPart, DraftPrefixAssertion, DraftPrefixFilter, Version};
+use crate::element::CustomerFields;
+use crate::prefix_element::PrefixFields;
 use json::Reader;
-use json_fields::{Fields, JsonFault, array_after, only_after, pass, read_list};
+use json_fields::{Entry, Fields, Objects, Read, array_after, only_after, pass, read_list};
 use serde_json::Number;
 use std::alloc::Global;
 
-// What is kept of `validationOutputFilters`.
+// The names of a part's arrays.
+#[derive(Clone, Copy)]
+pub(crate) struct PartNames {
+    aspas: &'static str,
+    bgpsec: &'static str,
+    prefixes: &'static str,
+}
+
+// One of the two parts.
+pub(crate) trait PartKind {
+    // The elements of its array for attestations.
+    type Aspa: Entry<CustomerFields>;
+
+    // The elements of its array for prefixes.
+    type Prefixed: Entry<PrefixFields>;
+
+    ghost names: { ArrayNames };
+
+    fn names() -> PartNames
+        ensures { names_view result ≡ names };
+
+    ghost distinct: { AreDistinct names };
+}
+
+// `validationOutputFilters`.
+pub(crate) struct Filters;
+
+impl PartKind for Filters {
+    type Aspa = Number;
+
+    type Prefixed = DraftPrefixFilter;
+
+    ghost names = { filter_names };
+
+    fn names() -> PartNames {
+        PartNames {
+            aspas: "aspaFilters",
+            bgpsec: "bgpsecFilters",
+            prefixes: "prefixFilters",
+        }
+    }
+
+    ghost distinct = { record { aspas_bgpsec = refl; aspas_prefixes = refl; prefixes_bgpsec = refl } };
+}
+
+// `locallyAddedAssertions`.
+pub(crate) struct Assertions;
+
+impl PartKind for Assertions {
+    type Aspa = DraftAssertion;
+
+    type Prefixed = DraftPrefixAssertion;
+
+    ghost names = { assertion_names };
+
+    fn names() -> PartNames {
+        PartNames {
+            aspas: "aspaAssertions",
+            bgpsec: "bgpsecAssertions",
+            prefixes: "prefixAssertions",
+        }
+    }
+
+    ghost distinct = { record { aspas_bgpsec = refl; aspas_prefixes = refl; prefixes_bgpsec = refl } };
+}
+
+// What is kept of a part.
 #[derive(Drop)]
-pub(crate) struct FilterPart {
+pub(crate) struct Part<P: PartKind> {
     // its members are those that version 1 lists
     one: bool,
     // those that version 2 lists
     two: bool,
     bgpsec: bool,
-    prefixes: Option<Vec<DraftPrefixFilter>>,
-    customers: Option<Vec<Number>>,
+    prefixes: Option<Vec<P::Prefixed>>,
+    aspas: Option<Vec<P::Aspa>>,
 }
 
-impl Fields for FilterPart {
-    ghost keeps = { FilterPartIs };
+impl<P: PartKind> Fields for Part<P> {
+    ghost keeps = { λ part d. PartIs P.Aspa.see P.Aspa.stands_for P.Prefixed.see P.Prefixed.stands_for P.names
+        part.one part.two part.bgpsec part.prefixes part.aspas d };
 
-    fn of_empty() -> FilterPart {
-        FilterPart {
-            one: true,
-            two: true,
+    fn new(is_object: bool) -> Part<P> {
+        Part {
+            one: is_object,
+            two: is_object,
             bgpsec: false,
             prefixes: None,
-            customers: None,
+            aspas: None,
         }
     }
 
-    fn of_other() -> FilterPart {
-        FilterPart::absent()
-    }
-
-    fn read_member(
-        self,
-        alloc: Global,
-        name: &str,
-        reader: &mut Reader<'_>,
-        depth: usize,
-    ) -> Result<FilterPart, JsonFault> {
-        let one = only_after(self.one, &["bgpsecFilters", "prefixFilters"], name);
-        let two = only_after(
-            self.two,
-            &["aspaFilters", "bgpsecFilters", "prefixFilters"],
-            name,
-        );
-        if name == "aspaFilters" {
-            let customers = read_list::<FilterElement>(alloc, reader, depth)?;
-            return Ok(FilterPart {
-                one,
-                two,
-                bgpsec: self.bgpsec,
-                prefixes: self.prefixes,
-                customers,
-            });
+    fn keep(mut self, alloc: Global, name: &str, reader: &mut Reader, depth: usize) -> Read<Self> {
+        let names = P::names();
+        self.one = only_after(self.one, &[names.bgpsec, names.prefixes], name);
+        self.two = only_after(self.two, &[names.aspas, names.bgpsec, names.prefixes], name);
+        if name == names.aspas {
+            self.aspas = read_list::<Objects<CustomerFields, P::Aspa>>(alloc, reader, depth)?;
+            return Ok(self);
         }
-        if name == "prefixFilters" {
-            let prefixes = read_list::<PrefixFilterElement>(alloc, reader, depth)?;
-            return Ok(FilterPart {
-                one,
-                two,
-                bgpsec: self.bgpsec,
-                prefixes,
-                customers: self.customers,
-            });
+        if name == names.prefixes {
+            self.prefixes = read_list::<Objects<PrefixFields, P::Prefixed>>(alloc, reader, depth)?;
+            return Ok(self);
         }
         let kind = pass(reader, depth)?;
-        let bgpsec = array_after(self.bgpsec, "bgpsecFilters", name, kind);
-        Ok(FilterPart {
-            one,
-            two,
-            bgpsec,
-            prefixes: self.prefixes,
-            customers: self.customers,
-        })
+        self.bgpsec = array_after(self.bgpsec, names.bgpsec, name, kind);
+        Ok(self)
     }
 }
 
-impl FilterPart {
-    // Of what is no object, and of a part that isn't there.
-    pub(crate) fn absent() -> FilterPart
-        ensures other { (d : Data) → as_object d ≡ None → FilterPartIs result d }
-        ensures absent { FilterPartAt result None }
-    {
-        FilterPart {
-            one: false,
-            two: false,
-            bgpsec: false,
-            prefixes: None,
-            customers: None,
-        }
-    }
-
-    // The filters, where this is a part of this version.
-    pub(crate) fn into_filters(self, alloc: Global, version: Version) -> Option<DraftFilters>
-        ensures { (name : List ℕ) (d : Data) → FilterPartAt self (get name d)
-            → Holds filters_view result (MemberIs (IsFilterPart version) name d) }
+impl<P: PartKind> Part<P> {
+    // What the part says, where it is one of this version.
+    pub(crate) fn into_draft(
+        self,
+        alloc: Global,
+        version: Version,
+    ) -> Option<DraftPart<P::Aspa, P::Prefixed>>
+        ensures { Drafts P.Aspa.see P.Aspa.stands_for P.Prefixed.see P.Prefixed.stands_for P.names version
+            self.one self.two self.bgpsec self.prefixes self.aspas result }
     {
         match version {
             Version::One => self.of_one(alloc),
@@ -117,200 +136,29 @@ impl FilterPart {
         }
     }
 
-    fn of_one(self, alloc: Global) -> Option<DraftFilters>
-        ensures { (name : List ℕ) (d : Data) → FilterPartAt self (get name d)
-            → Holds filters_view result (MemberIs (IsFilterPart Version.One) name d) }
+    fn of_one(self, alloc: Global) -> Option<DraftPart<P::Aspa, P::Prefixed>>
+        ensures { Drafts P.Aspa.see P.Aspa.stands_for P.Prefixed.see P.Prefixed.stands_for P.names Version.One
+            self.one self.two self.bgpsec self.prefixes self.aspas result }
     {
-        let FilterPart {
-            one,
-            bgpsec,
-            prefixes,
-            ..
-        } = self;
-        if !one || !bgpsec {
+        if !self.one || !self.bgpsec {
             return None;
         }
-        let Some(prefixes) = prefixes else {
-            return None;
-        };
-        Some(DraftFilters {
-            customers: Vec::new(alloc),
+        let prefixes = self.prefixes?;
+        Some(DraftPart {
+            aspas: Vec::new(alloc),
             prefixes,
         })
     }
 
-    fn of_two(self) -> Option<DraftFilters>
-        ensures { (name : List ℕ) (d : Data) → FilterPartAt self (get name d)
-            → Holds filters_view result (MemberIs (IsFilterPart Version.Two) name d) }
+    fn of_two(self) -> Option<DraftPart<P::Aspa, P::Prefixed>>
+        ensures { Drafts P.Aspa.see P.Aspa.stands_for P.Prefixed.see P.Prefixed.stands_for P.names Version.Two
+            self.one self.two self.bgpsec self.prefixes self.aspas result }
     {
-        let FilterPart {
-            two,
-            bgpsec,
-            prefixes,
-            customers,
-            ..
-        } = self;
-        if !two || !bgpsec {
+        if !self.two || !self.bgpsec {
             return None;
         }
-        let Some(prefixes) = prefixes else {
-            return None;
-        };
-        let Some(customers) = customers else {
-            return None;
-        };
-        Some(DraftFilters {
-            customers,
-            prefixes,
-        })
-    }
-}
-
-// What is kept of `locallyAddedAssertions`.
-#[derive(Drop)]
-pub(crate) struct AssertionPart {
-    // its members are those that version 1 lists
-    one: bool,
-    // those that version 2 lists
-    two: bool,
-    bgpsec: bool,
-    prefixes: Option<Vec<DraftPrefixAssertion>>,
-    attestations: Option<Vec<DraftAssertion>>,
-}
-
-impl Fields for AssertionPart {
-    ghost keeps = { AssertionPartIs };
-
-    fn of_empty() -> AssertionPart {
-        AssertionPart {
-            one: true,
-            two: true,
-            bgpsec: false,
-            prefixes: None,
-            attestations: None,
-        }
-    }
-
-    fn of_other() -> AssertionPart {
-        AssertionPart::absent()
-    }
-
-    fn read_member(
-        self,
-        alloc: Global,
-        name: &str,
-        reader: &mut Reader<'_>,
-        depth: usize,
-    ) -> Result<AssertionPart, JsonFault> {
-        let one = only_after(self.one, &["bgpsecAssertions", "prefixAssertions"], name);
-        let two = only_after(
-            self.two,
-            &["aspaAssertions", "bgpsecAssertions", "prefixAssertions"],
-            name,
-        );
-        if name == "aspaAssertions" {
-            let attestations = read_list::<AssertionElement>(alloc, reader, depth)?;
-            return Ok(AssertionPart {
-                one,
-                two,
-                bgpsec: self.bgpsec,
-                prefixes: self.prefixes,
-                attestations,
-            });
-        }
-        if name == "prefixAssertions" {
-            let prefixes = read_list::<PrefixAssertionElement>(alloc, reader, depth)?;
-            return Ok(AssertionPart {
-                one,
-                two,
-                bgpsec: self.bgpsec,
-                prefixes,
-                attestations: self.attestations,
-            });
-        }
-        let kind = pass(reader, depth)?;
-        let bgpsec = array_after(self.bgpsec, "bgpsecAssertions", name, kind);
-        Ok(AssertionPart {
-            one,
-            two,
-            bgpsec,
-            prefixes: self.prefixes,
-            attestations: self.attestations,
-        })
-    }
-}
-
-impl AssertionPart {
-    // Of what is no object, and of a part that isn't there.
-    pub(crate) fn absent() -> AssertionPart
-        ensures other { (d : Data) → as_object d ≡ None → AssertionPartIs result d }
-        ensures absent { AssertionPartAt result None }
-    {
-        AssertionPart {
-            one: false,
-            two: false,
-            bgpsec: false,
-            prefixes: None,
-            attestations: None,
-        }
-    }
-
-    // The assertions, where this is a part of this version.
-    pub(crate) fn into_assertions(self, alloc: Global, version: Version) -> Option<DraftAssertions>
-        ensures { (name : List ℕ) (d : Data) → AssertionPartAt self (get name d)
-            → Holds added_view result (MemberIs (IsAssertionPart version) name d) }
-    {
-        match version {
-            Version::One => self.of_one(alloc),
-            Version::Two => self.of_two(),
-        }
-    }
-
-    fn of_one(self, alloc: Global) -> Option<DraftAssertions>
-        ensures { (name : List ℕ) (d : Data) → AssertionPartAt self (get name d)
-            → Holds added_view result (MemberIs (IsAssertionPart Version.One) name d) }
-    {
-        let AssertionPart {
-            one,
-            bgpsec,
-            prefixes,
-            ..
-        } = self;
-        if !one || !bgpsec {
-            return None;
-        }
-        let Some(prefixes) = prefixes else {
-            return None;
-        };
-        Some(DraftAssertions {
-            attestations: Vec::new(alloc),
-            prefixes,
-        })
-    }
-
-    fn of_two(self) -> Option<DraftAssertions>
-        ensures { (name : List ℕ) (d : Data) → AssertionPartAt self (get name d)
-            → Holds added_view result (MemberIs (IsAssertionPart Version.Two) name d) }
-    {
-        let AssertionPart {
-            two,
-            bgpsec,
-            prefixes,
-            attestations,
-            ..
-        } = self;
-        if !two || !bgpsec {
-            return None;
-        }
-        let Some(prefixes) = prefixes else {
-            return None;
-        };
-        let Some(attestations) = attestations else {
-            return None;
-        };
-        Some(DraftAssertions {
-            attestations,
-            prefixes,
-        })
+        let prefixes = self.prefixes?;
+        let aspas = self.aspas?;
+        Some(DraftPart { aspas, prefixes })
     }
 }

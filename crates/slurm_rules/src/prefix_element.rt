@@ -1,15 +1,12 @@
 //! The elements of `prefixFilters` and `prefixAssertions`, one at a time.
 ghost use Rattle.std.specs.Prelude.{◌≡◌};
-ghost use Rattle.serde_json.specs.Data.{Data};
 ghost use Rattle.slurm_rules.specs.Form.{IsPrefixAssertion, IsPrefixFilter, PrefixAssertionText, PrefixFilterText, prefix_assertion_view, prefix_filter_view};
 ghost use Rattle.slurm_rules.specs.Kept.{PrefixIs};
-ghost use Rattle.json_fields.specs.Tokens.{Holds};
 
 use crate::draft::{DraftPrefixAssertion, DraftPrefixFilter};
 use json::Reader;
 use json_fields::{
-    Element, Fields, JsonFault, number_if_there_after, only_after, pass, read_object, text_after,
-    text_if_there_after,
+    Entry, Fields, Read, number_if_there_after, only_after, pass, text_after, text_if_there_after,
 };
 use serde_json::Number;
 use std::alloc::Global;
@@ -30,10 +27,10 @@ pub(crate) struct PrefixFields {
 impl Fields for PrefixFields {
     ghost keeps = { PrefixIs };
 
-    fn of_empty() -> PrefixFields {
+    fn new(is_object: bool) -> PrefixFields {
         PrefixFields {
-            filter: true,
-            assertion: true,
+            filter: is_object,
+            assertion: is_object,
             comment: true,
             prefix: Some(None),
             asn: Some(None),
@@ -41,142 +38,58 @@ impl Fields for PrefixFields {
         }
     }
 
-    fn of_other() -> PrefixFields {
-        PrefixFields {
-            filter: false,
-            assertion: false,
-            comment: true,
-            prefix: Some(None),
-            asn: Some(None),
-            max: Some(None),
-        }
-    }
-
-    fn read_member(
-        self,
-        alloc: Global,
-        name: &str,
-        reader: &mut Reader<'_>,
-        depth: usize,
-    ) -> Result<PrefixFields, JsonFault> {
+    fn keep(mut self, alloc: Global, name: &str, reader: &mut Reader, depth: usize) -> Read<Self> {
         let kind = pass(reader, depth)?;
-        let filter = only_after(self.filter, &["asn", "comment", "prefix"], name);
-        let assertion = only_after(
+        self.filter = only_after(self.filter, &["asn", "comment", "prefix"], name);
+        self.assertion = only_after(
             self.assertion,
             &["asn", "comment", "maxPrefixLength", "prefix"],
             name,
         );
-        let comment = text_after(self.comment, "comment", name, kind);
-        let asn = number_if_there_after(self.asn, "asn", name, kind);
-        let max = number_if_there_after(self.max, "maxPrefixLength", name, kind);
-        let prefix = text_if_there_after(alloc, self.prefix, "prefix", name, kind)?;
-        Ok(PrefixFields {
-            filter,
-            assertion,
-            comment,
-            prefix,
-            asn,
-            max,
-        })
+        self.comment = text_after(self.comment, "comment", name, kind);
+        self.asn = number_if_there_after(self.asn, "asn", name, kind);
+        self.max = number_if_there_after(self.max, "maxPrefixLength", name, kind);
+        self.prefix = text_if_there_after(alloc, self.prefix, "prefix", name, kind)?;
+        Ok(self)
     }
 }
 
-impl PrefixFields {
-    // The filter, where this is one: a prefix, an AS, or both.
-    fn into_filter(self) -> Option<DraftPrefixFilter>
-        ensures { (d : Data) → PrefixIs self d → Holds prefix_filter_view result (IsPrefixFilter d) }
-    {
-        let PrefixFields {
-            filter,
-            comment,
-            prefix,
-            asn,
-            ..
-        } = self;
-        if !filter || !comment {
-            return None;
-        }
-        let Some(prefix) = prefix else {
-            return None;
-        };
-        let Some(asn) = asn else {
-            return None;
-        };
-        if prefix.is_none() && asn.is_none() {
-            return None;
-        }
-        Some(DraftPrefixFilter { prefix, asn })
-    }
-
-    // The assertion, where this is one.
-    fn into_assertion(self) -> Option<DraftPrefixAssertion>
-        ensures { (d : Data) → PrefixIs self d
-            → Holds prefix_assertion_view result (IsPrefixAssertion d) }
-    {
-        let PrefixFields {
-            assertion,
-            comment,
-            prefix,
-            asn,
-            max,
-            ..
-        } = self;
-        if !assertion || !comment {
-            return None;
-        }
-        let Some(Some(prefix)) = prefix else {
-            return None;
-        };
-        let Some(Some(asn)) = asn else {
-            return None;
-        };
-        let Some(max) = max else {
-            return None;
-        };
-        Some(DraftPrefixAssertion { prefix, asn, max })
-    }
-}
-
-// The elements of `prefixFilters`.
-pub(crate) struct PrefixFilterElement;
-
-impl Element for PrefixFilterElement {
-    type Item = DraftPrefixFilter;
-
+// An element of `prefixFilters`: a prefix, an AS, or both.
+impl Entry<PrefixFields> for DraftPrefixFilter {
     ghost Seen = { PrefixFilterText };
 
     ghost see = { prefix_filter_view };
 
     ghost stands_for = { IsPrefixFilter };
 
-    fn read(
-        alloc: Global,
-        reader: &mut Reader<'_>,
-        depth: usize,
-    ) -> Result<Option<DraftPrefixFilter>, JsonFault> {
-        let fields: PrefixFields = read_object(alloc, reader, depth)?;
-        Ok(fields.into_filter())
+    fn of(kept: PrefixFields) -> Option<DraftPrefixFilter> {
+        if !kept.filter || !kept.comment {
+            return None;
+        }
+        let asn = kept.asn?;
+        let prefix = kept.prefix?;
+        if prefix.is_none() && asn.is_none() {
+            return None;
+        }
+        Some(DraftPrefixFilter { prefix, asn })
     }
 }
 
-// The elements of `prefixAssertions`.
-pub(crate) struct PrefixAssertionElement;
-
-impl Element for PrefixAssertionElement {
-    type Item = DraftPrefixAssertion;
-
+// An element of `prefixAssertions`.
+impl Entry<PrefixFields> for DraftPrefixAssertion {
     ghost Seen = { PrefixAssertionText };
 
     ghost see = { prefix_assertion_view };
 
     ghost stands_for = { IsPrefixAssertion };
 
-    fn read(
-        alloc: Global,
-        reader: &mut Reader<'_>,
-        depth: usize,
-    ) -> Result<Option<DraftPrefixAssertion>, JsonFault> {
-        let fields: PrefixFields = read_object(alloc, reader, depth)?;
-        Ok(fields.into_assertion())
+    fn of(kept: PrefixFields) -> Option<DraftPrefixAssertion> {
+        if !kept.assertion || !kept.comment {
+            return None;
+        }
+        let asn = kept.asn??;
+        let max = kept.max?;
+        let prefix = kept.prefix??;
+        Some(DraftPrefixAssertion { prefix, asn, max })
     }
 }

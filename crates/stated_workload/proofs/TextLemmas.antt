@@ -16,11 +16,11 @@ use Rattle.rib_store.proofs.MarkLemmas.{has_one_marking}
 use Rattle.analyser.specs.declared.event.Event.{Event}
 use Rattle.stated_workload.specs.Happening.{HappenAll}
 use Rattle.av_base.specs.One.{HasOne}
-use Rattle.stream_lines.specs.Summary.{IsSummary}
+use Rattle.listings.specs.Summary.{IsSummary}
 use Rattle.stated_workload.specs.Text.{IsTextOf, WritesFront, WritesPart, WritesText}
 use Rattle.stated_workload.specs.Workload.{IsWorkload}
 use Rattle.stated_workload.proofs.HappeningLemmas.{one_end, some_end}
-use Rattle.stream_lines.proofs.SummaryLemmas.{one_summary, some_summary}
+use Rattle.listings.proofs.SummaryLemmas.{one_summary, some_summary}
 use Rattle.stated_workload.proofs.WorkloadLawLemmas.{one_workload, some_workload}
 
 abbrev lines_of : Summary → Summary → ℕ → List ℕ

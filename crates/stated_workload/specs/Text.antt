@@ -11,7 +11,7 @@ use Rattle.rib_store.specs.Changes.{AreChanges, IsMarked}
 use Rattle.rib_store.specs.State.{State, no_state}
 use Rattle.analyser.specs.declared.event.Event.{Event}
 use Rattle.stated_workload.specs.Happening.{HappenAll}
-use Rattle.stream_lines.specs.Summary.{IsSummary}
+use Rattle.listings.specs.Summary.{IsSummary}
 use Rattle.stated_workload.specs.Workload.{IsWorkload}
 
 -- From the empty analysis the events that load happen, the state is summed up, and its verdicts are marked. Then the events that amend

@@ -9,12 +9,12 @@ use crate::stop::Stop;
 use crate::workload::workload_of;
 use analyser::Analyser;
 use av_base::{NoMemory, Sink, Steps, pour};
+use listings::summary_of;
 use report_text::{put_changed, put_summary};
 use rib_store::Journal;
 use std::alloc::Global;
 use std::marker::Brand;
 use std::sync::ledger::{Blank, Ledger};
-use stream_lines::summary_of;
 
 /// Performs the workload of a seed on an analysis of its own, and writes its three lines: a summary once all is loaded, a summary once
 /// all is amended, and how many keys changed in between. They are written when all is done.

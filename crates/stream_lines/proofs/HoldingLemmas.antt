@@ -9,7 +9,7 @@ use Rattle.av_base.proofs.PlacesLemmas.{get-change_at}
 use Rattle.stream_lines.specs.Held.{HeldDump, fresh_of}
 use Rattle.stream_lines.specs.Units.{Known, Mrt, Bmp, is_of_records}
 use Rattle.stream_lines.specs.Holding.{HoldsDump, IsLetGo, LetsGo}
-use Rattle.stream_lines.specs.declared.taking.Progress.{Progress}
+use Rattle.analyser.specs.declared.progress.Progress.{Progress}
 use Rattle.stream_lines.specs.Streams.{Dump, Taking}
 use Rattle.stream_lines.specs.Taking.{StandsAt}
 

@@ -8,7 +8,7 @@ use Rattle.stream_lines.specs.declared.next.Effect.{Effect}
 use Rattle.stream_lines.specs.declared.next.Effect.TheVariants.{Routes, Learn, Note, Pass}
 use Rattle.stream_lines.specs.declared.next.Next.{Next}
 use Rattle.stream_lines.specs.declared.next.Next.TheVariants.{Unit as AUnit, Broken, End}
-use Rattle.stream_lines.specs.declared.taking.Progress.{Progress}
+use Rattle.analyser.specs.declared.progress.Progress.{Progress}
 use Rattle.stream_lines.specs.Gives.{IsNext, IsNextOf}
 use Rattle.stream_lines.specs.Held.{HeldDump}
 use Rattle.stream_lines.specs.Streams.{Asking, Dump, Taking, after_unit, Does, TakesNext, TakesComing, TakesUnless, TakesUnits}

@@ -3,15 +3,11 @@ pub mod FrameLemmas
 pub mod HoldingLemmas
 pub mod JudgementLemmas
 pub mod LawLemmas
-pub mod LeaksLemmas
-pub mod ListingLemmas
 pub mod NextLemmas
 pub mod PieceLemmas
 pub mod RefusalLemmas
 pub mod ReportedLemmas
-pub mod RowsLemmas
 pub mod StampLemmas
-pub mod SummaryLemmas
 pub mod TakingLemmas
 pub mod TakingUntilLemmas
 pub mod UnitsLemmas

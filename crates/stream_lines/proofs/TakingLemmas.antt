@@ -15,7 +15,7 @@ use Rattle.stream_lines.specs.declared.next.Effect.{Effect}
 use Rattle.stream_lines.specs.declared.next.Effect.TheVariants.{Routes, Learn, Note, Pass}
 use Rattle.stream_lines.specs.declared.next.Next.{Next}
 use Rattle.stream_lines.specs.declared.next.Next.TheVariants.{Unit as AUnit, Broken, End}
-use Rattle.stream_lines.specs.declared.taking.Progress.{Progress}
+use Rattle.analyser.specs.declared.progress.Progress.{Progress}
 use Rattle.stream_lines.specs.Gives.{IsNext, IsNextOf}
 use Rattle.stream_lines.specs.Held.{HeldDump, fresh_of}
 use Rattle.stream_lines.specs.Streams.{Asking, Dump, Taking, after_unit, ended, unit_refused, LetsHappen, Does, TakesComing, TakesUnless, TakesUnit, TakesNext}

@@ -4,7 +4,7 @@ use Rattle.std.specs.Io.KnownBytes.{prepend_known}
 use Rattle.std.specs.declared.option.Option.{Option}
 use Rattle.std.proofs.lemmas.Bool.{cases_lt}
 use Rattle.av_base.specs.Files.{Files, left_of}
-use Rattle.stream_lines.specs.declared.taking.Progress.{Progress}
+use Rattle.analyser.specs.declared.progress.Progress.{Progress}
 use Rattle.stream_lines.specs.Gives.{TellsFrom}
 use Rattle.stream_lines.specs.Held.{HeldDump}
 use Rattle.stream_lines.specs.Holding.{HoldsDump}

@@ -1,11 +1,9 @@
 -- Laws of the definitions, each the contract of a public function of the module `laws`.
 use Rattle.std.specs.Prelude.{◌≡◌, ℕ, ◌+◌, List, ◌++◌}
-use Rattle.av_base.specs.One.{HasOne, HasOnePair}
+use Rattle.av_base.specs.One.{HasOnePair}
 use Rattle.av_text.specs.Spellings.{IsInLine}
 use Rattle.stream_lines.specs.Counts.{refusals_in}
-use Rattle.rib_store.specs.State.{State}
 use Rattle.stream_lines.specs.Streams.{Asking, Taking, TakesUnits}
-use Rattle.stream_lines.specs.Summary.{IsSummary}
 use Rattle.stream_lines.specs.Until.{TakesUntil}
 
 -- so many units of a dump have one text, and leave one state
@@ -20,7 +18,3 @@ UntilHasOneOutcome = (asking : Asking) (moment limit : ℕ) (old : Taking) → H
 abbrev pub RefusedUnitsAreCounted : Type 0
 RefusedUnitsAreCounted = (asking : Asking) (count : ℕ) (old new : Taking) (text rest : List ℕ) → IsInLine asking.name
     → TakesUnits asking count old text new → new.refused + refusals_in rest ≡ old.refused + refusals_in (text ++ rest)
-
--- a state, with these two numbers, has one summary
-abbrev pub EachStateHasOneSummary : Type 0
-EachStateHasOneSummary = (state : State) (passed refused : ℕ) → HasOne (IsSummary state passed refused)

@@ -4,7 +4,7 @@ use Rattle.std.specs.Io.KnownBytes.{append_known}
 use Rattle.std.specs.declared.option.Option.{Option}
 use Rattle.av_base.specs.Files.{Files}
 use Rattle.stream_lines.specs.declared.taking.Asked.{Asked}
-use Rattle.stream_lines.specs.declared.taking.Progress.{Progress}
+use Rattle.analyser.specs.declared.progress.Progress.{Progress}
 use Rattle.stream_lines.specs.Held.{HeldDump}
 use Rattle.stream_lines.specs.Holding.{HoldsDump}
 use Rattle.stream_lines.specs.Streams.{Asking, Taking, TakesUnits}
@@ -59,8 +59,9 @@ pub record TicksWithinUnits (asking : Asking) (count : ℕ) (dump : HeldDump) (p
   pub within : (old new : Taking) (text : List ℕ) → StandsAt files dump progress old → TakesUnits asking count old text new
       → after + old.judgements ≤ before + new.judgements
 
--- the counts grew by at most so many
+-- the counts grew by at most so many, and the payloads of origin validation stayed
 pub record GrewBy (count : ℕ) (dump_old dump_new : HeldDump) (progress next : Progress) : Type 0 where
   pub taken : dump_new.taken ≤ dump_old.taken + count
   pub passed : next.passed ≤ progress.passed + count
   pub refused : next.refused ≤ progress.refused + count
+  pub origins : next.origins ≡ progress.origins

@@ -10,7 +10,7 @@ use Rattle.otc_check.specs.Marks.{Marked, noted_by}
 use Rattle.analyser.specs.Touched.{TicksWithin}
 use Rattle.stream_lines.specs.declared.next.Effect.{Effect}
 use Rattle.stream_lines.specs.declared.next.Effect.TheVariants.{Routes, Learn, Note, Pass}
-use Rattle.stream_lines.specs.declared.taking.Progress.{Progress}
+use Rattle.analyser.specs.declared.progress.Progress.{Progress}
 use Rattle.stream_lines.specs.Held.{HeldDump}
 use Rattle.stream_lines.specs.Streams.{Asking, Taking, TakesUnit}
 use Rattle.stream_lines.specs.Taking.{StandsAt}

@@ -3,7 +3,7 @@ use Rattle.std.specs.Prelude.{◌≡◌, ℕ, ◌+◌, ◌≤◌, List}
 use Rattle.std.specs.Io.KnownBytes.{append_known}
 use Rattle.std.specs.declared.option.Option.{Option}
 use Rattle.av_base.specs.Files.{Files}
-use Rattle.stream_lines.specs.declared.taking.Progress.{Progress}
+use Rattle.analyser.specs.declared.progress.Progress.{Progress}
 use Rattle.stream_lines.specs.Held.{HeldDump}
 use Rattle.stream_lines.specs.Streams.{Asking, Taking}
 use Rattle.stream_lines.specs.Taking.{StandsAt, TookFirst}

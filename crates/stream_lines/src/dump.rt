@@ -12,8 +12,8 @@ ghost use Rattle.stream_lines.specs.Units.{first_known, is_of_records};
 use crate::kind::DumpKind;
 use crate::next::Next;
 use crate::reader::Reader;
-use crate::stop::ReadFault;
 use av_base::{Fault, Shelf};
+use listings::ReadFault;
 use std::alloc::Global;
 use std::marker::Model;
 

@@ -1,61 +1,51 @@
 //! What an accepted unit makes of the analysis and of the counts.
-ghost use Rattle.std.specs.Prelude.{◌<◌, ◌≤◌, ◌+◌, ◌^◌, IfOk};
+ghost use Rattle.std.specs.Prelude.{◌≡◌, ◌<◌, ◌≤◌, ◌+◌, ◌^◌, OnOk};
+ghost use Rattle.otc_check.specs.Marks.{noted_by};
 ghost use Rattle.stream_lines.specs.TakingSteps.{Did, TicksWithinEffect};
 
 use crate::next::Effect;
-use crate::taking::Progress;
-use analyser::Event;
+use analyser::{Event, Progress};
 use av_base::{NoMemory, Steps};
+use otc_check::Marks;
+use path_model::Noted;
+use std::alloc::Global;
+use std::mem;
 use std::sync::ledger::Ledger;
 
-/// Does what an accepted unit does.
+/// Does what an accepted unit does. Where memory is wanting nothing is promised of the progress.
 pub(crate) fn take_effect<L: Ledger>(
+    alloc: Global,
     effect: Effect,
-    progress: Progress,
+    progress: &mut Progress,
     steps: &mut Steps<L>,
-) -> Result<Progress, NoMemory>
-    requires few_passed { progress.passed < 2 ^ 63 }
-    ensures did { IfOk result (Did effect progress) }
-    ensures few { IfOk result (λ next. next.passed ≤ progress.passed + 1) }
-    ensures refused { IfOk result (λ next. next.refused ≤ progress.refused) }
-    ensures ticks { TicksWithinEffect progress.analyser effect steps.old steps.new }
+) -> Result<(), NoMemory>
+    requires few_passed { progress.old.passed < 2 ^ 63 }
+    ensures did { OnOk result (Did effect progress.old progress.new) }
+    ensures few { OnOk result (progress.new.passed ≤ progress.old.passed + 1) }
+    ensures refused { OnOk result (progress.new.refused ≤ progress.old.refused) }
+    ensures origins { OnOk result (progress.new.origins ≡ progress.old.origins) }
+    ensures ticks { TicksWithinEffect progress.old.analyser effect steps.old steps.new }
 {
     match effect {
         Effect::Routes(noted) => {
-            let Progress {
-                analyser,
-                marks,
-                passed,
-                refused,
-            } = progress;
-            let marks = marks.apply(&noted)?;
-            let analyser = analyser.step(Event::Routes(noted.changes), steps)?;
-            Ok(Progress {
-                analyser,
-                marks,
-                passed,
-                refused,
-            })
+            note(alloc, &mut progress.marks, &noted)?;
+            progress.analyser.apply(Event::Routes(noted.changes), steps)
         }
-        Effect::Learn(asn, role) => {
-            let Progress {
-                analyser,
-                marks,
-                passed,
-                refused,
-            } = progress;
-            let analyser = analyser.step(Event::Role(asn, role), steps)?;
-            Ok(Progress {
-                analyser,
-                marks,
-                passed,
-                refused,
-            })
+        Effect::Learn(asn, role) => progress.analyser.apply(Event::Role(asn, role), steps),
+        Effect::Note => Ok(()),
+        Effect::Pass => {
+            progress.passed += 1;
+            Ok(())
         }
-        Effect::Note => Ok(progress),
-        Effect::Pass => Ok(Progress {
-            passed: progress.passed + 1,
-            ..progress
-        }),
     }
+}
+
+// What the changes say of Only-to-Customer is marked.
+fn note(alloc: Global, marks: &mut Marks, noted: &Noted) -> Result<(), NoMemory>
+    ensures { OnOk result (marks.new
+        ≡ noted_by noted.now.changes noted.now.notes marks.old) }
+{
+    let before = mem::replace(marks, Marks::new(alloc));
+    *marks = before.apply(noted)?;
+    Ok(())
 }

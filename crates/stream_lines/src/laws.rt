@@ -1,5 +1,5 @@
 //! Laws of the definitions: the contract of each function is the law, and its body does nothing.
-ghost use Rattle.stream_lines.specs.Laws.{EachStateHasOneSummary, RefusedUnitsAreCounted, UnitsHaveOneOutcome, UntilHasOneOutcome};
+ghost use Rattle.stream_lines.specs.Laws.{RefusedUnitsAreCounted, UnitsHaveOneOutcome, UntilHasOneOutcome};
 
 /// From each dump any number of units has exactly one text, and leaves exactly one state.
 pub fn units_have_one_outcome()
@@ -14,9 +14,4 @@ pub fn until_has_one_outcome()
 /// As many refusals are counted as the text of the units has lines that begin with `! `.
 pub fn refused_units_are_counted()
     ensures { RefusedUnitsAreCounted }
-{}
-
-/// Each state has exactly one summary.
-pub fn each_state_has_one_summary()
-    ensures { EachStateHasOneSummary }
 {}

@@ -1,5 +1,5 @@
 //! The units that a line takes from a dump.
-ghost use Rattle.std.specs.Prelude.{◌≡◌, ◌<◌, ◌≤◌, ◌≢◌, ◌+◌, ◌++◌, ◌^◌, ℕ, List, IfOk, OnOk, OnErr, IsErrOf, length};
+ghost use Rattle.std.specs.Prelude.{◌≡◌, ◌<◌, ◌≤◌, ◌≢◌, ◌+◌, ◌++◌, ◌^◌, ℕ, List, OnOk, OnErr, IsErrOf, length};
 ghost use Rattle.std.specs.Io.KnownBytes.{append_known};
 ghost use Rattle.std.specs.declared.option.Option.{Option};
 ghost use Rattle.av_base.specs.Told.{Grows, HasCause, Rose};
@@ -14,10 +14,9 @@ ghost use Rattle.stream_lines.specs.TakingSteps.{TicksWithinUnit, TookUnit};
 use crate::dump::OpenDump;
 use crate::effect::take_effect;
 use crate::next::Next;
-use crate::stop::{ReadFault, Stop};
-use analyser::Analyser;
+use analyser::Progress;
 use av_base::{Fault, NoMemory, Shelf, Sink, Steps, pour, pour_piece};
-use otc_check::Marks;
+use listings::{ReadFault, Stop};
 use report_text::{Cause, Place, put_refusal};
 use std::alloc::Global;
 use std::sync::ledger::Ledger;
@@ -31,53 +30,44 @@ pub struct Asked<'a> {
     pub name: &'a str,
     /// The most units that are taken.
     pub count: u32,
-}
-
-/// What the units so far have made of the routes, and what they have counted.
-#[derive(Drop)]
-pub struct Progress {
-    /// The analysis.
-    pub analyser: Analyser,
-    /// What the routes say of Only-to-Customer (RFC 9234, section 5).
-    pub marks: Marks,
-    /// How many units were passed over.
-    pub passed: u64,
-    /// How many units and lines were refused.
-    pub refused: u64,
+    /// The moment, in seconds since 1970-01-01 00:00 UTC, at whose first record the line stops, which stays; none where only the count
+    /// bounds it.
+    pub until: Option<u32>,
 }
 
 /// Takes the next units of a dump, or all that come until it is over; then its file is let go at once. A refused unit is reported by a
 /// line. The text is held, and written in pieces. Each judgement is a step.
-pub fn take_units<F: Shelf, W: Sink, L: Ledger>(
+pub(crate) fn take_units<F: Shelf, W: Sink, L: Ledger>(
     alloc: Global,
     dump: &mut OpenDump,
-    asking: Asked<'_>,
-    progress: Progress,
+    asked: Asked<'_>,
+    progress: &mut Progress,
     shelf: &mut F,
     out: &mut W,
     text: &mut Vec<u8>,
     steps: &mut Steps<L>,
-) -> Result<Progress, Stop>
+) -> Result<(), Stop>
     requires given { dump.old.file < F.opened shelf.old }
     requires few_taken { dump.old.taken < 2 ^ 62 }
-    requires few_passed { progress.passed < 2 ^ 62 }
-    requires few_refused { progress.refused < 2 ^ 62 }
-    ensures took { IfOk result (TookUnits (asking_of asking.entry) asking.entry.count
-        dump.old dump.new progress
+    requires few_passed { progress.old.passed < 2 ^ 62 }
+    requires few_refused { progress.old.refused < 2 ^ 62 }
+    ensures took { OnOk result (TookUnits (asking_of asked.entry) asked.entry.count
+        dump.old dump.new progress.old
         (F.files shelf.old) (F.files shelf.new)
         (append_known (W.written out.old) text.old.items)
-        (append_known (W.written out.new) text.new.items)) }
+        (append_known (W.written out.new) text.new.items) progress.new) }
 
     // Whether it ended early or not: the text of some first units was added, and no more steps were taken than these and perhaps one
     // unit more may cost.
-    ensures some { TookSome (asking_of asking.entry) asking.entry.count
-        dump.old progress (F.files shelf.old)
+    ensures some { TookSome (asking_of asked.entry) asked.entry.count
+        dump.old progress.old (F.files shelf.old)
         (append_known (W.written out.old) text.old.items)
         (append_known (W.written out.new) text.new.items) steps.old steps.new }
-    ensures ticks { TicksWithinUnits (asking_of asking.entry) asking.entry.count
-        dump.old progress (F.files shelf.old) steps.old steps.new }
+    ensures ticks { TicksWithinUnits (asking_of asked.entry) asked.entry.count
+        dump.old progress.old (F.files shelf.old) steps.old steps.new }
     ensures file { dump.new.file ≡ dump.old.file }
-    ensures few { IfOk result (GrewBy asking.entry.count dump.old dump.new progress) }
+    ensures few { OnOk result (GrewBy asked.entry.count
+        dump.old dump.new progress.old progress.new) }
 
     // A dump that ends lets its file, its bytes and what its units told go.
     ensures lets_go { OnOk result (LetsGo dump.old dump.new (F.files shelf.new)) }
@@ -94,19 +84,18 @@ pub fn take_units<F: Shelf, W: Sink, L: Ledger>(
     ensures grows { Grows (W.written out.old) (W.written out.new) }
 
     // Whatever the shelf tells: only whole lines are added, and none says that a feed's place wasn't to be had.
-    ensures reports { IsInLine asking.entry.name.now
+    ensures reports { IsInLine asked.entry.name.now
         → AddsQuiet (append_known (W.written out.old) text.old.items)
         (append_known (W.written out.new) text.new.items) }
 {
-    let mut progress = progress;
-    for _turn in 0..asking.count {
+    for _turn in 0..asked.count {
         if dump.is_over() {
-            return Ok(progress);
+            return Ok(());
         }
-        progress = take_unit(alloc, dump, asking, progress, shelf, text, steps)?;
+        take_unit(alloc, dump, asked, progress, shelf, text, steps)?;
         pour_before(dump, out, text)?;
     }
-    Ok(progress)
+    Ok(())
 }
 
 /// Writes what is held once that is a whole piece, and all of it before a read that may wait.
@@ -132,23 +121,23 @@ pub(crate) fn pour_before<W: Sink>(
 pub(crate) fn take_unit<F: Shelf, L: Ledger>(
     alloc: Global,
     dump: &mut OpenDump,
-    asking: Asked<'_>,
-    progress: Progress,
+    asked: Asked<'_>,
+    progress: &mut Progress,
     shelf: &mut F,
     text: &mut Vec<u8>,
     steps: &mut Steps<L>,
-) -> Result<Progress, ReadFault>
+) -> Result<(), ReadFault>
     requires given { dump.old.file < F.opened shelf.old }
     requires few_taken { dump.old.taken < 2 ^ 63 }
-    requires few_passed { progress.passed < 2 ^ 63 }
-    requires few_refused { progress.refused < 2 ^ 63 }
-    ensures took { IfOk result (TookUnit (asking_of asking.entry) dump.old dump.new progress
-        (F.files shelf.old) (F.files shelf.new) text.old.items text.new.items) }
+    requires few_passed { progress.old.passed < 2 ^ 63 }
+    requires few_refused { progress.old.refused < 2 ^ 63 }
+    ensures took { OnOk result (TookUnit (asking_of asked.entry) dump.old dump.new progress.old
+        (F.files shelf.old) (F.files shelf.new) text.old.items text.new.items progress.new) }
     ensures err { OnErr result (text.new.items ≡ text.old.items) }
     ensures file { dump.new.file ≡ dump.old.file }
-    ensures few { IfOk result (GrewBy 1 dump.old dump.new progress) }
+    ensures few { OnOk result (GrewBy 1 dump.old dump.new progress.old progress.new) }
     ensures lets_go { OnOk result (LetsGo dump.old dump.new (F.files shelf.new)) }
-    ensures ticks { TicksWithinUnit (asking_of asking.entry) dump.old progress
+    ensures ticks { TicksWithinUnit (asking_of asked.entry) dump.old progress.old
         (F.files shelf.old) steps.old steps.new }
     ensures others { Leaves (λ other. other ≢ dump.old.file)
         (F.files shelf.old) (F.files shelf.new) }
@@ -156,54 +145,53 @@ pub(crate) fn take_unit<F: Shelf, L: Ledger>(
     ensures cause { IsErrOf result ReadFault.Source
         → Rose (F.faults shelf.old) (F.faults shelf.new) }
     ensures faults { F.faults shelf.old ≤ F.faults shelf.new }
-    ensures reports { IsInLine asking.entry.name.now → (written : Option (List ℕ))
+    ensures reports { IsInLine asked.entry.name.now → (written : Option (List ℕ))
         → AddsQuiet (append_known written text.old.items) (append_known written text.new.items) }
 {
     match dump.next(alloc, shelf)? {
         Next::Unit(Ok(effect)) => {
-            let progress = take_effect(effect, progress, steps)?;
+            take_effect(alloc, effect, progress, steps)?;
             dump.pass();
-            Ok(progress)
+            Ok(())
         }
         Next::Unit(Err(cause)) => {
-            report(text, asking, dump.taken(), cause)?;
+            report(text, asked, dump.taken(), cause)?;
             dump.pass();
-            Ok(refused_once(progress))
+            refused_once(progress);
+            Ok(())
         }
         Next::Broken(cause) => {
-            report(text, asking, dump.taken(), cause)?;
+            report(text, asked, dump.taken(), cause)?;
             dump.end(alloc, shelf);
-            Ok(refused_once(progress))
+            refused_once(progress);
+            Ok(())
         }
         Next::End => {
             dump.end(alloc, shelf);
-            Ok(progress)
+            Ok(())
         }
     }
 }
 
 // One refusal is counted.
-fn refused_once(progress: Progress) -> Progress
-    requires { progress.refused < 2 ^ 63 }
-    ensures { result ≡ record progress { refused = progress.refused + 1 } }
+fn refused_once(progress: &mut Progress)
+    requires { progress.old.refused < 2 ^ 63 }
+    ensures { progress.new ≡ record progress.old { refused = progress.old.refused + 1 } }
 {
-    Progress {
-        refused: progress.refused + 1,
-        ..progress
-    }
+    progress.refused += 1;
 }
 
 // Reports the unit behind those that were taken.
-fn report(text: &mut Vec<u8>, asking: Asked<'_>, taken: u64, cause: Cause) -> Result<(), NoMemory>
+fn report(text: &mut Vec<u8>, asked: Asked<'_>, taken: u64, cause: Cause) -> Result<(), NoMemory>
     requires few { taken < 2 ^ 63 }
     ensures ok { OnOk result (text.new.items
         ≡ text.old.items
-        ++ refusal_text asking.entry.line (of_unit asking.entry.name.now (taken + 1)) cause) }
+        ++ refusal_text asked.entry.line (of_unit asked.entry.name.now (taken + 1)) cause) }
     ensures err { OnErr result (text.new.items ≡ text.old.items) }
 {
     let place = Place::Unit {
-        name: asking.name,
+        name: asked.name,
         unit: taken + 1,
     };
-    put_refusal(text, asking.line, place, cause)
+    put_refusal(text, asked.line, place, cause)
 }

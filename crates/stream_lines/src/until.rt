@@ -1,5 +1,5 @@
 //! The units that a line takes from a dump up to a moment.
-ghost use Rattle.std.specs.Prelude.{◌≡◌, ◌<◌, ◌≤◌, ◌≢◌, ◌^◌, IfOk, OnOk, IsErrOf, length};
+ghost use Rattle.std.specs.Prelude.{◌≡◌, ◌<◌, ◌≤◌, ◌≢◌, ◌^◌, OnOk, IsErrOf, length};
 ghost use Rattle.std.specs.Io.KnownBytes.{append_known};
 ghost use Rattle.av_base.specs.Told.{Grows, Rose};
 ghost use Rattle.av_text.specs.Spellings.{IsInLine};
@@ -10,47 +10,47 @@ ghost use Rattle.stream_lines.specs.Taking.{GrewBy, asking_of};
 ghost use Rattle.stream_lines.specs.TakingUntil.{TicksWithinUntil, TookSomeUntil, TookUntil};
 
 use crate::dump::OpenDump;
-use crate::stop::Stop;
-use crate::taking::{Asked, Progress, pour_before, take_unit};
+use crate::taking::{Asked, pour_before, take_unit};
+use analyser::Progress;
 use av_base::{Shelf, Sink, Steps};
+use listings::Stop;
 use std::alloc::Global;
 use std::sync::ledger::Ledger;
 
 /// Takes the next records of a dump up to the first one whose stamp isn't below this moment, which stays in the dump, or all that come
-/// until the dump is over; and no more than the line takes. The moment is in seconds since 1970-01-01 00:00 UTC, as stamps are (RFC 6396,
-/// section 2). Only a whole record has a stamp: what can't be cut out is taken as `take_units` does, and a dump of BMP has none. The
-/// rest is as in `take_units`.
-pub fn take_until<F: Shelf, W: Sink, L: Ledger>(
+/// until the dump is over; and no more than the line takes. The rest is as in `take_units`.
+pub(crate) fn take_until<F: Shelf, W: Sink, L: Ledger>(
     alloc: Global,
     dump: &mut OpenDump,
-    asking: Asked<'_>,
+    asked: Asked<'_>,
     moment: u32,
-    progress: Progress,
+    progress: &mut Progress,
     shelf: &mut F,
     out: &mut W,
     text: &mut Vec<u8>,
     steps: &mut Steps<L>,
-) -> Result<Progress, Stop>
+) -> Result<(), Stop>
     requires given { dump.old.file < F.opened shelf.old }
     requires few_taken { dump.old.taken < 2 ^ 62 }
-    requires few_passed { progress.passed < 2 ^ 62 }
-    requires few_refused { progress.refused < 2 ^ 62 }
-    ensures took { IfOk result (TookUntil (asking_of asking.entry) moment asking.entry.count
-        dump.old dump.new progress
+    requires few_passed { progress.old.passed < 2 ^ 62 }
+    requires few_refused { progress.old.refused < 2 ^ 62 }
+    ensures took { OnOk result (TookUntil (asking_of asked.entry) moment asked.entry.count
+        dump.old dump.new progress.old
         (F.files shelf.old) (F.files shelf.new)
         (append_known (W.written out.old) text.old.items)
-        (append_known (W.written out.new) text.new.items)) }
+        (append_known (W.written out.new) text.new.items) progress.new) }
 
     // Whether it ended early or not: the text of some first units was added, and no more steps were taken than these and perhaps one
     // unit more may cost.
-    ensures some { TookSomeUntil (asking_of asking.entry) moment asking.entry.count
-        dump.old progress (F.files shelf.old)
+    ensures some { TookSomeUntil (asking_of asked.entry) moment asked.entry.count
+        dump.old progress.old (F.files shelf.old)
         (append_known (W.written out.old) text.old.items)
         (append_known (W.written out.new) text.new.items) steps.old steps.new }
-    ensures ticks { TicksWithinUntil (asking_of asking.entry) moment asking.entry.count
-        dump.old progress (F.files shelf.old) steps.old steps.new }
+    ensures ticks { TicksWithinUntil (asking_of asked.entry) moment asked.entry.count
+        dump.old progress.old (F.files shelf.old) steps.old steps.new }
     ensures file { dump.new.file ≡ dump.old.file }
-    ensures few { IfOk result (GrewBy asking.entry.count dump.old dump.new progress) }
+    ensures few { OnOk result (GrewBy asked.entry.count
+        dump.old dump.new progress.old progress.new) }
 
     // A dump that ends lets its file, its bytes and what its units told go.
     ensures lets_go { OnOk result (LetsGo dump.old dump.new (F.files shelf.new)) }
@@ -67,20 +67,19 @@ pub fn take_until<F: Shelf, W: Sink, L: Ledger>(
     ensures grows { Grows (W.written out.old) (W.written out.new) }
 
     // Whatever the shelf tells: only whole lines are added, and none says that a feed's place wasn't to be had.
-    ensures reports { IsInLine asking.entry.name.now
+    ensures reports { IsInLine asked.entry.name.now
         → AddsQuiet (append_known (W.written out.old) text.old.items)
         (append_known (W.written out.new) text.new.items) }
 {
-    let mut progress = progress;
-    for _turn in 0..asking.count {
+    for _turn in 0..asked.count {
         if dump.is_over() {
-            return Ok(progress);
+            return Ok(());
         }
         if dump.is_from(alloc, moment, shelf)? {
-            return Ok(progress);
+            return Ok(());
         }
-        progress = take_unit(alloc, dump, asking, progress, shelf, text, steps)?;
+        take_unit(alloc, dump, asked, progress, shelf, text, steps)?;
         pour_before(dump, out, text)?;
     }
-    Ok(progress)
+    Ok(())
 }

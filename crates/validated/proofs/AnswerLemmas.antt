@@ -5,7 +5,7 @@ use Rattle.std.specs.declared.result.Result.TheVariants.{Ok, Err}
 use Rattle.attestations.specs.Terms.{TermMap}
 use Rattle.origin_model.specs.Vrp.{Payload}
 use Rattle.aspa_payload.proofs.AttestedLemmas.{some_attested}
-use Rattle.json_fields.specs.Each.{Each}
+use Rattle.json_fields.specs.Each.{Each, IfThere}
 use Rattle.slurm_rules.specs.Answers.{Misses as SlurmMisses}
 use Rattle.slurm_rules.specs.Form.{PrefixAssertionText}
 use Rattle.slurm_rules.specs.Numbers.{ArePrefixAssertions}
@@ -13,7 +13,7 @@ use Rattle.slurm_rules.specs.declared.fault.SlurmFault.{SlurmFault}
 use Rattle.slurm_rules.specs.declared.fault.SlurmFault.TheVariants.{PrefixText, Json as SlurmJson, Version as SlurmVersion, Member as SlurmMember, Number as SlurmNumber, NoMemory as SlurmMemory}
 use Rattle.validated.specs.Answers.{Finds, Misses, of_slurm}
 use Rattle.validated.specs.Content.{AreAttestations, ArePayloads, Asserts, ContentIs, PayloadsAre, RecordsAre}
-use Rattle.validated.specs.Form.{Form, IfThere, Roa}
+use Rattle.validated.specs.Form.{Form, Roa}
 use Rattle.validated.specs.declared.fault.ValidatedFault.{ValidatedFault}
 use Rattle.validated.specs.declared.fault.ValidatedFault.TheVariants.{Json, Member, Number, Prefix, NoMemory}
 use Rattle.validated.proofs.ContentLemmas.{no_payloads}

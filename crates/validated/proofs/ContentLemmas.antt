@@ -9,14 +9,14 @@ use Rattle.origin_model.specs.Vrp.{Payload}
 use Rattle.aspa_payload.specs.Lines.{AreAttested}
 use Rattle.aspa_payload.specs.declared.line.Dated.{Dated}
 use Rattle.aspa_payload.proofs.AttestedLemmas.{one_attested, some_attested}
-use Rattle.json_fields.specs.Each.{Each}
+use Rattle.json_fields.specs.Each.{Each, IfThere}
 use Rattle.json_fields.proofs.FoundLemmas.{SomeOrNone, each_or_none, none_found, same_each, same_some}
 use Rattle.slurm_rules.specs.Form.{PrefixAssertionText}
 use Rattle.slurm_rules.specs.Numbers.{ArePrefixAssertions}
 use Rattle.slurm_rules.proofs.ContentLemmas.{payloads_or_none}
 use Rattle.slurm_rules.proofs.OneLemmas.{one_payload_set}
 use Rattle.validated.specs.Content.{AreAttestations, ArePayloads, Asserts, Attests, HasNumbers, IsContent, IsEnd, IsNumber}
-use Rattle.validated.specs.Form.{Aspa, Form, IfThere, Roa}
+use Rattle.validated.specs.Form.{Aspa, Form, Roa}
 use Rattle.validated.specs.declared.validated_file.Validated.{Validated}
 use Rattle.validated.proofs.FormLemmas.{if_there_or_none, one_there}
 

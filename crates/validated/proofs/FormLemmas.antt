@@ -2,11 +2,11 @@
 use Rattle.std.proofs.Common.{◌≡◌, inl, inr, List, Option, Some, None, codes, option_map, refl, ap, subst}
 use Rattle.serde_json.specs.Data.{Data}
 use Rattle.serde_json.specs.Find.{as_array, get}
-use Rattle.json_fields.specs.Each.{Each}
+use Rattle.json_fields.specs.Each.{Each, IfThere}
 use Rattle.json_fields.specs.Object.{ArrayIs, list_of, number_if_there, text_if_there}
 use Rattle.json_fields.specs.Tokens.{IsListOf}
 use Rattle.json_fields.proofs.FoundLemmas.{SomeOrNone, array_or_none, each_or_none, found_or_none, same_array, same_each, same_some, there_or_none}
-use Rattle.validated.specs.Form.{Aspa, Form, IfThere, IsAsNumeral, IsAspa, IsFile, IsMomentNumeral, IsRoa, Roa, customer_of}
+use Rattle.validated.specs.Form.{Aspa, Form, IsAsNumeral, IsAspa, IsFile, IsMomentNumeral, IsRoa, Roa, customer_of}
 use Rattle.validated.proofs.NumeralLemmas.{as_numeral_or_none, moment_numeral_or_none, one_as_numeral, one_moment_numeral}
 
 -- ---- what may be absent

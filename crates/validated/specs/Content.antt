@@ -10,10 +10,10 @@ use Rattle.attestations.specs.Terms.{TermMap}
 use Rattle.origin_model.specs.Vrp.{Payload}
 use Rattle.aspa_payload.specs.Lines.{AreAttested}
 use Rattle.aspa_payload.specs.declared.line.Dated.{Dated}
-use Rattle.json_fields.specs.Each.{Each}
+use Rattle.json_fields.specs.Each.{Each, IfThere}
 use Rattle.slurm_rules.specs.Form.{PrefixAssertionText}
 use Rattle.slurm_rules.specs.Numbers.{ArePrefixAssertions}
-use Rattle.validated.specs.Form.{Aspa, Form, IfThere, Roa}
+use Rattle.validated.specs.Form.{Aspa, Form, Roa}
 use Rattle.validated.specs.declared.content.Attested.{Attested}
 use Rattle.validated.specs.declared.fault.ValidatedFault.{ValidatedFault}
 use Rattle.validated.specs.declared.fault.ValidatedFault.TheVariants.{Number, Prefix, NoMemory}

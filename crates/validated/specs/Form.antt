@@ -1,15 +1,15 @@
 -- The form of a file: what its tree says. An AS and a moment are written as a number, an AS also as the text `AS` and a number. What is
 -- written so and is no number of 32 bits stands in the form as none.
-use Rattle.std.specs.Prelude.{◌≡◌, ◌⊎◌, ℕ, ◌<◌, ◌^◌, List, ◌++◌, Bool, true, ◌||◌, codes, decimal, is_some, map, option_map, Vec}
+use Rattle.std.specs.Prelude.{◌≡◌, ◌⊎◌, ℕ, ◌<◌, ◌^◌, List, ◌++◌, Bool, true, ◌||◌, codes, decimal, is_some, map, option_map}
 use Rattle.std.specs.Option.{option_or}
-use Rattle.std.specs.declared.alloc.Global.{Global}
 use Rattle.std.specs.declared.option.Option.{Option}
 use Rattle.std.specs.declared.option.Option.TheVariants.{Some, None}
 use Rattle.serde_json.specs.Data.{Num, Data, unsigned}
 use Rattle.serde_json.specs.Find.{get, as_number, as_str}
 use Rattle.serde_json.specs.View.{number_view}
+use Rattle.json_fields.specs.Each.{IfThere}
 use Rattle.json_fields.specs.Object.{ArrayIs, number_if_there, text_if_there}
-use Rattle.json_fields.specs.Tokens.{IsListOf}
+use Rattle.json_fields.specs.Tokens.{IsListOf, items_view}
 use Rattle.validated.specs.declared.draft.Numeral.{Numeral}
 use Rattle.validated.specs.declared.draft.DraftAspa.{DraftAspa}
 use Rattle.validated.specs.declared.draft.DraftRoa.{DraftRoa}
@@ -43,13 +43,6 @@ abbrev pub IsMomentNumeral : Data → Option ℕ → Type 0
 IsMomentNumeral d numeral = IsNumeral is_number IsMoment d numeral
 
 -- ---- the members
-
--- both are there and stand so to one another, or neither is there
-abbrev pub IfThere : {D A : Type 0} → (D → A → Type 0) → Option D → Option A → Type 0
-IfThere R None None = Unit {0}
-IfThere R None (Some a) = ⊥
-IfThere R (Some d) None = ⊥
-IfThere R (Some d) (Some a) = R d a
 
 -- an attestation: its customer, its providers, and its end
 pub record Aspa : Type 0 where
@@ -96,20 +89,11 @@ pub record IsFile (d : Data) (form : Form) : Type 0 where
 abbrev pub numeral_view : Numeral → Option ℕ
 numeral_view n = n.number
 
-abbrev pub numerals_view : Vec Numeral Global → List (Option ℕ)
-numerals_view v = map numeral_view v.items
-
 abbrev pub aspa_view : DraftAspa → Aspa
 aspa_view a = record { customer = numeral_view a.customer; providers = map numeral_view a.providers.items; expires = option_map numeral_view a.expires }
-
-abbrev pub aspas_view : Vec DraftAspa Global → List Aspa
-aspas_view v = map aspa_view v.items
 
 abbrev pub roa_view : DraftRoa → Roa
 roa_view r = record { asn = numeral_view r.asn; prefix = r.prefix.items; max = option_map number_view r.max; expires = option_map numeral_view r.expires }
 
-abbrev pub roas_view : Vec DraftRoa Global → List Roa
-roas_view v = map roa_view v.items
-
 abbrev pub draft_view : Draft → Form
-draft_view d = record { aspas = map aspa_view d.aspas.items; roas = option_map roas_view d.roas }
+draft_view d = record { aspas = map aspa_view d.aspas.items; roas = option_map (items_view roa_view) d.roas }

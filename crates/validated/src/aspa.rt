@@ -1,15 +1,15 @@
 //! The elements of `aspas`, one at a time.
-ghost use Rattle.std.specs.Prelude.{◌≡◌, ℕ, Option, codes};
+ghost use Rattle.std.specs.Prelude.{◌≡◌, codes};
 ghost use Rattle.serde_json.specs.Data.{Data};
-ghost use Rattle.json_fields.specs.Tokens.{Holds};
+ghost use Rattle.json_fields.specs.Tokens.{Holds, Keeps};
 ghost use Rattle.serde_json.specs.Find.{get};
 ghost use Rattle.validated.specs.Form.{Aspa, IsAsNumeral, IsAspa, aspa_view, numeral_view};
-ghost use Rattle.validated.specs.Kept.{AspaIs, IsCustomer, Keeps};
+ghost use Rattle.validated.specs.Kept.{AspaIs, IsCustomer};
 
 use crate::draft::{DraftAspa, Numeral};
-use crate::numeral::{as_numeral, asn_after, moment_after};
+use crate::numeral::{AsNumeral, MomentNumeral};
 use json::Reader;
-use json_fields::{Element, Fields, JsonFault, pass, read_list, read_object};
+use json_fields::{Entry, Fields, Read, Values, pass, read_list, value_after};
 use std::alloc::Global;
 
 // What is kept of an element. A member is none where it is of another kind, and the array of providers also where it is absent.
@@ -24,7 +24,7 @@ pub(crate) struct AspaFields {
 impl Fields for AspaFields {
     ghost keeps = { AspaIs };
 
-    fn of_empty() -> AspaFields {
+    fn new(_is_object: bool) -> AspaFields {
         AspaFields {
             asid: Some(None),
             customer: Some(None),
@@ -33,64 +33,31 @@ impl Fields for AspaFields {
         }
     }
 
-    fn of_other() -> AspaFields {
-        AspaFields {
-            asid: Some(None),
-            customer: Some(None),
-            providers: None,
-            expires: Some(None),
-        }
-    }
-
-    fn read_member(
-        self,
-        alloc: Global,
-        name: &str,
-        reader: &mut Reader<'_>,
-        depth: usize,
-    ) -> Result<AspaFields, JsonFault> {
+    fn keep(mut self, alloc: Global, name: &str, reader: &mut Reader, depth: usize) -> Read<Self> {
         if name == "providers" {
-            let providers = read_list::<ProviderElement>(alloc, reader, depth)?;
-            return Ok(AspaFields {
-                asid: self.asid,
-                customer: self.customer,
-                providers,
-                expires: self.expires,
-            });
+            self.providers = read_list::<Values<AsNumeral>>(alloc, reader, depth)?;
+            return Ok(self);
         }
         let kind = pass(reader, depth)?;
-        let asid = asn_after(self.asid, "customer_asid", name, kind);
-        let customer = asn_after(self.customer, "customer", name, kind);
-        let expires = moment_after(self.expires, "expires", name, kind);
-        Ok(AspaFields {
-            asid,
-            customer,
-            providers: self.providers,
-            expires,
-        })
+        self.asid = value_after::<AsNumeral>(self.asid, "customer_asid", name, kind);
+        self.customer = value_after::<AsNumeral>(self.customer, "customer", name, kind);
+        self.expires = value_after::<MomentNumeral>(self.expires, "expires", name, kind);
+        Ok(self)
     }
 }
 
-impl AspaFields {
-    // The attestation, where this is one.
-    fn into_aspa(self) -> Option<DraftAspa>
-        ensures { (d : Data) → AspaIs self d → Holds aspa_view result (IsAspa d) }
-    {
-        let AspaFields {
-            asid,
-            customer,
-            providers,
-            expires,
-        } = self;
-        let Some(customer) = named(asid, customer) else {
-            return None;
-        };
-        let Some(providers) = providers else {
-            return None;
-        };
-        let Some(expires) = expires else {
-            return None;
-        };
+// An element of `aspas`.
+impl Entry<AspaFields> for DraftAspa {
+    ghost Seen = { Aspa };
+
+    ghost see = { aspa_view };
+
+    ghost stands_for = { IsAspa };
+
+    fn of(kept: AspaFields) -> Option<DraftAspa> {
+        let customer = named(kept.asid, kept.customer)?;
+        let expires = kept.expires?;
+        let providers = kept.providers?;
         Some(DraftAspa {
             customer,
             providers,
@@ -101,62 +68,14 @@ impl AspaFields {
 
 // The customer, by `customer_asid`, or by `customer` where that isn't there.
 fn named(asid: Option<Option<Numeral>>, other: Option<Option<Numeral>>) -> Option<Numeral>
-    ensures { (d : Data) → Keeps IsAsNumeral asid (get (codes "customer_asid") d)
-        → Keeps IsAsNumeral other (get (codes "customer") d)
+    ensures { (d : Data) → Keeps numeral_view IsAsNumeral asid (get (codes "customer_asid") d)
+        → Keeps numeral_view IsAsNumeral other (get (codes "customer") d)
         → Holds numeral_view result (IsCustomer d) }
 {
-    let Some(asid) = asid else {
-        return None;
-    };
+    let asid = asid?;
     if let Some(customer) = asid {
         return Some(customer);
     }
-    let Some(Some(customer)) = other else {
-        return None;
-    };
+    let customer = other??;
     Some(customer)
-}
-
-// The elements of `aspas`.
-pub(crate) struct AspaElement;
-
-impl Element for AspaElement {
-    type Item = DraftAspa;
-
-    ghost Seen = { Aspa };
-
-    ghost see = { aspa_view };
-
-    ghost stands_for = { IsAspa };
-
-    fn read(
-        alloc: Global,
-        reader: &mut Reader<'_>,
-        depth: usize,
-    ) -> Result<Option<DraftAspa>, JsonFault> {
-        let fields: AspaFields = read_object(alloc, reader, depth)?;
-        Ok(fields.into_aspa())
-    }
-}
-
-// The elements of `providers`.
-pub(crate) struct ProviderElement;
-
-impl Element for ProviderElement {
-    type Item = Numeral;
-
-    ghost Seen = { Option ℕ };
-
-    ghost see = { numeral_view };
-
-    ghost stands_for = { IsAsNumeral };
-
-    fn read(
-        _alloc: Global,
-        reader: &mut Reader<'_>,
-        depth: usize,
-    ) -> Result<Option<Numeral>, JsonFault> {
-        let kind = pass(reader, depth)?;
-        Ok(as_numeral(kind))
-    }
 }

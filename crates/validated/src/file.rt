@@ -1,15 +1,15 @@
 //! The whole file: its two arrays, in whatever order they stand.
 ghost use Rattle.std.specs.Prelude.{◌≡◌, Some};
 ghost use Rattle.serde_json.specs.Data.{Data};
-ghost use Rattle.json_fields.specs.Tokens.{Holds, Takes};
-ghost use Rattle.validated.specs.Form.{IsFile, draft_view};
-ghost use Rattle.validated.specs.Kept.{FileIs, KeepsRoas};
+ghost use Rattle.json_fields.specs.Tokens.{Holds, IsListOf, Keeps, Takes, items_view};
+ghost use Rattle.validated.specs.Form.{IsFile, IsRoa, draft_view, roa_view};
+ghost use Rattle.validated.specs.Kept.{FileIs};
 
-use crate::aspa::AspaElement;
+use crate::aspa::AspaFields;
 use crate::draft::{Draft, DraftAspa, DraftRoa};
-use crate::roa::RoaElement;
+use crate::roa::RoaFields;
 use json::Reader;
-use json_fields::{Fields, JsonFault, pass, read_list};
+use json_fields::{Fields, Objects, Read, pass, read_list};
 use std::alloc::Global;
 
 // What is kept of a file: none of an array with an element that is none, or of what is no array; of `roas` also whether it is there.
@@ -22,40 +22,21 @@ pub(crate) struct File {
 impl Fields for File {
     ghost keeps = { FileIs };
 
-    fn of_empty() -> File {
+    fn new(_is_object: bool) -> File {
         File {
             aspas: None,
             roas: Some(None),
         }
     }
 
-    fn of_other() -> File {
-        File {
-            aspas: None,
-            roas: Some(None),
-        }
-    }
-
-    fn read_member(
-        self,
-        alloc: Global,
-        name: &str,
-        reader: &mut Reader<'_>,
-        depth: usize,
-    ) -> Result<File, JsonFault> {
+    fn keep(mut self, alloc: Global, name: &str, reader: &mut Reader, depth: usize) -> Read<Self> {
         if name == "aspas" {
-            let aspas = read_list::<AspaElement>(alloc, reader, depth)?;
-            return Ok(File {
-                aspas,
-                roas: self.roas,
-            });
+            self.aspas = read_list::<Objects<AspaFields, DraftAspa>>(alloc, reader, depth)?;
+            return Ok(self);
         }
         if name == "roas" {
-            let roas = read_roas(alloc, reader, depth)?;
-            return Ok(File {
-                aspas: self.aspas,
-                roas,
-            });
+            self.roas = read_roas(alloc, reader, depth)?;
+            return Ok(self);
         }
         pass(reader, depth)?;
         Ok(self)
@@ -67,13 +48,8 @@ impl File {
     pub(crate) fn into_draft(self) -> Option<Draft>
         ensures { (d : Data) → FileIs self d → Holds draft_view result (IsFile d) }
     {
-        let File { aspas, roas } = self;
-        let Some(aspas) = aspas else {
-            return None;
-        };
-        let Some(roas) = roas else {
-            return None;
-        };
+        let aspas = self.aspas?;
+        let roas = self.roas?;
         Some(Draft { aspas, roas })
     }
 }
@@ -83,10 +59,10 @@ fn read_roas(
     alloc: Global,
     reader: &mut Reader<'_>,
     depth: usize,
-) -> Result<Option<Option<Vec<DraftRoa>>>, JsonFault>
-    ensures { Takes (λ kept d. KeepsRoas kept (Some d)) depth reader.old reader.new result }
+) -> Read<Option<Option<Vec<DraftRoa>>>>
+    ensures { Takes (λ kept d. Keeps (items_view roa_view) (IsListOf IsRoa) kept (Some d)) depth reader.old reader.new result }
 {
-    let roas = read_list::<RoaElement>(alloc, reader, depth)?;
+    let roas = read_list::<Objects<RoaFields, DraftRoa>>(alloc, reader, depth)?;
     let Some(roas) = roas else {
         return Ok(None);
     };

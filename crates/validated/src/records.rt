@@ -1,11 +1,12 @@
 //! The records of origin validation of a form. They are read as the prefix assertions of a SLURM file are.
 ghost use Rattle.std.specs.Prelude.{◌≡◌, map, option_map, IfSome, IfNone};
+ghost use Rattle.json_fields.specs.Tokens.{items_view};
 ghost use Rattle.json_fields.specs.Each.{Each};
 ghost use Rattle.slurm_rules.specs.Form.{prefix_assertion_view, prefix_assertions_view};
 ghost use Rattle.slurm_rules.specs.Numbers.{ArePrefixAssertions};
 ghost use Rattle.validated.specs.Answers.{Finds, Reads, of_slurm};
 ghost use Rattle.validated.specs.Content.{Asserts, PayloadsAre, RecordsAre};
-ghost use Rattle.validated.specs.Form.{roa_view, roas_view};
+ghost use Rattle.validated.specs.Form.{roa_view};
 
 use crate::content::read_end;
 use crate::draft::DraftRoa;
@@ -20,7 +21,7 @@ pub(crate) fn read_records(
     alloc: Global,
     roas: Option<Vec<DraftRoa>>,
 ) -> Result<Option<VrpSet>, ValidatedFault>
-    ensures { RecordsAre (option_map roas_view roas) result }
+    ensures { RecordsAre (option_map (items_view roa_view) roas) result }
 {
     let Some(roas) = roas else {
         return Ok(None);
@@ -31,7 +32,7 @@ pub(crate) fn read_records(
 
 // The same of an array.
 fn read_payloads(alloc: Global, roas: Vec<DraftRoa>) -> Result<VrpSet, ValidatedFault>
-    ensures { PayloadsAre (roas_view roas) result }
+    ensures { PayloadsAre ((items_view roa_view) roas) result }
 {
     let assertions = read_assertions(alloc, roas)?;
     read_prefixes(alloc, &assertions)
@@ -43,7 +44,7 @@ fn read_assertions(
     roas: Vec<DraftRoa>,
 ) -> Result<Vec<DraftPrefixAssertion>, ValidatedFault>
     ensures { Reads ValidatedFault.Number prefix_assertions_view result
-        (Each Asserts (roas_view roas)) }
+        (Each Asserts ((items_view roa_view) roas)) }
 {
     let mut assertions = Vec::new(alloc);
     for roa in roas {

@@ -3,11 +3,11 @@
 //! The tables are texts that `reading` reads, with expected values worked out by hand. `judgements` judges paths in a small world, with their
 //! witnesses, `as_lists` makes lists of six to nine ASes, `long_chains` the longest path there is, `confirming` puts claims to the checker,
 //! `hops` looks up hops, `copies` copies what a change of the table answers, `held_routes` and `words` put a map of routes and one of words
-//! beside ordered maps, `routes` asks a store of routes, and `listed_routes` lists one. `quiet` replays
-//! half a million events that each touch one route among 200,000, `quiet_moments` as many moments that end or revive one attestation among
-//! 200,000, `quiet_marks` asks after each of as many events what changed (all by `replaying`), and the contracts of `ticks` say how many
-//! judgements each event of a row takes. `compared` judges all routes of plain lists (`plain`) from scratch after each of 2,000 drawn events
-//! (`drawing`, `drawn_events`), and compares these with the store's.
+//! beside ordered maps, `many_peers` has 65,535 peers of one route each, `routes` asks a store of routes, and `listed_routes` lists one.
+//! `quiet` replays half a million events that each touch one route among 200,000, `quiet_moments` as many moments that end or revive one
+//! attestation among 200,000, `quiet_marks` asks after each of as many events what changed (all by `replaying`), and the contracts of `ticks`
+//! say how many judgements each event of a row takes. `compared` judges all routes of plain lists (`plain`) from scratch after each of 2,000
+//! drawn events (`drawing`, `drawn_events`), and compares these with the store's.
 #![tactic(auto)]
 
 #[cfg(test)]

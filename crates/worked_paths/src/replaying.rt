@@ -41,8 +41,9 @@ pub fn unassert<L: Ledger>(
 }
 
 /// Changes are gathered.
-pub fn gather(analyser: Analyser) -> Result<Analyser, NoMemory> {
-    analyser.gather()
+pub fn gather(mut analyser: Analyser) -> Result<Analyser, NoMemory> {
+    analyser.gather()?;
+    Ok(analyser)
 }
 
 /// All verdicts are marked.

@@ -5,7 +5,7 @@ use crate::lines::{
 };
 use av_base::NoMemory;
 use path_model::{Addr, Prefix};
-use script_lines::{Command, LineFault, Show, read};
+use script_lines::{Command, LineFault, read};
 use std::alloc::Global;
 use std::process::Abort;
 
@@ -56,10 +56,10 @@ fn is_read_so(read: &Result<Command, LineFault>, reading: Reading) -> bool {
         (Ok(Command::Serve(place, session, count)), Reading::Serve(at, of, wanted)) => {
             place.text() == at && *session == of && *count == wanted
         }
-        (Ok(Command::Show(Show::Report)), Reading::Report) => true,
-        (Ok(Command::Show(Show::Origins)), Reading::Origins) => true,
-        (Ok(Command::Show(Show::Leaks)), Reading::Leaks) => true,
-        (Ok(Command::Show(Show::Suspects)), Reading::Suspects) => true,
+        (Ok(Command::Report), Reading::Report) => true,
+        (Ok(Command::Origins), Reading::Origins) => true,
+        (Ok(Command::Leaks), Reading::Leaks) => true,
+        (Ok(Command::Suspects), Reading::Suspects) => true,
         (Ok(Command::Details(verdict)), Reading::Details(wanted)) => *verdict == wanted,
         (Ok(Command::Clear), Reading::Clear) => true,
         (Ok(Command::Say(saying)), Reading::Say(text)) => saying.text() == text,

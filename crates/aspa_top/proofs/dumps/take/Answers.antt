@@ -1,14 +1,14 @@
 use Rattle.std.proofs.Common.{refl, sym, ap, ◌∙◌, arith}
 use Rattle.std.specs.Io.KnownBytes.{append_known}
-use Rattle.stream_lines.specs.declared.stop.Stop.TheVariants as stops
+use Rattle.listings.specs.declared.stop.Stop.TheVariants as stops
 use Rattle.aspa_top.proofs.DidLemmas.{did_err, nothing}
 use Rattle.aspa_top.proofs.TakeLemmas.{take_over}
 use Rattle.aspa_top.proofs.FeedLemmas.{takes_feed}
 use Rattle.aspa_top.proofs.KeepLemmas.{keeps_all}
 use Rattle.aspa_top.proofs.dumps.take.Goals as goal
 
-pub take_open-requires-clause-is : goal.take_open-requires-clause-is
-take_open-requires-clause-is g c = record { dump = c.in-Some.dump.now; here = sym c.in-Some.ensures.value; yet = sym c.is_over.ensures ∙ c.if-is_over.false }
+pub take_open-requires-clause-may : goal.take_open-requires-clause-may
+take_open-requires-clause-may g c = (c.requires.few, record { dump = c.in-Some.dump.now; here = sym c.in-Some.ensures.value; yet = sym c.is_over.ensures ∙ c.if-is_over.false })
 
 -- no dump has the name
 pub returns-in_default-clause-did : goal.returns-in_default-clause-did

@@ -1,44 +1,39 @@
-use Rattle.std.proofs.Common.{Some, Err, List, ℕ, ◌≡◌, refl, sym, ap, subst, ◌∙◌, arith}
+use Rattle.std.proofs.Common.{Err, List, ℕ, refl, sym, ap, subst, ◌∙◌, arith}
 use Rattle.std.specs.Option.{IsSome}
 use Rattle.av_text.specs.Spellings.{IsInLine}
 use Rattle.av_text.proofs.AnySpellingLemmas.{names_in_line}
 use Rattle.feed_lines.proofs.NamedLemmas.{at_name}
-use Rattle.stream_lines.specs.Held.{HeldDump}
 use Rattle.aspa_top.proofs.DidLemmas.{did_err}
-use Rattle.aspa_top.proofs.TakeLemmas.{take_done, take_stopped}
 use Rattle.aspa_top.proofs.KeepLemmas.{keeps_both}
+use Rattle.aspa_top.proofs.OpenLemmas.{open_done, open_stopped}
 use Rattle.aspa_top.proofs.dumps.take_open.Goals as goal
 
-pub take_units-requires-clause-given : goal.take_units-requires-clause-given
-take_units-requires-clause-given g c = (c.requires.begun.sound.given c.args.name.now c.in-Some.dump.now (sym c.in-Some.ensures.value)).0
+pub take-requires-clause-given : goal.take-requires-clause-given
+take-requires-clause-given g c = (c.requires.begun.sound.given c.args.name.now c.in-Some.dump.now (sym c.in-Some.ensures.value)).0
 
-pub take_units-requires-clause-few_taken : goal.take_units-requires-clause-few_taken
-take_units-requires-clause-few_taken g c =
+pub take-requires-clause-few_taken : goal.take-requires-clause-few_taken
+take-requires-clause-few_taken g c =
     let here = c.requires.begun.sound.given c.args.name.now c.in-Some.dump.now (sym c.in-Some.ensures.value) in
     omega (arith, here.1, c.requires.begun.few)
 
 pub returns : goal.returns
-returns g c =
-    let both : Some c.in-Some.dump.now ≡ Some c.requires.is.dump = c.in-Some.ensures.value ∙ c.requires.is.here in
-    let same : c.in-Some.dump.now ≡ c.requires.is.dump = cc in
-    record {
-      keeps = record { lent = refl; keeps = keeps_both _ _ _ _ _ _ _ _ c.take_units.ensures.others.names c.take_units.ensures.shelf_faults c.take_units.ensures.grows c.take_units.ensures.sink_faults };
-      did = take_done c.args.working c.args.name.now c.args.count c.in-Some.dump.now c.take_units.new.dump _ _ _ _ _ _ _ _ _ _ c.requires.begun c.requires.few (sym c.in-Some.ensures.value)
-          c.take_units.ensures.others (ap (λ (d : HeldDump). d.over) same ∙ c.requires.is.yet) (λ i. record { line = c.args.working.lines; name = c.text.ensures.text i }) refl c.take_units.ensures.ticks
-          (c.take_units.ensures.reports (subst (λ (name : List ℕ). IsInLine name) (sym c.text.ensures.text) (names_in_line _ c.text.ensures.is_name)))
-          _ c.in_ok-taken.taken c.in_ok-taken.ensures.took (λ q. ((c.get_mut.follows.holds c.take_units.new.dump).3 (subst (λ o. IsSome o) c.in-Some.ensures.value refl)).0 q ∙ at_name c.args.name.now q _ _) refl
-          c.take_units.ensures.opened c.take_units.ensures.file c.in_ok-taken.ensures.few;
-    }
+returns g c = record {
+  keeps = record { lent = refl; keeps = keeps_both _ _ _ _ _ _ _ _ c.take.ensures.others.names c.take.ensures.shelf_faults c.take.ensures.grows c.take.ensures.sink_faults };
+  did = open_done c.args.working c.args.name.now c.in-Some.dump.now c.take.new.dump _ _ _ _ _ _ _ _ _ c.requires.begun (sym c.in-Some.ensures.value)
+      c.take.ensures.others (λ i. record { line = c.args.working.lines; name = c.text.ensures.text i })
+      (c.take.ensures.reports (subst (λ (name : List ℕ). IsInLine name) (sym c.text.ensures.text) (names_in_line _ c.text.ensures.is_name)))
+      c.args.until c.args.count c.requires.may c.take.ensures.ticks _ c.take.new.progress c.in_ok-take.ensures.took
+      (λ q. ((c.get_mut.follows.holds c.take.new.dump).3 (subst (λ o. IsSome o) c.in-Some.ensures.value refl)).0 q ∙ at_name c.args.name.now q _ _) refl
+      c.take.ensures.opened c.take.ensures.file c.in_ok-take.ensures.few;
+}
 
-pub returns-in_err-taken : goal.returns-in_err-taken
-returns-in_err-taken g c =
-    let both : Some c.in-Some.dump.now ≡ Some c.requires.is.dump = c.in-Some.ensures.value ∙ c.requires.is.here in
-    let same : c.in-Some.dump.now ≡ c.requires.is.dump = cc in
-    record {
-      keeps = record { lent = refl; keeps = keeps_both _ _ _ _ _ _ _ _ c.take_units.ensures.others.names c.take_units.ensures.shelf_faults c.take_units.ensures.grows c.take_units.ensures.sink_faults };
-      did = did_err c.args.working _ _ _ c.from_residual.result _ c.from_residual.ensures.1
-          (take_stopped c.args.working c.args.name.now c.args.count c.in-Some.dump.now c.take_units.new.dump _ _ _ _ _ _ _ _ _ _ c.requires.begun c.requires.few (sym c.in-Some.ensures.value)
-          c.take_units.ensures.others (ap (λ (d : HeldDump). d.over) same ∙ c.requires.is.yet) (λ i. record { line = c.args.working.lines; name = c.text.ensures.text i }) refl c.take_units.ensures.ticks
-          (c.take_units.ensures.reports (subst (λ (name : List ℕ). IsInLine name) (sym c.text.ensures.text) (names_in_line _ c.text.ensures.is_name)))
-          c.in_err-taken.field-0.0 c.take_units.ensures.some (λ same. c.in_err-taken.ensures.shelf_cause (ap Err same)) (λ same. (c.in_err-taken.ensures.held (ap Err same), c.in_err-taken.ensures.sink_cause (ap Err same))));
-    }
+pub returns-in_err-take : goal.returns-in_err-take
+returns-in_err-take g c = record {
+  keeps = record { lent = refl; keeps = keeps_both _ _ _ _ _ _ _ _ c.take.ensures.others.names c.take.ensures.shelf_faults c.take.ensures.grows c.take.ensures.sink_faults };
+  did = did_err c.args.working _ _ _ c.from_residual.result _ c.from_residual.ensures.1
+      (open_stopped c.args.working c.args.name.now c.in-Some.dump.now c.take.new.dump _ _ _ _ _ _ _ _ _ c.requires.begun (sym c.in-Some.ensures.value)
+      c.take.ensures.others (λ i. record { line = c.args.working.lines; name = c.text.ensures.text i })
+      (c.take.ensures.reports (subst (λ (name : List ℕ). IsInLine name) (sym c.text.ensures.text) (names_in_line _ c.text.ensures.is_name)))
+      c.args.until c.args.count c.requires.may c.take.ensures.ticks c.in_err-take.field-0.0 c.take.ensures.some (λ same. c.in_err-take.ensures.shelf_cause (ap Err same))
+      (λ same. (c.in_err-take.ensures.held (ap Err same), c.in_err-take.ensures.sink_cause (ap Err same))));
+}

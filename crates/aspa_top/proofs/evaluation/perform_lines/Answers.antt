@@ -53,12 +53,12 @@ loop-line-preserved g c =
     record {
       so_far = λ world tells begun all more own read so_far.
           next_as world all begun c.in-Some.line.now _ _ more c.loop-line.working _ _ _ c.in-Some.ensures.first
-          (poured_as world all begun _ more _ _ _ _ _ c.pour_before.ensures.same (c.loop-line.invariant.so_far world tells begun all more own read so_far))
+          (poured_as world all begun _ more _ _ _ _ _ c.pour_piece.ensures.same (c.loop-line.invariant.so_far world tells begun all more own read so_far))
           (Tells-names _ _ world c.loop-line.invariant.keeps.keeps.names tells) (Keeps-held _ _ c.perform_line.ensures.keeps.keeps) did (g.met.K.Links.agrees c.perform_line.new.outside.links.now);
-      keeps = KeepsAll-trans c.loop-line.invariant.keeps (KeepsAll-trans (record { lent = refl; keeps = keeps_sink _ _ _ _ _ c.pour_before.ensures.grows c.pour_before.ensures.cause.later }) c.perform_line.ensures.keeps);
+      keeps = KeepsAll-trans c.loop-line.invariant.keeps (KeepsAll-trans (record { lent = refl; keeps = keeps_sink _ _ _ _ _ c.pour_piece.ensures.grows c.pour_piece.ensures.cause.later }) c.perform_line.ensures.keeps);
       count = omega (arith, c.loop-line.invariant.count, c.in-Some.ensures.less, did.did.lines);
       ready = did.did.ready;
-      adds = adds_more _ _ _ _ _ _ (lines_poured _ _ _ _ _ c.pour_before.ensures.same c.loop-line.invariant.adds) did.did.adds;
+      adds = adds_more _ _ _ _ _ _ (lines_poured _ _ _ _ _ c.pour_piece.ensures.same c.loop-line.invariant.adds) did.did.adds;
     }
 
 -- a line ended early
@@ -67,42 +67,42 @@ returns-in-Err g c =
     let did = c.in-Err.ensures.did in
     let later = c.write_held.ensures.faults in
     let grows = Grows-trans c.perform_line.ensures.keeps.keeps.grows c.write_held.ensures.grows in
-    let poured = Keeps-trans c.loop-line.invariant.keeps.keeps (keeps_sink _ _ _ [] _ c.pour_before.ensures.grows c.pour_before.ensures.cause.later) in
+    let poured = Keeps-trans c.loop-line.invariant.keeps.keeps (keeps_sink _ _ _ [] _ c.pour_piece.ensures.grows c.pour_piece.ensures.cause.later) in
     record {
-      keeps = KeepsAll-trans c.loop-line.invariant.keeps (KeepsAll-trans (record { lent = refl; keeps = keeps_sink _ _ _ _ _ c.pour_before.ensures.grows c.pour_before.ensures.cause.later })
+      keeps = KeepsAll-trans c.loop-line.invariant.keeps (KeepsAll-trans (record { lent = refl; keeps = keeps_sink _ _ _ _ _ c.pour_piece.ensures.grows c.pour_piece.ensures.cause.later })
           (KeepsAll-trans c.perform_line.ensures.keeps (record { lent = refl; keeps = keeps_sink _ _ _ _ _ c.write_held.ensures.grows later })));
       performed = record {
         goes = λ world begun all more own read kept meets so_far.
             let keeps = Keeps-trans kept poured in
             let before = Keeps-trans kept c.loop-line.invariant.keeps.keeps in
             let found = first_as world all begun c.in-Some.line.now _ _ more _ c.loop-line.working c.in-Some.ensures.first
-            (poured_as world all begun _ more _ _ _ _ _ c.pour_before.ensures.same (c.loop-line.invariant.so_far world (Tells-names _ _ world kept.names meets.tells) begun all more own read so_far)) in
+            (poured_as world all begun _ more _ _ _ _ _ c.pour_piece.ensures.same (c.loop-line.invariant.so_far world (Tells-names _ _ world kept.names meets.tells) begun all more own read so_far)) in
             ended_within world all begun _ _ _ _ found.first _ _ _ _ _ _ meets found.so_far refl (Tells-names _ _ world before.names meets.tells)
             c.perform_line.ensures.keeps.keeps.later c.write_held.ensures.same (Grows-trans keeps.grows grows)
             c.in-Err.stop c.write_held.result (did_as world all begun found.first c.in-Some.line.now c.loop-line.working _ _ (Err c.in-Err.stop) found.reads did) c.write_held.ensures.stops
             c.perform_line.ensures.keeps.keeps.sink_faults keeps.sink_faults;
         cause = stopped_by _ _ _ _ _ _ _ _ c.in-Err.stop c.write_held.result did c.write_held.ensures.stops (Keeps-held _ _ poured) (Keeps-held _ _ c.perform_line.ensures.keeps.keeps) later;
         adds = written_lines _ _ _ _ _ (Grows-trans poured.grows grows)
-            (front_poured _ _ _ _ _ c.write_held.ensures.same (adds_more_front _ _ _ _ _ _ (lines_poured _ _ _ _ _ c.pour_before.ensures.same c.loop-line.invariant.adds) did.did.adds));
+            (front_poured _ _ _ _ _ c.write_held.ensures.same (adds_more_front _ _ _ _ _ _ (lines_poured _ _ _ _ _ c.pour_piece.ensures.same c.loop-line.invariant.adds) did.did.adds));
       };
       few = tt;
       poured = tt;
     }
 
 -- the sink failed between two lines
-pub returns-in_err-pour_before : goal.returns-in_err-pour_before
-returns-in_err-pour_before g c =
-    let grows = Grows-trans c.loop-line.invariant.keeps.keeps.grows c.pour_before.ensures.grows in
-    let later = c.pour_before.ensures.cause.later in
+pub returns-in_err-pour_piece : goal.returns-in_err-pour_piece
+returns-in_err-pour_piece g c =
+    let grows = Grows-trans c.loop-line.invariant.keeps.keeps.grows c.pour_piece.ensures.grows in
+    let later = c.pour_piece.ensures.cause.later in
     let keeps = c.loop-line.invariant.keeps in
     record {
-      keeps = KeepsAll-trans keeps (record { lent = refl; keeps = keeps_sink _ _ _ _ _ c.pour_before.ensures.grows later });
+      keeps = KeepsAll-trans keeps (record { lent = refl; keeps = keeps_sink _ _ _ _ _ c.pour_piece.ensures.grows later });
       performed = sink_performed _ _ _ _ c.from_residual.result c.from_residual.ensures.1 (record {
         goes = λ world begun all more own read kept meets so_far.
-            let found = poured_as world all begun _ more _ _ _ _ _ c.pour_before.ensures.same (c.loop-line.invariant.so_far world (Tells-names _ _ world kept.names meets.tells) begun all more own read so_far) in
-            ended_between world all begun _ _ _ _ _ meets found.so_far (Grows-trans kept.grows grows) c.in_err-pour_before.ensures.err;
-        cause = sink_stopped _ _ _ (Keeps-held _ [] keeps.keeps) c.in_err-pour_before.ensures.cause.failed;
-        adds = written_lines _ _ _ _ _ grows (front_poured _ _ _ _ _ c.pour_before.ensures.same (adds_front _ _ _ _ c.loop-line.invariant.adds));
+            let found = poured_as world all begun _ more _ _ _ _ _ c.pour_piece.ensures.same (c.loop-line.invariant.so_far world (Tells-names _ _ world kept.names meets.tells) begun all more own read so_far) in
+            ended_between world all begun _ _ _ _ _ meets found.so_far (Grows-trans kept.grows grows) c.in_err-pour_piece.ensures.err;
+        cause = sink_stopped _ _ _ (Keeps-held _ [] keeps.keeps) c.in_err-pour_piece.ensures.cause.failed;
+        adds = written_lines _ _ _ _ _ grows (front_poured _ _ _ _ _ c.pour_piece.ensures.same (adds_front _ _ _ _ c.loop-line.invariant.adds));
       });
       few = none_performed c.from_residual.result _ c.from_residual.ensures.1;
       poured = none_performed c.from_residual.result _ c.from_residual.ensures.1;

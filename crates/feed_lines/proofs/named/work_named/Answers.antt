@@ -4,7 +4,7 @@ use Rattle.feed_lines.specs.declared.feed.OpenFeed.{OpenFeed}
 use Rattle.feed_lines.specs.declared.telling.Telling.TheVariants.{NoName, StreamOver}
 use Rattle.feed_lines.specs.Holding.{feed_in}
 use Rattle.feed_lines.specs.Lines.{units_of}
-use Rattle.feed_lines.specs.Steps.{made}
+use Rattle.feed_lines.specs.Steps.{made_in}
 use Rattle.connection_calls.proofs.ConnectionLemmas.{Spares-refl, Spares-weaker}
 use Rattle.connection_calls.proofs.FaultsLemmas.{BreaksByFault-refl}
 use Rattle.feed_lines.proofs.TakingLemmas.{on_err}
@@ -15,7 +15,7 @@ use Rattle.feed_lines.proofs.named.work_named.Goals as goal
 
 pub returns-in-None-clause-works : goal.returns-in-None-clause-works
 returns-in-None-clause-works g c =
-    refused_named _ (g.K.Links.wire c.args.links.now) c.args.name.now c.args.work c.args.feeds.now c.lend.new.feeds NoName (made c.args.analyser c.args.origins.now) c.args.steps.now c.in-None.ensures.same
+    refused_named _ (g.K.Links.wire c.args.links.now) c.args.name.now c.args.work c.args.feeds.now c.lend.new.feeds NoName (made_in c.args.progress.now) c.args.steps.now c.in-None.ensures.same
     (λ world old holds. no_name (g.K.Links.wire c.args.links.now) c.args.name.now c.args.work (feed_in c.args.feeds.now c.args.name.now) (sym c.lend.ensures.was ∙ c.in-None.is) world old (old.feeds c.args.name.now) holds)
 
 pub returns-in-None-clause-sound : goal.returns-in-None-clause-sound
@@ -29,7 +29,7 @@ returns-in-None-clause-others g c = Spares-refl _ _ _
 pub returns-in-Some-None-clause-works : goal.returns-in-Some-None-clause-works
 returns-in-Some-None-clause-works g c =
     let there : feed_in c.args.feeds.now c.args.name.now ≡ Some None = sym c.lend.ensures.was ∙ c.in-Some-None.is ∙ ap (λ (s : Option OpenFeed). Some s) c.in-Some-None.field-0-is in
-    refused_named _ (g.K.Links.wire c.args.links.now) c.args.name.now c.args.work c.args.feeds.now c.lend.new.feeds StreamOver (made c.args.analyser c.args.origins.now) c.args.steps.now
+    refused_named _ (g.K.Links.wire c.args.links.now) c.args.name.now c.args.work c.args.feeds.now c.lend.new.feeds StreamOver (made_in c.args.progress.now) c.args.steps.now
     (Puts-over c.args.feeds.now c.lend.new.feeds c.args.name.now there c.in-Some-None.ensures.now)
     (λ world old holds. is_over (g.K.Links.wire c.args.links.now) c.args.name.now c.args.work (feed_in c.args.feeds.now c.args.name.now) there world old (old.feeds c.args.name.now) holds)
 
@@ -57,7 +57,7 @@ pub returns-in_err-slot-in-Some-Some-clause-halts : goal.returns-in_err-slot-in-
 returns-in_err-slot-in-Some-Some-clause-halts g c =
     on_err c.from_residual.result c.from_residual.ensures.0
     (began_named (g.K.Links.attempts c.args.links.now) (g.K.Links.attempts c.work_on.new.links) (g.K.Links.wire c.args.links.now) (g.K.Links.wire c.work_on.new.links)
-    (g.K.Links.standings c.args.links.now) (g.K.Links.standings c.work_on.new.links) c.args.name.now c.args.work c.args.feeds.now c.in-Some-Some.feed (made c.args.analyser c.args.origins.now)
+    (g.K.Links.standings c.args.links.now) (g.K.Links.standings c.work_on.new.links) c.args.name.now c.args.work c.args.feeds.now c.in-Some-Some.feed (made_in c.args.progress.now)
     c.args.steps.now c.work_on.new.steps c.work_on.ensures.attempts (2 ^ 61) c.requires.sound (sym c.lend.ensures.was ∙ c.in-Some-Some.is ∙ ap (λ (s : Option OpenFeed). Some s) c.in-Some-Some.field-0-is) c.work_on.ensures.only
     (g.met.K.Links.agrees c.work_on.new.links) c.in_err-slot-in-Some-Some.ensures.halts)
 
@@ -72,18 +72,18 @@ give-requires g c = there_some c.args.feeds.now c.lend.new.feeds c.args.name.now
 pub returns-in_ok-slot-in-Some-Some-clause-works : goal.returns-in_ok-slot-in-Some-Some-clause-works
 returns-in_ok-slot-in-Some-Some-clause-works g c =
     works_named (g.K.Links.attempts c.args.links.now) (g.K.Links.attempts c.work_on.new.links) (g.K.Links.wire c.args.links.now) (g.K.Links.wire c.work_on.new.links)
-    (g.K.Links.standings c.args.links.now) (g.K.Links.standings c.work_on.new.links) c.args.name.now c.args.work c.args.feeds.now c.in-Some-Some.feed (made c.args.analyser c.args.origins.now)
+    (g.K.Links.standings c.args.links.now) (g.K.Links.standings c.work_on.new.links) c.args.name.now c.args.work c.args.feeds.now c.in-Some-Some.feed (made_in c.args.progress.now)
     c.args.steps.now c.work_on.new.steps c.work_on.ensures.attempts (2 ^ 61) c.requires.sound (sym c.lend.ensures.was ∙ c.in-Some-Some.is ∙ ap (λ (s : Option OpenFeed). Some s) c.in-Some-Some.field-0-is) c.work_on.ensures.only
-    c.lend.new.feeds c.give.new.feeds c.in_ok-slot-in-Some-Some.field-0.slot c.in_ok-slot-in-Some-Some.field-0.told (made c.in_ok-slot-in-Some-Some.field-0.analyser c.work_on.new.origins) c.in-Some-Some.ensures.now c.give.ensures c.in_ok-slot-in-Some-Some.ensures.works
+    c.lend.new.feeds c.give.new.feeds c.in_ok-slot-in-Some-Some.slot c.in_ok-slot-in-Some-Some.told (made_in c.work_on.new.progress) c.in-Some-Some.ensures.now c.give.ensures c.in_ok-slot-in-Some-Some.ensures.works
 
 pub returns-in_ok-slot-in-Some-Some-clause-sound : goal.returns-in_ok-slot-in-Some-Some-clause-sound
 returns-in_ok-slot-in-Some-Some-clause-sound g c = λ most sound.
     let there = sym c.lend.ensures.was ∙ c.in-Some-Some.is ∙ ap (λ (s : Option OpenFeed). Some s) c.in-Some-Some.field-0-is in
     let had = sound.fit c.args.name.now c.in-Some-Some.feed there in
-    IsSound-put c.args.name.now c.args.feeds.now c.give.new.feeds c.in_ok-slot-in-Some-Some.field-0.slot c.in-Some-Some.feed.link most (most + units_of c.args.work) (omega arith) sound
-    (Puts-twice c.args.feeds.now c.lend.new.feeds c.give.new.feeds c.args.name.now c.in_ok-slot-in-Some-Some.field-0.slot c.in-Some-Some.ensures.now c.give.ensures) c.work_on.ensures.only
+    IsSound-put c.args.name.now c.args.feeds.now c.give.new.feeds c.in_ok-slot-in-Some-Some.slot c.in-Some-Some.feed.link most (most + units_of c.args.work) (omega arith) sound
+    (Puts-twice c.args.feeds.now c.lend.new.feeds c.give.new.feeds c.args.name.now c.in_ok-slot-in-Some-Some.slot c.in-Some-Some.ensures.now c.give.ensures) c.work_on.ensures.only
     (on_its_own _ most c.args.name.now c.args.feeds.now c.in-Some-Some.feed sound there)
-    (SlotFits-more _ c.in-Some-Some.feed.link (c.in-Some-Some.feed.taken + units_of c.args.work) (most + units_of c.args.work) c.in_ok-slot-in-Some-Some.field-0.slot (omega (arith, had.2)) c.in_ok-slot-in-Some-Some.ensures.fits)
+    (SlotFits-more _ c.in-Some-Some.feed.link (c.in-Some-Some.feed.taken + units_of c.args.work) (most + units_of c.args.work) c.in_ok-slot-in-Some-Some.slot (omega (arith, had.2)) c.in_ok-slot-in-Some-Some.ensures.fits)
 
 pub returns-in_ok-slot-in-Some-Some-clause-others : goal.returns-in_ok-slot-in-Some-Some-clause-others
 returns-in_ok-slot-in-Some-Some-clause-others g c =

@@ -29,7 +29,7 @@ members-smaller g c =
     let s = c.next_key.new.self in
     let named : read_key l.reader ≡ Some (Some k, s) = grind arith in
     let here = c.in_ok-more.ensures in
-    omega (arith, read_key-shorter l.reader (Some k) s named, value_shorter c.args.depth s c.read_member.new.reader here.0 here.1)
+    omega (arith, read_key-shorter l.reader (Some k) s named, value_shorter c.args.depth s c.keep.new.reader here.0 here.1)
 
 pub members-preserved : goal.members-preserved
 members-preserved g c =
@@ -39,7 +39,7 @@ members-preserved g c =
     let named : read_key l.reader ≡ Some (Some k, s) = grind arith in
     let here = c.in_ok-more.ensures in (
       put k here.0 l.invariant.0,
-      members_next c.args.depth c.args.reader.now l.reader s c.read_member.new.reader l.invariant.0 k here.0 l.invariant.1 named here.1,
+      members_next c.args.depth c.args.reader.now l.reader s c.keep.new.reader l.invariant.0 k here.0 l.invariant.1 named here.1,
       here.2 l.invariant.0 l.invariant.2,
     )
 

@@ -16,7 +16,7 @@ loop-turn-init g c = record {
   within = omega arith;
   file = refl;
   lets_go = LetsGo-same _ _;
-  few = record { taken = omega arith; passed = omega arith; refused = omega arith };
+  few = record { taken = omega arith; passed = omega arith; refused = omega arith; origins = refl };
   ticks = ticks_start _ _ _ _ _;
   others = Leaves-refl _ _;
   opened = refl;
@@ -35,16 +35,16 @@ pub returns-then-is_over-clause-some : goal.returns-then-is_over-clause-some
 returns-then-is_over-clause-some g c =
     TookUnits-some _ _ _ _ _ c.loop-turn._turn c.loop-turn._turn _ _ _ _ _ _ _ _ (omega arith) (omega arith) c.loop-turn.invariant.within c.loop-turn.invariant.took refl c.loop-turn.invariant.ticks
 
-pub returns-in_err-progress-clause-some : goal.returns-in_err-progress-clause-some
-returns-in_err-progress-clause-some g c =
+pub returns-in_err-take_unit-clause-some : goal.returns-in_err-take_unit-clause-some
+returns-in_err-take_unit-clause-some g c =
     TookUnits-some _ _ _ _ _ c.loop-turn._turn (c.loop-turn._turn + 1) _ _ _ _ _ _ _ _ (omega arith) (omega arith) (omega arith) c.loop-turn.invariant.took
-    (ap (append_known (g.W.Sink.written c.loop-turn.out)) c.in_err-progress.ensures.err)
+    (ap (append_known (g.W.Sink.written c.loop-turn.out)) c.in_err-take_unit.ensures.err)
     (ticks_next _ c.loop-turn._turn _ _ _ _ _ _ _ _ _ _ _ c.loop-turn.invariant.took c.loop-turn.invariant.ticks (sym c.is_over.ensures ∙ c.if-is_over.false) c.take_unit.ensures.ticks)
 
 pub returns-in_err-pour_before-clause-some : goal.returns-in_err-pour_before-clause-some
 returns-in_err-pour_before-clause-some g c =
     TookUnits-some _ _ _ _ _ (c.loop-turn._turn + 1) (c.loop-turn._turn + 1) _ _ _ _ (append_known (g.W.Sink.written c.loop-turn.out) c.take_unit.new.text.items) _ _ _ (omega arith) (omega arith) (omega arith)
-    (TookUnits-next _ _ _ _ _ c.loop-turn._turn _ _ _ _ _ _ _ _ (g.W.Sink.written c.loop-turn.out) _ _ c.loop-turn.invariant.took (sym c.is_over.ensures ∙ c.if-is_over.false) c.in_ok-progress.ensures.took refl refl)
+    (TookUnits-next _ _ _ _ _ c.loop-turn._turn _ _ _ _ _ _ _ _ (g.W.Sink.written c.loop-turn.out) _ _ c.loop-turn.invariant.took (sym c.is_over.ensures ∙ c.if-is_over.false) c.in_ok-take_unit.ensures.took refl refl)
     c.pour_before.ensures.same
     (ticks_next _ c.loop-turn._turn _ _ _ _ _ _ _ _ _ _ _ c.loop-turn.invariant.took c.loop-turn.invariant.ticks (sym c.is_over.ensures ∙ c.if-is_over.false) c.take_unit.ensures.ticks)
 
@@ -58,14 +58,15 @@ returns-in_err-pour_before-clause-grows g c = Grows-trans c.loop-turn.invariant.
 
 pub loop-turn-preserved : goal.loop-turn-preserved
 loop-turn-preserved g c = record {
-  took = TookUnits-next _ _ _ _ _ c.loop-turn._turn _ _ _ _ _ _ _ _ (g.W.Sink.written c.loop-turn.out) _ _ c.loop-turn.invariant.took (sym c.is_over.ensures ∙ c.if-is_over.false) c.in_ok-progress.ensures.took refl c.pour_before.ensures.same;
+  took = TookUnits-next _ _ _ _ _ c.loop-turn._turn _ _ _ _ _ _ _ _ (g.W.Sink.written c.loop-turn.out) _ _ c.loop-turn.invariant.took (sym c.is_over.ensures ∙ c.if-is_over.false) c.in_ok-take_unit.ensures.took refl c.pour_before.ensures.same;
   within = omega arith;
   file = c.take_unit.ensures.file ∙ c.loop-turn.invariant.file;
-  lets_go = LetsGo-next c.args.dump.now c.loop-turn.dump c.take_unit.new.dump _ (sym c.is_over.ensures ∙ c.if-is_over.false) c.in_ok-progress.ensures.lets_go;
+  lets_go = LetsGo-next c.args.dump.now c.loop-turn.dump c.take_unit.new.dump _ (sym c.is_over.ensures ∙ c.if-is_over.false) c.in_ok-take_unit.ensures.lets_go;
   few = record {
-    taken = omega (arith, c.in_ok-progress.ensures.few.taken, c.loop-turn.invariant.few.taken);
-    passed = omega (arith, c.in_ok-progress.ensures.few.passed, c.loop-turn.invariant.few.passed);
-    refused = omega (arith, c.in_ok-progress.ensures.few.refused, c.loop-turn.invariant.few.refused);
+    taken = omega (arith, c.in_ok-take_unit.ensures.few.taken, c.loop-turn.invariant.few.taken);
+    passed = omega (arith, c.in_ok-take_unit.ensures.few.passed, c.loop-turn.invariant.few.passed);
+    refused = omega (arith, c.in_ok-take_unit.ensures.few.refused, c.loop-turn.invariant.few.refused);
+    origins = c.in_ok-take_unit.ensures.few.origins ∙ c.loop-turn.invariant.few.origins;
   };
   ticks = ticks_next _ c.loop-turn._turn _ _ _ _ _ _ _ _ _ _ _ c.loop-turn.invariant.took c.loop-turn.invariant.ticks (sym c.is_over.ensures ∙ c.if-is_over.false) c.take_unit.ensures.ticks;
   others = Leaves-trans c.loop-turn.invariant.others
@@ -80,7 +81,7 @@ loop-turn-preserved g c = record {
 
 pub returns-clause-took : goal.returns-clause-took
 returns-clause-took g c =
-    let e : c.loop-turn._turn ≡ c.args.asking.count = omega arith in
+    let e : c.loop-turn._turn ≡ c.args.asked.count = omega arith in
     rw e at c.loop-turn.invariant.took
 
 pub returns-clause-some : goal.returns-clause-some
@@ -92,8 +93,8 @@ returns-clause-some g c =
 pub returns-then-is_over-clause-ticks : goal.returns-then-is_over-clause-ticks
 returns-then-is_over-clause-ticks g c = ticks_more _ c.loop-turn._turn _ _ _ _ _ _ c.loop-turn.invariant.within c.loop-turn.invariant.ticks
 
-pub returns-in_err-progress-clause-ticks : goal.returns-in_err-progress-clause-ticks
-returns-in_err-progress-clause-ticks g c = ticks_more _ (c.loop-turn._turn + 1) _ _ _ _ _ _ (omega arith)
+pub returns-in_err-take_unit-clause-ticks : goal.returns-in_err-take_unit-clause-ticks
+returns-in_err-take_unit-clause-ticks g c = ticks_more _ (c.loop-turn._turn + 1) _ _ _ _ _ _ (omega arith)
     (ticks_next _ c.loop-turn._turn _ _ _ _ _ _ _ _ _ _ _ c.loop-turn.invariant.took c.loop-turn.invariant.ticks (sym c.is_over.ensures ∙ c.if-is_over.false) c.take_unit.ensures.ticks)
 
 pub returns-in_err-pour_before-clause-ticks : goal.returns-in_err-pour_before-clause-ticks
@@ -108,8 +109,8 @@ returns-clause-ticks g c = ticks_more _ c.loop-turn._turn _ _ _ _ _ _ c.loop-tur
 pub returns-then-is_over-clause-reports : goal.returns-then-is_over-clause-reports
 returns-then-is_over-clause-reports g c = c.loop-turn.invariant.reports
 
-pub returns-in_err-progress-clause-reports : goal.returns-in_err-progress-clause-reports
-returns-in_err-progress-clause-reports g c =
+pub returns-in_err-take_unit-clause-reports : goal.returns-in_err-take_unit-clause-reports
+returns-in_err-take_unit-clause-reports g c =
     λ in_line. units_reported _ _ (g.W.Sink.written c.loop-turn.out) _ _ (c.loop-turn.invariant.reports in_line)
     (c.take_unit.ensures.reports in_line (g.W.Sink.written c.loop-turn.out)) refl
 

@@ -18,7 +18,7 @@ loop-turn-init g c = record {
   within = omega arith;
   file = refl;
   lets_go = LetsGo-same _ _;
-  few = record { taken = omega arith; passed = omega arith; refused = omega arith };
+  few = record { taken = omega arith; passed = omega arith; refused = omega arith; origins = refl };
   ticks = ticks_start _ _ _ _ _;
   others = Leaves-refl _ _;
   opened = refl;
@@ -91,16 +91,16 @@ returns-then-branch-clause-ticks g c = ticks_until _ _ _ _ _ _ _ _ _ c.loop-turn
 
 -- ---- a unit is taken
 
-pub returns-in_err-progress-clause-some : goal.returns-in_err-progress-clause-some
-returns-in_err-progress-clause-some g c =
+pub returns-in_err-take_unit-clause-some : goal.returns-in_err-take_unit-clause-some
+returns-in_err-take_unit-clause-some g c =
     let goes = peeked _ _ _ _ _ _ c.loop-turn._turn _ _ _ _ _ _ _ c.loop-turn.invariant.took c.loop-turn.invariant.went (sym c.is_over.ensures ∙ c.if-is_over.false) c.in_ok-is_from.ensures.moved
     c.in_ok-is_from.ensures.same c.in_ok-is_from.ensures.tells c.if-branch.false in
     TookUntil-some _ _ _ _ _ _ _ _ _ _ _ c.loop-turn.invariant.took c.loop-turn.invariant.went _ (c.loop-turn._turn + 1) _ _ _ (omega arith) (omega arith) (omega arith) goes.2
-    (ap (append_known (g.W.Sink.written c.loop-turn.out)) c.in_err-progress.ensures.err)
+    (ap (append_known (g.W.Sink.written c.loop-turn.out)) c.in_err-take_unit.ensures.err)
     (ticks_next _ c.loop-turn._turn _ _ _ _ _ _ _ _ _ _ _ goes.1 c.loop-turn.invariant.ticks goes.0 c.take_unit.ensures.ticks)
 
-pub returns-in_err-progress-clause-ticks : goal.returns-in_err-progress-clause-ticks
-returns-in_err-progress-clause-ticks g c =
+pub returns-in_err-take_unit-clause-ticks : goal.returns-in_err-take_unit-clause-ticks
+returns-in_err-take_unit-clause-ticks g c =
     let goes = peeked _ _ _ _ _ _ c.loop-turn._turn _ _ _ _ _ _ _ c.loop-turn.invariant.took c.loop-turn.invariant.went (sym c.is_over.ensures ∙ c.if-is_over.false) c.in_ok-is_from.ensures.moved
     c.in_ok-is_from.ensures.same c.in_ok-is_from.ensures.tells c.if-branch.false in
     ticks_until _ _ _ _ _ _ (c.loop-turn._turn + 1) _ _ (omega arith) goes.2
@@ -111,7 +111,7 @@ returns-in_err-pour_before-clause-some g c =
     let goes = peeked _ _ _ _ _ _ c.loop-turn._turn _ _ _ _ _ _ _ c.loop-turn.invariant.took c.loop-turn.invariant.went (sym c.is_over.ensures ∙ c.if-is_over.false) c.in_ok-is_from.ensures.moved
     c.in_ok-is_from.ensures.same c.in_ok-is_from.ensures.tells c.if-branch.false in
     TookUntil-some _ _ _ _ _ _ (c.loop-turn._turn + 1) _ _ _ (append_known (g.W.Sink.written c.loop-turn.out) c.take_unit.new.text.items)
-    (TookUnits-next _ _ _ _ _ c.loop-turn._turn _ _ _ _ _ _ _ _ (g.W.Sink.written c.loop-turn.out) _ _ goes.1 goes.0 c.in_ok-progress.ensures.took refl refl) goes.2
+    (TookUnits-next _ _ _ _ _ c.loop-turn._turn _ _ _ _ _ _ _ _ (g.W.Sink.written c.loop-turn.out) _ _ goes.1 goes.0 c.in_ok-take_unit.ensures.took refl refl) goes.2
     _ (c.loop-turn._turn + 1) _ _ _ (omega arith) (omega arith) (omega arith) goes.2 c.pour_before.ensures.same
     (ticks_next _ c.loop-turn._turn _ _ _ _ _ _ _ _ _ _ _ goes.1 c.loop-turn.invariant.ticks goes.0 c.take_unit.ensures.ticks)
 
@@ -136,15 +136,16 @@ loop-turn-preserved g c =
     c.in_ok-is_from.ensures.same c.in_ok-is_from.ensures.tells c.if-branch.false in
     let file : c.is_from.new.self.file ≡ c.args.dump.now.file = c.is_from.ensures.file ∙ c.loop-turn.invariant.file in
     record {
-      took = TookUnits-next _ _ _ _ _ c.loop-turn._turn _ _ _ _ _ _ _ _ (g.W.Sink.written c.loop-turn.out) _ _ goes.1 goes.0 c.in_ok-progress.ensures.took refl c.pour_before.ensures.same;
+      took = TookUnits-next _ _ _ _ _ c.loop-turn._turn _ _ _ _ _ _ _ _ (g.W.Sink.written c.loop-turn.out) _ _ goes.1 goes.0 c.in_ok-take_unit.ensures.took refl c.pour_before.ensures.same;
       went = goes.2;
       within = omega arith;
       file = c.take_unit.ensures.file ∙ file;
-      lets_go = LetsGo-next c.args.dump.now c.is_from.new.self c.take_unit.new.dump _ goes.0 c.in_ok-progress.ensures.lets_go;
+      lets_go = LetsGo-next c.args.dump.now c.is_from.new.self c.take_unit.new.dump _ goes.0 c.in_ok-take_unit.ensures.lets_go;
       few = record {
-        taken = omega (arith, c.in_ok-progress.ensures.few.taken, c.loop-turn.invariant.few.taken, moved_taken c.loop-turn.dump c.is_from.new.self c.in_ok-is_from.ensures.moved);
-        passed = omega (arith, c.in_ok-progress.ensures.few.passed, c.loop-turn.invariant.few.passed);
-        refused = omega (arith, c.in_ok-progress.ensures.few.refused, c.loop-turn.invariant.few.refused);
+        taken = omega (arith, c.in_ok-take_unit.ensures.few.taken, c.loop-turn.invariant.few.taken, moved_taken c.loop-turn.dump c.is_from.new.self c.in_ok-is_from.ensures.moved);
+        passed = omega (arith, c.in_ok-take_unit.ensures.few.passed, c.loop-turn.invariant.few.passed);
+        refused = omega (arith, c.in_ok-take_unit.ensures.few.refused, c.loop-turn.invariant.few.refused);
+        origins = c.in_ok-take_unit.ensures.few.origins ∙ c.loop-turn.invariant.few.origins;
       };
       ticks = ticks_next _ c.loop-turn._turn _ _ _ _ _ _ _ _ _ _ _ goes.1 c.loop-turn.invariant.ticks goes.0 c.take_unit.ensures.ticks;
       others = Leaves-trans c.loop-turn.invariant.others

@@ -1,6 +1,6 @@
 use Rattle.std.proofs.Common.{◌≡◌, subst}
 use Rattle.std.specs.FinMap as fin
-use Rattle.std.proofs.lemmas.Result.{IfOk-weaker}
+use Rattle.std.proofs.lemmas.Result.{on_ok_weaker}
 use Rattle.rib_store.specs.State.{State}
 use Rattle.analyser.specs.declared.event.Event.TheVariants.{Routes}
 use Rattle.analyser.specs.Departures.{AreDepartures}
@@ -11,10 +11,9 @@ use Rattle.analyser.proofs.analysis.Analyser.clear.Goals as goal
 pub returns-clause-cleared : goal.returns-clause-cleared
 returns-clause-cleared g c =
     let are = subst (λ (s : State). AreDepartures s.routes c.in_ok-changes.changes) c.store.ensures c.in_ok-changes.ensures in
-    IfOk-weaker c.step.result (λ next. Happens c.args.self (Routes c.in_ok-changes.changes) next) (λ next. next ≡ record c.args.self { routes = fin.empty })
-    (λ next happens. cleared_by c.args.self next c.in_ok-changes.changes are happens) c.step.ensures.state
+    on_ok_weaker c.apply.result (cleared_by c.args.self.now c.apply.new.self c.in_ok-changes.changes are) c.apply.ensures.state
 
 pub returns-clause-ticks : goal.returns-clause-ticks
 returns-clause-ticks g c =
     let are = subst (λ (s : State). AreDepartures s.routes c.in_ok-changes.changes) c.store.ensures c.in_ok-changes.ensures in
-    none_judged c.args.self c.in_ok-changes.changes c.args.steps.now c.step.new.steps are c.step.ensures.ticks
+    none_judged c.args.self.now c.in_ok-changes.changes c.args.steps.now c.apply.new.steps are c.apply.ensures.ticks

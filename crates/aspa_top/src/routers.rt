@@ -1,0 +1,95 @@
+//! `serve`: the program as a cache.
+ghost use Rattle.std.specs.Prelude.{◌≡◌, ◌≤◌, cond, ℕ, None, Ok, Some, IfOk, OnOk};
+ghost use Rattle.std.specs.BTreeMap.{get, is_at};
+ghost use Rattle.std.specs.Ordering.{nat_cmp};
+ghost use Rattle.rtr_cache.specs.Cache.{FitsPdus};
+ghost use Rattle.aspa_top.specs.declared.task.Task.TheVariants.{Serve};
+ghost use Rattle.aspa_top.specs.Bounds.{most};
+ghost use Rattle.aspa_top.specs.Passed.{KeepsAll, told};
+ghost use Rattle.aspa_top.specs.Performing.{Did};
+ghost use Rattle.aspa_top.specs.Serving.{TakesTable};
+ghost use Rattle.aspa_top.specs.Standing.{HasRoom, IsBegun};
+
+use crate::effects::refuse;
+use crate::outside::Outside;
+use crate::working::Working;
+use av_base::{Links, NoMemory, Shelf, Sink};
+use listings::Stop;
+use report_text::{Cause, Place, put_served};
+use rtr_cache::{Cache, fits_pdus};
+use script_lines::Word;
+use serve_lines::serve;
+use std::alloc::Global;
+use std::collections::BTreeMap;
+use std::sync::ledger::Ledger;
+use vap_table::Vaps;
+
+/// Serves so many routers at a place, one after another, as the cache of a session, which has the current table from then on.
+#[inline(never)]
+pub(crate) fn serve_routers<F: Shelf, K: Links, W: Sink, L: Ledger>(
+    alloc: Global,
+    mut working: Working,
+    place: &Word,
+    session: u16,
+    count: u32,
+    outside: &mut Outside<F, K, W, L>,
+) -> Result<Working, Stop>
+    requires few { count ≤ most }
+    requires begun { IsBegun (told F.Shelf K.Links W.Sink outside.old) working }
+    ensures keeps { KeepsAll F.Shelf K.Links W.Sink outside.old outside.new }
+    ensures did { Did working (Ok (Serve place.now session count))
+        (told F.Shelf K.Links W.Sink outside.old)
+        (told F.Shelf K.Links W.Sink outside.new) result }
+{
+    if !fits_pdus(working.progress.analyser.store().table()) {
+        return Ok(refuse(working, Place::Line, Cause::RowLong, outside.text)?);
+    }
+    let table = working.progress.analyser.store().table();
+    let cache = cache_of(alloc, &mut working.caches, session, table)?;
+    let served = match serve(
+        alloc,
+        working.lines,
+        &cache,
+        place.text(),
+        count,
+        outside.links,
+        outside.out,
+        outside.text,
+    ) {
+        Ok(served) => served,
+        Err(serve_lines::Stop::Sink) => return Err(Stop::Sink),
+        Err(serve_lines::Stop::NoMemory) => return Err(Stop::NoMemory),
+    };
+    keep(&mut working.caches, session, cache)?;
+    put_served(outside.text, served.accepted, served.answers)?;
+    working.progress.refused += served.refused;
+    Ok(working)
+}
+
+// The session's cache, taken out, once it has the current table.
+fn cache_of(
+    alloc: Global,
+    caches: &mut BTreeMap<u16, Cache>,
+    session: u16,
+    table: &Vaps,
+) -> Result<Cache, NoMemory>
+    requires fits { FitsPdus table.now }
+    requires room { HasRoom (get nat_cmp caches.old session) }
+    ensures takes { IfOk result (TakesTable (get nat_cmp caches.old session) session table.now) }
+    ensures gone { (other : ℕ) → get nat_cmp caches.new other
+        ≡ cond (is_at (nat_cmp session) other) None (get nat_cmp caches.old other) }
+{
+    match caches.remove(&session) {
+        Some(cache) => cache.update(table),
+        None => Cache::new(alloc, session, table),
+    }
+}
+
+// Keeps a cache in its session.
+fn keep(caches: &mut BTreeMap<u16, Cache>, session: u16, cache: Cache) -> Result<(), NoMemory>
+    ensures { OnOk result ((other : ℕ) → get nat_cmp caches.new other
+        ≡ cond (is_at (nat_cmp session) other) (Some cache) (get nat_cmp caches.old other)) }
+{
+    caches.insert(session, cache)?;
+    Ok(())
+}

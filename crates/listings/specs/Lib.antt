@@ -1,0 +1,14 @@
+pub mod Changes
+pub mod Details
+pub mod EachDetail
+pub mod EachLeak
+pub mod EachOrigin
+pub mod EachRow
+pub mod Laws
+pub mod Leaks
+pub mod Listing
+pub mod Origins
+pub mod Rows
+pub mod Stops
+pub mod Summary
+pub mod Suspected

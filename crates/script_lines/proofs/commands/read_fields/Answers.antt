@@ -1,0 +1,101 @@
+use Rattle.std.proofs.Common.{ℕ, Option, subst}
+use Rattle.std.proofs.lemmas.Iterator.Adapters.{option_map_id}
+use Rattle.path_model.specs.declared.verdict.Verdict.{Verdict}
+use Rattle.av_text.specs.Words.{words_left}
+use Rattle.script_lines.specs.declared.commands.Command.TheVariants.{Details, Why}
+use Rattle.script_lines.specs.declared.commands.CommandName.TheVariants.{Aspa as AspaName, Aspa64 as Aspa64Name, Validated as ValidatedName, Slurm as SlurmName, Filter as FilterName, Unfilter as UnfilterName, Assert as AssertName, Unassert as UnassertName, At as AtName, Role as RoleName, Open as OpenName, Bmp as BmpName, Take as TakeName, Until as UntilName, Feed as FeedName, Ask as AskName, Sync as SyncName, Serve as ServeName, Judge as JudgeName, Clear as ClearName, Changes as ChangesName, Why as WhyName, Details as DetailsName, Say as SayName, Report as ReportName, Origins as OriginsName, Leaks as LeaksName, Suspects as SuspectsName, Summary as SummaryName}
+use Rattle.script_lines.specs.Commands.{made_by, SpellsCommand}
+use Rattle.script_lines.proofs.commands.read_fields.Goals as goal
+
+pub returns-in_ok-name-in-Aspa-clause-spelled : goal.returns-in_ok-name-in-Aspa-clause-spelled
+returns-in_ok-name-in-Aspa-clause-spelled c = rw c.in-Aspa.is (c.in_ok-name-in-Aspa.ensures.spelled (made_by AspaName))
+
+pub returns-in_ok-name-in-Aspa64-clause-spelled : goal.returns-in_ok-name-in-Aspa64-clause-spelled
+returns-in_ok-name-in-Aspa64-clause-spelled c = rw c.in-Aspa64.is (c.in_ok-name-in-Aspa64.ensures.spelled (made_by Aspa64Name))
+
+pub returns-in_ok-name-in-Validated-clause-spelled : goal.returns-in_ok-name-in-Validated-clause-spelled
+returns-in_ok-name-in-Validated-clause-spelled c = rw c.in-Validated.is (c.in_ok-name-in-Validated.ensures.spelled (made_by ValidatedName))
+
+pub returns-in_ok-file-in-Slurm-clause-spelled : goal.returns-in_ok-file-in-Slurm-clause-spelled
+returns-in_ok-file-in-Slurm-clause-spelled c = rw c.in-Slurm.is (c.in_ok-file-in-Slurm.ensures.spelled (made_by SlurmName))
+
+pub returns-in_ok-customer-in-Filter-clause-spelled : goal.returns-in_ok-customer-in-Filter-clause-spelled
+returns-in_ok-customer-in-Filter-clause-spelled c = rw c.in-Filter.is (c.in_ok-customer-in-Filter.ensures.spelled (made_by FilterName))
+
+pub returns-in_ok-customer-in-Unfilter-clause-spelled : goal.returns-in_ok-customer-in-Unfilter-clause-spelled
+returns-in_ok-customer-in-Unfilter-clause-spelled c = rw c.in-Unfilter.is (c.in_ok-customer-in-Unfilter.ensures.spelled (made_by UnfilterName))
+
+pub returns-in_ok-customer-in-Assert-clause-spelled : goal.returns-in_ok-customer-in-Assert-clause-spelled
+returns-in_ok-customer-in-Assert-clause-spelled c = rw c.in-Assert.is (c.in_ok-customer-in-Assert.ensures.spelled (made_by AssertName))
+
+pub returns-in_ok-customer-in-Unassert-clause-spelled : goal.returns-in_ok-customer-in-Unassert-clause-spelled
+returns-in_ok-customer-in-Unassert-clause-spelled c = rw c.in-Unassert.is (c.in_ok-customer-in-Unassert.ensures.spelled (made_by UnassertName))
+
+pub returns-in_ok-moment-in-At-clause-spelled : goal.returns-in_ok-moment-in-At-clause-spelled
+returns-in_ok-moment-in-At-clause-spelled c = rw c.in-At.is (c.in_ok-moment-in-At.ensures.spelled (made_by AtName))
+
+pub returns-in_ok-whom-in-Role-clause-spelled : goal.returns-in_ok-whom-in-Role-clause-spelled
+returns-in_ok-whom-in-Role-clause-spelled c = rw (c.in-Role.is, c.role_command.ensures) (c.in_ok-whom-in-Role.ensures.spelled (made_by RoleName))
+
+pub returns-in_ok-name-in-Open-clause-spelled : goal.returns-in_ok-name-in-Open-clause-spelled
+returns-in_ok-name-in-Open-clause-spelled c = rw c.in-Open.is (c.in_ok-name-in-Open.ensures.spelled (made_by OpenName))
+
+pub returns-in_ok-name-in-Bmp-clause-spelled : goal.returns-in_ok-name-in-Bmp-clause-spelled
+returns-in_ok-name-in-Bmp-clause-spelled c = rw c.in-Bmp.is (c.in_ok-name-in-Bmp.ensures.spelled (made_by BmpName))
+
+pub returns-in_ok-name-in-Take-clause-spelled : goal.returns-in_ok-name-in-Take-clause-spelled
+returns-in_ok-name-in-Take-clause-spelled c = rw c.in-Take.is (c.in_ok-name-in-Take.ensures.spelled (made_by TakeName))
+
+pub returns-in_ok-name-in-Until-clause-spelled : goal.returns-in_ok-name-in-Until-clause-spelled
+returns-in_ok-name-in-Until-clause-spelled c = rw c.in-Until.is (c.in_ok-name-in-Until.ensures.spelled (made_by UntilName))
+
+pub returns-in_ok-name-in-Feed-clause-spelled : goal.returns-in_ok-name-in-Feed-clause-spelled
+returns-in_ok-name-in-Feed-clause-spelled c = rw c.in-Feed.is (c.in_ok-name-in-Feed.ensures.spelled (made_by FeedName))
+
+pub returns-in_ok-name-in-Ask-clause-spelled : goal.returns-in_ok-name-in-Ask-clause-spelled
+returns-in_ok-name-in-Ask-clause-spelled c = rw c.in-Ask.is (c.in_ok-name-in-Ask.ensures.spelled (made_by AskName))
+
+pub returns-in_ok-name-in-Sync-clause-spelled : goal.returns-in_ok-name-in-Sync-clause-spelled
+returns-in_ok-name-in-Sync-clause-spelled c = rw c.in-Sync.is (c.in_ok-name-in-Sync.ensures.spelled (made_by SyncName))
+
+pub returns-in_ok-place-in-Serve-clause-spelled : goal.returns-in_ok-place-in-Serve-clause-spelled
+returns-in_ok-place-in-Serve-clause-spelled c = rw c.in-Serve.is (c.in_ok-place-in-Serve.ensures.spelled (made_by ServeName))
+
+pub returns-in_ok-role-in-Judge-clause-spelled : goal.returns-in_ok-role-in-Judge-clause-spelled
+returns-in_ok-role-in-Judge-clause-spelled c = rw c.in-Judge.is (c.in_ok-role-in-Judge.ensures.spelled (made_by JudgeName))
+
+pub returns-in_ok-read-in-Clear-clause-spelled : goal.returns-in_ok-read-in-Clear-clause-spelled
+returns-in_ok-read-in-Clear-clause-spelled c = rw c.in-Clear.is (c.in_ok-read-in-Clear.ensures.spelled (made_by ClearName))
+
+pub returns-in_ok-read-in-Changes-clause-spelled : goal.returns-in_ok-read-in-Changes-clause-spelled
+returns-in_ok-read-in-Changes-clause-spelled c = rw c.in-Changes.is (c.in_ok-read-in-Changes.ensures.spelled (made_by ChangesName))
+
+pub returns-in_ok-addr-in-Why-clause-spelled : goal.returns-in_ok-addr-in-Why-clause-spelled
+returns-in_ok-addr-in-Why-clause-spelled c =
+    let found = c.in_ok-addr-in-Why in
+    let P : Option ℕ → Type 0 = λ path. SpellsCommand WhyName (words_left c.args.words) (Why found.addr found.asn found.prefix path) in
+    rw c.in-Why.is (subst P (option_map_id found.path) (found.ensures.spelled (made_by WhyName)))
+
+pub returns-in_ok-verdict-in-Details-clause-spelled : goal.returns-in_ok-verdict-in-Details-clause-spelled
+returns-in_ok-verdict-in-Details-clause-spelled c =
+    let found = c.in_ok-verdict-in-Details in
+    let P : Option Verdict → Type 0 = λ verdict. SpellsCommand DetailsName (words_left c.args.words) (Details verdict) in
+    rw c.in-Details.is (subst P (option_map_id found.verdict) (found.ensures.spelled (made_by DetailsName)))
+
+pub returns-in_ok-saying-in-Say-clause-spelled : goal.returns-in_ok-saying-in-Say-clause-spelled
+returns-in_ok-saying-in-Say-clause-spelled c = rw c.in-Say.is (c.in_ok-saying-in-Say.ensures.spelled (made_by SayName))
+
+pub returns-in_ok-read-in-Report-clause-spelled : goal.returns-in_ok-read-in-Report-clause-spelled
+returns-in_ok-read-in-Report-clause-spelled c = rw c.in-Report.is (c.in_ok-read-in-Report.ensures.spelled (made_by ReportName))
+
+pub returns-in_ok-read-in-Origins-clause-spelled : goal.returns-in_ok-read-in-Origins-clause-spelled
+returns-in_ok-read-in-Origins-clause-spelled c = rw c.in-Origins.is (c.in_ok-read-in-Origins.ensures.spelled (made_by OriginsName))
+
+pub returns-in_ok-read-in-Leaks-clause-spelled : goal.returns-in_ok-read-in-Leaks-clause-spelled
+returns-in_ok-read-in-Leaks-clause-spelled c = rw c.in-Leaks.is (c.in_ok-read-in-Leaks.ensures.spelled (made_by LeaksName))
+
+pub returns-in_ok-read-in-Suspects-clause-spelled : goal.returns-in_ok-read-in-Suspects-clause-spelled
+returns-in_ok-read-in-Suspects-clause-spelled c = rw c.in-Suspects.is (c.in_ok-read-in-Suspects.ensures.spelled (made_by SuspectsName))
+
+pub returns-in_ok-read-in-Summary-clause-spelled : goal.returns-in_ok-read-in-Summary-clause-spelled
+returns-in_ok-read-in-Summary-clause-spelled c = rw c.in-Summary.is (c.in_ok-read-in-Summary.ensures.spelled (made_by SummaryName))

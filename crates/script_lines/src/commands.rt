@@ -1,0 +1,313 @@
+//! The commands of a script: what each asks for, its word, and the words behind it.
+ghost use Rattle.std.specs.Prelude.{◌≡◌, IfOk, IfErr, IfSome, IfNone};
+ghost use Rattle.av_text.specs.Words.{words_left};
+ghost use Rattle.script_lines.specs.Fields.{RefusesWords};
+ghost use Rattle.script_lines.specs.Commands.{IsCommandName, name_text, form_of, sets_role, SpellsCommand};
+
+use crate::fault::LineFault;
+use crate::fields::{Ases, End, Fields, Optional, Texts, Then};
+use crate::kinds::{
+    AddressWord, AsWord, CountWord, IdentifierWord, MomentWord, NameWord, PrefixWord, RoleWord,
+    SessionWord, TextWord, VerdictWord, ViewWord, WhomWord,
+};
+use crate::saying::Saying;
+use crate::word::Word;
+use av_text::Words;
+use path_model::{Addr, AsList, Name, Prefix, Role, Verdict};
+use std::alloc::Global;
+
+/// What a line of a script asks for. ASes and providers stand in the order written, with repeats.
+#[derive(Debug, Drop)]
+pub enum Command {
+    /// Nothing: a comment, or a line without words.
+    Idle,
+    /// `aspa NAME FILE`: the file's payloads are what the source of that name attests.
+    Aspa(Name, Word),
+    /// `aspa64 NAME FILE`: the same, from a file of base64 lines.
+    Aspa64(Name, Word),
+    /// `validated NAME FILE`: the same, from the JSON that a validator writes.
+    Validated(Name, Word),
+    /// `slurm FILE`: the file's filters and assertions are those in force.
+    Slurm(Word),
+    /// `filter AS`: what the sources attest of the customer is left out.
+    Filter(u32),
+    /// `unfilter AS`: that filter of the script is taken back.
+    Unfilter(u32),
+    /// `assert AS P..`: the customer attests these providers.
+    Assert(u32, AsList),
+    /// `unassert AS`: the script's assertions of the customer are taken back.
+    Unassert(u32),
+    /// `at SECONDS`: the analysis is made for this moment, in seconds since 1970-01-01 00:00 UTC.
+    At(u32),
+    /// `role AS ROLE`: routes of peers in the AS are judged as learned from a neighbour in this role.
+    Role(u32, Role),
+    /// `role default ROLE`: so are those of peers in any AS without a role of its own.
+    RoleDefault(Role),
+    /// `open NAME FILE`: the file's records of MRT (RFC 6396) are a dump of that name.
+    Open(Name, Word),
+    /// `bmp NAME FILE VIEW`: the file's messages of BMP (RFC 7854) are a dump of that name; true for the view `post`, of routes behind the
+    /// router's inbound policy.
+    Bmp(Name, Word, bool),
+    /// `take NAME N`: at most so many more units of the dump, or PDUs of the feed, 1 to 100,000,000.
+    Take(Name, u32),
+    /// `until NAME SECONDS`: the records of the dump up to the first whose time, in seconds since 1970-01-01 00:00 UTC, isn't below this one
+    /// (RFC 6396, section 2); that one stays.
+    Until(Name, u32),
+    /// `feed NAME PLACE`: a new connection to the place is the feed of that name, and its cache is asked for all that it has.
+    Feed(Name, Word),
+    /// `ask NAME`: the feed's cache is asked for what is new.
+    Ask(Name),
+    /// `sync NAME N`: PDUs of the feed until it is up to date or over, and at most so many, 1 to 100,000,000.
+    Sync(Name, u32),
+    /// `serve PLACE SESSION N`: so many routers are served at the place, 1 to 100,000,000 of them, one after another, as by a cache of that
+    /// session (RFC 8210, section 5.1).
+    Serve(Word, u16, u32),
+    /// `judge ROLE NEIGHBOUR AS..`: the verdict of the path, written neighbour first.
+    Judge(Role, u32, AsList),
+    /// `clear`: all routes go, in one event.
+    Clear,
+    /// `changes`: each route that stands otherwise than it was marked; all are marked then.
+    Changes,
+    /// `details` or `details VERDICT`: each route of the table, or each with that verdict, with what shows it and its path.
+    Details(Option<Verdict>),
+    /// `say WORD..`: the words, with one space between two.
+    Say(Saying),
+    /// `report`: each route of the table, with the verdict of its path.
+    Report,
+    /// `origins`: each route of the table, with the state of its origin by validated ROA payloads (RFC 6811, section 2).
+    Origins,
+    /// `leaks`: each route of the table that its attribute Only-to-Customer marks as a leak (RFC 9234, section 5).
+    Leaks,
+    /// `suspects`: the valleys of the table's paths, each by the ASes at its ends, with how many routes and paths have it.
+    Suspects,
+    /// `summary`: how many routes and customers there are, and how many units were passed over and lines refused.
+    Summary,
+    /// `why ADDRESS AS PREFIX` or `why ADDRESS AS PREFIX ID`: the verdict of the route of that peer and prefix, without a path identifier
+    /// or with that one, and what shows it.
+    Why(Addr, u32, Prefix, Option<u32>),
+}
+
+/// A command, by the first word of its lines.
+#[derive(Clone, Copy)]
+pub(crate) enum CommandName {
+    Aspa,
+    Aspa64,
+    Validated,
+    Slurm,
+    Filter,
+    Unfilter,
+    Assert,
+    Unassert,
+    At,
+    Role,
+    Open,
+    Bmp,
+    Take,
+    Until,
+    Feed,
+    Ask,
+    Sync,
+    Serve,
+    Judge,
+    Clear,
+    Changes,
+    Why,
+    Details,
+    Say,
+    Report,
+    Origins,
+    Leaks,
+    Suspects,
+    Summary,
+}
+
+/// The command that begins with this word.
+pub(crate) fn command_name(word: &[u8]) -> Option<CommandName>
+    ensures spelled { IfSome result (λ name. word.now ≡ name_text name) }
+    ensures none { IfNone result (¬ IsCommandName word.now) }
+{
+    match word {
+        b"aspa" => Some(CommandName::Aspa),
+        b"aspa64" => Some(CommandName::Aspa64),
+        b"validated" => Some(CommandName::Validated),
+        b"slurm" => Some(CommandName::Slurm),
+        b"filter" => Some(CommandName::Filter),
+        b"unfilter" => Some(CommandName::Unfilter),
+        b"assert" => Some(CommandName::Assert),
+        b"unassert" => Some(CommandName::Unassert),
+        b"at" => Some(CommandName::At),
+        b"role" => Some(CommandName::Role),
+        b"open" => Some(CommandName::Open),
+        b"bmp" => Some(CommandName::Bmp),
+        b"take" => Some(CommandName::Take),
+        b"until" => Some(CommandName::Until),
+        b"feed" => Some(CommandName::Feed),
+        b"ask" => Some(CommandName::Ask),
+        b"sync" => Some(CommandName::Sync),
+        b"serve" => Some(CommandName::Serve),
+        b"judge" => Some(CommandName::Judge),
+        b"clear" => Some(CommandName::Clear),
+        b"changes" => Some(CommandName::Changes),
+        b"why" => Some(CommandName::Why),
+        b"details" => Some(CommandName::Details),
+        b"say" => Some(CommandName::Say),
+        b"report" => Some(CommandName::Report),
+        b"origins" => Some(CommandName::Origins),
+        b"leaks" => Some(CommandName::Leaks),
+        b"suspects" => Some(CommandName::Suspects),
+        b"summary" => Some(CommandName::Summary),
+        _ => None,
+    }
+}
+
+/// Reads the words behind a command's name.
+pub(crate) fn read_fields(
+    alloc: Global,
+    name: CommandName,
+    words: Words<'_>,
+) -> Result<Command, LineFault>
+    ensures spelled { IfOk result (SpellsCommand name (words_left words.entry)) }
+    ensures refused { IfErr result (RefusesWords (form_of name) (words_left words.entry)) }
+{
+    match name {
+        CommandName::Aspa => {
+            let (name, (file, ())) = <Then<NameWord, Then<TextWord, End>>>::read(alloc, words)?;
+            Ok(Command::Aspa(name, file))
+        }
+        CommandName::Aspa64 => {
+            let (name, (file, ())) = <Then<NameWord, Then<TextWord, End>>>::read(alloc, words)?;
+            Ok(Command::Aspa64(name, file))
+        }
+        CommandName::Validated => {
+            let (name, (file, ())) = <Then<NameWord, Then<TextWord, End>>>::read(alloc, words)?;
+            Ok(Command::Validated(name, file))
+        }
+        CommandName::Slurm => {
+            let (file, ()) = <Then<TextWord, End>>::read(alloc, words)?;
+            Ok(Command::Slurm(file))
+        }
+        CommandName::Filter => {
+            let (customer, ()) = <Then<AsWord, End>>::read(alloc, words)?;
+            Ok(Command::Filter(customer))
+        }
+        CommandName::Unfilter => {
+            let (customer, ()) = <Then<AsWord, End>>::read(alloc, words)?;
+            Ok(Command::Unfilter(customer))
+        }
+        CommandName::Assert => {
+            let (customer, providers) = <Then<AsWord, Ases<1>>>::read(alloc, words)?;
+            Ok(Command::Assert(customer, providers))
+        }
+        CommandName::Unassert => {
+            let (customer, ()) = <Then<AsWord, End>>::read(alloc, words)?;
+            Ok(Command::Unassert(customer))
+        }
+        CommandName::At => {
+            let (moment, ()) = <Then<MomentWord, End>>::read(alloc, words)?;
+            Ok(Command::At(moment))
+        }
+        CommandName::Role => {
+            let (whom, (role, ())) = <Then<WhomWord, Then<RoleWord, End>>>::read(alloc, words)?;
+            Ok(role_command(whom, role))
+        }
+        CommandName::Open => {
+            let (name, (file, ())) = <Then<NameWord, Then<TextWord, End>>>::read(alloc, words)?;
+            Ok(Command::Open(name, file))
+        }
+        CommandName::Bmp => {
+            let (name, (file, (post, ()))) = <Then<
+                NameWord,
+                Then<TextWord, Then<ViewWord, End>>,
+            >>::read(alloc, words)?;
+            Ok(Command::Bmp(name, file, post))
+        }
+        CommandName::Take => {
+            let (name, (count, ())) = <Then<NameWord, Then<CountWord, End>>>::read(alloc, words)?;
+            Ok(Command::Take(name, count))
+        }
+        CommandName::Until => {
+            let (name, (seconds, ())) = <Then<NameWord, Then<MomentWord, End>>>::read(
+                alloc, words,
+            )?;
+            Ok(Command::Until(name, seconds))
+        }
+        CommandName::Feed => {
+            let (name, (place, ())) = <Then<NameWord, Then<TextWord, End>>>::read(alloc, words)?;
+            Ok(Command::Feed(name, place))
+        }
+        CommandName::Ask => {
+            let (name, ()) = <Then<NameWord, End>>::read(alloc, words)?;
+            Ok(Command::Ask(name))
+        }
+        CommandName::Sync => {
+            let (name, (count, ())) = <Then<NameWord, Then<CountWord, End>>>::read(alloc, words)?;
+            Ok(Command::Sync(name, count))
+        }
+        CommandName::Serve => {
+            let (place, (session, (count, ()))) = <Then<
+                TextWord,
+                Then<SessionWord, Then<CountWord, End>>,
+            >>::read(alloc, words)?;
+            Ok(Command::Serve(place, session, count))
+        }
+        CommandName::Judge => {
+            let (role, (neighbour, path)) = <Then<RoleWord, Then<AsWord, Ases<0>>>>::read(
+                alloc, words,
+            )?;
+            Ok(Command::Judge(role, neighbour, path))
+        }
+        CommandName::Clear => {
+            End::read(alloc, words)?;
+            Ok(Command::Clear)
+        }
+        CommandName::Changes => {
+            End::read(alloc, words)?;
+            Ok(Command::Changes)
+        }
+        CommandName::Why => {
+            let (addr, (asn, (prefix, path))) = <Then<
+                AddressWord,
+                Then<AsWord, Then<PrefixWord, Optional<IdentifierWord>>>,
+            >>::read(alloc, words)?;
+            Ok(Command::Why(addr, asn, prefix, path))
+        }
+        CommandName::Details => {
+            let verdict = <Optional<VerdictWord>>::read(alloc, words)?;
+            Ok(Command::Details(verdict))
+        }
+        CommandName::Say => {
+            let saying = Texts::read(alloc, words)?;
+            Ok(Command::Say(saying))
+        }
+        CommandName::Report => {
+            End::read(alloc, words)?;
+            Ok(Command::Report)
+        }
+        CommandName::Origins => {
+            End::read(alloc, words)?;
+            Ok(Command::Origins)
+        }
+        CommandName::Leaks => {
+            End::read(alloc, words)?;
+            Ok(Command::Leaks)
+        }
+        CommandName::Suspects => {
+            End::read(alloc, words)?;
+            Ok(Command::Suspects)
+        }
+        CommandName::Summary => {
+            End::read(alloc, words)?;
+            Ok(Command::Summary)
+        }
+    }
+}
+
+// The command that gives an AS its role, or all ASes without one of their own.
+fn role_command(whom: Option<u32>, role: Role) -> Command
+    ensures { result ≡ sets_role whom role }
+{
+    match whom {
+        Some(asn) => Command::Role(asn, role),
+        None => Command::RoleDefault(role),
+    }
+}

@@ -1,2 +1,0 @@
-pub mod DetailsLemmas
-pub mod SuspectedLemmas

@@ -1,3 +1,0 @@
-pub mod Details
-pub mod EachDetail
-pub mod Suspected
