@@ -197,6 +197,20 @@ class Analysis:
             lines.append(f"{ases} routes {len(routes[valley])} paths {len(pairs[valley])}")
         return lines
 
+    def summed(self, address, asn, keys):
+        verdicts = [self.standing(key).verdict for key in keys]
+        counts = "".join(f" {verdict} {verdicts.count(verdict)}" for verdict in ("valid", "unknown", "invalid"))
+        return f"{address} {asn} {self.role_of(asn)} {'own' if asn in self.roles else 'default'} routes {len(keys)}{counts}"
+
+    def sessions(self):
+        """What `peers` lists: the peers that have routes, and the ASes that have a role of their own and none."""
+        routes = collections.defaultdict(list)
+        for key in sorted(self.routes, key=self.place_of):
+            routes[self.peers[key[0]]].append(key)
+        idle = self.roles.keys() - {asn for _, asn in routes}
+        return ([self.summed(ipaddress.ip_address(address).exploded, asn, keys) for (address, asn), keys in routes.items()]
+                + [self.summed("-", asn, []) for asn in sorted(idle)])
+
     def changes(self):
         now = {key: self.standing(key).verdict for key in self.routes}
         before, self.marks = self.marks, now

@@ -1,6 +1,6 @@
 #!/usr/bin/env python3
-"""What `suspects`, `details` and `changes` list is what a plain computation gives by the definitions, and `until` in steps is `take` of as many
-records.
+"""What `suspects`, `details`, `peers` and `changes` list is what a plain computation gives by the definitions, and `until` in steps is `take`
+of as many records.
 
 Usage: suspects.py PROGRAM [FIRST LAST]. Each of the seeds from FIRST to LAST (from 1 to 60 without them, of which the last one draws far more)
 draws scripts, and each is a test:
@@ -68,6 +68,7 @@ class Drawn(Script):
         self.analysis.judged.clear()
         self.ask("details", self.analysis.details())
         self.ask("suspects", self.analysis.suspects())
+        self.ask("peers", self.analysis.sessions())
         verdict = self.draw.choice(["valid", "unknown", "invalid"])
         self.ask(f"details {verdict}", self.analysis.details(verdict))
         if self.draw.random() < 0.5:

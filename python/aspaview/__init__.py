@@ -8,12 +8,13 @@ from .records import Key, Record, Witness
 from .session import Answer, Session
 from .spellings import Address, Network, NotAText, Rule, State, Verdict
 from .suspects import Suspects
-from .texts import (Change, Demo, Detail, Judged, Leak, Origin, Refusal, Route, Said, Served, Summary, Suspect, Why, parse, parse_line)
+from .texts import (Change, Demo, Detail, Judged, Leak, Origin, Peer, Refusal, Route, Said, Served, Summary, Suspect, Why, parse,
+                    parse_line)
 
 __all__ = [
     "Address", "Answer", "AspaviewError", "Change", "Demo", "Detail", "Judged", "Key", "Leak", "Network", "NotAText", "Origin",
-    "ProgramEnded", "Record", "Refusal", "Refused", "Route", "Rule", "Said", "Served", "Session", "State", "Summary", "Suspect", "Suspects",
-    "Verdict", "Why", "Witness", "find_program", "parse", "parse_line",
+    "Peer", "ProgramEnded", "Record", "Refusal", "Refused", "Route", "Rule", "Said", "Served", "Session", "State", "Summary", "Suspect",
+    "Suspects", "Verdict", "Why", "Witness", "find_program", "parse", "parse_line",
 ]
 
 

@@ -1,8 +1,8 @@
 """Any output of the program as JSON Lines or CSV: python3 -m aspaview jsonl|csv [--only KIND,..] < TEXT
 
 Each line becomes one object, or one row, with its kind and its values. The kinds are the lines of a
-script that ask for them (report, details, changes, leaks, origins, suspects, summary, why, judge,
-say, serve), demo for the last line of 'demo N', and refused for lines that begin with '! '.
+script that ask for them (report, details, changes, leaks, origins, suspects, peers, summary, why,
+judge, say, serve), demo for the last line of 'demo N', and refused for lines that begin with '! '.
 Addresses and prefixes are written as RFC 5952 has them.
 
 CSV has the same header whatever the text has; with --only it has the columns of these kinds alone.

@@ -9,7 +9,7 @@ from .errors import ProgramEnded, Refused
 from .process import PathLike, Process, find_program
 from .records import Key, Record
 from .spellings import NotAText, Verdict, written_address, written_network
-from .texts import BY_KIND, Change, Detail, Judged, Leak, Origin, Refusal, Route, Suspect, Summary, Why, parse_line
+from .texts import BY_KIND, Change, Detail, Judged, Leak, Origin, Peer, Refusal, Route, Suspect, Summary, Why, parse_line
 
 Asked = TypeVar("Asked", bound=Record)
 
@@ -69,6 +69,10 @@ class Session:
     def suspects(self) -> "Answer[Suspect]":
         """On which ways the routes that are ``invalid blocked`` were leaked."""
         return self._asked(["suspects"], Suspect)
+
+    def peers(self) -> "Answer[Peer]":
+        """Each peer that has routes, with its role and how many they are; and then each AS with a role of its own and none."""
+        return self._asked(["peers"], Peer)
 
     def origins(self) -> "Answer[Origin]":
         """Each route with the state of its origin."""

@@ -8,7 +8,7 @@ from typing import Dict, Iterable, Iterator, Match, Optional, Tuple, Type
 
 from .records import (KEY, KEY_COLUMNS, VERDICT, WITNESS, WITNESS_COLUMNS, Key, Record, Witness, Witnessed, compiled, read_key,
                       read_number, read_witness)
-from .spellings import NUMBER, NotAText, Rule, State, Verdict
+from .spellings import ADDRESS, NUMBER, Address, NotAText, Rule, State, Verdict, read_address, written_address
 
 
 # ---- rows of routes
@@ -136,6 +136,39 @@ class Suspect(Record):
     def __str__(self) -> str:
         to = "here" if self.to_as is None else self.to_as
         return f"{self.from_as} {self.first} {self.last} {to} routes {self.routes} paths {self.paths}"
+
+
+@dataclass(frozen=True)
+class Peer(Record):
+    """A row of ``peers``: a peer that has routes, or an AS that has a role of its own and none, of which ``peer`` is None.
+
+    ``role`` is that of the AS, and ``own`` says that it was set for this AS. ``routes`` is how many the peer has; the others count them by
+    verdict.
+    """
+    kind = "peers"
+    columns = ("peer", "peer_as", "role", "own", "routes", "valid", "unknown", "invalid")
+    _shape = compiled(rf"(?:(?P<peer>{ADDRESS})|-) (?P<peer_as>{NUMBER}) (?P<role>provider|customer|peer|rs|rs-client|mutual)"
+                      rf" (?P<whose>own|default) routes (?P<routes>{NUMBER}) valid (?P<valid>{NUMBER})"
+                      rf" unknown (?P<unknown>{NUMBER}) invalid (?P<invalid>{NUMBER})")
+    peer: Optional[Address]
+    peer_as: int
+    role: str
+    own: bool
+    routes: int
+    valid: int
+    unknown: int
+    invalid: int
+
+    @classmethod
+    def _of(cls, found: Match[str]) -> "Peer":
+        peer = None if found["peer"] is None else read_address(found["peer"])
+        counts = map(int, found.group("routes", "valid", "unknown", "invalid"))
+        return cls(peer, int(found["peer_as"]), found["role"], found["whose"] == "own", *counts)
+
+    def __str__(self) -> str:
+        peer = "-" if self.peer is None else written_address(self.peer)
+        counts = " ".join(f"{name} {getattr(self, name)}" for name in self.columns[4:])
+        return f"{peer} {self.peer_as} {self.role} {'own' if self.own else 'default'} {counts}"
 
 
 @dataclass(frozen=True)
@@ -278,7 +311,7 @@ class Refusal(Record):
 # ---- which line it is
 
 # By shape, the first of these that fits: a row with `valid` or `invalid` behind its prefix is taken for one of a report.
-RECORDS: Tuple[Type[Record], ...] = (Route, Detail, Change, Leak, Origin, Suspect, Refusal, Summary, Why, Judged, Said, Served, Demo)
+RECORDS: Tuple[Type[Record], ...] = (Route, Detail, Change, Leak, Origin, Suspect, Peer, Refusal, Summary, Why, Judged, Said, Served, Demo)
 
 BY_KIND: Dict[str, Type[Record]] = {record.kind: record for record in RECORDS}
 

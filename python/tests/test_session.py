@@ -50,6 +50,8 @@ class Questions(unittest.TestCase):
             self.assertEqual(sum(1 for _ in it.details()), 6)
             self.assertEqual(list(it.details("unknown"))[0].path, (64503, 64541, 64540))
             self.assertEqual([str(row) for row in it.suspects()], ["64503 64501 64501 here routes 1 paths 1"])
+            self.assertEqual([(row.peer_as, row.role, row.own, row.routes) for row in it.peers()],
+                             [(64501, "customer", True, 2), (64502, "peer", True, 1), (64503, "provider", True, 3)])
             self.assertEqual([str(row.state) for row in it.origins()], ["not-found"] * 6)
             self.assertEqual(list(it.leaks()), [])
             self.assertIs(it.judge("customer", 64501, [64501, 64503, 64530]), Verdict.INVALID)

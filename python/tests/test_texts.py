@@ -4,8 +4,8 @@ import unittest
 from ipaddress import ip_address, ip_network
 from typing import Dict
 
-from aspaview import (Change, Demo, Detail, Judged, Key, Leak, NotAText, Origin, Record, Refusal, Route, Rule, Said, Served, State,
-                      Summary, Suspect, Verdict, Why, Witness, parse, parse_line)
+from aspaview import (Change, Demo, Detail, Judged, Key, Leak, NotAText, Origin, Peer, Record, Refusal, Route, Rule, Said, Served,
+                      State, Summary, Suspect, Verdict, Why, Witness, parse, parse_line)
 from aspaview.texts import BY_KIND, RECORDS
 
 from .places import TOP
@@ -26,6 +26,10 @@ SHOWN: Dict[str, Record] = {
         *PEER, ip_network("2001:db8:10::/48"), None, Verdict.INVALID, Witness("set"), (64501,), True),
     "64502 64540 64540 64503 routes 1 paths 1": Suspect(64502, 64540, 64540, 64503, 1, 1),
     "64503 64501 64501 here routes 3 paths 2": Suspect(64503, 64501, 64501, None, 3, 2),
+    "192.0.2.2 64502 peer own routes 1 valid 1 unknown 0 invalid 0": Peer(ip_address("192.0.2.2"), 64502, "peer", True, 1, 1, 0, 0),
+    "192.0.2.3 64503 provider default routes 3 valid 2 unknown 1 invalid 0": Peer(
+        ip_address("192.0.2.3"), 64503, "provider", False, 3, 2, 1, 0),
+    "- 64520 rs-client own routes 0 valid 0 unknown 0 invalid 0": Peer(None, 64520, "rs-client", True, 0, 0, 0, 0),
     "# after the updates": Said("after the updates"),
     "# ! x": Said("! x"),
     "192.0.2.3 64503 2001:0db8:0040:0000:0000:0000:0000:0000/48 not-found": Origin(
@@ -59,6 +63,8 @@ OTHERS = [
     "192.0.2.1 64501 203.0.113.0/24 unknown set path", "invalid blocked", "invalid blocked 1 2 3", "invalid climbs 1 free 0 descents 0",
     "invalid blocked 1 climbs 1 free 0 descents 0", "unknown unsettled 1", "unknown unsettled climbs 1 free 0 descents 0", "valid set",
     "192.0.2.1 64501 203.0.113.0/24 invalid empty", "192.0.2.1 64501 203.0.113.0/24 invalid empty path  64501", "valid\r", "valid\n\n",
+    "192.0.2.2 64502 peer own routes 1", "192.0.2.2 64502 sibling own routes 1 valid 1 unknown 0 invalid 0",
+    "192.0.2.2 64502 peer its routes 1 valid 1 unknown 0 invalid 0", "- 64502 peer own routes 0 valid 0 unknown 0 invalid",
     "64503 64501 64501 there routes 3 paths 2", "64503 64501 64501 here routes 3", "\u0661 1 1 here routes 1 paths 1",
 ]
 

@@ -22,7 +22,7 @@ pub struct Analyser {
     store: Box<RibStore>,
 }
 
-/// A function of its own, so that what lets an analysis go needn't say how.
+/// Written by hand and not derived: a check of a function that lets an analysis go then has one call there, and not each field.
 impl Drop for Analyser {
     fn drop(self) {
         let Analyser {

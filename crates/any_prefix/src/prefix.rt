@@ -6,8 +6,7 @@ ghost use Rattle.any_prefix.specs.AnyPrefix.{IsAnyPrefixText};
 ghost use Rattle.any_prefix.specs.Reading.{AreAnyParts};
 
 use crate::address::read_any_addr;
-use crate::run::cut;
-use av_text::read_u32;
+use av_text::{cut, read_u32};
 use path_model::{Addr, Prefix};
 
 /// Reads a whole text as a prefix: an address, `/` and a length in decimal without leading zeros, at most 32 or 128, where all bits of the

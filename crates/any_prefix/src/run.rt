@@ -1,10 +1,10 @@
 //! Runs of groups with colons between them.
-ghost use Rattle.std.specs.Prelude.{◌≡◌, ◌<◌, ◌≤◌, ◌∷◌, ◌++◌, IfSome, IfNone};
+ghost use Rattle.std.specs.Prelude.{◌≤◌, IfSome, IfNone};
 ghost use Rattle.av_text.specs.Marks.{Lacks};
 ghost use Rattle.any_prefix.specs.Reading.{IsNoFilledRun, IsReadRun};
 
 use crate::group::read_group;
-use av_text::read_addr;
+use av_text::{cut, read_addr};
 use path_model::Addr;
 
 // Groups of 16 bits, and the number that they make.
@@ -62,16 +62,4 @@ fn read_end(text: &[u8], most: u32, last: bool) -> Option<Run>
         }
         Addr::V6(_) => None,
     }
-}
-
-// What stands before the first mark, and what stands behind it.
-pub(crate) fn cut(text: &[u8], mark: u8) -> Option<(&[u8], &[u8])>
-    ensures whole { IfSome result (λ parts. text.now ≡ parts.0.now ++ mark ∷ parts.1.now) }
-    ensures first { IfSome result (λ parts. Lacks mark parts.0.now) }
-    ensures none { IfNone result (Lacks mark text.now) }
-{
-    let at = text.iter().position(|byte| *byte == mark)?;
-    let (front, back) = text.split_at(at);
-    let (_, rest) = back.split_at(1);
-    Some((front, rest))
 }

@@ -16,6 +16,7 @@ use Rattle.origin_validation.specs.Rows.{AreOriginRows}
 use Rattle.listings.specs.Origins.{origin_row}
 use Rattle.report_text.specs.declared.cause.Cause.{Cause}
 use Rattle.report_text.specs.declared.cause.Cause.TheVariants.{NoRoute}
+use Rattle.report_text.specs.declared.peer_summary.PeerSummary.{PeerSummary}
 use Rattle.report_text.specs.declared.summary.Summary.{Summary}
 use Rattle.report_text.specs.Summary.{summary_text}
 use Rattle.report_text.specs.Why.{why_text}
@@ -23,25 +24,26 @@ use Rattle.report_text.specs.Refusals.{of_line, refusal_text}
 use Rattle.report_text.proofs.ReportedLemmas.{adds_answers, adds_answers_front}
 use Rattle.rib_store.specs.Shown.{IsExplained, Standing}
 use Rattle.rib_store.specs.State.{State as Analysis, AreRows}
-use Rattle.otc_check.specs.declared.leaks.Leak.{Leak}
+use Rattle.path_model.specs.declared.leak.Leak.{Leak}
 use Rattle.otc_check.specs.Marks.{Marked}
 use Rattle.path_model.specs.Roles.{Relations}
 use Rattle.listings.specs.Leaks.{AreLeaks, leak_row}
 use Rattle.listings.specs.Listing.{Lists, Pouring}
 use Rattle.listings.specs.Rows.{row_of}
 use Rattle.listings.specs.Summary.{IsSummary}
-use Rattle.listings.specs.declared.stop.Stop.{Stop}
-use Rattle.listings.specs.declared.stop.Stop.TheVariants as stops
+use Rattle.av_base.specs.declared.stop.Stop.{Stop}
+use Rattle.av_base.specs.declared.stop.Stop.TheVariants as stops
 use Rattle.stream_lines.proofs.FrameLemmas.{Leaves-refl}
-use Rattle.serve_lines.specs.Routers.{NoneMore}
-use Rattle.suspects.specs.declared.tally.Tally.{Tally}
-use Rattle.suspects.specs.Suspects.{AreSuspects}
+use Rattle.rtr_server.specs.Routers.{NoneMore}
+use Rattle.listings.specs.declared.tally.Tally.{Tally}
+use Rattle.listings.specs.Suspects.{AreSuspects}
 use Rattle.listings.specs.Details.{AreDetails, detail_row}
+use Rattle.listings.specs.Peers.{ArePeers, peer_row}
 use Rattle.listings.specs.Suspected.{suspect_row}
 use Rattle.valleys.specs.declared.valley.Valley.{Valley}
 use Rattle.aspa_top.specs.Working.{refused_in}
 use Rattle.aspa_top.specs.declared.task.Question.{Question}
-use Rattle.aspa_top.specs.declared.task.Question.TheVariants.{Report, Origins as ListOrigins, Leaks as ListLeaks, Suspects as ListSuspects, Summary as SumUp, Details, Why}
+use Rattle.aspa_top.specs.declared.task.Question.TheVariants.{Report, Origins as ListOrigins, Leaks as ListLeaks, Suspects as ListSuspects, Peers as ListPeers, Summary as SumUp, Details, Why}
 use Rattle.aspa_top.specs.declared.task.Task.TheVariants.{Answer}
 use Rattle.aspa_top.specs.declared.working.Working.{Working}
 use Rattle.aspa_top.specs.Answers.{Answers, AnswersUnless, no_route, refused_for}
@@ -196,6 +198,12 @@ module _ (working : Working) (held : Analysis) (is : held ≡ working.progress.a
   suspects_answer rows are = λ state reads. record {
     there = refl;
     answers = record { rows = rows; are = subst (λ (a : Analysis). AreSuspects a rows) (is ∙ reads.analysis) are; text_is = refl };
+  }
+
+  pub peers_answer : (rows : List PeerSummary) → ArePeers held rows → (state : State) → Reads working state → IsAnswered state ListPeers (flat_map peer_row rows)
+  peers_answer rows are = λ state reads. record {
+    there = refl;
+    answers = record { rows = rows; are = subst (λ (a : Analysis). ArePeers a rows) (is ∙ reads.analysis) are; text_is = refl };
   }
 
   pub details_answer : (verdict : Option Verdict) (rows : List (Key × Standing)) → AreDetails held verdict rows → (state : State) → Reads working state

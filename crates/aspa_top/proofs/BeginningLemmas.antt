@@ -8,11 +8,11 @@ use Rattle.av_base.specs.Files.{Files}
 use Rattle.av_base.proofs.ToldLemmas.{append_known-nil}
 use Rattle.connection_calls.specs.World.{World as Ends}
 use Rattle.connection_calls.proofs.GoingLemmas.{ComesTo-earlier, ComesTo-now}
-use Rattle.feed_lines.proofs.NamedLemmas.{holds_moved}
+use Rattle.rtr_client.proofs.NamedLemmas.{holds_moved}
 use Rattle.script_lines.specs.declared.commands.Command.{Command}
 use Rattle.script_lines.specs.declared.fault.LineFault.{LineFault}
 use Rattle.script_lines.specs.Grammar.{IsReading}
-use Rattle.serve_lines.specs.Routers.{Begun, HasSentAll}
+use Rattle.rtr_server.specs.Routers.{Begun, HasSentAll}
 use Rattle.aspa_top.specs.Moving.{HaveMoved}
 use Rattle.aspa_top.specs.declared.task.Task.{Task}
 use Rattle.aspa_top.specs.declared.working.Working.{Working}

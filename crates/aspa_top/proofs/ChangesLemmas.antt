@@ -7,8 +7,8 @@ use Rattle.rib_store.specs.declared.journal.ChangedKey.{ChangedKey}
 use Rattle.rib_store.specs.Changes.{AreChanges, IsMarked}
 use Rattle.rib_store.specs.State.{State as Analysis}
 use Rattle.rib_store.proofs.MarkLemmas.{has_one_marking}
-use Rattle.listings.specs.declared.stop.Stop.{Stop}
-use Rattle.listings.specs.declared.stop.Stop.TheVariants as stops
+use Rattle.av_base.specs.declared.stop.Stop.{Stop}
+use Rattle.av_base.specs.declared.stop.Stop.TheVariants as stops
 use Rattle.listings.specs.Changes.{change_row}
 use Rattle.listings.proofs.ReportedLemmas.{changes_reported, changes_reported_front}
 use Rattle.aspa_top.specs.declared.task.Task.TheVariants.{Changes}

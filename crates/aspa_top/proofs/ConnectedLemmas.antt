@@ -1,10 +1,10 @@
 -- Which attempts made the connections of feeds, line by line.
 use Rattle.std.proofs.Common.{ℕ, false, List, refl, sym, ap, ◌∙◌, subst, arith}
 use Rattle.std.specs.declared.option.Option.{Option}
-use Rattle.feed_lines.specs.declared.working.Work.{Work}
-use Rattle.feed_lines.specs.Laws.{AreConnectedFrom}
-use Rattle.feed_lines.specs.Lines.{State as FeedState}
-use Rattle.feed_lines.proofs.ConnectedLemmas.{connects_connected, works_connected}
+use Rattle.rtr_client.specs.declared.working.Work.{Work}
+use Rattle.rtr_client.specs.Laws.{AreConnectedFrom}
+use Rattle.rtr_client.specs.Lines.{State as FeedState}
+use Rattle.rtr_client.proofs.ConnectedLemmas.{connects_connected, works_connected}
 use Rattle.aspa_top.specs.Laws.{FeedsWereConnected}
 use Rattle.aspa_top.specs.Tasks.{ConnectsUnless, State, Works, feeds_of, start}
 use Rattle.aspa_top.specs.World.{World}

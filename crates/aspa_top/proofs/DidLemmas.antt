@@ -8,8 +8,8 @@ use Rattle.report_text.specs.declared.cause.Cause.{Cause}
 use Rattle.report_text.specs.Laws.{IsPlaceInLine}
 use Rattle.report_text.specs.Refusals.{AnyPlace, refusal_text}
 use Rattle.report_text.specs.Reported.{AddsFront, AddsLines}
-use Rattle.listings.specs.declared.stop.Stop.{Stop}
-use Rattle.listings.specs.declared.stop.Stop.TheVariants as stops
+use Rattle.av_base.specs.declared.stop.Stop.{Stop}
+use Rattle.av_base.specs.declared.stop.Stop.TheVariants as stops
 use Rattle.stream_lines.specs.Frames.{Leaves}
 use Rattle.stream_lines.specs.Held.{HeldDump}
 use Rattle.aspa_top.specs.declared.working.Working.{Working}

@@ -7,16 +7,16 @@ use Rattle.av_base.specs.Told.{Rose}
 use Rattle.av_base.specs.Files.{Files, Opens, Misses, left_of, opens}
 use Rattle.av_base.proofs.FilesLemmas.{left_of-opens}
 use Rattle.av_base.proofs.ToldLemmas.{append_known-nil}
-use Rattle.feed_lines.specs.declared.feed.Feeds.{Feeds}
-use Rattle.feed_lines.specs.Holding.{feed_in}
-use Rattle.feed_lines.specs.Holding.{HoldsOr as HoldsFeed}
+use Rattle.rtr_client.specs.declared.feed.Feeds.{Feeds}
+use Rattle.rtr_client.specs.Holding.{feed_in}
+use Rattle.rtr_client.specs.Holding.{HoldsOr as HoldsFeed}
 use Rattle.report_text.specs.declared.cause.Cause.TheVariants as causes
 use Rattle.report_text.specs.Refusals.{of_line, refusal_text}
 use Rattle.report_text.specs.Reported.{AddsQuiet}
 use Rattle.report_text.proofs.ReportedLemmas.{adds_front}
 use Rattle.stream_lines.specs.declared.kind.DumpKind.{DumpKind}
-use Rattle.listings.specs.declared.stop.Stop.{Stop}
-use Rattle.listings.specs.declared.stop.Stop.TheVariants as stops
+use Rattle.av_base.specs.declared.stop.Stop.{Stop}
+use Rattle.av_base.specs.declared.stop.Stop.TheVariants as stops
 use Rattle.stream_lines.specs.Frames.{Leaves}
 use Rattle.stream_lines.specs.Holding.{HoldsDump}
 use Rattle.stream_lines.specs.Taking.{GrewBy, StandsAt, TookFirst}

@@ -4,11 +4,11 @@ use Rattle.std.specs.declared.option.Option.{Option}
 use Rattle.std.specs.declared.result.Result.{Result}
 use Rattle.av_base.specs.Connections.{Attempt}
 use Rattle.report_text.specs.declared.cause.Cause.{Cause}
-use Rattle.feed_lines.specs.declared.working.Work.{Work}
-use Rattle.feed_lines.specs.declared.working.Work.TheVariants.{Take as TakePdus}
-use Rattle.feed_lines.specs.Feeds.{Feed}
-use Rattle.feed_lines.specs.Lines.{WorksBy}
-use Rattle.feed_lines.specs.Lines.{State as FeedState}
+use Rattle.rtr_client.specs.declared.working.Work.{Work}
+use Rattle.rtr_client.specs.declared.working.Work.TheVariants.{Take as TakePdus}
+use Rattle.rtr_client.specs.Feeds.{Feed}
+use Rattle.rtr_client.specs.Lines.{WorksBy}
+use Rattle.rtr_client.specs.Lines.{State as FeedState}
 use Rattle.script_lines.specs.declared.commands.Command.{Command}
 use Rattle.script_lines.specs.declared.commands.Command.TheVariants.{Feed as FeedLine, Serve as ServeLine}
 use Rattle.script_lines.specs.declared.fault.LineFault.{LineFault}

@@ -8,22 +8,22 @@ use Rattle.std.specs.Io.KnownBytes.{append_known}
 use Rattle.av_base.specs.declared.standing.Standing.{Standing}
 use Rattle.av_base.specs.Files.{Files}
 use Rattle.av_base.proofs.ToldLemmas.{append_known-nil}
-use Rattle.feed_lines.specs.declared.feed.Feeds.{Feeds}
+use Rattle.rtr_client.specs.declared.feed.Feeds.{Feeds}
 use Rattle.analyser.specs.declared.progress.Progress.{Progress}
-use Rattle.feed_lines.specs.declared.working.Work.{Work}
-use Rattle.feed_lines.specs.declared.working.Work.TheVariants.{Take as TakePdus}
-use Rattle.feed_lines.specs.Holding.{AreWithin, HasMoved, Holds}
-use Rattle.feed_lines.specs.Holding.{Goes as FeedsGo, IsSound as FeedsAreSound}
-use Rattle.feed_lines.specs.Lines.{ConnectLine, ConnectPart, WorkLine, WorkPart}
-use Rattle.feed_lines.specs.Lines.{State as FeedState}
-use Rattle.feed_lines.specs.Tellings.{Asking as FeedAsking}
+use Rattle.rtr_client.specs.declared.working.Work.{Work}
+use Rattle.rtr_client.specs.declared.working.Work.TheVariants.{Take as TakePdus}
+use Rattle.rtr_client.specs.Holding.{AreWithin, HasMoved, Holds}
+use Rattle.rtr_client.specs.Holding.{Goes as FeedsGo, IsSound as FeedsAreSound}
+use Rattle.rtr_client.specs.Lines.{ConnectLine, ConnectPart, WorkLine, WorkPart}
+use Rattle.rtr_client.specs.Lines.{State as FeedState}
+use Rattle.rtr_client.specs.Tellings.{Asking as FeedAsking}
 use Rattle.report_text.specs.declared.cause.Cause.TheVariants as causes
 use Rattle.report_text.specs.Refusals.{of_line, refusal_text}
-use Rattle.listings.specs.declared.stop.Stop.{Stop}
-use Rattle.listings.specs.declared.stop.Stop.TheVariants as stops
+use Rattle.av_base.specs.declared.stop.Stop.{Stop}
+use Rattle.av_base.specs.declared.stop.Stop.TheVariants as stops
 use Rattle.stream_lines.specs.Streams.{Dump}
 use Rattle.stream_lines.proofs.FrameLemmas.{Leaves-refl}
-use Rattle.serve_lines.specs.Routers.{Begun, HasSentAll}
+use Rattle.rtr_server.specs.Routers.{Begun, HasSentAll}
 use Rattle.aspa_top.specs.declared.task.Task.{Task}
 use Rattle.aspa_top.specs.declared.task.Task.TheVariants.{Connect, OnFeed, Take}
 use Rattle.aspa_top.specs.declared.working.Working.{Working}

@@ -6,9 +6,9 @@ use Rattle.std.specs.declared.option.Option.{Option}
 use Rattle.report_text.specs.declared.cause.Cause.{Cause}
 use Rattle.origin_model.specs.Vrp.{Payload}
 use Rattle.origin_validation.specs.Records.{source_of, with_source}
-use Rattle.feed_lines.specs.declared.working.Work.{Work}
-use Rattle.feed_lines.specs.declared.working.Work.TheVariants.{Take as TakePdus}
-use Rattle.feed_lines.proofs.SourceLemmas.{source_other}
+use Rattle.rtr_client.specs.declared.working.Work.{Work}
+use Rattle.rtr_client.specs.declared.working.Work.TheVariants.{Take as TakePdus}
+use Rattle.rtr_client.proofs.SourceLemmas.{source_other}
 use Rattle.stream_lines.specs.declared.kind.DumpKind.{DumpKind}
 use Rattle.stream_lines.specs.Streams.{Dump}
 use Rattle.stream_lines.specs.Units.{is_of_records}

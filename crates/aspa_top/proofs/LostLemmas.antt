@@ -8,7 +8,7 @@ use Rattle.av_base.specs.Connections.{Attempt, Link, Made}
 use Rattle.av_base.specs.Files.{Files}
 use Rattle.connection_calls.specs.Faults.{NewAreUnbroken}
 use Rattle.connection_calls.specs.World.{IsMadeFrom, IsAttempt}
-use Rattle.feed_lines.proofs.LostLemmas.{broke_or_ended}
+use Rattle.rtr_client.proofs.LostLemmas.{broke_or_ended}
 use Rattle.aspa_top.specs.Laws.{UnbrokenFeedsAreLostAtEnd}
 use Rattle.aspa_top.specs.Program.{AreTold}
 use Rattle.aspa_top.specs.Tasks.{feeds_of}

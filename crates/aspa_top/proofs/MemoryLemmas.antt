@@ -5,9 +5,9 @@ use Rattle.av_base.proofs.ToldLemmas.{append_known-nil}
 use Rattle.std.specs.FinMap as fin
 use Rattle.std.specs.List.{All}
 use Rattle.std.specs.declared.option.Option.{Option}
-use Rattle.feed_lines.specs.declared.feed.Feeds.{Feeds}
-use Rattle.feed_lines.specs.Holding.{feed_in}
-use Rattle.feed_lines.specs.Holding.{HoldsOr as HoldsFeed}
+use Rattle.rtr_client.specs.declared.feed.Feeds.{Feeds}
+use Rattle.rtr_client.specs.Holding.{feed_in}
+use Rattle.rtr_client.specs.Holding.{HoldsOr as HoldsFeed}
 use Rattle.path_model.specs.declared.role.Role.{Role}
 use Rattle.attestations.specs.CurrentTable.{Parts}
 use Rattle.rib_store.specs.State.{State as Analysis}
@@ -18,14 +18,15 @@ use Rattle.analyser.proofs.CostLemmas.{some_cost}
 use Rattle.analyser.proofs.EventLemmas.{one_outcome_of}
 use Rattle.report_text.specs.Sayings.{said_text}
 use Rattle.script_lines.specs.Word.{IsSaid}
-use Rattle.listings.specs.declared.stop.Stop.TheVariants as stops
+use Rattle.av_base.specs.declared.stop.Stop.TheVariants as stops
 use Rattle.stream_lines.specs.Held.{HeldDump}
 use Rattle.aspa_top.specs.declared.task.Task.TheVariants.{Idle, Happen, Clear, Judge, Say}
 use Rattle.aspa_top.specs.declared.working.Working.{Working}
 use Rattle.aspa_top.specs.Outside.{Outside, all_of}
 use Rattle.aspa_top.specs.Performing.{Done, EndedEarly}
 use Rattle.aspa_top.specs.Standing.{HoldsOr, IsBegun}
-use Rattle.aspa_top.specs.Working.{Happened, Judges, cache_in, dump_in, has_source}
+use Rattle.aspa_top.specs.Tasks.{IsJudged}
+use Rattle.aspa_top.specs.Working.{Happened, cache_in, dump_in, has_source}
 use Rattle.aspa_top.proofs.DidLemmas.{some_done}
 use Rattle.aspa_top.proofs.ReadyLemmas.{kept_all, kept_analysed, kept_cleared, ready_streams}
 use Rattle.aspa_top.proofs.ReportingLemmas.{front_none, text_judged, text_none, text_said}
@@ -151,17 +152,16 @@ module _ (working : Working) (old : Outside) (begun : IsBegun old working) where
   }
 
   -- a path was judged
-  pub judged : (role : Role) (neighbour : ℕ) (path : List ℕ) (table : Parts) (held : List ℕ) (ticks : ℕ) → table ≡ working.progress.analyser.parts
-      → Judges table role neighbour path old.held held → ticks ≡ old.ticks + 1
+  pub judged : (role : Role) (neighbour : ℕ) (path : List ℕ) (table : Parts) (line held : List ℕ) (ticks : ℕ) → table ≡ working.progress.analyser.parts
+      → IsJudged table role neighbour path line → held ≡ old.held ++ line → ticks ≡ old.ticks + 1
       → Done working (Ok (Judge role neighbour path)) old (record old { held = held; ticks = ticks }) working
-  judged role neighbour path table held ticks is judges ticked = record {
+  judged role neighbour path table line held ticks is judges text_is ticked = record {
     goes = λ world tells state stands.
-        let line = subst (λ (p : Parts). Judges p role neighbour path old.held held) (is ∙ ap (λ (a : Analysis). a.parts) stands.analysis) judges in
         record {
-          text = line.0;
+          text = line;
           after = record state { judgements = state.judgements + 1 };
-          does = λ ends comes. (line.1, refl);
-          added = added_text old.written old.held held line.0 line.2;
+          does = λ ends comes. (subst (λ (p : Parts). IsJudged p role neighbour path line) (is ∙ ap (λ (a : Analysis). a.parts) stands.analysis) judges, refl);
+          added = added_text old.written old.held held line text_is;
           stands = record {
             analysis = stands.analysis;
             marks = stands.marks;
@@ -180,7 +180,7 @@ module _ (working : Working) (old : Outside) (begun : IsBegun old working) where
         };
     ready = ready_streams old (record old { held = held; ticks = ticks }) working working (omega arith) refl begun (kept_all working);
     lines = refl;
-    adds = text_judged table role neighbour path old.held held judges old.written old.link_faults;
+    adds = text_judged table role neighbour path old.held held line judges text_is old.written old.link_faults;
   }
 
   -- or wasn't written

@@ -7,8 +7,8 @@ use Rattle.av_base.specs.Files.{Files}
 use Rattle.av_base.specs.Told.{Rose}
 use Rattle.aspa_top.specs.Lines.{performed}
 use Rattle.report_text.specs.Reported.{AddsFront, AddsLines}
-use Rattle.listings.specs.declared.stop.Stop.{Stop}
-use Rattle.listings.specs.declared.stop.Stop.TheVariants as stops
+use Rattle.av_base.specs.declared.stop.Stop.{Stop}
+use Rattle.av_base.specs.declared.stop.Stop.TheVariants as stops
 use Rattle.aspa_top.specs.Evaluated.{Evaluated, Runs, RunsSource, StoppedByFault, status_of}
 use Rattle.aspa_top.specs.Outside.{Outside}
 use Rattle.aspa_top.specs.Program.{AreTold, WentThrough, Ended, StarvedIfTold, StopsAtFile, StopsAtRead, StopsWithin, WritesPart, IsEnding, IsWhole, Ran, RanIfTold}

@@ -25,6 +25,7 @@ use Rattle.listings.proofs.OriginsLemmas.{line_of as origin_line_of, rows_answer
 use Rattle.report_text.specs.declared.cause.Cause.{Cause}
 use Rattle.report_text.specs.Laws.{IsAnswerLine}
 use Rattle.report_text.specs.Reported.{lines_text}
+use Rattle.report_text.specs.PeerSummaries.{peer_summary_line}
 use Rattle.report_text.specs.Summary.{summary_line, summary_text}
 use Rattle.report_text.specs.Why.{why_line, why_text}
 use Rattle.report_text.proofs.AnswerLemmas.{summary_is_one_line, reason_is_one_line}
@@ -39,12 +40,14 @@ use Rattle.stream_lines.proofs.RefusalLemmas.{lacks, refusals_in-line}
 use Rattle.listings.proofs.ReportedLemmas.{line_of, rows_answer, rows_are_lines}
 use Rattle.listings.proofs.SummaryLemmas.{some_summary, one_summary}
 use Rattle.listings.specs.Details.{AreDetails, detail_row}
+use Rattle.listings.specs.Peers.{ArePeers, peer_row}
 use Rattle.listings.specs.Suspected.{suspect_row}
-use Rattle.suspects.specs.Suspects.{AreSuspects}
+use Rattle.listings.specs.Suspects.{AreSuspects}
 use Rattle.listings.proofs.DetailsLemmas.{detail_line_of, details_answer, details_are_lines, one_list_of_details}
+use Rattle.listings.proofs.PeersLemmas.{one_list_of_peers, peers_answer, peers_are_lines}
 use Rattle.listings.proofs.SuspectedLemmas.{one_list_of_suspects, suspect_line_of, suspects_answer, suspects_are_lines}
 use Rattle.aspa_top.specs.declared.task.Question.{Question}
-use Rattle.aspa_top.specs.declared.task.Question.TheVariants.{Report, Origins as ListOrigins, Leaks as ListLeaks, Suspects, Summary as SumUp, Details, Why}
+use Rattle.aspa_top.specs.declared.task.Question.TheVariants.{Report, Origins as ListOrigins, Leaks as ListLeaks, Suspects, Peers, Summary as SumUp, Details, Why}
 use Rattle.aspa_top.specs.Answers.{Answers, AnswersUnless, Replies, Shows, no_route, refused_for}
 use Rattle.aspa_top.specs.Tasks.{State}
 
@@ -100,6 +103,8 @@ one_answer state ListLeaks there =
     one_listing (AreLeaks state.analysis.roles state.marks) leak_row (one_list_of_leaks state.analysis.roles state.marks)
 one_answer state Suspects there =
     one_listing (AreSuspects state.analysis) suspect_row (one_list_of_suspects state.analysis)
+one_answer state Peers there =
+    one_listing (ArePeers state.analysis) peer_row (one_list_of_peers state.analysis)
 one_answer state SumUp there =
     let found = some_summary state.analysis state.passed state.refused in
     record {
@@ -140,6 +145,8 @@ answer_lines state ListLeaks text lists =
     record { lines = map leak_line_of lists.rows; each = leaks_answer lists.rows; is = lists.text_is ∙ leaks_are_lines lists.rows }
 answer_lines state Suspects text lists =
     record { lines = map suspect_line_of lists.rows; each = suspects_answer lists.rows; is = lists.text_is ∙ suspects_are_lines lists.rows }
+answer_lines state Peers text lists =
+    record { lines = map peer_summary_line lists.rows; each = peers_answer lists.rows; is = lists.text_is ∙ peers_are_lines lists.rows }
 answer_lines state (Details verdict) text lists =
     record { lines = map detail_line_of lists.rows; each = details_answer lists.rows; is = lists.text_is ∙ details_are_lines lists.rows }
 answer_lines state SumUp text sums = one_line (summary_line sums.summary) text (summary_is_one_line sums.summary) sums.text_is

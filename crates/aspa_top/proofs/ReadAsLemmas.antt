@@ -4,7 +4,7 @@ use Rattle.std.specs.declared.option.Option.{Option}
 use Rattle.std.specs.declared.result.Result.{Result}
 use Rattle.std.specs.Io.KnownBytes.{append_known}
 use Rattle.av_base.specs.Connections.{Agrees}
-use Rattle.listings.specs.declared.stop.Stop.{Stop}
+use Rattle.av_base.specs.declared.stop.Stop.{Stop}
 use Rattle.aspa_top.specs.declared.working.Working.{Working}
 use Rattle.aspa_top.specs.Outside.{Keeps, Outside, all_of}
 use Rattle.aspa_top.specs.Performing.{DidLine, Performing}

@@ -8,8 +8,8 @@ use Rattle.av_text.specs.Lines.{lines_in}
 use Rattle.av_text.proofs.LineLemmas.{lines_read, lines_split, whole-append}
 use Rattle.report_text.specs.Reported.{AddsFront}
 use Rattle.report_text.proofs.ReportedLemmas.{adds_front, adds_more, adds_more_front, adds_none}
-use Rattle.listings.specs.declared.stop.Stop.{Stop}
-use Rattle.listings.specs.declared.stop.Stop.TheVariants as stops
+use Rattle.av_base.specs.declared.stop.Stop.{Stop}
+use Rattle.av_base.specs.declared.stop.Stop.TheVariants as stops
 use Rattle.aspa_top.specs.declared.working.Working.{Working}
 use Rattle.aspa_top.specs.Evaluated.{AllDone, Evaluated, EvaluatedIn, ReadSoFar, RunsSource, Stopped, StoppedByFault, status_of}
 use Rattle.aspa_top.specs.Lines.{performed}

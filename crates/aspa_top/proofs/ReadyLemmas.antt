@@ -3,8 +3,8 @@ use Rattle.std.proofs.Common.{◌≡◌, ◌≢◌, ℕ, ◌+◌, ◌-◌, ◌*�
 use Rattle.std.specs.FinMap as fin
 use Rattle.std.specs.declared.option.Option.{Option}
 use Rattle.av_base.specs.declared.standing.Standing.{Standing}
-use Rattle.feed_lines.specs.declared.feed.Feeds.{Feeds}
-use Rattle.feed_lines.specs.Holding.{IsSound as FeedsAreSound}
+use Rattle.rtr_client.specs.declared.feed.Feeds.{Feeds}
+use Rattle.rtr_client.specs.Holding.{IsSound as FeedsAreSound}
 use Rattle.stream_lines.specs.Held.{HeldDump}
 use Rattle.aspa_top.specs.declared.working.Working.{Working}
 use Rattle.aspa_top.specs.Bounds.{most}

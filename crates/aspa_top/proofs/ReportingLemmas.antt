@@ -24,13 +24,13 @@ use Rattle.report_text.specs.Laws.{IsAnswerLine, IsPlaceInLine}
 use Rattle.report_text.specs.Refusals.{AnyPlace, of_line, of_unit, refusal_text}
 use Rattle.report_text.specs.Reported.{AddsFront, AddsLines}
 use Rattle.report_text.proofs.ReportedLemmas.{adds_answer, adds_end, adds_front, adds_later, adds_none, adds_quiet_none, adds_refusal}
-use Rattle.feed_lines.specs.declared.telling.Telling.{Telling}
-use Rattle.feed_lines.specs.declared.telling.Telling.TheVariants.{NoName, StreamOver, Pdu, End}
-use Rattle.feed_lines.specs.Tellings.{telling_text, tells_text}
+use Rattle.rtr_client.specs.declared.telling.Telling.{Telling}
+use Rattle.rtr_client.specs.declared.telling.Telling.TheVariants.{NoName, StreamOver, Pdu, End}
+use Rattle.rtr_client.specs.Tellings.{telling_text, tells_text}
 use Rattle.report_text.specs.Sayings.{said_line, said_text}
 use Rattle.report_text.proofs.AnswerLemmas.{saying_is_one_line}
 use Rattle.script_lines.specs.Word.{IsSaid}
-use Rattle.aspa_top.specs.Working.{Judges}
+use Rattle.aspa_top.specs.Tasks.{IsJudged}
 use Rattle.aspa_top.specs.Reporting.{AddsText, AddsEnds}
 use Rattle.aspa_top.proofs.StandsLemmas.{added_text}
 
@@ -47,10 +47,11 @@ verdict_is_one_line Valid = record { in_line = verdicts_in_line Valid; unmarked 
 verdict_is_one_line Unknown = record { in_line = verdicts_in_line Unknown; unmarked = refl }
 verdict_is_one_line Invalid = record { in_line = verdicts_in_line Invalid; unmarked = refl }
 
-pub text_judged : (parts : Parts) (role : Role) (neighbour : ℕ) (path text_old text_new : List ℕ) → Judges parts role neighbour path text_old text_new → AddsText text_old text_new
-text_judged parts role neighbour path text_old text_new judges = λ written.
-    adds_answer _ _ (verdict_text judges.1.verdict) (verdict_is_one_line judges.1.verdict)
-    (added_text written text_old text_new judges.0 judges.2 ∙ ap (append_known (append_known written text_old)) judges.1.text_is)
+pub text_judged : (parts : Parts) (role : Role) (neighbour : ℕ) (path text_old text_new line : List ℕ) → IsJudged parts role neighbour path line → text_new ≡ text_old ++ line
+    → AddsText text_old text_new
+text_judged parts role neighbour path text_old text_new line is added = λ written.
+    adds_answer _ _ (verdict_text is.verdict) (verdict_is_one_line is.verdict)
+    (added_text written text_old text_new line added ∙ ap (append_known (append_known written text_old)) is.text_is)
 
 pub said_in_line : (words : List ℕ) → All IsSaid words → IsInLine words
 said_in_line words said = All-weaker IsSaid (λ (byte : ℕ). byte ≢ 10) (λ byte is same. omega (arith, is.0, same)) words said

@@ -13,9 +13,9 @@ use Rattle.av_base.proofs.ToldLemmas.{append_known-append}
 use Rattle.attestations.specs.CurrentTable.{Parts}
 use Rattle.connection_calls.specs.Connection.{Spares}
 use Rattle.connection_calls.specs.Faults.{BreaksByFault}
-use Rattle.feed_lines.specs.declared.feed.OpenFeed.{OpenFeed}
-use Rattle.feed_lines.specs.Holding.{feed_in, HasMoved as FeedsMoved, HoldsOr as HoldsFeed}
-use Rattle.feed_lines.proofs.NamedLemmas.{HoldsOr-spared, holds_moved}
+use Rattle.rtr_client.specs.declared.feed.OpenFeed.{OpenFeed}
+use Rattle.rtr_client.specs.Holding.{feed_in, HasMoved as FeedsMoved, HoldsOr as HoldsFeed}
+use Rattle.rtr_client.proofs.NamedLemmas.{HoldsOr-spared, holds_moved}
 use Rattle.report_text.specs.declared.cause.Cause.TheVariants as causes
 use Rattle.report_text.specs.Refusals.{of_line, refusal_text}
 use Rattle.report_text.specs.Reported.{AddsLines}
@@ -23,12 +23,12 @@ use Rattle.report_text.specs.Served.{served_line, served_text}
 use Rattle.report_text.proofs.AnswerLemmas.{served_is_one_line}
 use Rattle.report_text.proofs.ReportedLemmas.{adds_answer, adds_front, adds_later, adds_more}
 use Rattle.rtr_cache.specs.Cache.{Comes, FitsPdus, Versions}
-use Rattle.serve_lines.specs.declared.routers.Served.{Served}
-use Rattle.serve_lines.specs.Outcomes.{outcomes_text}
-use Rattle.serve_lines.specs.Routers.{AreMade, HaltedAs, ServedAs, attempts_begun, attempts_in}
-use Rattle.serve_lines.proofs.ReportLemmas.{outcomes_add, served_adds}
-use Rattle.listings.specs.declared.stop.Stop.{Stop}
-use Rattle.listings.specs.declared.stop.Stop.TheVariants as stops
+use Rattle.rtr_server.specs.declared.routers.Served.{Served}
+use Rattle.rtr_server.specs.Outcomes.{outcomes_text}
+use Rattle.rtr_server.specs.Routers.{AreMade, HaltedAs, ServedAs, attempts_begun, attempts_in}
+use Rattle.rtr_server.proofs.ReportLemmas.{outcomes_add, served_adds}
+use Rattle.av_base.specs.declared.stop.Stop.{Stop}
+use Rattle.av_base.specs.declared.stop.Stop.TheVariants as stops
 use Rattle.stream_lines.proofs.FrameLemmas.{Leaves-refl}
 use Rattle.aspa_top.specs.declared.task.Task.TheVariants.{Serve}
 use Rattle.aspa_top.specs.declared.working.Working.{Working}
@@ -41,7 +41,7 @@ use Rattle.aspa_top.specs.State.{State}
 use Rattle.aspa_top.specs.Tasks.{feeds_of}
 use Rattle.aspa_top.specs.Working.{cache_in, dump_in, has_source, refused_in}
 use Rattle.aspa_top.specs.World.{Links}
-use Rattle.aspa_top.proofs.DidLemmas.{done_refused}
+use Rattle.aspa_top.proofs.DidLemmas.{done_refused, stopped_by_sink}
 use Rattle.aspa_top.proofs.FeedLemmas.{no_router}
 use Rattle.aspa_top.proofs.ReadyLemmas.{IsSound-kept, feeds_kept}
 use Rattle.aspa_top.proofs.StandsLemmas.{added_text}
@@ -269,6 +269,16 @@ module _ (working : Working) (place : List ℕ) (session count : ℕ) (cache : V
         (adds_later (all_of old) (append_known written held) old.link_faults old.link_faults faults (outcomes_add working.lines did.outcomes (all_of old) (append_known written held) did.added old.link_faults) broke.later);
     cause = cause;
   }
+
+  -- it ended early, and the shelf wasn't asked
+  pub serve_stopped : (stop : Stop) (held : List ℕ) (ticks : ℕ) → Agrees links.wire standings
+      → HaltedAs old.links.attempts links.attempts links.wire cache working.lines place count (all_of old) (append_known written held) → ticks ≡ old.ticks
+      → (stop ≡ stops.Shelf → ⊥) → (stop ≡ stops.Sink → 0 < length held) → (stop ≡ stops.Sink → Rose old.sink_faults sink_faults)
+      → EndedEarly working (Ok (Serve place session count)) old
+      (record old { links = links; standings = standings; link_faults = faults; written = written; sink_faults = sink_faults; held = held; ticks = ticks }) stop
+  serve_stopped stop held ticks agrees did unticked no_shelf some rose =
+      let new : Outside = record old { links = links; standings = standings; link_faults = faults; written = written; sink_faults = sink_faults; held = held; ticks = ticks } in
+      serve_halted stop held ticks agrees did unticked (stopped_by_sink working (Ok (Serve place session count)) old new stop no_shelf some rose)
 
 -- some row of the current table fits no PDU
 pub serve_refused : (working next : Working) (place : List ℕ) (session count : ℕ) (old : Outside) (held : List ℕ) → IsBegun old working → ¬ FitsPdus working.progress.analyser.parts

@@ -6,14 +6,14 @@ use Rattle.attestations.specs.CurrentTable.{Parts}
 use Rattle.report_text.specs.Served.{served_text}
 use Rattle.rtr_cache.specs.Cache.{AreRowsOf, Versions}
 use Rattle.av_base.specs.Connections.{Attempt}
-use Rattle.serve_lines.specs.declared.outcome.Outcome.{Outcome}
-use Rattle.serve_lines.specs.declared.routers.Served.{Served}
-use Rattle.serve_lines.specs.Outcomes.{outcome_text, outcomes_text, reached_text}
-use Rattle.serve_lines.specs.Routers.{ServesLine, attempts_in}
+use Rattle.rtr_server.specs.declared.outcome.Outcome.{Outcome}
+use Rattle.rtr_server.specs.declared.routers.Served.{Served}
+use Rattle.rtr_server.specs.Outcomes.{outcome_text, outcomes_text, reached_text}
+use Rattle.rtr_server.specs.Routers.{ServesLine, attempts_in}
 use Rattle.aspa_top.specs.State.{State}
 use Rattle.aspa_top.specs.Serving.{TakesTable, HasCache, ServesAll, ServesTable, ServesSome, ServesUnsummed, ServesTablePart, serving_of, with_cache}
 use Rattle.aspa_top.specs.World.{World}
-use Rattle.serve_lines.proofs.FrontLemmas.{line_one, part_first}
+use Rattle.rtr_server.proofs.FrontLemmas.{line_one, part_first}
 use Rattle.rtr_cache.proofs.ExchangeLemmas.{gets_table}
 use Rattle.rtr_cache.proofs.VersionLemmas.{made_one, updated_one}
 use Rattle.aspa_top.specs.Laws.{ServedRoutersGetTheTable}

@@ -6,9 +6,9 @@ use Rattle.std.specs.declared.option.Option.{Option}
 use Rattle.std.proofs.lemmas.Map.Views.{exact_unsigned_eq}
 use Rattle.av_base.specs.Files.{Files, left_of}
 use Rattle.av_base.proofs.ToldLemmas.{append_known-append}
-use Rattle.feed_lines.specs.Holding.{feed_in}
+use Rattle.rtr_client.specs.Holding.{feed_in}
 use Rattle.connection_calls.specs.World.{World as Ends}
-use Rattle.feed_lines.proofs.StandingLemmas.{HoldsOr-is_some as Feed-is_some}
+use Rattle.rtr_client.proofs.StandingLemmas.{HoldsOr-is_some as Feed-is_some}
 use Rattle.rib_store.specs.State.{State as Analysis}
 use Rattle.stream_lines.specs.Frames.{Leaves}
 use Rattle.stream_lines.proofs.HoldingLemmas.{HoldsDump-leaves}

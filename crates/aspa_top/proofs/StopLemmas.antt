@@ -3,8 +3,8 @@ use Rattle.std.proofs.Common.{◌≡◌, ℕ, ◌≤◌, List, [], Ok, Err, IfOk
 use Rattle.std.specs.declared.option.Option.{Option}
 use Rattle.std.specs.declared.result.Result.{Result}
 use Rattle.av_base.specs.Told.{Rose}
-use Rattle.listings.specs.declared.stop.Stop.{Stop}
-use Rattle.listings.specs.declared.stop.Stop.TheVariants as stops
+use Rattle.av_base.specs.declared.stop.Stop.{Stop}
+use Rattle.av_base.specs.declared.stop.Stop.TheVariants as stops
 use Rattle.aspa_top.specs.declared.working.Working.{Working}
 use Rattle.aspa_top.specs.Evaluated.{Performed, Poured, Stopped, StoppedByFault}
 use Rattle.aspa_top.specs.Outside.{Keeps, Outside}

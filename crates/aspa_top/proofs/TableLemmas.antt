@@ -11,15 +11,15 @@ use Rattle.av_text.specs.Spellings.{IsInLine}
 use Rattle.report_text.specs.Laws.{IsPlaceInLine}
 use Rattle.report_text.specs.Reported.{AddsLines}
 use Rattle.report_text.specs.Refusals.{AnyPlace, of_line, of_unit, refusal_text}
-use Rattle.feed_lines.specs.declared.feed.Feeds.{Feeds}
-use Rattle.feed_lines.specs.Holding.{feed_in}
-use Rattle.feed_lines.specs.Holding.{HoldsOr as HoldsFeed}
-use Rattle.listings.specs.declared.stop.ReadFault.{ReadFault}
-use Rattle.listings.specs.declared.stop.ReadFault.TheVariants as faults
-use Rattle.listings.specs.declared.stop.Stop.TheVariants as stops
+use Rattle.rtr_client.specs.declared.feed.Feeds.{Feeds}
+use Rattle.rtr_client.specs.Holding.{feed_in}
+use Rattle.rtr_client.specs.Holding.{HoldsOr as HoldsFeed}
+use Rattle.av_base.specs.declared.stop.ReadFault.{ReadFault}
+use Rattle.av_base.specs.declared.stop.ReadFault.TheVariants as faults
+use Rattle.av_base.specs.declared.stop.Stop.TheVariants as stops
 use Rattle.stream_lines.specs.Frames.{Leaves}
 use Rattle.stream_lines.specs.Held.{HeldDump}
-use Rattle.listings.specs.Stops.{stop_of}
+use Rattle.av_base.specs.Stops.{stop_of}
 use Rattle.rib_store.specs.State.{State as Analysis}
 use Rattle.analyser.specs.declared.event.Event.TheVariants.{Table as TableEvent}
 use Rattle.analyser.specs.Events.{Happens}

@@ -7,8 +7,8 @@ use Rattle.av_base.specs.Files.{Files}
 use Rattle.report_text.specs.declared.cause.Cause.TheVariants as causes
 use Rattle.report_text.specs.Refusals.{of_line, refusal_text}
 use Rattle.report_text.specs.Reported.{AddsQuiet}
-use Rattle.listings.specs.declared.stop.Stop.{Stop}
-use Rattle.listings.specs.declared.stop.Stop.TheVariants as stops
+use Rattle.av_base.specs.declared.stop.Stop.{Stop}
+use Rattle.av_base.specs.declared.stop.Stop.TheVariants as stops
 use Rattle.analyser.specs.declared.progress.Progress.{Progress}
 use Rattle.stream_lines.specs.Frames.{Leaves}
 use Rattle.stream_lines.specs.Held.{HeldDump}

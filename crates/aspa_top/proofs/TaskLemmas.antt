@@ -8,13 +8,13 @@ use Rattle.attestations.proofs.PartsLemmas.{table_is_current}
 use Rattle.path_model.proofs.LawLemmas.{some_right}
 use Rattle.av_base.specs.Connections.{Attempt}
 use Rattle.av_text.specs.VerdictText.{verdict_text}
-use Rattle.feed_lines.specs.declared.telling.Telling.TheVariants.{NoName}
-use Rattle.feed_lines.specs.declared.working.Work.{Work}
-use Rattle.feed_lines.specs.declared.working.Work.TheVariants.{Take as TakePdus}
-use Rattle.feed_lines.specs.Feeds.{Feed}
-use Rattle.feed_lines.specs.Lines.{WorksBy}
-use Rattle.feed_lines.specs.Tellings.{tells_text}
-use Rattle.feed_lines.proofs.LawLemmas.{one_outcome}
+use Rattle.rtr_client.specs.declared.telling.Telling.TheVariants.{NoName}
+use Rattle.rtr_client.specs.declared.working.Work.{Work}
+use Rattle.rtr_client.specs.declared.working.Work.TheVariants.{Take as TakePdus}
+use Rattle.rtr_client.specs.Feeds.{Feed}
+use Rattle.rtr_client.specs.Lines.{WorksBy}
+use Rattle.rtr_client.specs.Tellings.{tells_text}
+use Rattle.rtr_client.proofs.LawLemmas.{one_outcome}
 use Rattle.report_text.specs.Sayings.{said_text}
 use Rattle.rib_store.specs.State.{State as Analysis}
 use Rattle.rib_store.proofs.ChangeLawLemmas.{has_one_list_of_changes}
@@ -94,7 +94,7 @@ some_records_of : (kind over : Bool) (state : State) (name : List ℕ) (moment :
 some_records_of false over state name moment dump = (_, _, (refl, refl))
 some_records_of true true state name moment dump = (_, _, (refl, refl))
 some_records_of true false state name moment dump =
-    let one = one_until (asking_of state name) moment most_records (taking_of state dump) in
+    let one = one_until (asking_of state name) (Some moment) most_records (taking_of state dump) in
     (one.one, after_taking state name one.its, record { end = one.its; takes = one.is; next_is = refl })
 
 some_until_of : (dump : Option Dump) (state : State) (name : List ℕ) (moment : ℕ) → Some_that (TakesUntilNamed dump state name moment)
@@ -217,7 +217,7 @@ TakesRecords-unique : (kind over : Bool) (state : State) (name : List ℕ) (mome
 TakesRecords-unique false over state name moment dump one other end last a b = both one other _ end last _ a b
 TakesRecords-unique true true state name moment dump one other end last a b = both one other _ end last _ a b
 TakesRecords-unique true false state name moment dump one other end last a b =
-    let the = one_until (asking_of state name) moment most_records (taking_of state dump) in
+    let the = one_until (asking_of state name) (Some moment) most_records (taking_of state dump) in
     let a_is = the.only one a.end a.takes in
     let b_is = the.only other b.end b.takes in
     (a_is.0 ∙ sym b_is.0, a.next_is ∙ ap (after_taking state name) (a_is.1 ∙ sym b_is.1) ∙ sym b.next_is)

@@ -7,16 +7,16 @@ use Rattle.path_model.specs.declared.verdict.Verdict.TheVariants.{Valid, Unknown
 use Rattle.av_text.specs.VerdictText.{verdict_text}
 use Rattle.av_text.specs.Spellings.{IsInLine}
 use Rattle.av_text.proofs.LackLemmas.{verdict_text-lacks}
-use Rattle.feed_lines.specs.declared.telling.Telling.{Telling}
-use Rattle.feed_lines.specs.declared.working.Work.{Work}
-use Rattle.feed_lines.specs.declared.working.Work.TheVariants.{Take as TakePdus}
-use Rattle.feed_lines.specs.Feeds.{Feed}
-use Rattle.feed_lines.specs.Lines.{WorksBy}
-use Rattle.feed_lines.specs.Lines.{State as FeedState}
+use Rattle.rtr_client.specs.declared.telling.Telling.{Telling}
+use Rattle.rtr_client.specs.declared.working.Work.{Work}
+use Rattle.rtr_client.specs.declared.working.Work.TheVariants.{Take as TakePdus}
+use Rattle.rtr_client.specs.Feeds.{Feed}
+use Rattle.rtr_client.specs.Lines.{WorksBy}
+use Rattle.rtr_client.specs.Lines.{State as FeedState}
 use Rattle.connection_calls.specs.World.{World as FeedWorld}
-use Rattle.feed_lines.specs.Tellings.{telling_text, tells_text}
-use Rattle.feed_lines.specs.Tellings.{Asking as FeedAsking}
-use Rattle.feed_lines.proofs.LawLemmas.{telling_is_one_line}
+use Rattle.rtr_client.specs.Tellings.{telling_text, tells_text}
+use Rattle.rtr_client.specs.Tellings.{Asking as FeedAsking}
+use Rattle.rtr_client.proofs.LawLemmas.{telling_is_one_line}
 use Rattle.report_text.specs.Laws.{IsPlaceInLine, IsRefusalLine}
 use Rattle.report_text.specs.declared.cause.Cause.{Cause}
 use Rattle.report_text.specs.declared.cause.Cause.TheVariants as causes
@@ -32,10 +32,10 @@ use Rattle.stream_lines.specs.Counts.{refusals_in}
 use Rattle.stream_lines.specs.Streams.{Dump}
 use Rattle.stream_lines.specs.Units.{is_of_records}
 use Rattle.stream_lines.proofs.RefusalLemmas.{begins, lacks, refusals_in-line, silent, refused, units_counted}
-use Rattle.serve_lines.specs.declared.outcome.Outcome.{Outcome as RouterOutcome}
-use Rattle.serve_lines.specs.declared.outcome.Refusal.{Refusal}
-use Rattle.serve_lines.specs.declared.outcome.RouterEnd.{RouterEnd}
-use Rattle.serve_lines.specs.Outcomes.{serve_name, refused_text, feed_end, end_text, one_if, outcome_text, outcomes_text, all_lines, reached_text, reached_lines}
+use Rattle.rtr_server.specs.declared.outcome.Outcome.{Outcome as RouterOutcome}
+use Rattle.rtr_server.specs.declared.outcome.Refusal.{Refusal}
+use Rattle.rtr_server.specs.declared.outcome.RouterEnd.{RouterEnd}
+use Rattle.rtr_server.specs.Outcomes.{serve_name, refused_text, feed_end, end_text, one_if, outcome_text, outcomes_text, all_lines, reached_text, reached_lines}
 use Rattle.report_text.specs.declared.feed.FeedEnd.TheVariants.{Unreachable}
 use Rattle.report_text.specs.Feeds.{feed_line}
 use Rattle.report_text.specs.Served.{served_line, served_text}

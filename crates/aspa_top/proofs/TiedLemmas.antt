@@ -1,10 +1,10 @@
 -- The sources of feeds' names have the payloads of the feeds' sessions, behind all lines.
 use Rattle.std.proofs.Common.{ℕ, false, is_some, List, sym, ap, ◌∙◌, subst}
 use Rattle.std.specs.declared.option.Option.{Option}
-use Rattle.feed_lines.specs.declared.working.Work.{Work}
-use Rattle.feed_lines.specs.Feeds.{Feed}
-use Rattle.feed_lines.specs.Laws.{HasItsPayloads, IsTied}
-use Rattle.feed_lines.proofs.TiedLemmas.{connect_line_tied, work_line_tied}
+use Rattle.rtr_client.specs.declared.working.Work.{Work}
+use Rattle.rtr_client.specs.Feeds.{Feed}
+use Rattle.rtr_client.specs.Laws.{HasItsPayloads, IsTied}
+use Rattle.rtr_client.proofs.TiedLemmas.{connect_line_tied, work_line_tied}
 use Rattle.aspa_top.specs.Laws.{SourcesHaveFeedsPayloads}
 use Rattle.aspa_top.specs.Tasks.{ConnectsUnless, State, Works, asking_on, feeds_of, start}
 use Rattle.aspa_top.specs.World.{World}

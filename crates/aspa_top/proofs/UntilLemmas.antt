@@ -7,15 +7,15 @@ use Rattle.av_base.specs.Files.{Files}
 use Rattle.report_text.specs.declared.cause.Cause.TheVariants as causes
 use Rattle.report_text.specs.Refusals.{of_line, refusal_text}
 use Rattle.report_text.specs.Reported.{AddsQuiet}
-use Rattle.listings.specs.declared.stop.Stop.{Stop}
-use Rattle.listings.specs.declared.stop.Stop.TheVariants as stops
+use Rattle.av_base.specs.declared.stop.Stop.{Stop}
+use Rattle.av_base.specs.declared.stop.Stop.TheVariants as stops
 use Rattle.analyser.specs.declared.progress.Progress.{Progress}
 use Rattle.stream_lines.specs.Frames.{Leaves}
 use Rattle.stream_lines.specs.Held.{HeldDump}
 use Rattle.stream_lines.specs.Holding.{HoldsDump}
 use Rattle.stream_lines.specs.Streams.{Asking, Dump, Taking}
 use Rattle.stream_lines.specs.Taking.{GrewBy}
-use Rattle.stream_lines.specs.TakingUntil.{TicksWithinUntil, TookSomeUntil, TookUntil}
+use Rattle.stream_lines.specs.TakingUntil.{TicksWithinUpTo, TookSomeUpTo, TookUpTo}
 use Rattle.stream_lines.specs.Units.{is_of_records}
 use Rattle.stream_lines.specs.Until.{TakesCount, TakesUntil}
 use Rattle.stream_lines.proofs.FrameLemmas.{Leaves-refl}
@@ -82,7 +82,7 @@ module _ (working : Working) (name : List ℕ) (moment : ℕ) (before after : He
     (begun : IsBegun old working) (here : dump_in working name ≡ Some before)
     (leaves : Leaves (λ other. other ≢ before.file) old.files files) (open_yet : before.over ≡ false) (records : is_of_records before.known ≡ true)
     (asks : asking ≡ record { line = working.lines; name = name })
-    (ticks : TicksWithinUntil asking moment most_records before working.progress old.files old.ticks now)
+    (ticks : TicksWithinUpTo asking (Some moment) most_records before working.progress old.files old.ticks now)
     (quiet : AddsQuiet (all_of old) (append_known written held)) where
   -- what the line does from any state
   does : (world : World) (state : State) (dump : Dump) (text : List ℕ) (end : Taking) → StandsFor old.files old.links working state → state.dumps name ≡ Some dump
@@ -98,7 +98,7 @@ module _ (working : Working) (name : List ℕ) (moment : ℕ) (before after : He
       })))
 
   -- the records were taken
-  pub until_done : (next : Working) (last : Progress) → TookUntil asking moment most_records before after working.progress old.files files (all_of old) (append_known written held) last
+  pub until_done : (next : Working) (last : Progress) → TookUpTo asking (Some moment) most_records before after working.progress old.files files (all_of old) (append_known written held) last
       → ((q : List ℕ) → dump_in next q ≡ cond (same_name name q) (Some after) (dump_in working q))
       → next ≡ record working { progress = last; dumps = next.dumps }
       → opened ≡ old.opened → after.file ≡ before.file → GrewBy most_records before after working.progress last
@@ -110,7 +110,7 @@ module _ (working : Working) (name : List ℕ) (moment : ℕ) (before after : He
       (λ from at. let done = took from at in (done.0, done.1, done.2.text, done.2.takes, done.2.added)) dumps is same file grew
 
   -- some of the records were taken
-  until_part : TookSomeUntil asking moment most_records before working.progress old.files (all_of old) (append_known written held) old.ticks now → GoesSome working (Ok (Until name moment)) old
+  until_part : TookSomeUpTo asking (Some moment) most_records before working.progress old.files (all_of old) (append_known written held) old.ticks now → GoesSome working (Ok (Until name moment)) old
       (record old { files = files; opened = opened; shelf_faults = shelf_faults; written = written; sink_faults = sink_faults; held = held; ticks = now })
   until_part some = λ world tells state stands.
       let there = HoldsOr-some old.files (dump_in working name) (state.dumps name) before (stands.dumps name) here in
@@ -135,14 +135,14 @@ module _ (working : Working) (name : List ℕ) (moment : ℕ) (before after : He
               count = all.count;
               text = all.text;
               end = all.new;
-              counted = subst (λ (d : Dump). TakesCount (asking_of state name) moment most_records all.count (taking_of state d) all.text all.new) one
-                  (subst (λ (a : Asking). TakesCount a moment most_records all.count (taking_of state there.0) all.text all.new)
+              counted = subst (λ (d : Dump). TakesCount (asking_of state name) (Some moment) most_records all.count (taking_of state d) all.text all.new) one
+                  (subst (λ (a : Asking). TakesCount a (Some moment) most_records all.count (taking_of state there.0) all.text all.new)
                   (asks_as working name before asking old asks state stands) all.counted);
               came = came working name before asking old asks (ending world ends) state there.0 all.count (append_known written held) now stands there.1 (sym there.2.over ∙ open_yet) done;
             };
       }
 
-  pub until_stopped : (stop : Stop) → TookSomeUntil asking moment most_records before working.progress old.files (all_of old) (append_known written held) old.ticks now
+  pub until_stopped : (stop : Stop) → TookSomeUpTo asking (Some moment) most_records before working.progress old.files (all_of old) (append_known written held) old.ticks now
       → (stop ≡ stops.Shelf → Rose old.shelf_faults shelf_faults) → (stop ≡ stops.Sink → (0 < length held) × Rose old.sink_faults sink_faults)
       → EndedEarly working (Ok (Until name moment)) old
       (record old { files = files; opened = opened; shelf_faults = shelf_faults; written = written; sink_faults = sink_faults; held = held; ticks = now }) stop

@@ -20,11 +20,12 @@ use Rattle.rib_store.specs.State.{AreRows}
 use Rattle.listings.specs.Leaks.{AreLeaks, leak_row}
 use Rattle.listings.specs.Rows.{row_of}
 use Rattle.listings.specs.Summary.{IsSummary}
-use Rattle.suspects.specs.Suspects.{AreSuspects}
+use Rattle.listings.specs.Suspects.{AreSuspects}
 use Rattle.listings.specs.Details.{AreDetails, detail_row}
+use Rattle.listings.specs.Peers.{ArePeers, peer_row}
 use Rattle.listings.specs.Suspected.{suspect_row}
 use Rattle.aspa_top.specs.declared.task.Question.{Question}
-use Rattle.aspa_top.specs.declared.task.Question.TheVariants.{Report, Origins, Leaks, Suspects, Summary as SumUp, Details, Why}
+use Rattle.aspa_top.specs.declared.task.Question.TheVariants.{Report, Origins, Leaks, Suspects, Peers, Summary as SumUp, Details, Why}
 use Rattle.aspa_top.specs.State.{State, Refuses}
 
 -- a listing: some rows, which are as they are to be, and their lines
@@ -56,6 +57,8 @@ Answers state Origins text = Shows (AreOriginRows state.analysis.routes state.or
 Answers state Leaks text = Shows (AreLeaks state.analysis.roles state.marks) leak_row text
 -- `suspects`: one line for each valley of the routes that no completion makes valid, in ascending order, with how many have it
 Answers state Suspects text = Shows (AreSuspects state.analysis) suspect_row text
+-- `peers`: one line for each peer that has routes, in key order, and then one for each AS that has a role of its own and none
+Answers state Peers text = Shows (ArePeers state.analysis) peer_row text
 Answers state SumUp text = SumsUp state text
 -- `details`: one line for each route in key order, or for each with this verdict, with its current verdict, its printed witness and its path
 Answers state (Details verdict) text = Shows (AreDetails state.analysis verdict) detail_row text

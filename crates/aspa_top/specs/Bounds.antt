@@ -1,6 +1,6 @@
 -- How much one line may take; private contracts alone cite it.
 use Rattle.std.specs.Prelude.{ℕ, ◌≤◌, length}
-use Rattle.feed_lines.specs.Lines.{units_of}
+use Rattle.rtr_client.specs.Lines.{units_of}
 use Rattle.script_lines.specs.declared.commands.Command.{Command}
 use Rattle.aspa_top.specs.declared.task.Task.{Task}
 use Rattle.aspa_top.specs.declared.task.Task.TheVariants.{Judge, Take, OnFeed, Serve}

@@ -7,8 +7,8 @@ use Rattle.std.specs.Io.KnownBytes.{prepend_known, IsAtEnd}
 use Rattle.av_base.specs.Told.{Rose}
 use Rattle.av_text.specs.Lines.{AreWhole, IsPart, lines_in}
 use Rattle.report_text.specs.Reported.{AddsFront, AddsLines}
-use Rattle.listings.specs.declared.stop.Stop.{Stop}
-use Rattle.listings.specs.declared.stop.Stop.TheVariants as stops
+use Rattle.av_base.specs.declared.stop.Stop.{Stop}
+use Rattle.av_base.specs.declared.stop.Stop.TheVariants as stops
 use Rattle.aspa_top.specs.declared.working.Working.{Working}
 use Rattle.aspa_top.specs.Lines.{performed}
 use Rattle.aspa_top.specs.Outside.{Keeps, Outside}

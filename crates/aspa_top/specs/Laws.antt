@@ -10,15 +10,15 @@ use Rattle.stream_lines.specs.Counts.{refusals_in}
 use Rattle.av_base.specs.Files.{Files}
 use Rattle.av_text.specs.Lines.{lines_in}
 use Rattle.report_text.specs.declared.feed.FeedEnd.TheVariants.{Lost}
-use Rattle.feed_lines.specs.declared.telling.Telling.{Telling}
-use Rattle.feed_lines.specs.declared.telling.Telling.TheVariants.{End as FeedEnds}
-use Rattle.feed_lines.specs.declared.working.Work.{Work}
+use Rattle.rtr_client.specs.declared.telling.Telling.{Telling}
+use Rattle.rtr_client.specs.declared.telling.Telling.TheVariants.{End as FeedEnds}
+use Rattle.rtr_client.specs.declared.working.Work.{Work}
 use Rattle.connection_calls.specs.Faults.{NewAreUnbroken}
-use Rattle.feed_lines.specs.Feeds.{Feed as OneFeed}
-use Rattle.feed_lines.specs.Laws.{AreConnectedFrom, IsTied}
-use Rattle.feed_lines.specs.Lines.{Connects, Works}
+use Rattle.rtr_client.specs.Feeds.{Feed as OneFeed}
+use Rattle.rtr_client.specs.Laws.{AreConnectedFrom, IsTied}
+use Rattle.rtr_client.specs.Lines.{Connects, Works}
 use Rattle.connection_calls.specs.World.{InEnd, World as Ends}
-use Rattle.feed_lines.specs.Lines.{State as FeedState}
+use Rattle.rtr_client.specs.Lines.{State as FeedState}
 use Rattle.rtr_session.specs.State.{State as Router}
 use Rattle.rtr_cache.specs.Cache.{AreRowsOf, FitsPdus}
 use Rattle.rtr_cache.specs.Laws.{Exchanges, MayAsk}

@@ -2,8 +2,8 @@
 use Rattle.std.specs.Prelude.{List}
 use Rattle.std.specs.declared.option.Option.{Option}
 use Rattle.av_base.specs.Connections.{Attempt, Link}
-use Rattle.feed_lines.specs.Holding.{HasMoved as FeedsMoved}
-use Rattle.serve_lines.specs.Routers.{HasSentAll}
+use Rattle.rtr_client.specs.Holding.{HasMoved as FeedsMoved}
+use Rattle.rtr_server.specs.Routers.{HasSentAll}
 use Rattle.aspa_top.specs.Tasks.{State, feeds_of}
 
 -- As many attempts were made as in this state. These bytes were sent on the connections of the feeds that go on, none of which is closed or

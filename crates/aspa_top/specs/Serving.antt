@@ -7,10 +7,10 @@ use Rattle.report_text.specs.declared.cause.Cause.TheVariants as causes
 use Rattle.report_text.specs.Refusals.{of_line}
 use Rattle.report_text.specs.Served.{served_text}
 use Rattle.rtr_cache.specs.Cache.{FitsPdus, IsMade, Updates, Versions}
-use Rattle.serve_lines.specs.declared.outcome.Outcome.{Outcome}
-use Rattle.serve_lines.specs.declared.routers.Served.{Served}
-use Rattle.serve_lines.specs.Outcomes.{outcomes_text}
-use Rattle.serve_lines.specs.Routers.{Asking, Begun, ServesLine, ServesPart, attempts_begun, attempts_in}
+use Rattle.rtr_server.specs.declared.outcome.Outcome.{Outcome}
+use Rattle.rtr_server.specs.declared.routers.Served.{Served}
+use Rattle.rtr_server.specs.Outcomes.{outcomes_text}
+use Rattle.rtr_server.specs.Routers.{Asking, Begun, ServesLine, ServesPart, attempts_begun, attempts_in}
 use Rattle.aspa_top.specs.State.{State, Refuses}
 use Rattle.aspa_top.specs.World.{World}
 

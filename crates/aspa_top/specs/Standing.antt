@@ -5,10 +5,10 @@ use Rattle.std.specs.declared.option.Option.TheVariants.{Some, None}
 use Rattle.av_base.specs.Connections.{Attempt}
 use Rattle.av_base.specs.declared.standing.Standing.{Standing}
 use Rattle.av_base.specs.Files.{Files}
-use Rattle.feed_lines.specs.Holding.{feed_in}
-use Rattle.feed_lines.specs.Holding.{HoldsOr as HoldsFeed, IsSound as FeedsAreSound}
+use Rattle.rtr_client.specs.Holding.{feed_in}
+use Rattle.rtr_client.specs.Holding.{HoldsOr as HoldsFeed, IsSound as FeedsAreSound}
 use Rattle.rtr_cache.specs.Cache.{Versions}
-use Rattle.serve_lines.specs.Routers.{NoneMore}
+use Rattle.rtr_server.specs.Routers.{NoneMore}
 use Rattle.stream_lines.specs.Held.{HeldDump}
 use Rattle.stream_lines.specs.Holding.{HoldsDump}
 use Rattle.stream_lines.specs.Streams.{Dump}

@@ -4,14 +4,14 @@ use Rattle.std.specs.Cmp.Lexicographic.{pointwise}
 use Rattle.std.specs.FinMap as fin
 use Rattle.std.specs.declared.option.Option.{Option}
 use Rattle.std.specs.declared.option.Option.TheVariants.{None}
-use Rattle.feed_lines.specs.Feeds.{Feed}
+use Rattle.rtr_client.specs.Feeds.{Feed}
 use Rattle.origin_model.specs.Current.{Parts as Origins, no_parts}
 use Rattle.otc_check.specs.Marks.{Marked}
 use Rattle.report_text.specs.declared.cause.Cause.{Cause}
 use Rattle.report_text.specs.Refusals.{AnyPlace, refusal_text}
 use Rattle.rib_store.specs.State.{State as Analysis, no_state}
 use Rattle.rtr_cache.specs.Cache.{Versions}
-use Rattle.serve_lines.specs.Routers.{Begun, NoneMore}
+use Rattle.rtr_server.specs.Routers.{Begun, NoneMore}
 use Rattle.stream_lines.specs.Streams.{Dump}
 use Rattle.aspa_top.specs.World.{World}
 

@@ -4,10 +4,10 @@ use Rattle.vap_table.specs.declared.change.TableChange.{TableChange}
 use Rattle.vap_table.specs.declared.change.TableChange.TheVariants.{At as SetMoment, Filter as FilterByHand, Unfilter as UnfilterByHand, Assert as AssertByHand, Unassert as UnassertByHand}
 use Rattle.analyser.specs.declared.event.Event.TheVariants.{Table as TableEvent, Role as RoleEvent, DefaultRole}
 use Rattle.script_lines.specs.declared.commands.Command.{Command}
-use Rattle.script_lines.specs.declared.commands.Command.TheVariants.{Idle, Aspa, Aspa64, Validated, Slurm, At, Filter, Unfilter, Assert, Unassert, Role as SetRole, RoleDefault, Open, Bmp, Take, Until, Feed, Ask, Sync, Serve, Judge, Clear, Changes, Details, Say, Why, Report, Origins, Leaks, Suspects, Summary}
+use Rattle.script_lines.specs.declared.commands.Command.TheVariants.{Idle, Aspa, Aspa64, Validated, Slurm, At, Filter, Unfilter, Assert, Unassert, Role as SetRole, RoleDefault, Open, Bmp, Take, Until, Feed, Ask, Sync, Serve, Judge, Clear, Changes, Details, Say, Why, Report, Origins, Leaks, Suspects, Peers, Summary}
 use Rattle.stream_lines.specs.declared.kind.DumpKind.{DumpKind}
 use Rattle.stream_lines.specs.declared.kind.DumpKind.TheVariants as kinds
-use Rattle.feed_lines.specs.declared.working.Work.TheVariants.{Ask as AskNow, Sync as SyncTo}
+use Rattle.rtr_client.specs.declared.working.Work.TheVariants.{Ask as AskNow, Sync as SyncTo}
 use Rattle.aspa_top.specs.declared.files.FileKind.TheVariants.{Source, Slurm as SlurmFile}
 use Rattle.aspa_top.specs.declared.files.Format.TheVariants.{Payloads, PayloadLines, Validated as ValidatedFile}
 use Rattle.aspa_top.specs.declared.task.Question.TheVariants as questions
@@ -55,6 +55,7 @@ task_of Report = Answer questions.Report
 task_of Origins = Answer questions.Origins
 task_of Leaks = Answer questions.Leaks
 task_of Suspects = Answer questions.Suspects
+task_of Peers = Answer questions.Peers
 task_of Summary = Answer questions.Summary
 
 -- it may wait for others when it is done: it uses a file or a connection

@@ -17,11 +17,11 @@ use Rattle.analyser.specs.declared.event.Event.TheVariants.{Table as TableEvent}
 use Rattle.analyser.specs.Events.{Happens}
 use Rattle.analyser.specs.Touched.{Costs}
 use Rattle.av_text.specs.VerdictText.{verdict_text}
-use Rattle.feed_lines.specs.declared.working.Work.{Work}
-use Rattle.feed_lines.specs.declared.working.Work.TheVariants.{Take as TakePdus}
-use Rattle.feed_lines.specs.Lines.{ConnectLine, ConnectPart, WorkLine, WorkPart}
-use Rattle.feed_lines.specs.Lines.{State as FeedState}
-use Rattle.feed_lines.specs.Tellings.{Asking as FeedAsking}
+use Rattle.rtr_client.specs.declared.working.Work.{Work}
+use Rattle.rtr_client.specs.declared.working.Work.TheVariants.{Take as TakePdus}
+use Rattle.rtr_client.specs.Lines.{ConnectLine, ConnectPart, WorkLine, WorkPart}
+use Rattle.rtr_client.specs.Lines.{State as FeedState}
+use Rattle.rtr_client.specs.Tellings.{Asking as FeedAsking}
 use Rattle.report_text.specs.declared.cause.Cause.TheVariants as causes
 use Rattle.report_text.specs.Refusals.{of_line, of_unit}
 use Rattle.report_text.specs.Sayings.{said_text}
@@ -261,7 +261,7 @@ pub record CameToUntil (world : World) (state : State) (name : List ℕ) (moment
   pub count : ℕ
   pub text : List ℕ
   pub end : Taking
-  pub counted : TakesCount (asking_of state name) moment most_records count (taking_of state dump) text end
+  pub counted : TakesCount (asking_of state name) (Some moment) most_records count (taking_of state dump) text end
   pub came : CameTo world state name count part ticks
 
 -- A task that wrote this part of its text ticked no more often than what it came to may; that is less than all of it where it takes from a

@@ -6,9 +6,7 @@ use Rattle.std.specs.Cmp.Lexicographic.{slice_cmp}
 use Rattle.std.specs.Ordering.{nat_cmp}
 use Rattle.std.specs.declared.option.Option.{Option}
 use Rattle.std.specs.declared.option.Option.TheVariants.{Some, None}
-use Rattle.feed_lines.specs.Holding.{feed_in}
-use Rattle.path_model.specs.declared.role.Role.{Role}
-use Rattle.attestations.specs.CurrentTable.{Parts}
+use Rattle.rtr_client.specs.Holding.{feed_in}
 use Rattle.rib_store.specs.Changes.{IsMarked}
 use Rattle.rib_store.specs.State.{State as Analysis}
 use Rattle.analyser.specs.declared.event.Event.{Event}
@@ -32,7 +30,7 @@ use Rattle.aspa_top.specs.declared.task.Task.TheVariants.{Take, Until}
 use Rattle.aspa_top.specs.declared.working.Working.{Working}
 use Rattle.aspa_top.specs.Bounds.{most}
 use Rattle.aspa_top.specs.Files.{unit_name}
-use Rattle.aspa_top.specs.Tasks.{IsJudged, amended, most_records, same_name}
+use Rattle.aspa_top.specs.Tasks.{amended, most_records, same_name}
 
 -- the dump that is open under a name
 abbrev pub dump_in : Working → List ℕ → Option HeldDump
@@ -45,11 +43,6 @@ cache_in working session = get nat_cmp working.caches session
 -- whether a source has the name
 abbrev pub has_source : Working → List ℕ → Bool
 has_source working name = contains (slice_cmp nat_cmp) working.sources name
-
--- the verdict of a path is added, by the table of these parts
-abbrev pub Judges : Parts → Role → ℕ → List ℕ → List ℕ → List ℕ → Type 0
-Judges parts role neighbour path text_old text_new =
-    (text : List ℕ) × IsJudged parts role neighbour path text × (text_new ≡ text_old ++ text)
 
 -- an event happened, and nothing else
 pub record Happened (working : Working) (event : Event) (next : Working) : Type 0 where

@@ -1,4 +1,4 @@
-//! What a line only asks: `report`, `origins`, `leaks`, `suspects`, `summary`, `details` and `why`.
+//! What a line only asks: `report`, `origins`, `leaks`, `suspects`, `peers`, `summary`, `details` and `why`.
 ghost use Rattle.std.specs.Prelude.{◌≡◌, Ok};
 ghost use Rattle.origin_validation.specs.Rows.{AreOriginRows};
 ghost use Rattle.listings.specs.Listing.{Lists, pouring};
@@ -13,8 +13,10 @@ use crate::outside::Outside;
 use crate::task::Question;
 use crate::working::Working;
 use analyser::Progress;
-use av_base::{Links, Shelf, Sink};
-use listings::{Stop, put_details, put_leaks, put_origins, put_rows, put_suspects, summary_of};
+use av_base::{Links, Shelf, Sink, Stop};
+use listings::{
+    put_details, put_leaks, put_origins, put_peers, put_rows, put_suspects, summary_of,
+};
 use report_text::{Cause, Place, put_summary, put_why};
 use std::alloc::Global;
 use std::sync::ledger::Ledger;
@@ -54,6 +56,10 @@ pub(crate) fn answer<F: Shelf, K: Links, W: Sink, L: Ledger>(
         }
         Question::Suspects => {
             put_suspects(alloc, store, outside.out, outside.text)?;
+            Ok(working)
+        }
+        Question::Peers => {
+            put_peers(alloc, store, outside.out, outside.text)?;
             Ok(working)
         }
         Question::Summary => {

@@ -8,8 +8,8 @@ ghost use Rattle.aspa_top.specs.Standing.{IsBegun};
 use crate::effects::{gather, mark};
 use crate::outside::Outside;
 use crate::working::Working;
-use av_base::{Links, Shelf, Sink};
-use listings::{Stop, put_changes};
+use av_base::{Links, Shelf, Sink, Stop};
+use listings::put_changes;
 use std::sync::ledger::Ledger;
 
 /// Adds a line for each key that stands otherwise than it was marked, and marks all.

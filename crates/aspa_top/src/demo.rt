@@ -3,8 +3,8 @@ ghost use Rattle.std.specs.Prelude.{◌≡◌, ◌≤◌};
 ghost use Rattle.av_base.specs.Told.{Rose};
 ghost use Rattle.aspa_top.specs.Program.{Demonstrates};
 
-use av_base::Sink;
-use stated_workload::{Stop, perform};
+use av_base::{Sink, Stop};
+use stated_workload::perform;
 use std::alloc::Global;
 
 /// Performs the workload of this number, and answers the program's status.
@@ -16,6 +16,7 @@ pub(crate) fn run_demo<W: Sink>(alloc: Global, seed: u32, out: &mut W) -> u8
     match perform(alloc, u64::from(seed), out) {
         Ok(()) => 0,
         Err(Stop::Sink) => 4,
-        Err(Stop::NoMemory) => 5,
+        // it has no shelf that could fail
+        Err(Stop::Shelf | Stop::NoMemory) => 5,
     }
 }

@@ -1,4 +1,4 @@
-//! What a line does to the working state, whatever it asks for.
+//! What lines of several kinds do to the `Working`: refuse, let an event happen, clear, gather and mark.
 ghost use Rattle.std.specs.Prelude.{◌≡◌, ◌+◌, ◌^◌, ◌<◌, ◌≤◌, ◌++◌, IfOk, OnOk, OnErr};
 ghost use Rattle.std.specs.FinMap as fin;
 ghost use Rattle.report_text.specs.Places.{place_of};
@@ -14,7 +14,7 @@ use report_text::{Cause, Place, put_refusal};
 use std::alloc::Global;
 use std::sync::ledger::Ledger;
 
-/// Reports a refused line, which changes nothing but the counts. The line is counted already.
+/// Appends the report of a refused line to the text, and counts one refusal more; nothing else changes. The line was counted before.
 pub(crate) fn refuse(
     mut working: Working,
     place: Place<'_>,

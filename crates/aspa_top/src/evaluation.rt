@@ -10,9 +10,8 @@ ghost use Rattle.aspa_top.specs.Standing.{IsReady};
 use crate::line::perform_line;
 use crate::outside::Outside;
 use crate::working::Working;
-use av_base::{Links, Shelf, Sink, pour, pour_piece};
+use av_base::{Links, Shelf, Sink, Stop, pour, pour_piece};
 use av_text::next_line;
-use listings::Stop;
 use std::alloc::Global;
 use std::sync::ledger::Ledger;
 

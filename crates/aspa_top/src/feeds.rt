@@ -1,6 +1,6 @@
 //! `feed`, `ask` and `sync`, and `take` on a feed.
 ghost use Rattle.std.specs.Prelude.{◌≤◌, Ok};
-ghost use Rattle.feed_lines.specs.Lines.{units_of};
+ghost use Rattle.rtr_client.specs.Lines.{units_of};
 ghost use Rattle.aspa_top.specs.declared.task.Task.TheVariants.{Connect, OnFeed};
 ghost use Rattle.aspa_top.specs.Bounds.{most};
 ghost use Rattle.aspa_top.specs.Passed.{KeepsAll, told};
@@ -10,11 +10,10 @@ ghost use Rattle.aspa_top.specs.Standing.{IsBegun};
 use crate::effects::refuse;
 use crate::outside::Outside;
 use crate::working::Working;
-use av_base::{Links, Shelf, Sink};
-use feed_lines::{Asker, Work, connect, work};
-use listings::Stop;
+use av_base::{Links, Shelf, Sink, Stop};
 use path_model::Name;
 use report_text::{Cause, Place};
+use rtr_client::{Asker, Work, connect, work};
 use script_lines::Word;
 use std::alloc::Global;
 use std::sync::ledger::Ledger;

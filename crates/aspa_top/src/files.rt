@@ -11,8 +11,7 @@ ghost use Rattle.stream_lines.specs.Frames.{Leaves};
 
 use aspa_payload::{FileFault, PayloadFault, read_lines, read_many};
 use attestations::Terms;
-use av_base::{NoMemory, PIECE, Shelf};
-use listings::ReadFault;
+use av_base::{NoMemory, PIECE, ReadFault, Shelf};
 use origin_model::{PrefixFilters, VrpSet};
 use path_model::{Name, Rows};
 use report_text::Cause;

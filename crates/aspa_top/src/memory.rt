@@ -6,12 +6,11 @@ ghost use Rattle.aspa_top.specs.Performing.{Did};
 ghost use Rattle.aspa_top.specs.Standing.{IsBegun};
 
 use crate::effects::{clear, happen};
-use crate::judgement::put_judgement;
+use crate::judgement::{judge, put_line};
 use crate::outside::Outside;
 use crate::working::Working;
 use analyser::Event;
-use av_base::{Links, Shelf, Sink};
-use listings::Stop;
+use av_base::{Links, Shelf, Sink, Stop};
 use path_model::{AsList, Role};
 use report_text::put_said;
 use script_lines::Saying;
@@ -67,15 +66,8 @@ pub(crate) fn judge_path<F: Shelf, K: Links, W: Sink, L: Ledger>(
         (told F.Shelf K.Links W.Sink outside.new) result }
 {
     let table = working.progress.analyser.store().table();
-    put_judgement(
-        alloc,
-        table,
-        role,
-        neighbour,
-        path,
-        outside.text,
-        outside.steps,
-    )?;
+    let line = judge(alloc, table, role, neighbour, path, outside.steps)?;
+    put_line(outside.text, line.as_slice())?;
     Ok(working)
 }
 

@@ -13,12 +13,11 @@ ghost use Rattle.aspa_top.specs.Standing.{HasRoom, IsBegun};
 use crate::effects::refuse;
 use crate::outside::Outside;
 use crate::working::Working;
-use av_base::{Links, NoMemory, Shelf, Sink};
-use listings::Stop;
+use av_base::{Links, NoMemory, Shelf, Sink, Stop};
 use report_text::{Cause, Place, put_served};
 use rtr_cache::{Cache, fits_pdus};
+use rtr_server::{Service, serve};
 use script_lines::Word;
-use serve_lines::serve;
 use std::alloc::Global;
 use std::collections::BTreeMap;
 use std::sync::ledger::Ledger;
@@ -46,20 +45,19 @@ pub(crate) fn serve_routers<F: Shelf, K: Links, W: Sink, L: Ledger>(
     }
     let table = working.progress.analyser.store().table();
     let cache = cache_of(alloc, &mut working.caches, session, table)?;
-    let served = match serve(
+    let service = Service {
+        line: working.lines,
+        cache: &cache,
+        place: place.text(),
+    };
+    let served = serve(
         alloc,
-        working.lines,
-        &cache,
-        place.text(),
+        service,
         count,
         outside.links,
         outside.out,
         outside.text,
-    ) {
-        Ok(served) => served,
-        Err(serve_lines::Stop::Sink) => return Err(Stop::Sink),
-        Err(serve_lines::Stop::NoMemory) => return Err(Stop::NoMemory),
-    };
+    )?;
     keep(&mut working.caches, session, cache)?;
     put_served(outside.text, served.accepted, served.answers)?;
     working.progress.refused += served.refused;

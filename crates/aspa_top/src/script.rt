@@ -4,8 +4,7 @@ ghost use Rattle.av_base.specs.Told.{Rose};
 ghost use Rattle.av_text.specs.Lines.{AreWhole, IsPart};
 ghost use Rattle.aspa_top.specs.Script.{Came, ComesMore, held_of};
 
-use av_base::Source;
-use listings::ReadFault;
+use av_base::{ReadFault, Source};
 
 // The most bytes that are held of a part of a line: by the first one it is a comment or not, and with 4,097 more it is too long, also where
 // the last of them is a CR before the LF.

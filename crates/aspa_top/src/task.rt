@@ -4,8 +4,8 @@ ghost use Rattle.aspa_top.specs.Task.{bmp_kind, may_wait, table_event, task_of};
 
 use crate::files::{FileKind, Format};
 use analyser::Event;
-use feed_lines::Work;
 use path_model::{AsList, Key, Name, Peer, Role, Verdict};
+use rtr_client::Work;
 use script_lines::{Command, Saying, Word};
 use stream_lines::DumpKind;
 use vap_table::TableChange;
@@ -68,6 +68,8 @@ pub(crate) enum Question {
     Leaks,
     /// The valleys of the paths.
     Suspects,
+    /// Each peer with its role and how many routes it has, and each AS with a role of its own and no routes.
+    Peers,
     /// How much there is of all.
     Summary,
     /// Each route with what shows its verdict, or each with this verdict.
@@ -122,6 +124,7 @@ pub(crate) fn task_of(command: Command) -> Task
         Command::Origins => Task::Answer(Question::Origins),
         Command::Leaks => Task::Answer(Question::Leaks),
         Command::Suspects => Task::Answer(Question::Suspects),
+        Command::Peers => Task::Answer(Question::Peers),
         Command::Summary => Task::Answer(Question::Summary),
     }
 }

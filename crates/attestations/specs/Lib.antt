@@ -5,5 +5,6 @@ pub mod CurrentTable
 pub mod Entries
 pub mod Gathered
 pub mod Held
+pub mod Moves
 pub mod Order
 pub mod Terms

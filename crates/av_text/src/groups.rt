@@ -1,4 +1,4 @@
-//! Groups of four hexadecimal digits with colons between them.
+//! Groups of four hexadecimal digits with colons between them, as in an IPv6 address written in full.
 ghost use Rattle.std.specs.Prelude.{◌≡◌, ◌≢◌, ℕ, ◌<◌, ◌≤◌, ◌+◌, ◌^◌, ◌++◌, IfSome, IfNone, OnOk, OnErr};
 ghost use Rattle.std.specs.Char.{digit_char};
 ghost use Rattle.av_text.specs.AddressText.{hex4, groups_text};

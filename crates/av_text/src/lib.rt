@@ -30,6 +30,7 @@ mod verdict_text;
 pub use address_text::{put_addr, read_addr};
 pub use host_port::{HostPort, read_host_port};
 pub use lines::next_line;
+pub use marks::cut;
 pub use name_text::read_name;
 pub use number::{put_u64, read_u32};
 pub use peer_text::put_peer;

@@ -4,8 +4,8 @@ ghost use Rattle.av_text.specs.Marks.{Lacks};
 
 use av_base::NoMemory;
 
-/// What stands before the first mark, and what stands behind it.
-pub(crate) fn cut(text: &[u8], mark: u8) -> Option<(&[u8], &[u8])>
+/// What stands before the first mark, and what stands behind it; `None` where there is no mark.
+pub fn cut(text: &[u8], mark: u8) -> Option<(&[u8], &[u8])>
     ensures whole { IfSome result (λ parts. text.now ≡ parts.0.now ++ mark ∷ parts.1.now) }
     ensures first { IfSome result (λ parts. Lacks mark parts.0.now) }
     ensures none { IfNone result (Lacks mark text.now) }

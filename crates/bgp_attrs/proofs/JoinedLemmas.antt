@@ -4,6 +4,7 @@ use Rattle.std.specs.Prelude.{option_map, option_and_then, unwrap_or, is_some, t
 use Rattle.std.specs.declared.option.Option.{Option}
 use Rattle.std.proofs.lemmas.List.{length-append}
 use Rattle.bgp_attrs.specs.Joined.{IsJoined, items_within, items_of, IsReader}
+use Rattle.bgp_attrs.proofs.FixedLemmas.{and_then_some}
 
 -- what is read leaves less
 abbrev pub Shortens : {A : Type 0} → (List ℕ → Option (A × List ℕ)) → Type 0
@@ -51,10 +52,6 @@ items-step first short (b ∷ bytes) item rest e =
 pub option_map_some : {A B : Type 0} (f : A → B) (o : Option A) (y : B) → option_map f o ≡ Some y → (x : A) × (o ≡ Some x) × (f x ≡ y)
 option_map_some f None y e = absurd cc
 option_map_some f (Some x) y e = (x, refl, cc)
-
-pub and_then_some : {A B : Type 0} (f : A → Option B) (o : Option A) (y : B) → option_and_then f o ≡ Some y → (x : A) × (o ≡ Some x) × (f x ≡ Some y)
-and_then_some f None y e = absurd cc
-and_then_some f (Some x) y e = (x, refl, e)
 
 joined_within : {A : Type 0} (S : List ℕ → A → Type 0) (first : List ℕ → Option (A × List ℕ)) → IsReader S first → (n : ℕ) (bytes : List ℕ) (items : List A) → items_within first n bytes ≡ Some items → IsJoined S bytes items
 unfolding items_within

@@ -39,30 +39,30 @@ path4_same : (wide : Bool) (content : Option (List ℕ)) (x y : Option (List (�
 path4_same true content x y p q = p ∙ sym q
 path4_same false content x y p q = allows_same (IsPath true) (path_same true) content x y p q
 
-reach_of_same : (paths : Bool) (family : Option Bool) (rest : List ℕ) (x y : Option (List Nlri)) → IsReachOf paths family rest x → IsReachOf paths family rest y → x ≡ y
-reach_of_same paths None rest x y p q = p ∙ sym q
-reach_of_same paths (Some six) [] x y p q = absurd p
-reach_of_same paths (Some six) (count ∷ rest) None y p q = absurd p
-reach_of_same paths (Some six) (count ∷ rest) (Some x) None p q = absurd q
-reach_of_same paths (Some six) (count ∷ rest) (Some x) (Some y) p q = ap Some (joined_same (nlri_reader paths six) _ x y p.1 q.1)
+reach_of_same : (add_path : Bool) (family : Option Bool) (rest : List ℕ) (x y : Option (List Nlri)) → IsReachOf add_path family rest x → IsReachOf add_path family rest y → x ≡ y
+reach_of_same add_path None rest x y p q = p ∙ sym q
+reach_of_same add_path (Some six) [] x y p q = absurd p
+reach_of_same add_path (Some six) (count ∷ rest) None y p q = absurd p
+reach_of_same add_path (Some six) (count ∷ rest) (Some x) None p q = absurd q
+reach_of_same add_path (Some six) (count ∷ rest) (Some x) (Some y) p q = ap Some (joined_same (nlri_reader add_path six) _ x y p.1 q.1)
 
-reach_same : (paths : Bool) (content : List ℕ) (x y : Option (List Nlri)) → IsReach paths content x → IsReach paths content y → x ≡ y
-reach_same paths [] x y p q = absurd p
-reach_same paths (a ∷ []) x y p q = absurd p
-reach_same paths (a ∷ b ∷ []) x y p q = absurd p
-reach_same paths (a ∷ b ∷ safi ∷ rest) x y p q = reach_of_same paths (family_of (from_be_bytes w16 (a ∷ b ∷ [])) safi) rest x y p q
+reach_same : (add_path : Bool) (content : List ℕ) (x y : Option (List Nlri)) → IsReach add_path content x → IsReach add_path content y → x ≡ y
+reach_same add_path [] x y p q = absurd p
+reach_same add_path (a ∷ []) x y p q = absurd p
+reach_same add_path (a ∷ b ∷ []) x y p q = absurd p
+reach_same add_path (a ∷ b ∷ safi ∷ rest) x y p q = reach_of_same add_path (family_of (from_be_bytes w16 (a ∷ b ∷ [])) safi) rest x y p q
 
-unreach_of_same : (paths : Bool) (family : Option Bool) (rest : List ℕ) (x y : Option (List Nlri)) → IsUnreachOf paths family rest x → IsUnreachOf paths family rest y → x ≡ y
-unreach_of_same paths None rest x y p q = p ∙ sym q
-unreach_of_same paths (Some six) rest None y p q = absurd p
-unreach_of_same paths (Some six) rest (Some x) None p q = absurd q
-unreach_of_same paths (Some six) rest (Some x) (Some y) p q = ap Some (joined_same (nlri_reader paths six) rest x y p q)
+unreach_of_same : (add_path : Bool) (family : Option Bool) (rest : List ℕ) (x y : Option (List Nlri)) → IsUnreachOf add_path family rest x → IsUnreachOf add_path family rest y → x ≡ y
+unreach_of_same add_path None rest x y p q = p ∙ sym q
+unreach_of_same add_path (Some six) rest None y p q = absurd p
+unreach_of_same add_path (Some six) rest (Some x) None p q = absurd q
+unreach_of_same add_path (Some six) rest (Some x) (Some y) p q = ap Some (joined_same (nlri_reader add_path six) rest x y p q)
 
-unreach_same : (paths : Bool) (content : List ℕ) (x y : Option (List Nlri)) → IsUnreach paths content x → IsUnreach paths content y → x ≡ y
-unreach_same paths [] x y p q = absurd p
-unreach_same paths (a ∷ []) x y p q = absurd p
-unreach_same paths (a ∷ b ∷ []) x y p q = absurd p
-unreach_same paths (a ∷ b ∷ safi ∷ rest) x y p q = unreach_of_same paths (family_of (from_be_bytes w16 (a ∷ b ∷ [])) safi) rest x y p q
+unreach_same : (add_path : Bool) (content : List ℕ) (x y : Option (List Nlri)) → IsUnreach add_path content x → IsUnreach add_path content y → x ≡ y
+unreach_same add_path [] x y p q = absurd p
+unreach_same add_path (a ∷ []) x y p q = absurd p
+unreach_same add_path (a ∷ b ∷ []) x y p q = absurd p
+unreach_same add_path (a ∷ b ∷ safi ∷ rest) x y p q = unreach_of_same add_path (family_of (from_be_bytes w16 (a ∷ b ∷ [])) safi) rest x y p q
 
 only_same : (S : List ℕ → Option (List Nlri) → Type 0) → Determined S → (form : Form) (contents : List (List ℕ)) (x y : Option (List Nlri)) → IsOnly S form contents x → IsOnly S form contents y → x ≡ y
 only_same S d Table contents x y p q = p ∙ sym q
@@ -70,8 +70,8 @@ only_same S d Message [] x y p q = p ∙ sym q
 only_same S d Message (c ∷ []) x y p q = d c x y p q
 only_same S d Message (c ∷ e ∷ contents) x y p q = absurd p
 
-pub reading_same : (wide : Bool) (form : Form) (paths : Bool) (bytes : List ℕ) (x y : Reading) → IsRead wide form paths bytes x → IsRead wide form paths bytes y → x ≡ y
-reading_same wide form paths bytes x y p q =
+pub reading_same : (wide : Bool) (form : Form) (add_path : Bool) (bytes : List ℕ) (x y : Reading) → IsRead wide form add_path bytes x → IsRead wide form add_path bytes y → x ≡ y
+reading_same wide form add_path bytes x y p q =
     let fields : p.fields ≡ q.fields = joined_same field_reader bytes p.fields q.fields p.spelled q.spelled in
     let of : (kind : ℕ) → contents_of kind p.fields ≡ contents_of kind q.fields = λ kind. ap (contents_of kind) fields in
     let path = reads_same (IsPath wide) (path_same wide) (first_of (contents_of 2 q.fields)) x.path y.path (subst (λ (cs : List (List ℕ)). Reads (IsPath wide) (first_of cs) x.path) (of 2) p.path) q.path in
@@ -79,10 +79,10 @@ reading_same wide form paths bytes x y p q =
     let aggregator : x.aggregator ≡ y.aggregator = p.aggregator ∙ ap (λ (cs : List (List ℕ)). aggregator_of wide (first_of cs)) (of 7) ∙ sym q.aggregator in
     let aggregator4 : x.aggregator4 ≡ y.aggregator4 = p.aggregator4 ∙ ap (λ (cs : List (List ℕ)). has_length 8 (first_of cs)) (of 18) ∙ sym q.aggregator4 in
     let otc : x.otc ≡ y.otc = p.otc ∙ ap (λ (cs : List (List ℕ)). otc_of (first_of cs)) (of 35) ∙ sym q.otc in
-    let announced = only_same (IsReach paths) (reach_same paths) form (contents_of 14 q.fields) x.announced y.announced (subst (λ (cs : List (List ℕ)). IsOnly (IsReach paths) form cs x.announced) (of 14) p.announced) q.announced in
-    let withdrawn = only_same (IsUnreach paths) (unreach_same paths) form (contents_of 15 q.fields) x.withdrawn y.withdrawn (subst (λ (cs : List (List ℕ)). IsOnly (IsUnreach paths) form cs x.withdrawn) (of 15) p.withdrawn) q.withdrawn in
+    let announced = only_same (IsReach add_path) (reach_same add_path) form (contents_of 14 q.fields) x.announced y.announced (subst (λ (cs : List (List ℕ)). IsOnly (IsReach add_path) form cs x.announced) (of 14) p.announced) q.announced in
+    let withdrawn = only_same (IsUnreach add_path) (unreach_same add_path) form (contents_of 15 q.fields) x.withdrawn y.withdrawn (subst (λ (cs : List (List ℕ)). IsOnly (IsUnreach add_path) form cs x.withdrawn) (of 15) p.withdrawn) q.withdrawn in
     λ i. record { path = path i; path4 = path4 i; aggregator = aggregator i; aggregator4 = aggregator4 i; otc = otc i; announced = announced i; withdrawn = withdrawn i }
 
-pub no_prefix_begins_another : (paths six : Bool) (bytes : List ℕ) (one other : Nlri) (rest more : List ℕ) → Begins (IsNlri paths six) bytes one rest → Begins (IsNlri paths six) bytes other more → (one ≡ other) × (rest ≡ more)
-no_prefix_begins_another paths six bytes one other rest more p q =
-    some_pair_parts one other rest more (sym ((nlri_reader paths six).only bytes one rest p) ∙ (nlri_reader paths six).only bytes other more q)
+pub no_prefix_begins_another : (add_path six : Bool) (bytes : List ℕ) (one other : Nlri) (rest more : List ℕ) → Begins (IsNlri add_path six) bytes one rest → Begins (IsNlri add_path six) bytes other more → (one ≡ other) × (rest ≡ more)
+no_prefix_begins_another add_path six bytes one other rest more p q =
+    some_pair_parts one other rest more (sym ((nlri_reader add_path six).only bytes one rest p) ∙ (nlri_reader add_path six).only bytes other more q)

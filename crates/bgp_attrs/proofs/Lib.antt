@@ -3,6 +3,7 @@ pub mod ChainLemmas
 pub mod DecideLemmas
 pub mod FieldLemmas
 pub mod FirstLemmas
+pub mod FixedLemmas
 pub mod JoinedLemmas
 pub mod LawLemmas
 pub mod MergedLawLemmas

@@ -8,7 +8,8 @@ use Rattle.bgp_attrs.specs.declared.items.Item.{Item}
 use Rattle.bgp_attrs.specs.declared.items.Item.TheVariants.{As, Set}
 use Rattle.bgp_attrs.specs.declared.pieces.Segments.{Segments}
 use Rattle.bgp_attrs.specs.Left.{segments_left}
-use Rattle.bgp_attrs.specs.Segments.{Segment, IsSegment, as_width}
+use Rattle.bgp_attrs.specs.Segments.{Segment, IsSegment}
+use Rattle.bgp_attrs.specs.Fixed.{as_width}
 use Rattle.bgp_attrs.specs.Merging.{segment_items, items_in, merged, has_set, ases_in}
 use Rattle.bgp_attrs.proofs.SegmentLemmas.{segment_reader}
 

@@ -1,67 +1,45 @@
 -- The first prefix, with its path identifier if each has one, is read exactly where the bytes begin with one.
-use Rattle.std.proofs.Common.{◌≡◌, ℕ, ◌<◌, Bool, true, false, List, [], ◌∷◌, ◌++◌, length, Some, None, refl, sym, ap, subst, ◌∙◌, arith}
-use Rattle.std.specs.Prelude.{option_map}
-use Rattle.std.specs.declared.option.Option.{Option}
-use Rattle.std.specs.Int.{w32, from_be_bytes}
+use Rattle.std.proofs.Common.{◌≡◌, ℕ, ◌<◌, Bool, List, ◌++◌, length, Some, refl, sym, ap, subst, ◌∙◌, append_assoc, arith}
+use Rattle.std.proofs.lemmas.List.{length-append}
+use Rattle.std.proofs.lemmas.Option.{some_pair_parts}
 use Rattle.path_model.specs.declared.nlri.Nlri.{Nlri}
-use Rattle.path_model.specs.Prefix.{Subnet}
 use Rattle.held_bytes.specs.Units.{Begins}
+use Rattle.bgp_attrs.specs.Fixed.{SpellsPath, path_at}
 use Rattle.bgp_attrs.specs.Joined.{IsReader}
-use Rattle.bgp_attrs.specs.Prefixes.{IsPrefix, IsNlri, identified, prefix_at, nlri_at}
+use Rattle.bgp_attrs.specs.Prefixes.{IsPrefix, IsNlri, prefix_at, nlri_at}
+use Rattle.bgp_attrs.proofs.FixedLemmas.{and_then_some, and_then_is, path_finds, path_only}
 use Rattle.bgp_attrs.proofs.PrefixLemmas.{prefix_reader}
 
-some_same : {X : Type 0} {x y : X} → Some x ≡ Some y → x ≡ y
-some_same e = cc
-
--- a path identifier put to what was read
-mapped : (o : Option (Subnet × List ℕ)) (id : Option ℕ) (nlri : Nlri) (rest : List ℕ) → option_map (identified id) o ≡ Some (nlri, rest) → (o ≡ Some (nlri.prefix, rest)) × (nlri.path ≡ id)
-mapped None id nlri rest e = absurd cc
-mapped (Some x) id nlri rest e = let p = some_same e in ((λ i. Some ((p i).0.prefix, (p i).1)), sym (λ i. (p i).0.path))
-
-finds : (paths six : Bool) (bytes : List ℕ) (nlri : Nlri) (rest : List ℕ) → nlri_at paths six bytes ≡ Some (nlri, rest) → Begins (IsNlri paths six) bytes nlri rest
+finds : (add_path six : Bool) (bytes : List ℕ) (nlri : Nlri) (rest : List ℕ) → nlri_at add_path six bytes ≡ Some (nlri, rest) → Begins (IsNlri add_path six) bytes nlri rest
 unfolding nlri_at
-finds false six bytes nlri rest e =
-    let m = mapped (prefix_at six bytes) None nlri rest e in
-    let b = (prefix_reader six).finds bytes nlri.prefix rest m.0 in
-    record { front = b.front; spelled = (m.1, b.spelled); whole = b.whole }
-finds true six [] nlri rest e = absurd cc
-finds true six (a ∷ []) nlri rest e = absurd cc
-finds true six (a ∷ b ∷ []) nlri rest e = absurd cc
-finds true six (a ∷ b ∷ c ∷ []) nlri rest e = absurd cc
-finds true six (a ∷ b ∷ c ∷ d ∷ bytes) nlri rest e =
-    let m = mapped (prefix_at six bytes) (Some (from_be_bytes w32 (a ∷ b ∷ c ∷ d ∷ []))) nlri rest e in
-    let begins = (prefix_reader six).finds bytes nlri.prefix rest m.0 in
-    record {
-      front = a ∷ b ∷ c ∷ d ∷ begins.front;
-      spelled = record { id = a ∷ b ∷ c ∷ d ∷ []; behind = begins.front; whole = refl; four = refl; path = m.1; prefix = begins.spelled };
-      whole = ap (λ (xs : List ℕ). a ∷ b ∷ c ∷ d ∷ xs) begins.whole;
-    }
+finds add_path six bytes nlri rest e =
+    let a = and_then_some _ (path_at add_path bytes) (nlri, rest) e in
+    let b = and_then_some _ (prefix_at six a.0.1) (nlri, rest) a.2 in
+    let p = some_pair_parts (record { prefix = b.0.0; path = a.0.0 }) nlri b.0.1 rest b.2 in
+    let f = path_finds add_path bytes a.0.0 a.0.1 a.1 in
+    let g = (prefix_reader six).finds a.0.1 b.0.0 b.0.1 b.1 in
+    subst (λ (x : Nlri). Begins (IsNlri add_path six) bytes x rest) p.0 (record {
+      front = f.0 ++ g.front;
+      spelled = record { identifier = f.0; behind = g.front; path = f.1; prefix = g.spelled; whole = refl };
+      whole = f.2 ∙ ap (λ (xs : List ℕ). f.0 ++ xs) (g.whole ∙ ap (λ (xs : List ℕ). g.front ++ xs) p.1) ∙ sym (append_assoc f.0 g.front rest);
+    })
 
-only_behind : (six : Bool) (id behind rest : List ℕ) (nlri : Nlri) → length id ≡ 4 → nlri.path ≡ Some (from_be_bytes w32 id) → IsPrefix six behind nlri.prefix → nlri_at true six ((id ++ behind) ++ rest) ≡ Some (nlri, rest)
+only_here : (add_path six : Bool) (identifier behind rest : List ℕ) (nlri : Nlri) → SpellsPath add_path identifier nlri.path → IsPrefix six behind nlri.prefix → nlri_at add_path six (identifier ++ (behind ++ rest)) ≡ Some (nlri, rest)
 unfolding nlri_at
-only_behind six [] behind rest nlri four path prefix = absurd (omega arith)
-only_behind six (a ∷ []) behind rest nlri four path prefix = absurd (omega arith)
-only_behind six (a ∷ b ∷ []) behind rest nlri four path prefix = absurd (omega arith)
-only_behind six (a ∷ b ∷ c ∷ []) behind rest nlri four path prefix = absurd (omega arith)
-only_behind six (a ∷ b ∷ c ∷ d ∷ e ∷ more) behind rest nlri four path prefix = absurd (omega arith)
-only_behind six (a ∷ b ∷ c ∷ d ∷ []) behind rest nlri four path prefix =
-    ap (option_map (identified (Some (from_be_bytes w32 (a ∷ b ∷ c ∷ d ∷ []))))) ((prefix_reader six).only (behind ++ rest) nlri.prefix rest (record { front = behind; spelled = prefix; whole = refl }))
-    ∙ (λ i. Some (record { prefix = nlri.prefix; path = sym path i }, rest))
+only_here add_path six identifier behind rest nlri path prefix =
+    and_then_is _ (path_at add_path (identifier ++ (behind ++ rest))) (nlri.path, behind ++ rest) (Some (nlri, rest)) (path_only add_path identifier nlri.path (behind ++ rest) path)
+    (and_then_is _ (prefix_at six (behind ++ rest)) (nlri.prefix, rest) (Some (nlri, rest)) ((prefix_reader six).only (behind ++ rest) nlri.prefix rest (record { front = behind; spelled = prefix; whole = refl })) refl)
 
-only : (paths six : Bool) (bytes : List ℕ) (nlri : Nlri) (rest : List ℕ) → Begins (IsNlri paths six) bytes nlri rest → nlri_at paths six bytes ≡ Some (nlri, rest)
-unfolding nlri_at
-only false six bytes nlri rest b =
-    ap (option_map (identified None)) ((prefix_reader six).only bytes nlri.prefix rest (record { front = b.front; spelled = b.spelled.1; whole = b.whole }))
-    ∙ (λ i. Some (record { prefix = nlri.prefix; path = sym b.spelled.0 i }, rest))
-only true six bytes nlri rest b = let s = b.spelled in
-    ap (nlri_at true six) (b.whole ∙ ap (λ (xs : List ℕ). xs ++ rest) s.whole) ∙ only_behind six s.id s.behind rest nlri s.four s.path s.prefix
+only : (add_path six : Bool) (bytes : List ℕ) (nlri : Nlri) (rest : List ℕ) → Begins (IsNlri add_path six) bytes nlri rest → nlri_at add_path six bytes ≡ Some (nlri, rest)
+only add_path six bytes nlri rest b =
+    let s = b.spelled in
+    let bytes-is : bytes ≡ s.identifier ++ (s.behind ++ rest) = b.whole ∙ ap (λ (xs : List ℕ). xs ++ rest) s.whole ∙ append_assoc s.identifier s.behind rest in
+    ap (nlri_at add_path six) bytes-is ∙ only_here add_path six s.identifier s.behind rest nlri s.path s.prefix
 
-some : (paths six : Bool) (front : List ℕ) (nlri : Nlri) → IsNlri paths six front nlri → 0 < length front
-some false six front nlri s = (prefix_reader six).some front nlri.prefix s.1
-some true six front nlri s = subst (λ (n : ℕ). 0 < n) (sym (ap (λ (xs : List ℕ). length xs) s.whole)) (not_none s.id s.four) where
-  not_none : (id : List ℕ) → length id ≡ 4 → 0 < length (id ++ s.behind)
-  not_none [] four = absurd (omega arith)
-  not_none (a ∷ id) four = omega arith
+some : (add_path six : Bool) (front : List ℕ) (nlri : Nlri) → IsNlri add_path six front nlri → 0 < length front
+some add_path six front nlri s =
+    let behind = (prefix_reader six).some s.behind nlri.prefix s.prefix in
+    omega (arith, ap length s.whole, length-append s.identifier s.behind)
 
-pub nlri_reader : (paths six : Bool) → IsReader (IsNlri paths six) (nlri_at paths six)
-nlri_reader paths six = record { finds = finds paths six; only = only paths six; some = some paths six }
+pub nlri_reader : (add_path six : Bool) → IsReader (IsNlri add_path six) (nlri_at add_path six)
+nlri_reader add_path six = record { finds = finds add_path six; only = only add_path six; some = some add_path six }

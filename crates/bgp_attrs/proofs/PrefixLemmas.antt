@@ -7,7 +7,8 @@ use Rattle.std.proofs.lemmas.Bool.Decides.{nat_tests}
 use Rattle.path_model.specs.Prefix.{Subnet, cleared}
 use Rattle.held_bytes.specs.Units.{Begins}
 use Rattle.bgp_attrs.specs.Joined.{IsReader}
-use Rattle.bgp_attrs.specs.Prefixes.{addr_of, family_bits, bytes_for, IsPrefix, prefix_at}
+use Rattle.bgp_attrs.specs.Fixed.{addr_of}
+use Rattle.bgp_attrs.specs.Prefixes.{family_bits, bytes_for, IsPrefix, prefix_at}
 
 both_hold : (a b : Bool) → (a && b) ≡ true → (a ≡ true) × (b ≡ true)
 both_hold true true e = (refl, refl)

@@ -1,12 +1,50 @@
--- The first segment is read exactly where the bytes begin with one.
-use Rattle.std.proofs.Common.{◌≡◌, ℕ, zero, suc, ◌*◌, ◌<◌, ◌≤◌, Bool, true, false, ◌&&◌, List, [], ◌∷◌, ◌++◌, length, take, drop, Some, refl, sym, ap, subst, ◌∙◌, arith}
+-- The first segment is read exactly where the bytes begin with one, and the first AS where they spell one.
+use Rattle.std.proofs.Common.{◌≡◌, ℕ, zero, suc, ◌*◌, ◌<◌, ◌≤◌, Bool, true, false, ◌&&◌, List, [], ◌∷◌, ◌++◌, length, take, drop, Some, None, refl, sym, ap, subst, ◌∙◌, arith}
 use Rattle.std.specs.Prelude.{nat_le, nat_lt}
-use Rattle.std.proofs.lemmas.Option.{cond_some}
+use Rattle.std.specs.Int.{w16, w32, from_be_bytes}
+use Rattle.std.proofs.lemmas.Option.{cond_some, some_pair_parts}
 use Rattle.std.proofs.lemmas.List.{take-append-drop, take_at, drop_at, length-take, length-append}
 use Rattle.std.proofs.lemmas.Bool.Decides.{nat_tests}
 use Rattle.held_bytes.specs.Units.{Begins}
 use Rattle.bgp_attrs.specs.Joined.{IsReader}
-use Rattle.bgp_attrs.specs.Segments.{numbers_2, numbers_4, ases_of, as_width, is_kind, IsSegment, segment_at}
+use Rattle.bgp_attrs.specs.Segments.{numbers_2, numbers_4, ases_of, is_kind, IsSegment, segment_at}
+use Rattle.bgp_attrs.specs.Fixed.{as_width, asn_at, two_at, four_at}
+
+two_first : (bytes : List ℕ) (asn : ℕ) (rest : List ℕ) → two_at bytes ≡ Some (asn, rest) → numbers_2 bytes ≡ asn ∷ numbers_2 rest
+unfolding two_at
+two_first [] asn rest e = absurd cc
+two_first (a ∷ []) asn rest e = absurd cc
+two_first (a ∷ b ∷ bytes) asn rest e = let p = some_pair_parts (from_be_bytes w16 (a ∷ b ∷ [])) asn bytes rest e in λ i. p.0 i ∷ numbers_2 (p.1 i)
+
+four_first : (bytes : List ℕ) (asn : ℕ) (rest : List ℕ) → four_at bytes ≡ Some (asn, rest) → numbers_4 bytes ≡ asn ∷ numbers_4 rest
+unfolding four_at
+four_first [] asn rest e = absurd cc
+four_first (a ∷ []) asn rest e = absurd cc
+four_first (a ∷ b ∷ []) asn rest e = absurd cc
+four_first (a ∷ b ∷ c ∷ []) asn rest e = absurd cc
+four_first (a ∷ b ∷ c ∷ d ∷ bytes) asn rest e = let p = some_pair_parts (from_be_bytes w32 (a ∷ b ∷ c ∷ d ∷ [])) asn bytes rest e in λ i. p.0 i ∷ numbers_4 (p.1 i)
+
+two_none : (bytes : List ℕ) → two_at bytes ≡ None → numbers_2 bytes ≡ []
+unfolding two_at
+two_none [] e = refl
+two_none (a ∷ []) e = refl
+two_none (a ∷ b ∷ bytes) e = absurd cc
+
+four_none : (bytes : List ℕ) → four_at bytes ≡ None → numbers_4 bytes ≡ []
+unfolding four_at
+four_none [] e = refl
+four_none (a ∷ []) e = refl
+four_none (a ∷ b ∷ []) e = refl
+four_none (a ∷ b ∷ c ∷ []) e = refl
+four_none (a ∷ b ∷ c ∷ d ∷ bytes) e = absurd cc
+
+pub ases_first : (wide : Bool) (bytes : List ℕ) (asn : ℕ) (rest : List ℕ) → asn_at wide bytes ≡ Some (asn, rest) → ases_of wide bytes ≡ asn ∷ ases_of wide rest
+ases_first true bytes asn rest e = four_first bytes asn rest e
+ases_first false bytes asn rest e = two_first bytes asn rest e
+
+pub ases_none : (wide : Bool) (bytes : List ℕ) → asn_at wide bytes ≡ None → ases_of wide bytes ≡ []
+ases_none true bytes e = four_none bytes e
+ases_none false bytes e = two_none bytes e
 
 length-numbers_2 : (n : ℕ) (bytes : List ℕ) → length bytes ≡ 2 * n → length (numbers_2 bytes) ≡ n
 length-numbers_2 zero [] e = refl

@@ -10,7 +10,8 @@ use Rattle.path_model.specs.Trail.{path_of}
 use Rattle.bgp_attrs.specs.Joined.{items_of}
 use Rattle.bgp_attrs.specs.Left.{segments_left}
 use Rattle.bgp_attrs.specs.Merging.{items_in, has_set, ases_in, path_of_items}
-use Rattle.bgp_attrs.specs.Segments.{Segment, IsSegment, numbers_4, ases_of, as_width, segment_at}
+use Rattle.bgp_attrs.specs.Segments.{Segment, IsSegment, numbers_4, ases_of, segment_at}
+use Rattle.bgp_attrs.specs.Fixed.{as_width}
 use Rattle.bgp_attrs.proofs.JoinedLemmas.{shortens, items-nil, items-none, left-some}
 use Rattle.bgp_attrs.proofs.MergingLemmas.{no_set, sequence_ases, plain_short}
 use Rattle.bgp_attrs.proofs.SegmentLemmas.{length-ases_of, segment_reader}

@@ -1,7 +1,8 @@
 -- Path attributes as bytes: flags, type, length, content (RFC 4271, section 4.3).
-use Rattle.std.specs.Prelude.{◌≡◌, ℕ, ◌==◌, Bool, not, nat_le, bit_and, if◌then◌else◌, List, [], ◌∷◌, ◌++◌, length, take, drop, Some, None, option_and_then}
+use Rattle.std.specs.Prelude.{◌≡◌, ℕ, ◌==◌, Bool, not, bit_and, if◌then◌else◌, List, [], ◌∷◌, ◌++◌, length, Some, None}
 use Rattle.std.specs.declared.option.Option.{Option}
 use Rattle.bgp_attrs.specs.Blocks.{IsLength, length_at}
+use Rattle.bgp_attrs.specs.Fixed.{◌>>=◌, cut}
 
 -- one attribute: its type and its content
 pub record Field : Type 0 where
@@ -35,11 +36,11 @@ first_content kind fields = first_of (contents_of kind fields)
 
 -- ---- from the left: only private contracts cite it
 
-abbrev pub content_at : ℕ → ℕ × List ℕ → Option (Field × List ℕ)
-content_at kind (n, rest) = if nat_le n (length rest) then Some (record { kind = kind; content = take n rest }, drop n rest) else None
-
 -- the first attribute and the bytes behind it
 unfoldable pub field_at : List ℕ → Option (Field × List ℕ)
-field_at (flags ∷ kind ∷ rest) = option_and_then (content_at kind) (length_at (is_extended flags) rest)
+field_at (flags ∷ kind ∷ rest) = do
+  count ← length_at (is_extended flags) rest
+  content ← cut count.0 count.1
+  Some (record { kind = kind; content = content.0 }, content.1)
 field_at (flags ∷ []) = None
 field_at [] = None

@@ -11,19 +11,19 @@ use Rattle.bgp_attrs.specs.Reading.{Reading, IsRead, IsUnreadable}
 
 -- path attributes have one reading, if any
 abbrev pub AttributesHaveOneReading : Type 0
-AttributesHaveOneReading = (wide : Bool) (form : Form) (paths : Bool) (bytes : List ℕ) (one other : Reading) → IsRead wide form paths bytes one → IsRead wide form paths bytes other → one ≡ other
+AttributesHaveOneReading = (wide : Bool) (form : Form) (add_path : Bool) (bytes : List ℕ) (one other : Reading) → IsRead wide form add_path bytes one → IsRead wide form add_path bytes other → one ≡ other
 
--- bytes are path attributes, or they are none
+-- bytes have a reading as path attributes, or they have none: it is always one of the two
 abbrev pub AttributesReadOrNot : Type 0
-AttributesReadOrNot = (wide : Bool) (form : Form) (paths : Bool) (bytes : List ℕ) → ((value : Reading) × IsRead wide form paths bytes value) ⊎ IsUnreadable wide form paths bytes
+AttributesReadOrNot = (wide : Bool) (form : Form) (add_path : Bool) (bytes : List ℕ) → ((value : Reading) × IsRead wide form add_path bytes value) ⊎ IsUnreadable wide form add_path bytes
 
 -- No prefix's spelling, with or without a path identifier, begins another one: what follows, and the prefix itself, are determined.
 abbrev pub NoPrefixBeginsAnother : Type 0
-NoPrefixBeginsAnother = (paths six : Bool) → NoneBeginsAnother (IsNlri paths six)
+NoPrefixBeginsAnother = (add_path six : Bool) → NoneBeginsAnother (IsNlri add_path six)
 
 -- bytes are the spellings of one list of prefixes, with or without path identifiers, if of any
 abbrev pub PrefixesHaveOneReading : Type 0
-PrefixesHaveOneReading = (paths six : Bool) (bytes : List ℕ) (ones others : List Nlri) → IsJoined (IsNlri paths six) bytes ones → IsJoined (IsNlri paths six) bytes others → ones ≡ others
+PrefixesHaveOneReading = (add_path six : Bool) (bytes : List ℕ) (ones others : List Nlri) → IsJoined (IsNlri add_path six) bytes ones → IsJoined (IsNlri add_path six) bytes others → ones ≡ others
 
 -- a front of AS_PATH with AS4_PATH behind it, which counts as many items as AS_PATH
 pub record IsConstructed (items others path : List Item) : Type 0 where

@@ -21,7 +21,7 @@ segments_left segments = unwrap_or (items_of (segment_at segments.wide) segments
 
 -- the prefixes, each with its path identifier if it has one
 abbrev pub prefixes_left : Prefixes → List Nlri
-prefixes_left prefixes = unwrap_or (items_of (nlri_at prefixes.paths prefixes.six) prefixes.rest.now) []
+prefixes_left prefixes = unwrap_or (items_of (nlri_at prefixes.add_path prefixes.six) prefixes.rest.now) []
 
 -- an attribute's type and content
 abbrev pub field_of : Attribute → Field

@@ -1,5 +1,6 @@
 pub mod Attributes
 pub mod Blocks
+pub mod Fixed
 pub mod Joined
 pub mod Laws
 pub mod Left

@@ -44,19 +44,19 @@ HasBadPath wide list = (value : Option (List Segment)) → IsPathIn wide list va
 
 -- the prefixes of the MP_REACH_NLRI
 abbrev pub IsAnnouncedIn : Bool → Form → AttributeList → Option (List Nlri) → Type 0
-IsAnnouncedIn paths form list value = IsOnly (IsReach paths) form (contents_in 14 list) value
+IsAnnouncedIn add_path form list value = IsOnly (IsReach add_path) form (contents_in 14 list) value
 
 -- it isn't in form, or repeated
 abbrev pub HasBadReach : Bool → Form → AttributeList → Type 0
-HasBadReach paths form list = (value : Option (List Nlri)) → IsAnnouncedIn paths form list value → ⊥
+HasBadReach add_path form list = (value : Option (List Nlri)) → IsAnnouncedIn add_path form list value → ⊥
 
 -- the prefixes of the MP_UNREACH_NLRI
 abbrev pub IsWithdrawnIn : Bool → Form → AttributeList → Option (List Nlri) → Type 0
-IsWithdrawnIn paths form list value = IsOnly (IsUnreach paths) form (contents_in 15 list) value
+IsWithdrawnIn add_path form list value = IsOnly (IsUnreach add_path) form (contents_in 15 list) value
 
 -- it isn't in form, or repeated
 abbrev pub HasBadUnreach : Bool → Form → AttributeList → Type 0
-HasBadUnreach paths form list = (value : Option (List Nlri)) → IsWithdrawnIn paths form list value → ⊥
+HasBadUnreach add_path form list = (value : Option (List Nlri)) → IsWithdrawnIn add_path form list value → ⊥
 
 -- the content gives no such prefixes
 abbrev pub GivesNone : (List ℕ → Option (List Nlri) → Type 0) → List ℕ → Type 0

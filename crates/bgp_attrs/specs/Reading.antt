@@ -1,4 +1,5 @@
--- What path attributes say (RFC 4271, section 4.3; RFC 4760, sections 3 and 4; RFC 6793, section 3; RFC 9234, section 5; repeated ones: RFC 7606, section 3, item g).
+-- What path attributes say (RFC 4271, section 4.3; RFC 4760, sections 3 and 4; RFC 6793, section 3; RFC 9234, section 5; repeated ones:
+-- RFC 7606, section 3, item g).
 use Rattle.std.specs.Prelude.{◌≡◌, ℕ, slice_get, ◌==◌, ◌+◌, ◌≤◌, Bool, true, false, ◌&&◌, if◌then◌else◌, List, [], ◌∷◌, length, take, drop, Some, None}
 use Rattle.std.specs.declared.option.Option.{Option}
 use Rattle.std.specs.Int.{w16, w32, from_be_bytes}
@@ -8,9 +9,10 @@ use Rattle.path_model.specs.declared.otc.Otc.TheVariants.{Absent, As, Malformed}
 use Rattle.bgp_attrs.specs.declared.form.Form.{Form}
 use Rattle.bgp_attrs.specs.declared.form.Form.TheVariants.{Table, Message}
 use Rattle.bgp_attrs.specs.Attributes.{Field, IsField, contents_of, first_content}
+use Rattle.bgp_attrs.specs.Fixed.{as_width}
 use Rattle.bgp_attrs.specs.Joined.{IsJoined}
 use Rattle.bgp_attrs.specs.Prefixes.{IsNlri}
-use Rattle.bgp_attrs.specs.Segments.{Segment, IsSegment, ases_of, as_width}
+use Rattle.bgp_attrs.specs.Segments.{Segment, IsSegment, ases_of}
 
 -- What counts of the attributes; None where an attribute isn't there or counts as absent.
 pub record Reading : Type 0 where
@@ -65,30 +67,30 @@ family_of afi safi = if (afi == 2) && (safi == 1) then Some true else (if (afi =
 -- behind the family: a next hop behind its length, one reserved byte, prefixes; the flag says that each prefix has a path identifier
 -- before it (RFC 7911, section 3)
 abbrev pub IsReachOf : Bool → Option Bool → List ℕ → Option (List Nlri) → Type 0
-IsReachOf paths None rest value = value ≡ None
-IsReachOf paths (Some six) (count ∷ rest) (Some prefixes) = (count + 1 ≤ length rest) × IsJoined (IsNlri paths six) (drop (count + 1) rest) prefixes
-IsReachOf paths (Some six) (count ∷ rest) None = ⊥
-IsReachOf paths (Some six) [] value = ⊥
+IsReachOf add_path None rest value = value ≡ None
+IsReachOf add_path (Some six) (count ∷ rest) (Some prefixes) = (count + 1 ≤ length rest) × IsJoined (IsNlri add_path six) (drop (count + 1) rest) prefixes
+IsReachOf add_path (Some six) (count ∷ rest) None = ⊥
+IsReachOf add_path (Some six) [] value = ⊥
 
 -- MP_REACH_NLRI: two bytes of AFI, one of SAFI; of a family that isn't unicast of IPv4 or IPv6 the rest is unread
 abbrev pub IsReach : Bool → List ℕ → Option (List Nlri) → Type 0
-IsReach paths (high ∷ low ∷ safi ∷ rest) value = IsReachOf paths (family_of (from_be_bytes w16 (high ∷ low ∷ [])) safi) rest value
-IsReach paths (high ∷ low ∷ []) value = ⊥
-IsReach paths (high ∷ []) value = ⊥
-IsReach paths [] value = ⊥
+IsReach add_path (high ∷ low ∷ safi ∷ rest) value = IsReachOf add_path (family_of (from_be_bytes w16 (high ∷ low ∷ [])) safi) rest value
+IsReach add_path (high ∷ low ∷ []) value = ⊥
+IsReach add_path (high ∷ []) value = ⊥
+IsReach add_path [] value = ⊥
 
 -- behind the family: prefixes
 abbrev pub IsUnreachOf : Bool → Option Bool → List ℕ → Option (List Nlri) → Type 0
-IsUnreachOf paths None rest value = value ≡ None
-IsUnreachOf paths (Some six) rest None = ⊥
-IsUnreachOf paths (Some six) rest (Some prefixes) = IsJoined (IsNlri paths six) rest prefixes
+IsUnreachOf add_path None rest value = value ≡ None
+IsUnreachOf add_path (Some six) rest None = ⊥
+IsUnreachOf add_path (Some six) rest (Some prefixes) = IsJoined (IsNlri add_path six) rest prefixes
 
 -- MP_UNREACH_NLRI: the same without a next hop
 abbrev pub IsUnreach : Bool → List ℕ → Option (List Nlri) → Type 0
-IsUnreach paths (high ∷ low ∷ safi ∷ rest) value = IsUnreachOf paths (family_of (from_be_bytes w16 (high ∷ low ∷ [])) safi) rest value
-IsUnreach paths (high ∷ low ∷ []) value = ⊥
-IsUnreach paths (high ∷ []) value = ⊥
-IsUnreach paths [] value = ⊥
+IsUnreach add_path (high ∷ low ∷ safi ∷ rest) value = IsUnreachOf add_path (family_of (from_be_bytes w16 (high ∷ low ∷ [])) safi) rest value
+IsUnreach add_path (high ∷ low ∷ []) value = ⊥
+IsUnreach add_path (high ∷ []) value = ⊥
+IsUnreach add_path [] value = ⊥
 
 -- in a message at most one, and in form; in a table unread
 abbrev pub IsOnly : (List ℕ → Option (List Nlri) → Type 0) → Form → List (List ℕ) → Option (List Nlri) → Type 0
@@ -98,7 +100,7 @@ IsOnly S Message (content ∷ []) value = S content value
 IsOnly S Message (content ∷ another ∷ contents) value = ⊥
 
 -- The bytes are path attributes, one after another, and this is what counts of them. The first one of each type counts.
-pub record IsRead (wide : Bool) (form : Form) (paths : Bool) (bytes : List ℕ) (value : Reading) : Type 0 where
+pub record IsRead (wide : Bool) (form : Form) (add_path : Bool) (bytes : List ℕ) (value : Reading) : Type 0 where
   pub fields : List Field
   pub spelled : IsJoined IsField bytes fields
   pub path : Reads (IsPath wide) (first_content 2 fields) value.path
@@ -106,9 +108,9 @@ pub record IsRead (wide : Bool) (form : Form) (paths : Bool) (bytes : List ℕ) 
   pub aggregator : value.aggregator ≡ aggregator_of wide (first_content 7 fields)
   pub aggregator4 : value.aggregator4 ≡ has_length 8 (first_content 18 fields)
   pub otc : value.otc ≡ otc_of (first_content 35 fields)
-  pub announced : IsOnly (IsReach paths) form (contents_of 14 fields) value.announced
-  pub withdrawn : IsOnly (IsUnreach paths) form (contents_of 15 fields) value.withdrawn
+  pub announced : IsOnly (IsReach add_path) form (contents_of 14 fields) value.announced
+  pub withdrawn : IsOnly (IsUnreach add_path) form (contents_of 15 fields) value.withdrawn
 
 -- the bytes have no reading
 abbrev pub IsUnreadable : Bool → Form → Bool → List ℕ → Type 0
-IsUnreadable wide form paths bytes = (value : Reading) → IsRead wide form paths bytes value → ⊥
+IsUnreadable wide form add_path bytes = (value : Reading) → IsRead wide form add_path bytes value → ⊥

@@ -2,6 +2,7 @@
 use Rattle.std.specs.Prelude.{◌≡◌, ℕ, ◌*◌, ◌<◌, Bool, true, false, ◌&&◌, nat_le, nat_lt, if◌then◌else◌, List, [], ◌∷◌, length, take, drop, Some, None}
 use Rattle.std.specs.declared.option.Option.{Option}
 use Rattle.std.specs.Int.{w16, w32, from_be_bytes}
+use Rattle.bgp_attrs.specs.Fixed.{as_width}
 
 -- the numbers of two bytes that the bytes spell; a last byte alone spells none
 abbrev pub numbers_2 : List ℕ → List ℕ
@@ -21,11 +22,6 @@ numbers_4 [] = []
 abbrev pub ases_of : Bool → List ℕ → List ℕ
 ases_of true bytes = numbers_4 bytes
 ases_of false bytes = numbers_2 bytes
-
--- how many bytes an AS has
-abbrev pub as_width : Bool → ℕ
-as_width true = 4
-as_width false = 2
 
 -- 1 AS_SET, 2 AS_SEQUENCE, 3 AS_CONFED_SEQUENCE, 4 AS_CONFED_SET
 abbrev pub is_kind : ℕ → Bool

@@ -6,7 +6,7 @@ pub fn attributes_have_one_reading()
     ensures { AttributesHaveOneReading }
 {}
 
-/// Bytes are path attributes, or they are none.
+/// Bytes have a reading as path attributes, or they have none (`IsUnreadable`): it is always one of the two.
 pub fn attributes_read_or_not()
     ensures { AttributesReadOrNot }
 {}

@@ -7,9 +7,9 @@ ghost use Rattle.bgp_attrs.specs.Merging.{segment_items, items_in, merged, ases_
 ghost use Rattle.bgp_attrs.specs.Parts.{AreWhole, head_of};
 ghost use Rattle.bgp_attrs.specs.Segments.{numbers_4};
 
+use crate::fixed::as_size;
 use crate::items::{Item, Items};
 use crate::pieces::{Ases, Segments};
-use crate::splitting::as_size;
 use av_base::NoMemory;
 use path_model::{AsList, Trail};
 use std::alloc::Global;

@@ -5,7 +5,8 @@ ghost use Rattle.bgp_attrs.specs.Joined.{items_of};
 ghost use Rattle.bgp_attrs.specs.Prefixes.{nlri_at};
 ghost use Rattle.bgp_attrs.specs.Segments.{segment_at};
 
-use crate::splitting::{take_asn, take_attribute, take_segment};
+use crate::fixed::take_asn;
+use crate::splitting::{take_attribute, take_segment};
 use crate::taking::take_nlri;
 use path_model::Nlri;
 
@@ -33,8 +34,8 @@ pub struct Prefixes<'a> {
     pub(crate) rest: &'a [u8],
     pub(crate) six: bool,
     // whether each has a path identifier before it
-    pub(crate) paths: bool,
-    ghost whole: { is_some (items_of (nlri_at paths six) rest.now) ≡ true },
+    pub(crate) add_path: bool,
+    ghost whole: { is_some (items_of (nlri_at add_path six) rest.now) ≡ true },
 }
 
 /// One attribute.
@@ -98,7 +99,7 @@ impl<'a> Iterator for Prefixes<'a> {
     ghost remaining = { item_count prefixes_left };
 
     fn next(&mut self) -> Option<Nlri> {
-        match take_nlri(self.rest, self.six, self.paths) {
+        match take_nlri(self.rest, self.six, self.add_path) {
             Some(taken) => {
                 self.rest = taken.1;
                 Some(taken.0)

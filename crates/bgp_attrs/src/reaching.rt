@@ -21,10 +21,10 @@ fn family(high: u8, low: u8, safi: u8) -> Option<bool>
 }
 
 // The prefixes behind a next hop and a reserved byte.
-fn after_hop(rest: &[u8], six: bool, paths: bool) -> Result<Option<Prefixes<'_>>, Attributes>
+fn after_hop(rest: &[u8], six: bool, add_path: bool) -> Result<Option<Prefixes<'_>>, Attributes>
     ensures ok { IfOk result (λ found.
-        IsReachOf paths (Some six) rest.now (option_map prefixes_left found)) }
-    ensures err { OnErr result (GivesNone (IsReachOf paths (Some six)) rest.now) }
+        IsReachOf add_path (Some six) rest.now (option_map prefixes_left found)) }
+    ensures err { OnErr result (GivesNone (IsReachOf add_path (Some six)) rest.now) }
 {
     match rest {
         [count, rest @ ..] => {
@@ -33,7 +33,7 @@ fn after_hop(rest: &[u8], six: bool, paths: bool) -> Result<Option<Prefixes<'_>>
                 return Err(Attributes);
             }
             let (_, rest) = rest.split_at(skipped);
-            match prefixes(rest, six, paths) {
+            match prefixes(rest, six, add_path) {
                 Some(found) => Ok(Some(found)),
                 None => Err(Attributes),
             }
@@ -43,14 +43,14 @@ fn after_hop(rest: &[u8], six: bool, paths: bool) -> Result<Option<Prefixes<'_>>
 }
 
 // The prefixes of MP_REACH_NLRI, or `None` for another family.
-pub(crate) fn reach(content: &[u8], paths: bool) -> Result<Option<Prefixes<'_>>, Attributes>
+pub(crate) fn reach(content: &[u8], add_path: bool) -> Result<Option<Prefixes<'_>>, Attributes>
     ensures ok { IfOk result (λ found.
-        IsReach paths content.now (option_map prefixes_left found)) }
-    ensures err { OnErr result (GivesNone (IsReach paths) content.now) }
+        IsReach add_path content.now (option_map prefixes_left found)) }
+    ensures err { OnErr result (GivesNone (IsReach add_path) content.now) }
 {
     match content {
         [high, low, safi, rest @ ..] => match family(*high, *low, *safi) {
-            Some(six) => after_hop(rest, six, paths),
+            Some(six) => after_hop(rest, six, add_path),
             None => Ok(None),
         },
         [_, _] => Err(Attributes),
@@ -60,14 +60,14 @@ pub(crate) fn reach(content: &[u8], paths: bool) -> Result<Option<Prefixes<'_>>,
 }
 
 // The prefixes of MP_UNREACH_NLRI, or `None` for another family.
-pub(crate) fn unreach(content: &[u8], paths: bool) -> Result<Option<Prefixes<'_>>, Attributes>
+pub(crate) fn unreach(content: &[u8], add_path: bool) -> Result<Option<Prefixes<'_>>, Attributes>
     ensures ok { IfOk result (λ found.
-        IsUnreach paths content.now (option_map prefixes_left found)) }
-    ensures err { OnErr result (GivesNone (IsUnreach paths) content.now) }
+        IsUnreach add_path content.now (option_map prefixes_left found)) }
+    ensures err { OnErr result (GivesNone (IsUnreach add_path) content.now) }
 {
     match content {
         [high, low, safi, rest @ ..] => match family(*high, *low, *safi) {
-            Some(six) => match prefixes(rest, six, paths) {
+            Some(six) => match prefixes(rest, six, add_path) {
                 Some(found) => Ok(Some(found)),
                 None => Err(Attributes),
             },

@@ -7,10 +7,10 @@ ghost use Rattle.bgp_attrs.specs.Reading.{Reading, IsPath4, aggregator_of, has_l
 use crate::attrs::Attrs;
 use crate::fault::Attributes;
 use crate::finding::{Found, attributes, only_content};
+use crate::fixed::as_size;
 use crate::form::Form;
 use crate::pieces::{Ases, AttributeList, Prefixes, Segments};
 use crate::reaching::{reach, unreach};
-use crate::splitting::as_size;
 use crate::whole::segments;
 use path_model::Otc;
 
@@ -21,19 +21,19 @@ const MP_UNREACH_NLRI: u8 = 15;
 /// Reads an attribute field. It takes no memory; the answer keeps slices of the bytes.
 ///
 /// `wide` says that ASes have four bytes (RFC 6793), as in a table's records and between speakers that agreed on it; else they have
-/// two, and AS4_PATH and AS4_AGGREGATOR count. `paths` says that each prefix of MP_REACH_NLRI and MP_UNREACH_NLRI has a path identifier
+/// two, and AS4_PATH and AS4_AGGREGATOR count. `add_path` says that each prefix of MP_REACH_NLRI and MP_UNREACH_NLRI has a path identifier
 /// before it (RFC 7911, section 3); in a table both are unread. A malformed Only-to-Customer refuses nothing (RFC 9234, section 5). A
 /// refusal comes exactly where the bytes have no reading: an attribute's header or content is cut, the first AS_PATH is malformed, or in
 /// a message MP_REACH_NLRI or MP_UNREACH_NLRI is repeated or malformed.
 #[inline(always)]
-pub fn read(bytes: &[u8], wide: bool, form: Form, paths: bool) -> Result<Attrs<'_>, Attributes>
-    ensures ok { IfOk result (λ attrs. IsRead wide form paths bytes.now attrs) }
-    ensures only { (value : Reading) → IsRead wide form paths bytes.now value → IsOk result }
+pub fn read(bytes: &[u8], wide: bool, form: Form, add_path: bool) -> Result<Attrs<'_>, Attributes>
+    ensures ok { IfOk result (λ attrs. IsRead wide form add_path bytes.now attrs) }
+    ensures only { (value : Reading) → IsRead wide form add_path bytes.now value → IsOk result }
 {
     let found = attributes(bytes).ok_or(Attributes)?;
     let path = path_in(&found, wide)?;
-    let announced = announced_in(found.list, form, paths)?;
-    let withdrawn = withdrawn_in(found.list, form, paths)?;
+    let announced = announced_in(found.list, form, add_path)?;
+    let withdrawn = withdrawn_in(found.list, form, add_path)?;
     Ok(Attrs {
         path,
         path4: path4_in(&found, wide),
@@ -125,16 +125,16 @@ fn otc_by(content: &[u8]) -> Otc
 fn announced_in<'a>(
     fields: AttributeList<'a>,
     form: Form,
-    paths: bool,
+    add_path: bool,
 ) -> Result<Option<Prefixes<'a>>, Attributes>
     ensures ok { IfOk result (λ found.
-        IsAnnouncedIn paths form fields.entry (option_map prefixes_left found)) }
-    ensures err { OnErr result (HasBadReach paths form fields.entry) }
+        IsAnnouncedIn add_path form fields.entry (option_map prefixes_left found)) }
+    ensures err { OnErr result (HasBadReach add_path form fields.entry) }
 {
     match form {
         Form::Table => Ok(None),
         Form::Message => match only_content(fields, MP_REACH_NLRI)? {
-            Some(content) => reach(content, paths),
+            Some(content) => reach(content, add_path),
             None => Ok(None),
         },
     }
@@ -144,16 +144,16 @@ fn announced_in<'a>(
 fn withdrawn_in<'a>(
     fields: AttributeList<'a>,
     form: Form,
-    paths: bool,
+    add_path: bool,
 ) -> Result<Option<Prefixes<'a>>, Attributes>
     ensures ok { IfOk result (λ found.
-        IsWithdrawnIn paths form fields.entry (option_map prefixes_left found)) }
-    ensures err { OnErr result (HasBadUnreach paths form fields.entry) }
+        IsWithdrawnIn add_path form fields.entry (option_map prefixes_left found)) }
+    ensures err { OnErr result (HasBadUnreach add_path form fields.entry) }
 {
     match form {
         Form::Table => Ok(None),
         Form::Message => match only_content(fields, MP_UNREACH_NLRI)? {
-            Some(content) => unreach(content, paths),
+            Some(content) => unreach(content, add_path),
             None => Ok(None),
         },
     }

@@ -1,36 +1,12 @@
 //! First items of paths and of attribute fields.
-ghost use Rattle.std.specs.Prelude.{◌≡◌, ◌≤◌, IfSome, ◌∷◌, [], option_map, MatchOption};
+ghost use Rattle.std.specs.Prelude.{◌≡◌, ◌≤◌, IfSome, option_map};
 ghost use Rattle.bgp_attrs.specs.Attributes.{field_at};
 ghost use Rattle.bgp_attrs.specs.Blocks.{length_at};
 ghost use Rattle.bgp_attrs.specs.Left.{ases_left, field_of};
-ghost use Rattle.bgp_attrs.specs.Segments.{ases_of, as_width, is_kind as kind_test, segment_at};
+ghost use Rattle.bgp_attrs.specs.Segments.{is_kind as kind_test, segment_at};
 
+use crate::fixed::{as_size, take, take_byte, take_two};
 use crate::pieces::{Ases, Attribute};
-
-// How many bytes an AS has.
-pub(crate) fn as_size(wide: bool) -> usize
-    ensures { result ≡ as_width wide }
-{
-    if wide { 4 } else { 2 }
-}
-
-// The first AS.
-pub(crate) fn take_asn(bytes: &[u8], wide: bool) -> Option<(u32, &[u8])>
-    ensures { MatchOption result (ases_of wide bytes.now ≡ [])
-        (λ x. ases_of wide bytes.now ≡ x.0 ∷ ases_of wide x.1.now) }
-{
-    if wide {
-        match bytes {
-            [a, b, c, d, rest @ ..] => Some((u32::from_be_bytes([*a, *b, *c, *d]), rest)),
-            _ => None,
-        }
-    } else {
-        match bytes {
-            [a, b, rest @ ..] => Some((u32::from(u16::from_be_bytes([*a, *b])), rest)),
-            _ => None,
-        }
-    }
-}
 
 fn is_kind(kind: u8) -> bool
     ensures { result ≡ kind_test kind }
@@ -58,23 +34,18 @@ pub(crate) fn take_segment(bytes: &[u8], wide: bool) -> Option<((u8, Ases<'_>), 
     }
 }
 
+// The length of an attribute, in two bytes if it is extended, else in one.
 #[inline(always)]
 fn take_length(bytes: &[u8], extended: bool) -> Option<(usize, &[u8])>
     ensures read { option_map (λ x. (x.0, x.1.now)) result ≡ length_at extended bytes.now }
     ensures short { IfSome result (λ x. x.0 ≤ 65535) }
 {
     if extended {
-        match bytes {
-            [high, low, rest @ ..] => {
-                Some((usize::from(u16::from_be_bytes([*high, *low])), rest))
-            }
-            _ => None,
-        }
+        let (count, rest) = take_two(bytes)?;
+        Some((usize::from(count), rest))
     } else {
-        match bytes {
-            [count, rest @ ..] => Some((usize::from(*count), rest)),
-            _ => None,
-        }
+        let (count, rest) = take_byte(bytes)?;
+        Some((usize::from(count), rest))
     }
 }
 
@@ -87,10 +58,7 @@ pub(crate) fn take_attribute(bytes: &[u8]) -> Option<(Attribute<'_>, &[u8])>
     match bytes {
         [flags, kind, rest @ ..] => {
             let (count, rest) = take_length(rest, *flags & 0x10 != 0)?;
-            if count > rest.len() {
-                return None;
-            }
-            let (content, rest) = rest.split_at(count);
+            let (content, rest) = take(rest, count)?;
             Some((
                 Attribute {
                     kind: *kind,

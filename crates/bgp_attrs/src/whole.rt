@@ -14,17 +14,17 @@ use crate::taking::take_nlri;
 /// The prefixes that the bytes spell, of IPv6 or else of IPv4; `None` exactly where the bytes aren't whole prefixes of that family. It
 /// takes no memory.
 ///
-/// `paths` says that each prefix has a path identifier of four bytes before it (RFC 7911, section 3), which may be any number; without
+/// `add_path` says that each prefix has a path identifier of four bytes before it (RFC 7911, section 3), which may be any number; without
 /// it none has one.
-pub fn prefixes(bytes: &[u8], six: bool, paths: bool) -> Option<Prefixes<'_>>
+pub fn prefixes(bytes: &[u8], six: bool, add_path: bool) -> Option<Prefixes<'_>>
     ensures some { IfSome result (λ found.
-        IsJoined (IsNlri paths six) bytes.now (prefixes_left found)) }
+        IsJoined (IsNlri add_path six) bytes.now (prefixes_left found)) }
     ensures none { IfNone result ((list : List AnyNlri) →
-        IsJoined (IsNlri paths six) bytes.now list → ⊥) }
+        IsJoined (IsNlri add_path six) bytes.now list → ⊥) }
 {
     let mut rest = bytes;
     while !rest.is_empty() {
-        let Some((_, more)) = take_nlri(rest, six, paths) else {
+        let Some((_, more)) = take_nlri(rest, six, add_path) else {
             return None;
         };
         rest = more;
@@ -32,7 +32,7 @@ pub fn prefixes(bytes: &[u8], six: bool, paths: bool) -> Option<Prefixes<'_>>
     Some(Prefixes {
         rest: bytes,
         six,
-        paths,
+        add_path,
     })
 }
 

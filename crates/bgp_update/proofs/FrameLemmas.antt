@@ -41,56 +41,56 @@ frames_same message k l r s p q = heads p.count q.count k l r s p.counts.0 q.cou
 
 -- ---- the parts of an UPDATE
 
-pub no_first : (paths : Bool) (rest : List ℕ) → block_at rest ≡ None → (update : Update) → IsUpdate paths rest update → ⊥
-no_first paths rest none update is = let e = block_reader.only rest is.withdrawn is.more is.first in cc
+pub no_first : (add_path : Bool) (rest : List ℕ) → block_at rest ≡ None → (update : Update) → IsUpdate add_path rest update → ⊥
+no_first add_path rest none update is = let e = block_reader.only rest is.withdrawn is.more is.first in cc
 
-first_is : (paths : Bool) (rest w m : List ℕ) → block_at rest ≡ Some (w, m) → (update : Update) (is : IsUpdate paths rest update) → (is.withdrawn ≡ w) × (is.more ≡ m)
-first_is paths rest w m e update is = some_pair_parts is.withdrawn w is.more m (sym (block_reader.only rest is.withdrawn is.more is.first) ∙ e)
+first_is : (add_path : Bool) (rest w m : List ℕ) → block_at rest ≡ Some (w, m) → (update : Update) (is : IsUpdate add_path rest update) → (is.withdrawn ≡ w) × (is.more ≡ m)
+first_is add_path rest w m e update is = some_pair_parts is.withdrawn w is.more m (sym (block_reader.only rest is.withdrawn is.more is.first) ∙ e)
 
-pub no_second : (paths : Bool) (rest w m : List ℕ) → block_at rest ≡ Some (w, m) → block_at m ≡ None → (update : Update) → IsUpdate paths rest update → ⊥
-no_second paths rest w m e none update is =
-    let f = first_is paths rest w m e update is in
+pub no_second : (add_path : Bool) (rest w m : List ℕ) → block_at rest ≡ Some (w, m) → block_at m ≡ None → (update : Update) → IsUpdate add_path rest update → ⊥
+no_second add_path rest w m e none update is =
+    let f = first_is add_path rest w m e update is in
     let s = block_reader.only is.more update.attributes is.announced is.second in
     let t = ap block_at f.1 in
     cc
 
-second_is : (paths : Bool) (rest w m a n : List ℕ) → block_at rest ≡ Some (w, m) → block_at m ≡ Some (a, n) → (update : Update) (is : IsUpdate paths rest update) → (update.attributes ≡ a) × (is.announced ≡ n)
-second_is paths rest w m a n e f update is =
-    let s = first_is paths rest w m e update is in
+second_is : (add_path : Bool) (rest w m a n : List ℕ) → block_at rest ≡ Some (w, m) → block_at m ≡ Some (a, n) → (update : Update) (is : IsUpdate add_path rest update) → (update.attributes ≡ a) × (is.announced ≡ n)
+second_is add_path rest w m a n e f update is =
+    let s = first_is add_path rest w m e update is in
     some_pair_parts update.attributes a is.announced n (sym (block_reader.only is.more update.attributes is.announced is.second) ∙ ap block_at s.1 ∙ f)
 
-pub no_withdrawn : (paths : Bool) (rest w m : List ℕ) → block_at rest ≡ Some (w, m) → ((ps : List Nlri) → IsJoined (IsNlri paths false) w ps → ⊥) → (update : Update) → IsUpdate paths rest update → ⊥
-no_withdrawn paths rest w m e none update is = none update.withdrawn (subst (λ (bytes : List ℕ). IsJoined (IsNlri paths false) bytes update.withdrawn) (first_is paths rest w m e update is).0 is.are_withdrawn)
+pub no_withdrawn : (add_path : Bool) (rest w m : List ℕ) → block_at rest ≡ Some (w, m) → ((ps : List Nlri) → IsJoined (IsNlri add_path false) w ps → ⊥) → (update : Update) → IsUpdate add_path rest update → ⊥
+no_withdrawn add_path rest w m e none update is = none update.withdrawn (subst (λ (bytes : List ℕ). IsJoined (IsNlri add_path false) bytes update.withdrawn) (first_is add_path rest w m e update is).0 is.are_withdrawn)
 
-pub no_announced : (paths : Bool) (rest w m a n : List ℕ) → block_at rest ≡ Some (w, m) → block_at m ≡ Some (a, n) → ((ps : List Nlri) → IsJoined (IsNlri paths false) n ps → ⊥) → (update : Update) → IsUpdate paths rest update → ⊥
-no_announced paths rest w m a n e f none update is = none update.announced (subst (λ (bytes : List ℕ). IsJoined (IsNlri paths false) bytes update.announced) (second_is paths rest w m a n e f update is).1 is.are_announced)
+pub no_announced : (add_path : Bool) (rest w m a n : List ℕ) → block_at rest ≡ Some (w, m) → block_at m ≡ Some (a, n) → ((ps : List Nlri) → IsJoined (IsNlri add_path false) n ps → ⊥) → (update : Update) → IsUpdate add_path rest update → ⊥
+no_announced add_path rest w m a n e f none update is = none update.announced (subst (λ (bytes : List ℕ). IsJoined (IsNlri add_path false) bytes update.announced) (second_is add_path rest w m a n e f update is).1 is.are_announced)
 
-pub update_made : (paths : Bool) (rest w m a n : List ℕ) (ps qs : List Nlri) → block_at rest ≡ Some (w, m) → block_at m ≡ Some (a, n) → IsJoined (IsNlri paths false) w ps → IsJoined (IsNlri paths false) n qs
-    → IsUpdate paths rest (record { withdrawn = ps; attributes = a; announced = qs })
-update_made paths rest w m a n ps qs e f p q = record { withdrawn = w; more = m; announced = n; first = block_reader.finds rest w m e; second = block_reader.finds m a n f; are_withdrawn = p; are_announced = q }
+pub update_made : (add_path : Bool) (rest w m a n : List ℕ) (ps qs : List Nlri) → block_at rest ≡ Some (w, m) → block_at m ≡ Some (a, n) → IsJoined (IsNlri add_path false) w ps → IsJoined (IsNlri add_path false) n qs
+    → IsUpdate add_path rest (record { withdrawn = ps; attributes = a; announced = qs })
+update_made add_path rest w m a n ps qs e f p q = record { withdrawn = w; more = m; announced = n; first = block_reader.finds rest w m e; second = block_reader.finds m a n f; are_withdrawn = p; are_announced = q }
 
-pub no_message : (paths : Bool) (message : List ℕ) (kind : ℕ) (rest : List ℕ) → IsFramed message kind rest → kind ≡ 2 → ((update : Update) → IsUpdate paths rest update → ⊥) → (shape : Option Update) → IsMessage paths message shape → ⊥
-no_message paths message kind rest framed two none None is = is.3 (sym (frames_same message kind is.0 rest is.1 framed is.2).0 ∙ two)
-no_message paths message kind rest framed two none (Some update) is =
-    none update (subst (λ (r : List ℕ). IsUpdate paths r update) (sym (frames_same message kind 2 rest is.0 framed is.1).1) is.2)
+pub no_message : (add_path : Bool) (message : List ℕ) (kind : ℕ) (rest : List ℕ) → IsFramed message kind rest → kind ≡ 2 → ((update : Update) → IsUpdate add_path rest update → ⊥) → (shape : Option Update) → IsMessage add_path message shape → ⊥
+no_message add_path message kind rest framed two none None is = is.3 (sym (frames_same message kind is.0 rest is.1 framed is.2).0 ∙ two)
+no_message add_path message kind rest framed two none (Some update) is =
+    none update (subst (λ (r : List ℕ). IsUpdate add_path r update) (sym (frames_same message kind 2 rest is.0 framed is.1).1) is.2)
 
-pub no_frame : (paths : Bool) (message : List ℕ) → ((kind : ℕ) (rest : List ℕ) → IsFramed message kind rest → ⊥) → (shape : Option Update) → IsMessage paths message shape → ⊥
-no_frame paths message none None is = none is.0 is.1 is.2
-no_frame paths message none (Some update) is = none 2 is.0 is.1
+pub no_frame : (add_path : Bool) (message : List ℕ) → ((kind : ℕ) (rest : List ℕ) → IsFramed message kind rest → ⊥) → (shape : Option Update) → IsMessage add_path message shape → ⊥
+no_frame add_path message none None is = none is.0 is.1 is.2
+no_frame add_path message none (Some update) is = none 2 is.0 is.1
 
 -- ---- each message has one shape
 
-update_same : (paths : Bool) (rest : List ℕ) (one other : Update) → IsUpdate paths rest one → IsUpdate paths rest other → one ≡ other
-update_same paths rest one other p q =
-    let f = first_is paths rest q.withdrawn q.more (block_reader.only rest q.withdrawn q.more q.first) one p in
-    let s = second_is paths rest q.withdrawn q.more other.attributes q.announced (block_reader.only rest q.withdrawn q.more q.first) (block_reader.only q.more other.attributes q.announced q.second) one p in
-    let withdrawn = joined_same (nlri_reader paths false) q.withdrawn one.withdrawn other.withdrawn (subst (λ (bytes : List ℕ). IsJoined (IsNlri paths false) bytes one.withdrawn) f.0 p.are_withdrawn) q.are_withdrawn in
-    let announced = joined_same (nlri_reader paths false) q.announced one.announced other.announced (subst (λ (bytes : List ℕ). IsJoined (IsNlri paths false) bytes one.announced) s.1 p.are_announced) q.are_announced in
+update_same : (add_path : Bool) (rest : List ℕ) (one other : Update) → IsUpdate add_path rest one → IsUpdate add_path rest other → one ≡ other
+update_same add_path rest one other p q =
+    let f = first_is add_path rest q.withdrawn q.more (block_reader.only rest q.withdrawn q.more q.first) one p in
+    let s = second_is add_path rest q.withdrawn q.more other.attributes q.announced (block_reader.only rest q.withdrawn q.more q.first) (block_reader.only q.more other.attributes q.announced q.second) one p in
+    let withdrawn = joined_same (nlri_reader add_path false) q.withdrawn one.withdrawn other.withdrawn (subst (λ (bytes : List ℕ). IsJoined (IsNlri add_path false) bytes one.withdrawn) f.0 p.are_withdrawn) q.are_withdrawn in
+    let announced = joined_same (nlri_reader add_path false) q.announced one.announced other.announced (subst (λ (bytes : List ℕ). IsJoined (IsNlri add_path false) bytes one.announced) s.1 p.are_announced) q.are_announced in
     λ i. record { withdrawn = withdrawn i; attributes = s.0 i; announced = announced i }
 
-pub message_same : (paths : Bool) (message : List ℕ) (one other : Option Update) → IsMessage paths message one → IsMessage paths message other → one ≡ other
-message_same paths message None None p q = refl
-message_same paths message None (Some update) p q = absurd (p.3 (frames_same message p.0 2 p.1 q.0 p.2 q.1).0)
-message_same paths message (Some update) None p q = absurd (q.3 (frames_same message q.0 2 q.1 p.0 q.2 p.1).0)
-message_same paths message (Some one) (Some other) p q =
-    ap Some (update_same paths q.0 one other (subst (λ (r : List ℕ). IsUpdate paths r one) (frames_same message 2 2 p.0 q.0 p.1 q.1).1 p.2) q.2)
+pub message_same : (add_path : Bool) (message : List ℕ) (one other : Option Update) → IsMessage add_path message one → IsMessage add_path message other → one ≡ other
+message_same add_path message None None p q = refl
+message_same add_path message None (Some update) p q = absurd (p.3 (frames_same message p.0 2 p.1 q.0 p.2 q.1).0)
+message_same add_path message (Some update) None p q = absurd (q.3 (frames_same message q.0 2 q.1 p.0 q.2 p.1).0)
+message_same add_path message (Some one) (Some other) p q =
+    ap Some (update_same add_path q.0 one other (subst (λ (r : List ℕ). IsUpdate add_path r one) (frames_same message 2 2 p.0 q.0 p.1 q.1).1 p.2) q.2)

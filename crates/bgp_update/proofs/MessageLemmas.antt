@@ -27,68 +27,68 @@ use Rattle.bgp_update.proofs.FrameLemmas.{frame_rest, no_first, no_second, no_wi
 
 -- ---- no two readings
 
-updates_same : (paths : Bool) (message : List ℕ) (one other : Update) → IsMessage paths message (Some one) → IsMessage paths message (Some other) → one ≡ other
-updates_same paths message one other p q = same_Some one other (message_same paths message (Some one) (Some other) p q)
+updates_same : (add_path : Bool) (message : List ℕ) (one other : Update) → IsMessage add_path message (Some one) → IsMessage add_path message (Some other) → one ≡ other
+updates_same add_path message one other p q = same_Some one other (message_same add_path message (Some one) (Some other) p q)
 
-not_both : (paths : Bool) (message : List ℕ) (update : Update) → IsMessage paths message None → IsMessage paths message (Some update) → ⊥
-not_both paths message update p q = let e = message_same paths message None (Some update) p q in cc
+not_both : (add_path : Bool) (message : List ℕ) (update : Update) → IsMessage add_path message None → IsMessage add_path message (Some update) → ⊥
+not_both add_path message update p q = let e = message_same add_path message None (Some update) p q in cc
 
-unreadable_read : (wide paths : Bool) (message : List ℕ) (one other : Update) (reading : Reading) → IsMessage paths message (Some one) → IsUnreadable wide Message paths one.attributes → IsMessage paths message (Some other) → IsRead wide Message paths other.attributes reading → ⊥
-unreadable_read wide paths message one other reading p unread q read =
-    unread reading (subst (λ (u : Update). IsRead wide Message paths u.attributes reading) (sym (updates_same paths message one other p q)) read)
+unreadable_read : (wide add_path : Bool) (message : List ℕ) (one other : Update) (reading : Reading) → IsMessage add_path message (Some one) → IsUnreadable wide Message add_path one.attributes → IsMessage add_path message (Some other) → IsRead wide Message add_path other.attributes reading → ⊥
+unreadable_read wide add_path message one other reading p unread q read =
+    unread reading (subst (λ (u : Update). IsRead wide Message add_path u.attributes reading) (sym (updates_same add_path message one other p q)) read)
 
-readings_same : (wide paths : Bool) (message : List ℕ) (one other : Update) (x y : Reading) → IsMessage paths message (Some one) → IsRead wide Message paths one.attributes x → IsMessage paths message (Some other) → IsRead wide Message paths other.attributes y → x ≡ y
-readings_same wide paths message one other x y p read q read_other =
-    attrs.reading_same wide Message paths one.attributes x y read (subst (λ (u : Update). IsRead wide Message paths u.attributes y) (sym (updates_same paths message one other p q)) read_other)
+readings_same : (wide add_path : Bool) (message : List ℕ) (one other : Update) (x y : Reading) → IsMessage add_path message (Some one) → IsRead wide Message add_path one.attributes x → IsMessage add_path message (Some other) → IsRead wide Message add_path other.attributes y → x ≡ y
+readings_same wide add_path message one other x y p read q read_other =
+    attrs.reading_same wide Message add_path one.attributes x y read (subst (λ (u : Update). IsRead wide Message add_path u.attributes y) (sym (updates_same add_path message one other p q)) read_other)
 
-lacks_has : (wide paths : Bool) (message : List ℕ) (one other : Update) (x y : Reading) → IsMessage paths message (Some one) → IsRead wide Message paths one.attributes x → AnnouncesWithoutPath one x
-    → IsMessage paths message (Some other) → IsRead wide Message paths other.attributes y → HasPathIfAnnounced other y → ⊥
-lacks_has wide paths message one other x y p read lacks q read_other has =
-    let updates = updates_same paths message one other p q in
-    let readings = readings_same wide paths message one other x y p read q read_other in
+lacks_has : (wide add_path : Bool) (message : List ℕ) (one other : Update) (x y : Reading) → IsMessage add_path message (Some one) → IsRead wide Message add_path one.attributes x → AnnouncesWithoutPath one x
+    → IsMessage add_path message (Some other) → IsRead wide Message add_path other.attributes y → HasPathIfAnnounced other y → ⊥
+lacks_has wide add_path message one other x y p read lacks q read_other has =
+    let updates = updates_same add_path message one other p q in
+    let readings = readings_same wide add_path message one other x y p read q read_other in
     let here : HasPathIfAnnounced one x = subst (λ (u : Update). HasPathIfAnnounced u x) (sym updates) (subst (HasPathIfAnnounced other) (sym readings) has) in
     lacks.1 (here lacks.0)
 
-makes_same : (wide paths : Bool) (peer : Peer) (message : List ℕ) (noted others : Noted) → MakesChanges wide paths peer message noted → MakesChanges wide paths peer message others → noted ≡ others
-makes_same wide paths peer message noted others p q =
-    let updates = updates_same paths message p.0 q.0 p.1 q.1 in
-    let readings = readings_same wide paths message p.0 q.0 p.2 q.2 p.1 p.3 q.1 q.3 in
+makes_same : (wide add_path : Bool) (peer : Peer) (message : List ℕ) (noted others : Noted) → MakesChanges wide add_path peer message noted → MakesChanges wide add_path peer message others → noted ≡ others
+makes_same wide add_path peer message noted others p q =
+    let updates = updates_same add_path message p.0 q.0 p.1 q.1 in
+    let readings = readings_same wide add_path message p.0 q.0 p.2 q.2 p.1 p.3 q.1 q.3 in
     p.5 ∙ (λ i. noted_of peer (updates i) (readings i)) ∙ sym q.5
 
-noted_same : (wide paths : Bool) (peer : Peer) (message : List ℕ) (noted others : Noted) → IsMessageReading wide paths peer message (Ok noted) → IsMessageReading wide paths peer message (Ok others) → noted ≡ others
-noted_same wide paths peer message noted others (inl p) (inl q) = p.1 ∙ sym q.1
-noted_same wide paths peer message noted others (inl p) (inr q) = absurd (not_both paths message q.0 p.0 q.1)
-noted_same wide paths peer message noted others (inr p) (inl q) = absurd (not_both paths message p.0 q.0 p.1)
-noted_same wide paths peer message noted others (inr p) (inr q) = makes_same wide paths peer message noted others p q
+noted_same : (wide add_path : Bool) (peer : Peer) (message : List ℕ) (noted others : Noted) → IsMessageReading wide add_path peer message (Ok noted) → IsMessageReading wide add_path peer message (Ok others) → noted ≡ others
+noted_same wide add_path peer message noted others (inl p) (inl q) = p.1 ∙ sym q.1
+noted_same wide add_path peer message noted others (inl p) (inr q) = absurd (not_both add_path message q.0 p.0 q.1)
+noted_same wide add_path peer message noted others (inr p) (inl q) = absurd (not_both add_path message p.0 q.0 p.1)
+noted_same wide add_path peer message noted others (inr p) (inr q) = makes_same wide add_path peer message noted others p q
 
-pub reading_same : (wide paths : Bool) (peer : Peer) (message : List ℕ) (one other : Result Noted UpdateFault) → IsMessageReading wide paths peer message one → IsMessageReading wide paths peer message other → one ≡ other
-reading_same wide paths peer message (Err faults.NoMemory) other p q = absurd p
-reading_same wide paths peer message (Err faults.Message) (Err faults.NoMemory) p q = absurd q
-reading_same wide paths peer message (Err faults.Message) (Err faults.Message) p q = refl
-reading_same wide paths peer message (Err faults.Message) (Err faults.Attributes) p q = absurd (p (Some q.0) q.1)
-reading_same wide paths peer message (Err faults.Message) (Err faults.NoPath) p q = absurd (p (Some q.0) q.1)
-reading_same wide paths peer message (Err faults.Message) (Ok noted) p (inl q) = absurd (p None q.0)
-reading_same wide paths peer message (Err faults.Message) (Ok noted) p (inr q) = absurd (p (Some q.0) q.1)
-reading_same wide paths peer message (Err faults.Attributes) (Err faults.NoMemory) p q = absurd q
-reading_same wide paths peer message (Err faults.Attributes) (Err faults.Message) p q = absurd (q (Some p.0) p.1)
-reading_same wide paths peer message (Err faults.Attributes) (Err faults.Attributes) p q = refl
-reading_same wide paths peer message (Err faults.Attributes) (Err faults.NoPath) p q = absurd (unreadable_read wide paths message p.0 q.0 q.2 p.1 p.2 q.1 q.3)
-reading_same wide paths peer message (Err faults.Attributes) (Ok noted) p (inl q) = absurd (not_both paths message p.0 q.0 p.1)
-reading_same wide paths peer message (Err faults.Attributes) (Ok noted) p (inr q) = absurd (unreadable_read wide paths message p.0 q.0 q.2 p.1 p.2 q.1 q.3)
-reading_same wide paths peer message (Err faults.NoPath) (Err faults.NoMemory) p q = absurd q
-reading_same wide paths peer message (Err faults.NoPath) (Err faults.Message) p q = absurd (q (Some p.0) p.1)
-reading_same wide paths peer message (Err faults.NoPath) (Err faults.Attributes) p q = absurd (unreadable_read wide paths message q.0 p.0 p.2 q.1 q.2 p.1 p.3)
-reading_same wide paths peer message (Err faults.NoPath) (Err faults.NoPath) p q = refl
-reading_same wide paths peer message (Err faults.NoPath) (Ok noted) p (inl q) = absurd (not_both paths message p.0 q.0 p.1)
-reading_same wide paths peer message (Err faults.NoPath) (Ok noted) p (inr q) = absurd (lacks_has wide paths message p.0 q.0 p.2 q.2 p.1 p.3 p.4 q.1 q.3 q.4)
-reading_same wide paths peer message (Ok noted) (Err faults.NoMemory) p q = absurd q
-reading_same wide paths peer message (Ok noted) (Err faults.Message) (inl p) q = absurd (q None p.0)
-reading_same wide paths peer message (Ok noted) (Err faults.Message) (inr p) q = absurd (q (Some p.0) p.1)
-reading_same wide paths peer message (Ok noted) (Err faults.Attributes) (inl p) q = absurd (not_both paths message q.0 p.0 q.1)
-reading_same wide paths peer message (Ok noted) (Err faults.Attributes) (inr p) q = absurd (unreadable_read wide paths message q.0 p.0 p.2 q.1 q.2 p.1 p.3)
-reading_same wide paths peer message (Ok noted) (Err faults.NoPath) (inl p) q = absurd (not_both paths message q.0 p.0 q.1)
-reading_same wide paths peer message (Ok noted) (Err faults.NoPath) (inr p) q = absurd (lacks_has wide paths message q.0 p.0 q.2 p.2 q.1 q.3 q.4 p.1 p.3 p.4)
-reading_same wide paths peer message (Ok noted) (Ok others) p q = ap Ok (noted_same wide paths peer message noted others p q)
+pub reading_same : (wide add_path : Bool) (peer : Peer) (message : List ℕ) (one other : Result Noted UpdateFault) → IsMessageReading wide add_path peer message one → IsMessageReading wide add_path peer message other → one ≡ other
+reading_same wide add_path peer message (Err faults.NoMemory) other p q = absurd p
+reading_same wide add_path peer message (Err faults.Message) (Err faults.NoMemory) p q = absurd q
+reading_same wide add_path peer message (Err faults.Message) (Err faults.Message) p q = refl
+reading_same wide add_path peer message (Err faults.Message) (Err faults.Attributes) p q = absurd (p (Some q.0) q.1)
+reading_same wide add_path peer message (Err faults.Message) (Err faults.NoPath) p q = absurd (p (Some q.0) q.1)
+reading_same wide add_path peer message (Err faults.Message) (Ok noted) p (inl q) = absurd (p None q.0)
+reading_same wide add_path peer message (Err faults.Message) (Ok noted) p (inr q) = absurd (p (Some q.0) q.1)
+reading_same wide add_path peer message (Err faults.Attributes) (Err faults.NoMemory) p q = absurd q
+reading_same wide add_path peer message (Err faults.Attributes) (Err faults.Message) p q = absurd (q (Some p.0) p.1)
+reading_same wide add_path peer message (Err faults.Attributes) (Err faults.Attributes) p q = refl
+reading_same wide add_path peer message (Err faults.Attributes) (Err faults.NoPath) p q = absurd (unreadable_read wide add_path message p.0 q.0 q.2 p.1 p.2 q.1 q.3)
+reading_same wide add_path peer message (Err faults.Attributes) (Ok noted) p (inl q) = absurd (not_both add_path message p.0 q.0 p.1)
+reading_same wide add_path peer message (Err faults.Attributes) (Ok noted) p (inr q) = absurd (unreadable_read wide add_path message p.0 q.0 q.2 p.1 p.2 q.1 q.3)
+reading_same wide add_path peer message (Err faults.NoPath) (Err faults.NoMemory) p q = absurd q
+reading_same wide add_path peer message (Err faults.NoPath) (Err faults.Message) p q = absurd (q (Some p.0) p.1)
+reading_same wide add_path peer message (Err faults.NoPath) (Err faults.Attributes) p q = absurd (unreadable_read wide add_path message q.0 p.0 p.2 q.1 q.2 p.1 p.3)
+reading_same wide add_path peer message (Err faults.NoPath) (Err faults.NoPath) p q = refl
+reading_same wide add_path peer message (Err faults.NoPath) (Ok noted) p (inl q) = absurd (not_both add_path message p.0 q.0 p.1)
+reading_same wide add_path peer message (Err faults.NoPath) (Ok noted) p (inr q) = absurd (lacks_has wide add_path message p.0 q.0 p.2 q.2 p.1 p.3 p.4 q.1 q.3 q.4)
+reading_same wide add_path peer message (Ok noted) (Err faults.NoMemory) p q = absurd q
+reading_same wide add_path peer message (Ok noted) (Err faults.Message) (inl p) q = absurd (q None p.0)
+reading_same wide add_path peer message (Ok noted) (Err faults.Message) (inr p) q = absurd (q (Some p.0) p.1)
+reading_same wide add_path peer message (Ok noted) (Err faults.Attributes) (inl p) q = absurd (not_both add_path message q.0 p.0 q.1)
+reading_same wide add_path peer message (Ok noted) (Err faults.Attributes) (inr p) q = absurd (unreadable_read wide add_path message q.0 p.0 p.2 q.1 q.2 p.1 p.3)
+reading_same wide add_path peer message (Ok noted) (Err faults.NoPath) (inl p) q = absurd (not_both add_path message q.0 p.0 q.1)
+reading_same wide add_path peer message (Ok noted) (Err faults.NoPath) (inr p) q = absurd (lacks_has wide add_path message q.0 p.0 q.2 p.2 q.1 q.3 q.4 p.1 p.3 p.4)
+reading_same wide add_path peer message (Ok noted) (Ok others) p q = ap Ok (noted_same wide add_path peer message noted others p q)
 
 -- ---- some reading
 
@@ -131,58 +131,58 @@ frame_from message (inr none) = inr (λ x is. none (is.count ++ (x.0 ∷ x.1)) i
 
 -- ---- the parts
 
-lists_decided : (paths : Bool) (rest w m a n : List ℕ) → block_at rest ≡ Some (w, m) → block_at m ≡ Some (a, n) → SomeOrNone (IsJoined (IsNlri paths false) w) → SomeOrNone (IsJoined (IsNlri paths false) n) → SomeOrNone (IsUpdate paths rest)
-lists_decided paths rest w m a n e f (inl withdrawn) (inl announced) = inl (record { withdrawn = withdrawn.0; attributes = a; announced = announced.0 }, update_made paths rest w m a n withdrawn.0 announced.0 e f withdrawn.1 announced.1)
-lists_decided paths rest w m a n e f (inr none) announced = inr (no_withdrawn paths rest w m e none)
-lists_decided paths rest w m a n e f (inl withdrawn) (inr none) = inr (no_announced paths rest w m a n e f none)
+lists_decided : (add_path : Bool) (rest w m a n : List ℕ) → block_at rest ≡ Some (w, m) → block_at m ≡ Some (a, n) → SomeOrNone (IsJoined (IsNlri add_path false) w) → SomeOrNone (IsJoined (IsNlri add_path false) n) → SomeOrNone (IsUpdate add_path rest)
+lists_decided add_path rest w m a n e f (inl withdrawn) (inl announced) = inl (record { withdrawn = withdrawn.0; attributes = a; announced = announced.0 }, update_made add_path rest w m a n withdrawn.0 announced.0 e f withdrawn.1 announced.1)
+lists_decided add_path rest w m a n e f (inr none) announced = inr (no_withdrawn add_path rest w m e none)
+lists_decided add_path rest w m a n e f (inl withdrawn) (inr none) = inr (no_announced add_path rest w m a n e f none)
 
-second_decided : (paths : Bool) (rest w m : List ℕ) → block_at rest ≡ Some (w, m) → (second : Option (List ℕ × List ℕ)) → block_at m ≡ second → SomeOrNone (IsUpdate paths rest)
-second_decided paths rest w m e None f = inr (no_second paths rest w m e f)
-second_decided paths rest w m e (Some x) f = lists_decided paths rest w m x.0 x.1 e f (joined_decided (nlri_reader paths false) w) (joined_decided (nlri_reader paths false) x.1)
+second_decided : (add_path : Bool) (rest w m : List ℕ) → block_at rest ≡ Some (w, m) → (second : Option (List ℕ × List ℕ)) → block_at m ≡ second → SomeOrNone (IsUpdate add_path rest)
+second_decided add_path rest w m e None f = inr (no_second add_path rest w m e f)
+second_decided add_path rest w m e (Some x) f = lists_decided add_path rest w m x.0 x.1 e f (joined_decided (nlri_reader add_path false) w) (joined_decided (nlri_reader add_path false) x.1)
 
-first_decided : (paths : Bool) (rest : List ℕ) (first : Option (List ℕ × List ℕ)) → block_at rest ≡ first → SomeOrNone (IsUpdate paths rest)
-first_decided paths rest None e = inr (no_first paths rest e)
-first_decided paths rest (Some x) e = second_decided paths rest x.0 x.1 e (block_at x.1) refl
+first_decided : (add_path : Bool) (rest : List ℕ) (first : Option (List ℕ × List ℕ)) → block_at rest ≡ first → SomeOrNone (IsUpdate add_path rest)
+first_decided add_path rest None e = inr (no_first add_path rest e)
+first_decided add_path rest (Some x) e = second_decided add_path rest x.0 x.1 e (block_at x.1) refl
 
-update_in : (paths : Bool) (message : List ℕ) (kind : ℕ) (rest : List ℕ) → IsFramed message kind rest → kind ≡ 2 → SomeOrNone (IsUpdate paths rest) → SomeOrNone (IsMessage paths message)
-update_in paths message kind rest framed two (inl update) = inl (Some update.0, (rest, subst (λ (k : ℕ). IsFramed message k rest) two framed, update.1))
-update_in paths message kind rest framed two (inr none) = inr (no_message paths message kind rest framed two none)
+update_in : (add_path : Bool) (message : List ℕ) (kind : ℕ) (rest : List ℕ) → IsFramed message kind rest → kind ≡ 2 → SomeOrNone (IsUpdate add_path rest) → SomeOrNone (IsMessage add_path message)
+update_in add_path message kind rest framed two (inl update) = inl (Some update.0, (rest, subst (λ (k : ℕ). IsFramed message k rest) two framed, update.1))
+update_in add_path message kind rest framed two (inr none) = inr (no_message add_path message kind rest framed two none)
 
-by_kind : (paths : Bool) (message : List ℕ) (kind : ℕ) (rest : List ℕ) → IsFramed message kind rest → (two : Bool) → (kind == 2) ≡ two → SomeOrNone (IsMessage paths message)
-by_kind paths message kind rest framed true e = update_in paths message kind rest framed (grind (arith, nat_tests)) (first_decided paths rest (block_at rest) refl)
-by_kind paths message kind rest framed false e = inl (None, (kind, rest, framed, λ two. grind (arith, nat_tests)))
+by_kind : (add_path : Bool) (message : List ℕ) (kind : ℕ) (rest : List ℕ) → IsFramed message kind rest → (two : Bool) → (kind == 2) ≡ two → SomeOrNone (IsMessage add_path message)
+by_kind add_path message kind rest framed true e = update_in add_path message kind rest framed (grind (arith, nat_tests)) (first_decided add_path rest (block_at rest) refl)
+by_kind add_path message kind rest framed false e = inl (None, (kind, rest, framed, λ two. grind (arith, nat_tests)))
 
-by_frame : (paths : Bool) (message : List ℕ) → SomeOrNone (IsFrame message) → SomeOrNone (IsMessage paths message)
-by_frame paths message (inl x) = by_kind paths message x.0.0 x.0.1 x.1 (x.0.0 == 2) refl
-by_frame paths message (inr none) = inr (no_frame paths message (λ kind rest is. none (kind, rest) is))
+by_frame : (add_path : Bool) (message : List ℕ) → SomeOrNone (IsFrame message) → SomeOrNone (IsMessage add_path message)
+by_frame add_path message (inl x) = by_kind add_path message x.0.0 x.0.1 x.1 (x.0.0 == 2) refl
+by_frame add_path message (inr none) = inr (no_frame add_path message (λ kind rest is. none (kind, rest) is))
 
-pub message_decided : (paths : Bool) (message : List ℕ) → SomeOrNone (IsMessage paths message)
-message_decided paths message = by_frame paths message (frame_from message (starts_decided marker message))
+pub message_decided : (add_path : Bool) (message : List ℕ) → SomeOrNone (IsMessage add_path message)
+message_decided add_path message = by_frame add_path message (frame_from message (starts_decided marker message))
 
 -- ---- the changes
 
 abbrev HasReading : Bool → Bool → Peer → List ℕ → Type 0
-HasReading wide paths peer message = (result : Result Noted UpdateFault) × IsMessageReading wide paths peer message result
+HasReading wide add_path peer message = (result : Result Noted UpdateFault) × IsMessageReading wide add_path peer message result
 
-by_path : (wide paths : Bool) (peer : Peer) (message : List ℕ) (update : Update) → IsMessage paths message (Some update) → (reading : Reading) → IsRead wide Message paths update.attributes reading
-    → (path : Option (List Segment)) → reading.path ≡ path → (announced : List Nlri) → announced_in update reading ≡ announced → HasReading wide paths peer message
-by_path wide paths peer message update is reading read (Some path) p announced a = (Ok (noted_of peer update reading), inr (update, is, reading, read, (λ none. absurd (let both : Some path ≡ None = sym p ∙ none in cc)), refl))
-by_path wide paths peer message update is reading read None p [] a = (Ok (noted_of peer update reading), inr (update, is, reading, read, (λ none. a), refl))
-by_path wide paths peer message update is reading read None p (prefix ∷ prefixes) a = (Err faults.NoPath, (update, is, reading, read, (p, λ none. (let both : prefix ∷ prefixes ≡ [] = sym a ∙ none in cc))))
+by_path : (wide add_path : Bool) (peer : Peer) (message : List ℕ) (update : Update) → IsMessage add_path message (Some update) → (reading : Reading) → IsRead wide Message add_path update.attributes reading
+    → (path : Option (List Segment)) → reading.path ≡ path → (announced : List Nlri) → announced_in update reading ≡ announced → HasReading wide add_path peer message
+by_path wide add_path peer message update is reading read (Some path) p announced a = (Ok (noted_of peer update reading), inr (update, is, reading, read, (λ none. absurd (let both : Some path ≡ None = sym p ∙ none in cc)), refl))
+by_path wide add_path peer message update is reading read None p [] a = (Ok (noted_of peer update reading), inr (update, is, reading, read, (λ none. a), refl))
+by_path wide add_path peer message update is reading read None p (prefix ∷ prefixes) a = (Err faults.NoPath, (update, is, reading, read, (p, λ none. (let both : prefix ∷ prefixes ≡ [] = sym a ∙ none in cc))))
 
-by_attributes : (wide paths : Bool) (peer : Peer) (message : List ℕ) (update : Update) → IsMessage paths message (Some update) → SomeOrNone (IsRead wide Message paths update.attributes) → HasReading wide paths peer message
-by_attributes wide paths peer message update is (inl x) = by_path wide paths peer message update is x.0 x.1 x.0.path refl (announced_in update x.0) refl
-by_attributes wide paths peer message update is (inr none) = (Err faults.Attributes, (update, is, none))
+by_attributes : (wide add_path : Bool) (peer : Peer) (message : List ℕ) (update : Update) → IsMessage add_path message (Some update) → SomeOrNone (IsRead wide Message add_path update.attributes) → HasReading wide add_path peer message
+by_attributes wide add_path peer message update is (inl x) = by_path wide add_path peer message update is x.0 x.1 x.0.path refl (announced_in update x.0) refl
+by_attributes wide add_path peer message update is (inr none) = (Err faults.Attributes, (update, is, none))
 
-by_message : (wide paths : Bool) (peer : Peer) (message : List ℕ) → SomeOrNone (IsMessage paths message) → HasReading wide paths peer message
-by_message wide paths peer message (inl (None, is)) = (Ok (without_notes []), inl (is, refl))
-by_message wide paths peer message (inl (Some update, is)) = by_attributes wide paths peer message update is (reading_decided wide Message paths update.attributes)
-by_message wide paths peer message (inr none) = (Err faults.Message, none)
+by_message : (wide add_path : Bool) (peer : Peer) (message : List ℕ) → SomeOrNone (IsMessage add_path message) → HasReading wide add_path peer message
+by_message wide add_path peer message (inl (None, is)) = (Ok (without_notes []), inl (is, refl))
+by_message wide add_path peer message (inl (Some update, is)) = by_attributes wide add_path peer message update is (reading_decided wide Message add_path update.attributes)
+by_message wide add_path peer message (inr none) = (Err faults.Message, none)
 
-pub reading_some : (wide paths : Bool) (peer : Peer) (message : List ℕ) → (result : Result Noted UpdateFault) × IsMessageReading wide paths peer message result
-reading_some wide paths peer message = by_message wide paths peer message (message_decided paths message)
+pub reading_some : (wide add_path : Bool) (peer : Peer) (message : List ℕ) → (result : Result Noted UpdateFault) × IsMessageReading wide add_path peer message result
+reading_some wide add_path peer message = by_message wide add_path peer message (message_decided add_path message)
 
-pub one_reading : (wide paths : Bool) (peer : Peer) (message : List ℕ) → HasOne (IsMessageReading wide paths peer message)
-one_reading wide paths peer message =
-    let some = reading_some wide paths peer message in
-    record { one = some.0; is = some.1; only = λ other is. reading_same wide paths peer message other some.0 is some.1 }
+pub one_reading : (wide add_path : Bool) (peer : Peer) (message : List ℕ) → HasOne (IsMessageReading wide add_path peer message)
+one_reading wide add_path peer message =
+    let some = reading_some wide add_path peer message in
+    record { one = some.0; is = some.1; only = λ other is. reading_same wide add_path peer message other some.0 is some.1 }

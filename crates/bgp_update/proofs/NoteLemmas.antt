@@ -39,6 +39,6 @@ noted_has peer update reading has =
     ∙ sym (announced_by peer (trail_in reading) nlris (λ none. has (mapped_none _ reading.path none)))
     ∙ sym (announced_behind peer (withdrawn_in update reading) (all_announcements peer (trail_in reading) nlris))
 
-pub each_has_note : (wide paths : Bool) (peer : Peer) (message : List ℕ) (noted : Noted) → IsMessageReading wide paths peer message (Ok noted) → HasNotes noted
-each_has_note wide paths peer message noted (inl none) = subst HasNotes (sym none.1) refl
-each_has_note wide paths peer message noted (inr makes) = subst HasNotes (sym makes.5) (noted_has peer makes.0 makes.2 makes.4)
+pub each_has_note : (wide add_path : Bool) (peer : Peer) (message : List ℕ) (noted : Noted) → IsMessageReading wide add_path peer message (Ok noted) → HasNotes noted
+each_has_note wide add_path peer message noted (inl none) = subst HasNotes (sym none.1) refl
+each_has_note wide add_path peer message noted (inr makes) = subst HasNotes (sym makes.5) (noted_has peer makes.0 makes.2 makes.4)

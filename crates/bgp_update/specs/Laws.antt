@@ -8,8 +8,8 @@ use Rattle.bgp_update.specs.Updates.{IsMessageReading}
 
 -- each message has exactly one reading
 abbrev pub EachMessageHasOneReading : Type 0
-EachMessageHasOneReading = (wide paths : Bool) (peer : Peer) (message : List ℕ) → HasOne (IsMessageReading wide paths peer message)
+EachMessageHasOneReading = (wide add_path : Bool) (peer : Peer) (message : List ℕ) → HasOne (IsMessageReading wide add_path peer message)
 
 -- each announcement of a message has its note
 abbrev pub EachAnnouncementHasItsNote : Type 0
-EachAnnouncementHasItsNote = (wide paths : Bool) (peer : Peer) (message : List ℕ) (noted : Noted) → IsMessageReading wide paths peer message (Ok noted) → HasNotes noted
+EachAnnouncementHasItsNote = (wide add_path : Bool) (peer : Peer) (message : List ℕ) (noted : Noted) → IsMessageReading wide add_path peer message (Ok noted) → HasNotes noted

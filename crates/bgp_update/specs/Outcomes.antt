@@ -27,8 +27,8 @@ IsOutcomeBy peer update reading (Err faults.NoPath) = AnnouncesWithoutPath updat
 
 -- by the parts
 abbrev pub IsOutcomeOf : Bool → Bool → Peer → Update → Result Noted UpdateFault → Type 0
-IsOutcomeOf wide paths peer update (Err faults.NoMemory) = Unit {0}
-IsOutcomeOf wide paths peer update (Err faults.Message) = ⊥
-IsOutcomeOf wide paths peer update (Err faults.Attributes) = IsUnreadable wide Message paths update.attributes
-IsOutcomeOf wide paths peer update (Err faults.NoPath) = (reading : Reading) × IsRead wide Message paths update.attributes reading × AnnouncesWithoutPath update reading
-IsOutcomeOf wide paths peer update (Ok noted) = (reading : Reading) × IsRead wide Message paths update.attributes reading × HasPathIfAnnounced update reading × (noted ≡ noted_of peer update reading)
+IsOutcomeOf wide add_path peer update (Err faults.NoMemory) = Unit {0}
+IsOutcomeOf wide add_path peer update (Err faults.Message) = ⊥
+IsOutcomeOf wide add_path peer update (Err faults.Attributes) = IsUnreadable wide Message add_path update.attributes
+IsOutcomeOf wide add_path peer update (Err faults.NoPath) = (reading : Reading) × IsRead wide Message add_path update.attributes reading × AnnouncesWithoutPath update reading
+IsOutcomeOf wide add_path peer update (Ok noted) = (reading : Reading) × IsRead wide Message add_path update.attributes reading × HasPathIfAnnounced update reading × (noted ≡ noted_of peer update reading)

@@ -29,19 +29,19 @@ pub record Update : Type 0 where
 
 -- The bytes behind an UPDATE's header: withdrawn IPv4 prefixes and path attributes, each behind their length, and announced IPv4
 -- prefixes to the end. The flag says that each prefix has a path identifier before it (RFC 7911, section 3).
-pub record IsUpdate (paths : Bool) (rest : List ℕ) (update : Update) : Type 0 where
+pub record IsUpdate (add_path : Bool) (rest : List ℕ) (update : Update) : Type 0 where
   pub withdrawn : List ℕ
   pub more : List ℕ
   pub announced : List ℕ
   pub first : Begins IsBlock rest withdrawn more
   pub second : Begins IsBlock more update.attributes announced
-  pub are_withdrawn : IsJoined (IsNlri paths false) withdrawn update.withdrawn
-  pub are_announced : IsJoined (IsNlri paths false) announced update.announced
+  pub are_withdrawn : IsJoined (IsNlri add_path false) withdrawn update.withdrawn
+  pub are_announced : IsJoined (IsNlri add_path false) announced update.announced
 
 -- the message is in form: an UPDATE of these parts, or of another type, whose rest has no form here
 abbrev pub IsMessage : Bool → List ℕ → Option Update → Type 0
-IsMessage paths message None = (kind : ℕ) × (rest : List ℕ) × IsFramed message kind rest × (kind ≢ 2)
-IsMessage paths message (Some update) = (rest : List ℕ) × IsFramed message 2 rest × IsUpdate paths rest update
+IsMessage add_path message None = (kind : ℕ) × (rest : List ℕ) × IsFramed message kind rest × (kind ≢ 2)
+IsMessage add_path message (Some update) = (rest : List ℕ) × IsFramed message 2 rest × IsUpdate add_path rest update
 
 -- all prefixes that are withdrawn: those of the UPDATE, and those of MP_UNREACH_NLRI
 abbrev pub withdrawn_in : Update → Reading → List Nlri
@@ -82,22 +82,22 @@ HasPathIfAnnounced update reading = (reading.path ≡ None) → announced_in upd
 
 -- the message is an UPDATE that makes these changes
 abbrev pub MakesChanges : Bool → Bool → Peer → List ℕ → Noted → Type 0
-MakesChanges wide paths peer message noted =
-    (update : Update) × IsMessage paths message (Some update) × (reading : Reading) × IsRead wide Message paths update.attributes reading × HasPathIfAnnounced update reading × (noted ≡ noted_of peer update reading)
+MakesChanges wide add_path peer message noted =
+    (update : Update) × IsMessage add_path message (Some update) × (reading : Reading) × IsRead wide Message add_path update.attributes reading × HasPathIfAnnounced update reading × (noted ≡ noted_of peer update reading)
 
 -- What the message says: its changes with their notes, or the first fault, by the order of the cases. A case has the readings that the
 -- ones before it deny, so that no two hold at once.
 abbrev pub IsMessageReading : Bool → Bool → Peer → List ℕ → Result Noted UpdateFault → Type 0
-IsMessageReading wide paths peer message (Err faults.Message) = (shape : Option Update) → IsMessage paths message shape → ⊥
-IsMessageReading wide paths peer message (Err faults.Attributes) = (update : Update) × IsMessage paths message (Some update) × IsUnreadable wide Message paths update.attributes
-IsMessageReading wide paths peer message (Err faults.NoPath) = (update : Update) × IsMessage paths message (Some update) × (reading : Reading) × IsRead wide Message paths update.attributes reading × AnnouncesWithoutPath update reading
-IsMessageReading wide paths peer message (Err faults.NoMemory) = ⊥
-IsMessageReading wide paths peer message (Ok noted) = (IsMessage paths message None × (noted ≡ without_notes [])) ⊎ MakesChanges wide paths peer message noted
+IsMessageReading wide add_path peer message (Err faults.Message) = (shape : Option Update) → IsMessage add_path message shape → ⊥
+IsMessageReading wide add_path peer message (Err faults.Attributes) = (update : Update) × IsMessage add_path message (Some update) × IsUnreadable wide Message add_path update.attributes
+IsMessageReading wide add_path peer message (Err faults.NoPath) = (update : Update) × IsMessage add_path message (Some update) × (reading : Reading) × IsRead wide Message add_path update.attributes reading × AnnouncesWithoutPath update reading
+IsMessageReading wide add_path peer message (Err faults.NoMemory) = ⊥
+IsMessageReading wide add_path peer message (Ok noted) = (IsMessage add_path message None × (noted ≡ without_notes [])) ⊎ MakesChanges wide add_path peer message noted
 
 -- the answer is what the message says, or want of memory
 abbrev pub IsMessageOutcome : Bool → Bool → Peer → List ℕ → Result Noted UpdateFault → Type 0
-IsMessageOutcome wide paths peer message (Err faults.Message) = IsMessageReading wide paths peer message (Err faults.Message)
-IsMessageOutcome wide paths peer message (Err faults.Attributes) = IsMessageReading wide paths peer message (Err faults.Attributes)
-IsMessageOutcome wide paths peer message (Err faults.NoPath) = IsMessageReading wide paths peer message (Err faults.NoPath)
-IsMessageOutcome wide paths peer message (Err faults.NoMemory) = Unit {0}
-IsMessageOutcome wide paths peer message (Ok noted) = IsMessageReading wide paths peer message (Ok noted)
+IsMessageOutcome wide add_path peer message (Err faults.Message) = IsMessageReading wide add_path peer message (Err faults.Message)
+IsMessageOutcome wide add_path peer message (Err faults.Attributes) = IsMessageReading wide add_path peer message (Err faults.Attributes)
+IsMessageOutcome wide add_path peer message (Err faults.NoPath) = IsMessageReading wide add_path peer message (Err faults.NoPath)
+IsMessageOutcome wide add_path peer message (Err faults.NoMemory) = Unit {0}
+IsMessageOutcome wide add_path peer message (Ok noted) = IsMessageReading wide add_path peer message (Ok noted)

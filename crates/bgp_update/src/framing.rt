@@ -20,8 +20,9 @@ pub(crate) fn unframed(message: &[u8]) -> Option<(u8, &[u8])>
     }
 }
 
-// The bytes behind the marker.
-fn after_marker(message: &[u8]) -> Option<&[u8]>
+/// The bytes behind the marker of sixteen bytes of ones, with which each message begins (RFC 4271, section 4.1); `None` where it isn't
+/// there.
+pub fn after_marker(message: &[u8]) -> Option<&[u8]>
     ensures some { IfSome result (λ rest. message.now ≡ marker ++ rest.now) }
     ensures none { IfNone result ((rest : List ℕ) → message.now ≡ marker ++ rest → ⊥) }
 {

@@ -11,16 +11,19 @@ use bgp_attrs::{prefixes, take_block};
 const UPDATE: u8 = 2;
 
 // The parts of a message that is an UPDATE; `None` for one in form that is none.
-pub(crate) fn message_parts(message: &[u8], paths: bool) -> Result<Option<Parts<'_>>, UpdateFault>
-    ensures ok { IfOk result (λ parts. IsMessage paths message.now (option_map update_of parts)) }
-    ensures err { OnErr result ((shape : Option Update) → IsMessage paths message.now shape → ⊥) }
+pub(crate) fn message_parts(
+    message: &[u8],
+    add_path: bool,
+) -> Result<Option<Parts<'_>>, UpdateFault>
+    ensures ok { IfOk result (λ parts. IsMessage add_path message.now (option_map update_of parts)) }
+    ensures err { OnErr result ((shape : Option Update) → IsMessage add_path message.now shape → ⊥) }
 {
     match unframed(message) {
         Some((kind, rest)) => {
             if kind != UPDATE {
                 return Ok(None);
             }
-            match update_parts(rest, paths) {
+            match update_parts(rest, add_path) {
                 Some(parts) => Ok(Some(parts)),
                 None => Err(UpdateFault::Message),
             }
@@ -30,14 +33,14 @@ pub(crate) fn message_parts(message: &[u8], paths: bool) -> Result<Option<Parts<
 }
 
 // The parts of the bytes behind an UPDATE's header.
-fn update_parts(rest: &[u8], paths: bool) -> Option<Parts<'_>>
-    ensures some { IfSome result (λ parts. IsUpdate paths rest.now (update_of parts)) }
-    ensures none { IfNone result ((update : Update) → IsUpdate paths rest.now update → ⊥) }
+fn update_parts(rest: &[u8], add_path: bool) -> Option<Parts<'_>>
+    ensures some { IfSome result (λ parts. IsUpdate add_path rest.now (update_of parts)) }
+    ensures none { IfNone result ((update : Update) → IsUpdate add_path rest.now update → ⊥) }
 {
     let (withdrawn, rest) = take_block(rest)?;
     let (attributes, rest) = take_block(rest)?;
-    let withdrawn = prefixes(withdrawn, false, paths)?;
-    let announced = prefixes(rest, false, paths)?;
+    let withdrawn = prefixes(withdrawn, false, add_path)?;
+    let announced = prefixes(rest, false, add_path)?;
     Some(Parts {
         withdrawn,
         attributes,

@@ -6,11 +6,12 @@ use Rattle.std.proofs.lemmas.Option.{same_Some, some_pair_parts}
 use Rattle.std.proofs.lemmas.Bool.Decides.{nat_tests}
 use Rattle.av_base.specs.One.{HasOne}
 use Rattle.held_bytes.specs.Units.{Begins}
-use Rattle.bgp_attrs.specs.Joined.{IsJoined, IsReader, items_of}
-use Rattle.bgp_attrs.proofs.JoinedLemmas.{and_then_some, items_from, joined_from}
+use Rattle.bgp_attrs.specs.Joined.{IsReader, items_of}
+use Rattle.bgp_attrs.proofs.FixedLemmas.{and_then_some, Reads, and_then_is, cut_at, cut_finds}
+use Rattle.bgp_attrs.proofs.JoinedLemmas.{items_from, joined_from}
 use Rattle.bmp_reader.specs.Opens.{Open, Triple, IsTriple, HasOwn, HaveTogether, Carry, IsInForm, HasCapabilities}
-use Rattle.bmp_reader.specs.Readers.{cut, triple_at, own_of, together, carried_in, formed_of, none_or, capabilities_of}
-use Rattle.bmp_reader.proofs.FieldLemmas.{Reads, and_then_is, cut_at, cut_finds}
+use Rattle.bgp_attrs.specs.Fixed.{cut}
+use Rattle.bmp_reader.specs.Readers.{triple_at, own_of, together, carried_in, formed_of, none_or, capabilities_of}
 
 -- ---- one parameter or capability
 

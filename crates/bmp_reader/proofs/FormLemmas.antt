@@ -1,10 +1,10 @@
 -- Bodies are read exactly where they are; and what a body says by its form, where what was read is exactly what has the form.
-use Rattle.std.proofs.Common.{◌≡◌, inl, inr, ℕ, List, [], ◌∷◌, ◌++◌, Some, None, Ok, Err, refl, sym, ap, subst, ◌∙◌}
+use Rattle.std.proofs.Common.{◌≡◌, inl, inr, ℕ, List, ◌∷◌, Some, None, Ok, Err, refl, sym, ap, subst, ◌∙◌}
 use Rattle.std.specs.declared.option.Option.{Option}
 use Rattle.std.specs.declared.result.Result.{Result}
-use Rattle.std.proofs.lemmas.Option.{same_Some, some_pair_parts}
+use Rattle.std.proofs.lemmas.Option.{same_Some}
 use Rattle.held_bytes.specs.Units.{Begins}
-use Rattle.bgp_attrs.proofs.JoinedLemmas.{and_then_some}
+use Rattle.bgp_attrs.proofs.FixedLemmas.{and_then_some, Reads, and_then_is, cut_at, cut_finds, byte_finds}
 use Rattle.bmp_reader.specs.declared.body.Body.{Body}
 use Rattle.bmp_reader.specs.declared.fault.BmpFault.{BmpFault}
 use Rattle.bmp_reader.specs.declared.fault.BmpFault.TheVariants as faults
@@ -13,8 +13,8 @@ use Rattle.bmp_reader.specs.Bodies.{ByForm, OrNoMemory}
 use Rattle.bmp_reader.specs.Forms.{Up, IsRouteMonitoring, IsPeerDown, IsPeerUp}
 use Rattle.bmp_reader.specs.Gathering.{ByParts}
 use Rattle.bmp_reader.specs.Headers.{IsPeerHeader}
-use Rattle.bmp_reader.specs.Readers.{cut, byte_at, header_at, down_at, open_at, up_at}
-use Rattle.bmp_reader.proofs.FieldLemmas.{Reads, and_then_is, cut_at, cut_finds, byte_finds}
+use Rattle.bgp_attrs.specs.Fixed.{cut, byte_at}
+use Rattle.bmp_reader.specs.Readers.{header_at, down_at, open_at, up_at}
 use Rattle.bmp_reader.proofs.HeaderLemmas.{header_reader}
 use Rattle.bmp_reader.proofs.OpenLemmas.{open_reader}
 

@@ -3,12 +3,11 @@ use Rattle.std.proofs.Common.{◌≡◌, ℕ, List, [], ◌∷◌, ◌++◌, len
 use Rattle.std.proofs.lemmas.Option.{some_pair_parts}
 use Rattle.held_bytes.specs.Units.{Begins}
 use Rattle.bgp_attrs.specs.Joined.{IsReader}
-use Rattle.bgp_attrs.proofs.JoinedLemmas.{and_then_some}
+use Rattle.bgp_attrs.proofs.FixedLemmas.{and_then_some, and_then_is, cut_at, cut_finds, four_finds, four_only, addr_finds, addr_only}
 use Rattle.bmp_reader.specs.declared.header.PeerHeader.{PeerHeader}
-use Rattle.bmp_reader.specs.Fields.{SpellsFour, SpellsAddr, unread_size}
-use Rattle.bmp_reader.specs.Headers.{is_six, IsPeerHeader}
-use Rattle.bmp_reader.specs.Readers.{cut, four_at, addr_at, named_at, header_at}
-use Rattle.bmp_reader.proofs.FieldLemmas.{and_then_is, cut_at, cut_finds, four_finds, four_only, addr_finds, addr_only}
+use Rattle.bgp_attrs.specs.Fixed.{SpellsFour, SpellsAddr, cut, four_at, addr_at}
+use Rattle.bmp_reader.specs.Headers.{is_six, IsPeerHeader, unread_size}
+use Rattle.bmp_reader.specs.Readers.{named_at, header_at}
 
 regrouped : (a b c d e rest : List ℕ) → (a ++ (b ++ (c ++ (d ++ e)))) ++ rest ≡ a ++ (b ++ (c ++ (d ++ (e ++ rest))))
 regrouped a b c d e rest = simp append_assoc

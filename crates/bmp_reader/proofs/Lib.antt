@@ -1,5 +1,4 @@
 pub mod CapabilityLemmas
-pub mod FieldLemmas
 pub mod FormLemmas
 pub mod HeaderLemmas
 pub mod LawLemmas

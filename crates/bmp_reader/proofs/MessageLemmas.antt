@@ -1,5 +1,5 @@
 -- Whole messages at the front of a stream.
-use Rattle.std.proofs.Common.{◌≡◌, ◌≢◌, inl, inr, ◌⊎◌, ℕ, ◌+◌, ◌-◌, ◌<◌, ◌≤◌, Bool, true, false, List, [], ◌∷◌, ◌++◌, length, take, drop, Some, None, Ok, Err, refl, sym, ap, subst, ◌∙◌, append_assoc, arith}
+use Rattle.std.proofs.Common.{◌≡◌, inl, inr, ◌⊎◌, ℕ, ◌+◌, ◌<◌, ◌≤◌, Bool, true, false, List, [], ◌∷◌, ◌++◌, length, take, drop, Some, None, Ok, Err, refl, sym, ap, subst, ◌∙◌, append_assoc, arith}
 use Rattle.std.specs.Prelude.{nat_lt}
 use Rattle.std.specs.declared.option.Option.{Option}
 use Rattle.std.specs.declared.result.Result.{Result}
@@ -12,7 +12,7 @@ use Rattle.bmp_reader.specs.declared.fault.BmpFrameFault.{BmpFrameFault}
 use Rattle.bmp_reader.specs.declared.fault.BmpFrameFault.TheVariants as faults
 use Rattle.bmp_reader.specs.declared.heading.Heading.{Heading}
 use Rattle.bmp_reader.specs.Coming.{IsOtherVersion, IsBadLength, IsPartial}
-use Rattle.bmp_reader.specs.Fields.{SpellsFour}
+use Rattle.bgp_attrs.specs.Fixed.{SpellsFour}
 use Rattle.bmp_reader.specs.Headed.{head_at, IsSized, IsHeaded}
 use Rattle.bmp_reader.specs.Messages.{Sent, IsMessage, limit}
 
@@ -199,19 +199,11 @@ headed_by bytes behind count kind (Err faults.CutShort) version e s = absurd s
 
 -- ---- what the framer takes off
 
--- the body of a message that was taken off ends what was taken
-taken_body : (taken old : List ℕ) (size : ℕ) → 6 + size ≤ length old → drop (length (taken ++ take (6 + size) old) - size) (taken ++ take (6 + size) old) ≡ take size (drop 6 old)
-taken_body taken old size long =
-    let front = take (6 + size) old in
-    let whole : length front ≡ 6 + size = omega (arith, length-take (6 + size) old) in
-    let place : length (taken ++ front) - size ≡ length taken + 6 = omega (arith, length-append taken front) in
-    ap (λ (n : ℕ). drop n (taken ++ front)) place ∙ sym (drop-drop 6 (length taken) (taken ++ front)) ∙ ap (drop 6) (drop_at taken front (length taken) refl) ∙ drop-take 6 size old
-
 -- the message that was taken off
-pub next_message : (taken old behind body : List ℕ) (size kind : ℕ) → old ≡ 3 ∷ behind → head_at behind ≡ Some (6 + size, kind) → 6 + size ≤ limit → 6 + size ≤ length old
-    → body ≡ drop (length (taken ++ take (6 + size) old) - size) (taken ++ take (6 + size) old) → Begins IsMessage old (record { kind = kind; body = body }) (drop (6 + size) old)
-next_message taken old behind body size kind version e allowed long body-is =
+pub next_message : (old behind body : List ℕ) (size kind : ℕ) → old ≡ 3 ∷ behind → head_at behind ≡ Some (6 + size, kind) → 6 + size ≤ limit → 6 + size ≤ length old → body ≡ drop 6 (take (6 + size) old)
+    → Begins IsMessage old (record { kind = kind; body = body }) (drop (6 + size) old)
+next_message old behind body size kind version e allowed long body-is =
     let made = message_made old behind size kind version e allowed long in
-    let body-same : take size (drop 6 old) ≡ body = sym (taken_body taken old size long) ∙ sym body-is in
+    let body-same : take size (drop 6 old) ≡ body = sym (drop-take 6 size old) ∙ sym body-is in
     let a = subst (λ (b : List ℕ). Begins IsMessage old (record { kind = kind; body = b }) (drop size (drop 6 old))) body-same made in
     subst (λ (r : List ℕ). Begins IsMessage old (record { kind = kind; body = body }) r) (drop-drop size 6 old) a

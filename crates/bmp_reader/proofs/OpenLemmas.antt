@@ -8,11 +8,11 @@ use Rattle.std.proofs.lemmas.Bool.Decides.{nat_tests}
 use Rattle.held_bytes.specs.Units.{Begins}
 use Rattle.bgp_attrs.specs.Blocks.{IsLength}
 use Rattle.bgp_attrs.specs.Joined.{IsReader}
-use Rattle.bgp_attrs.proofs.JoinedLemmas.{and_then_some}
-use Rattle.bgp_update.specs.Frames.{marker, IsFramed}
+use Rattle.bgp_attrs.proofs.FixedLemmas.{and_then_some, and_then_is, cut_at, cut_finds, byte_finds, two_finds, two_only}
+use Rattle.bgp_update.specs.Frames.{marker}
 use Rattle.bmp_reader.specs.Opens.{Open, IsOpen}
-use Rattle.bmp_reader.specs.Readers.{cut, byte_at, two_at, behind_of, left_of, opening_at, open_at}
-use Rattle.bmp_reader.proofs.FieldLemmas.{and_then_is, cut_at, cut_finds, byte_finds, two_finds, two_only}
+use Rattle.bgp_attrs.specs.Fixed.{cut, byte_at, two_at}
+use Rattle.bmp_reader.specs.Readers.{behind_of, left_of, opening_at, open_at}
 
 -- ---- the bytes behind others
 
@@ -80,6 +80,11 @@ typed_of size = option_and_then (λ (typed : List ℕ). Some (size.0, typed)) (b
 
 abbrev sized_of : List ℕ → Option (ℕ × List ℕ)
 sized_of marked = option_and_then typed_of (two_at marked)
+
+-- without the marker there is none
+pub no_opening : (bytes : List ℕ) → ((rest : List ℕ) → bytes ≡ marker ++ rest → ⊥) → None ≡ opening_at bytes
+unfolding opening_at
+no_opening bytes none = ap (option_and_then sized_of) (behind_none marker bytes none)
 
 opening_here : (count rest : List ℕ) (size : ℕ) → IsLength true count size → opening_at (marker ++ (count ++ (1 ∷ rest))) ≡ Some (size, rest)
 unfolding opening_at

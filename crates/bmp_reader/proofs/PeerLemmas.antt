@@ -1,5 +1,5 @@
 -- A set of peers by its keys.
-use Rattle.std.proofs.Common.{◌≡◌, Bool, true, false, cond, not, ◌&&◌, ◌||◌, List, refl, ap, sym, ◌∙◌}
+use Rattle.std.proofs.Common.{◌≡◌, Bool, true, false, cond, not, ◌&&◌, ◌||◌, List, refl, sym, ◌∙◌}
 use Rattle.std.specs.FinSet.{contains, insert, remove, from_list, contains-from_list, contains-insert, contains-remove, same_set}
 use Rattle.std.specs.List.{list_any}
 use Rattle.std.specs.Ordering.{eq_by_cmp}

@@ -51,8 +51,8 @@ unless_reads false P never is = never is
 -- ---- what the OPENs tell
 
 -- whether both have ADD-PATH
-both_paths : (sent received : List Triple) → IsTrue ((see_all unseen sent).paths && (see_all unseen received).paths) ↔ (HasPaths sent × HasPaths received)
-both_paths sent received = by_tests (see_all unseen sent).paths (see_all unseen received).paths (all_seen sent).paths (all_seen received).paths
+both_paths : (sent received : List Triple) → IsTrue ((see_all unseen sent).add_path && (see_all unseen received).add_path) ↔ (HasPaths sent × HasPaths received)
+both_paths sent received = by_tests (see_all unseen sent).add_path (see_all unseen received).add_path (all_seen sent).add_path (all_seen received).add_path
   where
     by_tests : (p q : Bool) → IsTrue p ↔ HasPaths sent → IsTrue q ↔ HasPaths received → IsTrue (p && q) ↔ (HasPaths sent × HasPaths received)
     by_tests true true s r = (λ on. (s.0 refl, r.0 refl), λ has. refl)
@@ -61,7 +61,7 @@ both_paths sent received = by_tests (see_all unseen sent).paths (see_all unseen 
 
 -- what is seen of the capabilities of both is told
 pub seen_tells : (up : Up)
-    → Tells up (role_told (see_all unseen (capabilities_of up.received)).told) ((see_all unseen (capabilities_of up.sent)).paths && (see_all unseen (capabilities_of up.received)).paths)
+    → Tells up (role_told (see_all unseen (capabilities_of up.received)).told) ((see_all unseen (capabilities_of up.sent)).add_path && (see_all unseen (capabilities_of up.received)).add_path)
 seen_tells up = record {
   sent = capabilities_of up.sent;
   received = capabilities_of up.received;
@@ -73,11 +73,11 @@ seen_tells up = record {
 
 -- what a Peer Up says, of what is seen of its OPENs
 pub opens_say : (up : Up) (role : Option Role) (sent received : Seen) (paths : Bool) → sent ≡ see_all unseen (capabilities_of up.sent) → received ≡ see_all unseen (capabilities_of up.received) → role ≡ role_told received.told
-    → paths ≡ (sent.paths && received.paths) → OpensSay up (Ok (bodies.Up up.header.peer role paths))
+    → paths ≡ (sent.add_path && received.add_path) → OpensSay up (Ok (bodies.Up up.header.peer role paths))
 opens_say up role sent received paths s r t b =
-    let both : paths ≡ ((see_all unseen (capabilities_of up.sent)).paths && (see_all unseen (capabilities_of up.received)).paths) = b ∙ (λ i. (s i).paths && (r i).paths) in
+    let both : paths ≡ ((see_all unseen (capabilities_of up.sent)).add_path && (see_all unseen (capabilities_of up.received)).add_path) = b ∙ (λ i. (s i).add_path && (r i).add_path) in
     let told : role ≡ role_told (see_all unseen (capabilities_of up.received)).told = t ∙ ap (λ (x : Seen). role_told x.told) r in
-    (role, paths, subst (λ (x : Bool). Tells up role x) (sym both) (subst (λ (x : Option Role). Tells up x ((see_all unseen (capabilities_of up.sent)).paths && (see_all unseen (capabilities_of up.received)).paths)) (sym told) (seen_tells up)), refl)
+    (role, paths, subst (λ (x : Bool). Tells up role x) (sym both) (subst (λ (x : Option Role). Tells up x ((see_all unseen (capabilities_of up.sent)).add_path && (see_all unseen (capabilities_of up.received)).add_path)) (sym told) (seen_tells up)), refl)
 
 tells_same : (up : Up) (one other : Option Role) (paths also : Bool) → Tells up one paths → Tells up other also → (one ≡ other) × (paths ≡ also)
 tells_same up one other paths also p q =
@@ -96,7 +96,7 @@ opens_same up one other p q =
 opens_some : (up : Up) → Says (OpensSay up)
 opens_some up =
     let role = role_told (see_all unseen (capabilities_of up.received)).told in
-    let paths = (see_all unseen (capabilities_of up.sent)).paths && (see_all unseen (capabilities_of up.received)).paths in
+    let paths = (see_all unseen (capabilities_of up.sent)).add_path && (see_all unseen (capabilities_of up.received)).add_path in
     (Ok (bodies.Up up.header.peer role paths), (role, paths, seen_tells up, refl))
 
 -- ---- the kinds

@@ -1,9 +1,8 @@
 -- What is seen of capabilities is what they tell.
-use Rattle.std.proofs.Common.{◌≡◌, ◌≢◌, inl, inr, ℕ, Bool, true, false, cond, List, [], ◌∷◌, ◌++◌, length, Some, None, refl, sym, ap, subst, ◌∙◌, append_assoc, true≢false, arith}
+use Rattle.std.proofs.Common.{◌≡◌, ◌≢◌, inl, inr, ℕ, Bool, true, false, cond, List, [], ◌∷◌, ◌++◌, Some, None, refl, sym, ap, subst, ◌∙◌, append_assoc, true≢false, arith}
 use Rattle.std.specs.Prelude.{◌==◌, ◌||◌, ◌↔◌, IsTrue}
 use Rattle.std.specs.declared.option.Option.{Option}
 use Rattle.std.specs.List.{Contains}
-use Rattle.std.proofs.lemmas.Option.{same_Some}
 use Rattle.std.proofs.lemmas.List.{append-nil}
 use Rattle.std.proofs.lemmas.List.Elements.{Contains-append_left, Contains-push, Contains-push_cases}
 use Rattle.std.proofs.lemmas.Bool.Decides.{nat_tests}
@@ -94,16 +93,16 @@ paths_more front false last says = by_test (last.code == 69) refl
 
 pub record IsSeen (front : List Triple) (seen : Seen) : Type 0 where
   pub told : IsTold front seen.told
-  pub paths : SaysPaths front seen.paths
+  pub add_path : SaysPaths front seen.add_path
 
 nowhere : (t : Triple) → Contains [] t → ⊥
 nowhere t has = let less = has.1 in omega arith
 
 none_seen : IsSeen [] unseen
-none_seen = record { told = λ value has. nowhere (role_capability value) has; paths = (λ on. absurd (true≢false (sym on)), λ has. absurd (nowhere (record { code = 69; value = has.0 }) has.1)) }
+none_seen = record { told = λ value has. nowhere (role_capability value) has; add_path = (λ on. absurd (true≢false (sym on)), λ has. absurd (nowhere (record { code = 69; value = has.0 }) has.1)) }
 
 one_seen : (front : List Triple) (seen : Seen) (last : Triple) → IsSeen front seen → IsSeen (front ++ last ∷ []) (see seen last)
-one_seen front seen last is = record { told = told_more front seen.told last is.told; paths = paths_more front seen.paths last is.paths }
+one_seen front seen last is = record { told = told_more front seen.told last is.told; add_path = paths_more front seen.add_path last is.add_path }
 
 more_seen : (front : List Triple) (seen : Seen) (capabilities : List Triple) → IsSeen front seen → IsSeen (front ++ capabilities) (see_all seen capabilities)
 more_seen front seen [] is = subst (λ (ts : List Triple). IsSeen ts seen) (sym (append-nil front)) is

@@ -1,6 +1,5 @@
 -- The messages of a stream: some, and no others.
 use Rattle.std.proofs.Common.{inl, inr, ℕ, List, length, ap, arith}
-use Rattle.std.proofs.lemmas.List.{length-append}
 use Rattle.av_base.specs.One.{HasOnePair}
 use Rattle.held_bytes.proofs.UnitLemmas.{one_division}
 use Rattle.held_bytes.specs.Divided.{BeginsOrNot, Divides}

@@ -4,7 +4,8 @@ use Rattle.std.specs.Prelude.{option_map, option_and_then}
 use Rattle.std.specs.declared.option.Option.{Option}
 use Rattle.std.proofs.lemmas.Option.{some_pair_parts}
 use Rattle.bgp_attrs.specs.Joined.{items_of}
-use Rattle.bgp_attrs.proofs.JoinedLemmas.{Shortens, shortens, items-nil, items-none, items-step, option_map_some, and_then_some}
+use Rattle.bgp_attrs.proofs.FixedLemmas.{and_then_some}
+use Rattle.bgp_attrs.proofs.JoinedLemmas.{Shortens, shortens, items-nil, items-none, items-step, option_map_some}
 use Rattle.bmp_reader.specs.declared.seen.Seen.{Seen}
 use Rattle.bmp_reader.specs.Opens.{Triple}
 use Rattle.bmp_reader.specs.Readers.{triple_at, own_of, together, carried_in}

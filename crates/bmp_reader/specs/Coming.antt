@@ -6,7 +6,7 @@ use Rattle.held_bytes.specs.Units.{Begins, BeginsWithNone}
 use Rattle.bmp_reader.specs.declared.fault.BmpFrameFault.{BmpFrameFault}
 use Rattle.bmp_reader.specs.declared.fault.BmpFrameFault.TheVariants as faults
 use Rattle.bmp_reader.specs.declared.framer.Message.{Message}
-use Rattle.bmp_reader.specs.Fields.{SpellsFour}
+use Rattle.bgp_attrs.specs.Fixed.{SpellsFour}
 use Rattle.bmp_reader.specs.Messages.{Sent, IsMessage, limit}
 
 -- a lent message as contracts see it

@@ -1,7 +1,7 @@
 -- Per-peer headers: of whom a message tells (RFC 7854, section 4.2).
-use Rattle.std.specs.Prelude.{◌≡◌, ℕ, ◌==◌, not, bit_and, Bool, List, ◌∷◌, ◌++◌, length}
+use Rattle.std.specs.Prelude.{◌≡◌, ℕ, ◌==◌, not, bit_and, Bool, true, false, List, ◌∷◌, ◌++◌, length}
 use Rattle.bmp_reader.specs.declared.header.PeerHeader.{PeerHeader}
-use Rattle.bmp_reader.specs.Fields.{SpellsFour, SpellsAddr, unread_size}
+use Rattle.bgp_attrs.specs.Fixed.{SpellsFour, SpellsAddr}
 
 -- the flags of a peer: an address of IPv6; routes behind the inbound policy; ASes of two bytes in AS_PATH, so that
 -- without the flag they have four; others aren't read
@@ -13,6 +13,11 @@ is_post flags = not (bit_and flags 64 == 0)
 
 abbrev pub is_wide : ℕ → Bool
 is_wide flags = bit_and flags 32 == 0
+
+-- how many bytes stand unread before an address in a field of sixteen bytes
+abbrev pub unread_size : Bool → ℕ
+unread_size true = 0
+unread_size false = 12
 
 -- The bytes spell one header: the peer's type, its flags, eight bytes of distinguisher, its address in the last of sixteen bytes, its AS,
 -- four bytes of identifier and eight of time.

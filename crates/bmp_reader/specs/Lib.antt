@@ -1,6 +1,5 @@
 pub mod Bodies
 pub mod Coming
-pub mod Fields
 pub mod Forms
 pub mod Gathering
 pub mod Headed

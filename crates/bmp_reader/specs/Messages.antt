@@ -1,6 +1,6 @@
 -- Messages of a stream: a header of six bytes, and a body (RFC 7854, section 4.1).
 use Rattle.std.specs.Prelude.{◌≡◌, ℕ, ◌+◌, ◌≤◌, List, ◌∷◌, ◌++◌, length}
-use Rattle.bmp_reader.specs.Fields.{SpellsFour}
+use Rattle.bgp_attrs.specs.Fixed.{SpellsFour}
 
 -- the most bytes that a message has here, with its header
 abbrev pub limit : ℕ

@@ -1,6 +1,5 @@
 -- OPEN messages (RFC 4271, sections 4.1 and 4.2), and the capabilities in them (RFC 5492, section 4).
 use Rattle.std.specs.Prelude.{◌≡◌, ◌≢◌, ℕ, ◌⊎◌, List, [], ◌∷◌, ◌++◌, length}
-use Rattle.held_bytes.specs.Units.{Begins}
 use Rattle.bgp_attrs.specs.Joined.{IsJoined}
 use Rattle.bgp_update.specs.Frames.{IsFramed}
 

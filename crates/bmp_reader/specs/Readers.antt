@@ -1,52 +1,15 @@
 -- Headers, OPENs and capabilities, read from the left: each reader gives the value and the bytes behind it, or None where it is cut. Only
 -- private contracts cite it; `HeaderLemmas`, `OpenLemmas` and `FormLemmas` say that each reads exactly what `Headers`, `Opens` and `Forms`
 -- say.
-use Rattle.std.specs.Prelude.{ℕ, ◌==◌, ◌-◌, nat_lt, Bool, true, false, if◌then◌else◌, List, [], ◌∷◌, ◌++◌, length, take, drop, Some, None, option_and_then}
+use Rattle.std.specs.Prelude.{ℕ, ◌==◌, ◌-◌, nat_lt, if◌then◌else◌, List, [], ◌∷◌, ◌++◌, length, Some, None}
 use Rattle.std.specs.declared.option.Option.{Option}
-use Rattle.std.specs.Int.{w16, w32, from_be_bytes}
-use Rattle.path_model.specs.declared.addr.Addr.{Addr}
 use Rattle.bgp_attrs.specs.Joined.{items_of}
-use Rattle.bgp_attrs.specs.Prefixes.{addr_of}
+use Rattle.bgp_attrs.specs.Fixed.{◌>>=◌, cut, byte_at, two_at, four_at, addr_at}
 use Rattle.bgp_update.specs.Frames.{marker}
 use Rattle.bmp_reader.specs.declared.header.PeerHeader.{PeerHeader}
-use Rattle.bmp_reader.specs.Fields.{addr_size, unread_size}
 use Rattle.bmp_reader.specs.Forms.{Up}
-use Rattle.bmp_reader.specs.Headers.{is_six}
+use Rattle.bmp_reader.specs.Headers.{is_six, unread_size}
 use Rattle.bmp_reader.specs.Opens.{Open, Triple}
-
--- one field, and then the next
-infixl 10 ◌>>=◌
-abbrev pub ◌>>=◌ : {A B : Type 0} → Option A → (A → Option B) → Option B
-o >>= f = option_and_then f o
-
--- so many bytes
-abbrev pub cut : ℕ → List ℕ → Option (List ℕ × List ℕ)
-cut n bytes = if nat_lt (length bytes) n then None else Some (take n bytes, drop n bytes)
-
--- a number of one byte
-abbrev pub byte_at : List ℕ → Option (ℕ × List ℕ)
-byte_at (n ∷ rest) = Some (n, rest)
-byte_at [] = None
-
--- a number of two bytes
-unfoldable pub two_at : List ℕ → Option (ℕ × List ℕ)
-two_at (a ∷ b ∷ rest) = Some (from_be_bytes w16 (a ∷ b ∷ []), rest)
-two_at (a ∷ []) = None
-two_at [] = None
-
--- a number of four bytes
-unfoldable pub four_at : List ℕ → Option (ℕ × List ℕ)
-four_at (a ∷ b ∷ c ∷ d ∷ rest) = Some (from_be_bytes w32 (a ∷ b ∷ c ∷ d ∷ []), rest)
-four_at (a ∷ b ∷ c ∷ []) = None
-four_at (a ∷ b ∷ []) = None
-four_at (a ∷ []) = None
-four_at [] = None
-
--- an address
-unfoldable pub addr_at : Bool → List ℕ → Option (Addr × List ℕ)
-addr_at six bytes = do
-  part ← cut (addr_size six) bytes
-  Some (addr_of six part.0, part.1)
 
 -- ---- per-peer headers
 

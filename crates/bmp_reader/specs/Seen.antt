@@ -1,5 +1,5 @@
 -- What has been seen of capabilities, one after another; only private contracts cite it.
-use Rattle.std.specs.Prelude.{◌≡◌, ℕ, ◌==◌, ◌||◌, Bool, true, false, if◌then◌else◌, List, [], ◌∷◌, Some, None, option_map}
+use Rattle.std.specs.Prelude.{ℕ, ◌==◌, ◌||◌, false, if◌then◌else◌, List, [], ◌∷◌, Some, None, option_map}
 use Rattle.std.specs.declared.option.Option.{Option}
 use Rattle.path_model.specs.declared.role.Role.{Role}
 use Rattle.bmp_reader.specs.declared.seen.Seen.{Seen}
@@ -7,11 +7,12 @@ use Rattle.bmp_reader.specs.declared.seen.Told.{Told}
 use Rattle.bmp_reader.specs.declared.seen.Told.TheVariants.{Nothing, Value, Several}
 use Rattle.bmp_reader.specs.Learning.{role_of_value}
 use Rattle.bmp_reader.specs.Opens.{Triple}
-use Rattle.bmp_reader.specs.Readers.{◌>>=◌, triple_at, own_of}
+use Rattle.bgp_attrs.specs.Fixed.{◌>>=◌}
+use Rattle.bmp_reader.specs.Readers.{triple_at, own_of}
 
 -- nothing
 abbrev pub unseen : Seen
-unseen = record { told = Nothing; paths = false }
+unseen = record { told = Nothing; add_path = false }
 
 -- one value more is told
 abbrev pub told_also : Told → ℕ → Told
@@ -29,7 +30,7 @@ told_by told (a ∷ b ∷ rest) = told
 abbrev pub see : Seen → Triple → Seen
 see seen capability = record {
   told = if capability.code == 9 then told_by seen.told capability.value else seen.told;
-  paths = seen.paths || (capability.code == 69);
+  add_path = seen.add_path || (capability.code == 69);
 }
 
 abbrev pub see_all : Seen → List Triple → Seen

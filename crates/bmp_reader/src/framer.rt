@@ -1,12 +1,12 @@
 //! Messages cut out of a stream that comes in pieces.
-ghost use Rattle.std.specs.Prelude.{◌≡◌, ◌≢◌, ◌↔◌, ◌≤◌, ◌+◌, ◌++◌, [], length, take, OnOk, OnErr, IfOk, IsErrOf, IsTrue};
+ghost use Rattle.std.specs.Prelude.{◌≡◌, ◌≢◌, ◌↔◌, ◌++◌, [], OnOk, OnErr, IfOk, IsErrOf, IsTrue};
 ghost use Rattle.std.specs.Borrow.{sem};
 ghost use Rattle.std.specs.Io.BufRead.{Rests};
 
 use crate::fault::BmpFrameFault;
-use crate::heading::whole_head;
+use crate::heading::{HEADER, whole_head};
 use av_base::NoMemory;
-use held_bytes::{HeldBytes, Room};
+use held_bytes::HeldBytes;
 use std::alloc::Global;
 use std::marker::Model;
 
@@ -44,39 +44,32 @@ impl Framer {
     pub fn new(alloc: Global) -> Framer
         ensures { result ≡ [] }
     {
-        Framer {
-            held: HeldBytes::new(alloc),
-        }
+        Framer::from_held(HeldBytes::new(alloc))
     }
 
     /// Appends a piece of the stream. What was taken before is let go here, so that a byte of a message is moved at most once for each
     /// piece that comes before the message is whole.
-    pub fn feed(self, piece: &[u8]) -> Result<Framer, NoMemory>
+    pub fn feed(mut self, piece: &[u8]) -> Result<Framer, NoMemory>
         ensures { IfOk result (λ framer. framer ≡ self ++ piece.now) }
     {
-        let Framer { held } = self;
-        let held = held.feed(piece)?;
-        Ok(Framer { held })
+        self.held.push(piece)?;
+        Ok(self)
     }
 
-    /// Gives the buffer out, with room for at least so many bytes behind those that are held. What was taken before is let go here. The
-    /// buffer grows only where more of a message that isn't whole is held than at each read before, and its room doubles.
-    pub fn into_room(self, count: usize) -> Result<Room, NoMemory>
-        ensures held { IfOk result (λ room. take room.held room.bytes.items ≡ self) }
-        ensures room { IfOk result (λ room. room.held + count ≤ length room.bytes.items) }
+    /// A framer over bytes that are held. It takes no memory and moves no byte.
+    pub fn from_held(held: HeldBytes) -> Framer
+        ensures { result ≡ held.left }
     {
-        let Framer { held } = self;
-        held.into_room(count)
+        Framer { held }
     }
 
-    /// Takes a buffer back, of which the bytes up to `end` are held now. It takes no memory and moves no byte.
-    pub fn from_room(room: Room, end: usize) -> Framer
-        requires { end ≤ length room.bytes.items }
-        ensures { result ≡ take end room.bytes.items }
+    /// The bytes that are held, for what reads the stream into their buffer. It grows only where more of a message that isn't whole is
+    /// held than at each read before, and its room doubles.
+    pub fn into_held(self) -> HeldBytes
+        ensures { result.left ≡ self }
     {
-        Framer {
-            held: HeldBytes::from_room(room, end),
-        }
+        let Framer { held } = self;
+        held
     }
 
     /// Takes the first message off and lends its body. It takes no memory and moves no byte.
@@ -90,9 +83,7 @@ impl Framer {
     {
         match whole_head(self.held.front()) {
             Ok(Some(head)) => {
-                self.held.drop_front(6 + head.size);
-                let taken = self.held.taken();
-                let (_, body) = taken.split_at(taken.len() - head.size);
+                let (_, body) = self.held.take(HEADER + head.size).split_at(HEADER);
                 Ok(Some(Message {
                     body,
                     kind: head.kind,

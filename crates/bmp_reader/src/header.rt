@@ -1,11 +1,11 @@
 //! Per-peer headers.
 ghost use Rattle.std.specs.Prelude.{◌≡◌, option_map};
 ghost use Rattle.bmp_reader.specs.Bodies.{is_elsewhere as is_elsewhere_by, is_of_other as is_of_other_view};
-ghost use Rattle.bmp_reader.specs.Headers.{is_wide as is_wide_by};
+ghost use Rattle.bmp_reader.specs.Headers.{is_wide as is_wide_by, unread_size};
 ghost use Rattle.bmp_reader.specs.Readers.{named_at, header_at, down_at};
 
-use crate::fields::{size_before_addr, take, take_addr, take_byte, take_four};
 use crate::view::View;
+use bgp_attrs::{take, take_addr, take_byte, take_four};
 use path_model::Peer;
 
 /// What the header of a peer says: the peer's type, its flags, and the peer.
@@ -67,6 +67,13 @@ fn take_named(kind: u8, flags: u8, bytes: &[u8]) -> Option<(PeerHeader, &[u8])>
     let (_, rest) = take(rest, 12)?;
     let peer = Peer { addr, asn };
     Some((PeerHeader { peer, kind, flags }, rest))
+}
+
+// How many bytes stand before an address in a field of sixteen bytes.
+fn size_before_addr(six: bool) -> usize
+    ensures { result ≡ unread_size six }
+{
+    if six { 0 } else { 12 }
 }
 
 // The header of a Peer Down, where a reason is behind it.

@@ -3,13 +3,13 @@ ghost use Rattle.std.specs.Prelude.{◌≡◌, length};
 ghost use Rattle.bmp_reader.specs.Headed.{IsHeaded, IsSized, head_at};
 
 use crate::fault::BmpFrameFault;
-use crate::fields::take_byte;
+use bgp_attrs::take_byte;
 
 // The version that is read.
 const VERSION: u8 = 3;
 
 // The bytes of a header.
-const HEADER: usize = 6;
+pub(crate) const HEADER: usize = 6;
 
 // The most bytes of a message.
 const LIMIT: usize = 4_194_304;

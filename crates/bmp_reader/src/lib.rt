@@ -8,13 +8,12 @@
 //! them from `LawLemmas`, `ReadingLemmas` and `NoteLemmas`.
 //!
 //! Begin reading at `specs/Messages.antt` and `specs/Bodies.antt`. `heading` and `framer` cut messages; `kind` tells the bodies apart;
-//! `header` has the per-peer header, `opening` OPENs, `seen` what their capabilities tell, `up` the parts of a Peer Up; `fields` has the
-//! fixed fields. `peers` is the set of peers that a stream keeps, and `reading` is `read_message`.
+//! `header` has the per-peer header, `opening` OPENs, `seen` what their capabilities tell, `up` the parts of a Peer Up. `peers` is the set
+//! of peers that a stream keeps, and `reading` is `read_message`.
 #![tactic(auto)]
 
 mod body;
 mod fault;
-mod fields;
 mod framer;
 mod header;
 mod heading;

@@ -1,12 +1,10 @@
 //! OPEN messages, and the lists of triples in them.
-ghost use Rattle.std.specs.Prelude.{◌≡◌, ◌++◌, List, ℕ, option_map, IfSome, IfNone};
-ghost use Rattle.bgp_update.specs.Frames.{marker};
+ghost use Rattle.std.specs.Prelude.{◌≡◌, option_map};
 ghost use Rattle.bmp_reader.specs.Left.{open_of, triple_of};
-ghost use Rattle.bmp_reader.specs.Readers.{cut, behind_of, left_of, opening_at, open_at, triple_at};
+ghost use Rattle.bmp_reader.specs.Readers.{left_of, opening_at, open_at, triple_at};
 
-use crate::fields::{take, take_byte, take_two};
-
-const MARKER: [u8; 16] = [0xFF; 16];
+use bgp_attrs::{take, take_byte, take_two};
+use bgp_update::after_marker;
 
 // The bytes of an OPEN before its optional parameters.
 const FRONT: usize = 29;
@@ -38,7 +36,7 @@ pub(crate) fn take_open(bytes: &[u8]) -> Option<(OpenParts<'_>, &[u8])>
 }
 
 // The size of an OPEN, and the bytes behind its type.
-#[tactic(auto, unfolding(crate::specs::Readers::opening_at))]
+#[tactic(auto, using(crate::proofs::OpenLemmas::behind_some), unfolding(crate::specs::Readers::opening_at))]
 fn take_opening(bytes: &[u8]) -> Option<(usize, &[u8])>
     ensures { option_map (λ x. (x.0, x.1.now)) result ≡ opening_at bytes.now }
 {
@@ -48,17 +46,6 @@ fn take_opening(bytes: &[u8]) -> Option<(usize, &[u8])>
         [1, rest @ ..] => Some((usize::from(size), rest)),
         _ => None,
     }
-}
-
-// The bytes behind the marker.
-fn after_marker(bytes: &[u8]) -> Option<&[u8]>
-    ensures { option_map (λ x. x.now) result ≡ behind_of marker bytes.now }
-{
-    if !bytes.starts_with(&MARKER) {
-        return None;
-    }
-    let (_, rest) = bytes.split_at(16);
-    Some(rest)
 }
 
 // The optional parameters of an OPEN of this size, behind its other fields.

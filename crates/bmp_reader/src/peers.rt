@@ -37,11 +37,11 @@ impl PathPeers {
     }
 
     /// Notes what the last Peer Up of a peer said.
-    pub fn note(mut self, peer: Peer, paths: bool) -> Result<PathPeers, NoMemory>
+    pub fn note(mut self, peer: Peer, add_path: bool) -> Result<PathPeers, NoMemory>
         ensures { IfOk result (λ peers. peers
-            ≡ (if paths then set.insert self peer else set.remove self peer)) }
+            ≡ (if add_path then set.insert self peer else set.remove self peer)) }
     {
-        if paths {
+        if add_path {
             self.insert(peer)?;
             return Ok(self);
         }

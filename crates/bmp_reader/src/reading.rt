@@ -124,6 +124,6 @@ fn up_of_parts(parts: UpParts<'_>) -> Body
     Body::Up {
         peer: parts.header.peer,
         role: received.role(),
-        paths: sent.paths && received.paths,
+        paths: sent.add_path && received.add_path,
     }
 }

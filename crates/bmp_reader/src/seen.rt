@@ -33,12 +33,12 @@ pub(crate) enum Told {
 pub(crate) struct Seen {
     pub(crate) told: Told,
     // whether ADD-PATH was among them
-    pub(crate) paths: bool,
+    pub(crate) add_path: bool,
 }
 
 const UNSEEN: Seen = Seen {
     told: Told::Nothing,
-    paths: false,
+    add_path: false,
 };
 
 impl Seen {
@@ -148,7 +148,7 @@ fn see(seen: Seen, capability: OpenTriple<'_>) -> Seen
     };
     Seen {
         told,
-        paths: seen.paths || capability.code == ADD_PATH,
+        add_path: seen.add_path || capability.code == ADD_PATH,
     }
 }
 

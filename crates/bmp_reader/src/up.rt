@@ -3,9 +3,9 @@ ghost use Rattle.std.specs.Prelude.{◌≡◌, option_map};
 ghost use Rattle.bmp_reader.specs.Left.{up_of};
 ghost use Rattle.bmp_reader.specs.Readers.{up_at};
 
-use crate::fields::take;
 use crate::header::{PeerHeader, take_header};
 use crate::opening::{OpenParts, take_open};
+use bgp_attrs::take;
 
 /// The parts of a Peer Up: the OPEN that the router sent to the peer, and the one that it received from the peer.
 #[derive(Clone, Copy, Debug)]

@@ -1,5 +1,7 @@
 //! Bytes that are held.
-ghost use Rattle.std.specs.Prelude.{◌≡◌, ◌≤◌, ◌+◌, ◌-◌, [], ◌++◌, length, take, drop, IfOk};
+ghost use Rattle.std.specs.Prelude.{◌≡◌, ◌≤◌, ◌+◌, ◌-◌, [], ◌++◌, length, take, drop, IfOk, OnOk, OnErr};
+ghost use Rattle.std.specs.Borrow.{sem};
+ghost use Rattle.std.specs.Io.BufRead.{Rests};
 
 use crate::Room;
 use av_base::NoMemory;
@@ -35,6 +37,9 @@ impl Model for HeldBytes {
 }
 
 impl HeldBytes {
+    ghost use Rattle.held_bytes.specs.Held.{TakesOff};
+    ghost use Rattle.held_bytes.specs.contracts.held.HeldBytes.{the_row};
+
     /// Nothing is held. It takes no memory.
     pub fn new(alloc: Global) -> HeldBytes
         ensures { result ≡ record { taken = []; left = [] } }
@@ -47,15 +52,18 @@ impl HeldBytes {
     }
 
     /// Appends a piece of the stream. All that was taken is let go, once for all of it.
-    pub fn feed(self, piece: &[u8]) -> Result<HeldBytes, NoMemory>
-        ensures { IfOk result (λ held. held ≡ record { taken = []; left = self.left ++ piece.now }) }
+    pub fn push(&mut self, piece: &[u8]) -> Result<(), NoMemory>
+        ensures ok { OnOk result (self.new
+            ≡ record { taken = []; left = self.old.left ++ piece.now }) }
+        ensures err { OnErr result (self.new ≡ record { taken = []; left = self.old.left }) }
     {
-        let HeldBytes { mut bytes, at, end } = self;
-        let left = let_go(&mut bytes, at, end);
-        bytes.truncate(left);
-        bytes.extend_from_slice(piece)?;
-        let end = bytes.len();
-        Ok(HeldBytes { bytes, at: 0, end })
+        let left = let_go(&mut self.bytes, self.at, self.end);
+        self.bytes.truncate(left);
+        self.at = 0;
+        self.end = left;
+        self.bytes.extend_from_slice(piece)?;
+        self.end = self.bytes.len();
+        Ok(())
     }
 
     /// Gives the buffer out, with room for at least so many bytes behind those that are left. All that was taken is let go, once for all of
@@ -91,22 +99,15 @@ impl HeldBytes {
         left
     }
 
-    /// The bytes that were taken and are still kept, of which the last ones were taken last.
-    pub fn taken(&self) -> &[u8]
-        ensures { result.now ≡ self.now.taken }
-    {
-        let (kept, _) = self.bytes.as_slice().split_at(self.end);
-        let (taken, _) = kept.split_at(self.at);
-        taken
-    }
-
-    /// Takes so many bytes off the front. They are kept until the next `feed` or `into_room`, and none is moved.
-    pub fn drop_front(&mut self, count: usize)
+    /// Takes so many bytes off the front and lends them. They are kept until the next `push` or `into_room`, and none is moved.
+    pub fn take(&mut self, count: usize) -> &[u8]
         requires { count ≤ length self.old.left }
-        ensures taken { self.new.taken ≡ self.old.taken ++ take count self.old.left }
-        ensures left { self.new.left ≡ drop count self.old.left }
+        ensures lends { result.now ≡ take count self.old.left }
+        ensures* takes { sem 𝓛 (Rests the_row self.entry (TakesOff count self.old)) }
     {
+        let from = self.at;
         self.at += count;
+        &self.bytes[from..self.at]
     }
 }
 

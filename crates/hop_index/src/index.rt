@@ -44,7 +44,7 @@ pub(crate) enum Kept {
     Listed(HopLists),
 }
 
-/// A function of its own, so that what lets an index go needn't say how.
+/// Written by hand and not derived: a check of a function that lets an index go then has one call there, and not each field.
 impl Drop for HopIndex {
     fn drop(self) {
         let HopIndex {

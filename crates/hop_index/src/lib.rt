@@ -2,9 +2,10 @@
 //!
 //! The layer above uses one contract: **[`HopIndex::through`] gives exactly the cases that were added and not removed with a hop between
 //! x and some y, by rising y and then by rising case**; [`HopIndex::push_between`] appends those of one y, and [`HopIndex::neighbours`] gives
-//! each such y once. `specs/Hops.antt` says what the hops of a chain are, and `specs/Index.antt` what it is that an index has a hop: begin there. A hop is the same from either of its two ASes, since
-//! what a change of x does to a hop doesn't depend on which of the two is nearer to the origin: the cases of a hop are held once, under both,
-//! and beside them the neighbours of each AS (`lists`). Both are sets of numbers ([`Numbers`]), which the layer above uses too.
+//! each such y once. `specs/Hops.antt` says what the hops of a chain are, and `specs/Index.antt` what it is that an index has a hop: begin
+//! there. A hop is the same from either of its two ASes, since what a change of x does to a hop doesn't depend on which of the two is nearer
+//! to the origin: the cases of a hop are held once, under both, and beside them the neighbours of each AS (`lists`). Both are sets of numbers
+//! ([`Numbers`]), which the layer above uses too: a few by themselves, some in a list, many in chunks (`held`, `listed`, `chunked`).
 //!
 //! An index that is made by [`HopIndex::unlisted`] holds the chains of the cases alone (`loose`, `words`) until [`HopIndex::list`] makes these
 //! lists, so that cases come and go at little cost as long as nobody asks for a hop; who asks nevertheless gets the same answer from the chains

@@ -1,4 +1,4 @@
-//! Some numbers in one list, which rises.
+//! A set of numbers, of ASes or of cases, in one rising list: one of the ways in which `held` keeps a set (`Held::Listed`).
 ghost use Rattle.std.specs.Prelude.{◌≡◌, ◌<◌, ◌-◌, length, IsTrue, IfOk, IfErr, OnOk, OnErr};
 ghost use Rattle.std.specs.BTreeMap.{is_at};
 ghost use Rattle.std.specs.BTreeSet.{insert_key};

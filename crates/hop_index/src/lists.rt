@@ -33,7 +33,7 @@ pub(crate) struct HopLists {
     hops: Hops,
 }
 
-// A function of its own, so that what lets the lists go needn't say how.
+// Written by hand and not derived: a check of a function that lets the lists go then has one call there, and not each field.
 impl Drop for HopLists {
     fn drop(self) {
         let HopLists {

@@ -1,4 +1,4 @@
-//! The hops of one AS, one after another, of chains that aren't in lists.
+//! The hops of one AS, one after another, read from the chains of an index whose hops aren't in lists yet (`loose`).
 ghost use Rattle.std.specs.Prelude.{◌≡◌, ℕ};
 ghost use Rattle.std.specs.Iterator.{YieldsFirstBy, item_count};
 ghost use Rattle.std.specs.List.Sorted.{IsStrictlySortedBy};

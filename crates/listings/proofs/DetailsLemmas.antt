@@ -29,7 +29,7 @@ use Rattle.report_text.proofs.AnswerLemmas.{detail_is_one_line}
 use Rattle.rib_store.specs.Shown.{AreShown, IsExplained, IsRouteStanding, Standing}
 use Rattle.rib_store.specs.State.{State}
 use Rattle.rib_store.proofs.KeyLemmas.{AllFound, all_found}
-use Rattle.listings.specs.declared.stop.Stop.{Stop}
+use Rattle.av_base.specs.declared.stop.Stop.{Stop}
 use Rattle.listings.specs.Listing.{Listed, Lists, Pouring}
 use Rattle.listings.specs.Details.{AreDetails, asked_of, detail_row, is_asked}
 use Rattle.listings.specs.EachDetail.{piece_of}

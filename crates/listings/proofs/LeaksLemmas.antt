@@ -8,8 +8,8 @@ use Rattle.av_base.specs.One.{HasOne}
 use Rattle.path_model.specs.declared.key.Key.{Key}
 use Rattle.path_model.specs.declared.otc.Otc.{Otc}
 use Rattle.path_model.specs.Roles.{Relations, role_of}
-use Rattle.otc_check.specs.declared.leaks.Leak.{Leak}
-use Rattle.otc_check.specs.declared.leaks.Leak.TheVariants.{Clean, Customer, RsClient, Peer, Malformed}
+use Rattle.path_model.specs.declared.leak.Leak.{Leak}
+use Rattle.path_model.specs.declared.leak.Leak.TheVariants.{Clean, Customer, RsClient, Peer, Malformed}
 use Rattle.otc_check.specs.Marks.{Marked}
 use Rattle.otc_check.proofs.LeakLemmas.{is_leak_of, only_leak_of}
 use Rattle.report_text.specs.Laws.{IsAnswerLine}
@@ -19,7 +19,7 @@ use Rattle.report_text.proofs.AnswerLemmas.{leak_is_one_line}
 use Rattle.listings.specs.EachLeak.{found_by, leak_or_nothing, leaks_of, piece_of}
 use Rattle.listings.specs.Leaks.{AreLeaks, IsFound, is_clean, leak_row}
 use Rattle.listings.specs.Listing.{Listed, Lists, Pouring}
-use Rattle.listings.specs.declared.stop.Stop.{Stop}
+use Rattle.av_base.specs.declared.stop.Stop.{Stop}
 
 -- ---- the list of all
 

@@ -6,7 +6,7 @@ use Rattle.std.specs.declared.option.Option.{Option}
 use Rattle.av_base.specs.Told.{AppendsBefore}
 use Rattle.av_base.proofs.ToldLemmas.{append_known-append, AppendsBefore-more}
 use Rattle.std.specs.declared.result.Result.{Result}
-use Rattle.listings.specs.declared.stop.Stop.{Stop}
+use Rattle.av_base.specs.declared.stop.Stop.{Stop}
 use Rattle.listings.specs.Listing.{Adds, Listed, Lists, Pouring}
 
 -- one step more was taken, and what is held was perhaps written

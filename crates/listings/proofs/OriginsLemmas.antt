@@ -21,8 +21,8 @@ use Rattle.report_text.specs.Laws.{IsAnswerLine}
 use Rattle.report_text.specs.Origins.{origin_line, origin_text}
 use Rattle.report_text.specs.Reported.{lines_text}
 use Rattle.report_text.proofs.AnswerLemmas.{origin_is_one_line}
-use Rattle.listings.specs.declared.stop.Stop.{Stop}
-use Rattle.listings.specs.declared.stop.Stop.TheVariants.{Shelf, Sink}
+use Rattle.av_base.specs.declared.stop.Stop.{Stop}
+use Rattle.av_base.specs.declared.stop.Stop.TheVariants.{Shelf, Sink}
 use Rattle.listings.specs.Listing.{Lists, Pouring, all_of}
 use Rattle.listings.specs.EachOrigin.{ListsBefore, ListsFirst, ListsUpToOne, origins_text}
 use Rattle.listings.specs.Origins.{origin_row}

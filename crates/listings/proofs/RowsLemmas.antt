@@ -12,7 +12,7 @@ use Rattle.path_model.specs.declared.peer.Peer.{Peer}
 use Rattle.path_model.specs.declared.verdict.Verdict.{Verdict}
 use Rattle.rib_store.specs.Rows.{all_rows, rows_under}
 use Rattle.rib_store.specs.State.{State, AreRows}
-use Rattle.listings.specs.declared.stop.Stop.{Stop}
+use Rattle.av_base.specs.declared.stop.Stop.{Stop}
 use Rattle.listings.specs.EachRow.{pieces_under}
 use Rattle.listings.specs.Rows.{row_of}
 use Rattle.listings.specs.Listing.{Listed, Lists, Pouring}

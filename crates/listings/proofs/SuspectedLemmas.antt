@@ -11,13 +11,13 @@ use Rattle.report_text.specs.Suspects.{suspect_line}
 use Rattle.report_text.proofs.AnswerLemmas.{suspect_is_one_line}
 use Rattle.rib_store.specs.State.{State}
 use Rattle.valleys.specs.declared.valley.Valley.{Valley}
-use Rattle.suspects.specs.declared.tally.Tally.{Tally}
-use Rattle.suspects.specs.Suspects.{AreSuspects}
-pub use Rattle.suspects.proofs.ExistLemmas.{one_list_of_suspects, some_suspects}
-use Rattle.listings.specs.declared.stop.Stop.{Stop}
-use Rattle.listings.specs.declared.stop.Stop.TheVariants.{NoMemory}
+use Rattle.listings.specs.declared.tally.Tally.{Tally}
+use Rattle.listings.specs.Suspects.{AreSuspects}
+pub use Rattle.listings.proofs.SuspectExistLemmas.{one_list_of_suspects, some_suspects}
+use Rattle.av_base.specs.declared.stop.Stop.{Stop}
+use Rattle.av_base.specs.declared.stop.Stop.TheVariants.{NoMemory}
 use Rattle.listings.specs.Listing.{Listed, Lists, Pouring, all_of}
-use Rattle.listings.specs.Suspected.{suspect_row}
+use Rattle.listings.specs.Suspected.{suspect_of, suspect_row}
 
 -- ---- line by line
 
@@ -53,11 +53,11 @@ none_listed {T} state old (Err stop) is =
 -- ---- lines
 
 abbrev pub suspect_line_of : Valley × Tally → List ℕ
-suspect_line_of row = suspect_line row.0.from row.0.first row.0.last row.0.to row.1.routes row.1.paths
+suspect_line_of row = suspect_line (suspect_of row)
 
 pub suspects_are_lines : (rows : List (Valley × Tally)) → flat_map suspect_row rows ≡ lines_text (map suspect_line_of rows)
 suspects_are_lines [] = refl
 suspects_are_lines (row ∷ rows) = ap (λ (t : List ℕ). suspect_row row ++ t) (suspects_are_lines rows)
 
 pub suspects_answer : (rows : List (Valley × Tally)) → All IsAnswerLine (map suspect_line_of rows)
-suspects_answer rows = All-map IsAnswerLine suspect_line_of rows (λ k row within. suspect_is_one_line _ _ _ _ _ _)
+suspects_answer rows = All-map IsAnswerLine suspect_line_of rows (λ k row within. suspect_is_one_line _)

@@ -3,7 +3,7 @@ use Rattle.std.specs.Prelude.{ℕ, not, if◌then◌else◌, List, [], map, filt
 use Rattle.path_model.specs.declared.key.Key.{Key}
 use Rattle.path_model.specs.declared.otc.Otc.{Otc}
 use Rattle.path_model.specs.Roles.{Relations, role_of}
-use Rattle.otc_check.specs.declared.leaks.Leak.{Leak}
+use Rattle.path_model.specs.declared.leak.Leak.{Leak}
 use Rattle.otc_check.specs.LeakBy.{leak_of}
 use Rattle.listings.specs.Leaks.{is_clean, leak_row}
 

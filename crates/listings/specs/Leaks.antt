@@ -5,8 +5,8 @@ use Rattle.std.specs.List.{AllZip}
 use Rattle.path_model.specs.declared.key.Key.{Key}
 use Rattle.path_model.specs.declared.otc.Otc.{Otc}
 use Rattle.path_model.specs.Roles.{Relations, role_of}
-use Rattle.otc_check.specs.declared.leaks.Leak.{Leak}
-use Rattle.otc_check.specs.declared.leaks.Leak.TheVariants.{Clean, Customer, RsClient, Peer, Malformed}
+use Rattle.path_model.specs.declared.leak.Leak.{Leak}
+use Rattle.path_model.specs.declared.leak.Leak.TheVariants.{Clean, Customer, RsClient, Peer, Malformed}
 use Rattle.otc_check.specs.Leak.{IsLeak}
 use Rattle.otc_check.specs.Marks.{Marked}
 use Rattle.report_text.specs.Leaks.{leak_text}

@@ -3,12 +3,15 @@ pub mod Details
 pub mod EachDetail
 pub mod EachLeak
 pub mod EachOrigin
+pub mod EachPeer
 pub mod EachRow
 pub mod Laws
 pub mod Leaks
 pub mod Listing
 pub mod Origins
+pub mod Peers
 pub mod Rows
-pub mod Stops
 pub mod Summary
+pub mod SuspectSteps
 pub mod Suspected
+pub mod Suspects

@@ -5,8 +5,8 @@ use Rattle.std.specs.declared.option.Option.{Option}
 use Rattle.std.specs.declared.result.Result.{Result}
 use Rattle.av_base.specs.declared.sink.Sink.{Ghosts as SinkOf}
 use Rattle.av_base.specs.Told.{AppendsFront, Grows, Rose}
-use Rattle.listings.specs.declared.stop.Stop.{Stop}
-use Rattle.listings.specs.declared.stop.Stop.TheVariants.{Shelf, Sink}
+use Rattle.av_base.specs.declared.stop.Stop.{Stop}
+use Rattle.av_base.specs.declared.stop.Stop.TheVariants.{Shelf, Sink}
 
 -- the first of what is left was added
 pub record Adds (left more : List (List ℕ)) (text_old text_new : List ℕ) : Type 0 where

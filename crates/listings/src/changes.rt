@@ -6,8 +6,7 @@ ghost use Rattle.listings.specs.Changes.{change_row};
 ghost use Rattle.listings.specs.Listing.{Lists, pouring};
 
 use crate::listing::{Listing, put_all};
-use crate::stop::Stop;
-use av_base::{NoMemory, Sink};
+use av_base::{NoMemory, Sink, Stop};
 use report_text::PeerLines;
 use rib_store::{Journal, RibStore};
 

@@ -6,8 +6,7 @@ ghost use Rattle.listings.specs.Details.{AreDetails, detail_row, is_asked};
 ghost use Rattle.listings.specs.EachDetail.{piece_of};
 
 use crate::listing::{Listing, put_all};
-use crate::stop::Stop;
-use av_base::{NoMemory, Sink};
+use av_base::{NoMemory, Sink, Stop};
 use path_model::Verdict;
 use report_text::PeerLines;
 use rib_store::{RibStore, ShownRows};

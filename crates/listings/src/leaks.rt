@@ -5,8 +5,7 @@ ghost use Rattle.listings.specs.Leaks.{AreLeaks, leak_row};
 ghost use Rattle.listings.specs.Listing.{Lists, pouring};
 
 use crate::listing::{Listing, put_all};
-use crate::stop::Stop;
-use av_base::{NoMemory, Sink};
+use av_base::{NoMemory, Sink, Stop};
 use otc_check::{Leak, Marks, MarksIter, leak};
 use path_model::Roles;
 use report_text::PeerLines;

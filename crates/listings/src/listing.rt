@@ -3,8 +3,7 @@ ghost use Rattle.std.specs.Prelude.{List, ℕ, IfOk, OnErr, ◌≡◌};
 ghost use Rattle.std.specs.List.{concat};
 ghost use Rattle.listings.specs.Listing.{Listed, Steps, pouring};
 
-use crate::stop::Stop;
-use av_base::{NoMemory, Sink, pour_piece};
+use av_base::{NoMemory, Sink, Stop, pour_piece};
 
 /// What is listed step by step, each of which adds a line or nothing.
 pub trait Listing {

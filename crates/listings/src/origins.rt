@@ -8,8 +8,7 @@ ghost use Rattle.listings.specs.Listing.{Lists, pouring};
 ghost use Rattle.listings.specs.EachOrigin.{ListsBefore, ListsFirst, ListsUpTo};
 ghost use Rattle.listings.specs.Origins.{origin_row};
 
-use crate::stop::Stop;
-use av_base::{Sink, pour_piece};
+use av_base::{Sink, Stop, pour_piece};
 use origin_model::origin_of;
 use origin_validation::Origins;
 use path_model::Key;

@@ -7,8 +7,7 @@ ghost use Rattle.listings.specs.Rows.{row_of};
 ghost use Rattle.listings.specs.Listing.{Listed, Lists, pouring};
 
 use crate::listing::{Listing, put_all};
-use crate::stop::Stop;
-use av_base::{NoMemory, Sink};
+use av_base::{NoMemory, Sink, Stop};
 use path_model::Peer;
 use report_text::PeerLines;
 use rib_store::{PeerRows, RibPeers, RibStore};
@@ -40,11 +39,11 @@ pub fn put_rows<W: Sink>(store: &RibStore, out: &mut W, text: &mut Vec<u8>) -> R
     ensures { Lists (AreRows store.now.state) row_of
         (pouring W.Sink out.old text.old.items) (pouring W.Sink out.new text.new.items) result }
 {
-    put_peers(store.rows_by_peer(), out, text)
+    put_by_peer(store.rows_by_peer(), out, text)
 }
 
 // Reports the routes of each of these peers.
-fn put_peers<W: Sink>(peers: RibPeers<'_>, out: &mut W, text: &mut Vec<u8>) -> Result<(), Stop>
+fn put_by_peer<W: Sink>(peers: RibPeers<'_>, out: &mut W, text: &mut Vec<u8>) -> Result<(), Stop>
     ensures { Listed (flat_map row_of (all_rows (peers_left peers.entry)))
         (pouring W.Sink out.old text.old.items) (pouring W.Sink out.new text.new.items) result }
 {

@@ -1,17 +1,17 @@
 //! Who is suspected of leaks.
 ghost use Rattle.std.specs.Prelude.{map};
 ghost use Rattle.listings.specs.Listing.{Lists, pouring};
-ghost use Rattle.suspects.specs.Suspects.{AreSuspects};
+ghost use Rattle.listings.specs.Suspects.{AreSuspects};
 ghost use Rattle.listings.specs.Suspected.{suspect_row};
 
 use crate::listing::{Listing, put_all};
-use crate::stop::Stop;
-use av_base::{NoMemory, Sink};
-use report_text::put_suspect;
+use crate::suspected_valleys::suspects;
+use crate::tally::Tally;
+use av_base::{NoMemory, Sink, Stop};
+use report_text::{Suspect, put_suspect};
 use rib_store::RibStore;
 use std::alloc::Global;
 use std::collections::btree_map;
-use suspects::{Tally, suspects};
 use valleys::Valley;
 
 // The valleys that are left.
@@ -27,15 +27,15 @@ impl<'a> Listing for SuspectLines<'a> {
         let Some((valley, tally)) = self.rows.next() else {
             return Ok(false);
         };
-        put_suspect(
-            text,
-            valley.from,
-            valley.first,
-            valley.last,
-            valley.to,
-            tally.routes,
-            tally.paths,
-        )?;
+        let suspect = Suspect {
+            from: valley.from,
+            first: valley.first,
+            last: valley.last,
+            to: valley.to,
+            routes: tally.routes,
+            paths: tally.paths,
+        };
+        put_suspect(text, suspect)?;
         Ok(true)
     }
 }

@@ -7,11 +7,10 @@ use Rattle.path_model.specs.declared.peer.Peer.{Peer}
 use Rattle.path_model.specs.Prefix.{prefix_of}
 use Rattle.bgp_attrs.specs.Blocks.{IsBlock, block_at}
 use Rattle.bgp_attrs.proofs.BlockLemmas.{block_reader}
-use Rattle.bgp_attrs.proofs.JoinedLemmas.{and_then_some}
+use Rattle.bgp_attrs.proofs.FixedLemmas.{and_then_some, Reads, and_then_is, three_parts, cut_at, cut_finds, asn_finds, asn_only, addr_finds, addr_only}
 use Rattle.mrt_reader.specs.Dumps.{Dumped, IsTableDump}
-use Rattle.mrt_reader.specs.Fields.{SpellsAsn, SpellsAddr}
-use Rattle.mrt_reader.specs.Readers.{cut, byte_at, asn_at, addr_at, ends, last_block, route_at, dump_at}
-use Rattle.mrt_reader.proofs.FieldLemmas.{Reads, and_then_is, three_parts, cut_at, cut_finds, asn_finds, asn_only, addr_finds, addr_only}
+use Rattle.bgp_attrs.specs.Fixed.{SpellsAsn, SpellsAddr, cut, byte_at, asn_at, addr_at}
+use Rattle.mrt_reader.specs.Readers.{ends, last_block, route_at, dump_at}
 
 pub ends_some : {A : Type 0} (x y : A) (rest : List ℕ) → ends x rest ≡ Some y → (x ≡ y) × (rest ≡ [])
 ends_some x y [] e = (same_Some x y e, refl)

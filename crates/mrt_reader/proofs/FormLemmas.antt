@@ -8,7 +8,7 @@ use Rattle.mrt_reader.specs.declared.fault.BodyFault.{BodyFault}
 use Rattle.mrt_reader.specs.declared.fault.BodyFault.TheVariants as faults
 use Rattle.mrt_reader.specs.Bodies.{ByForm, OrNoMemory}
 use Rattle.mrt_reader.specs.Gathering.{ByParts}
-use Rattle.mrt_reader.proofs.FieldLemmas.{Reads}
+use Rattle.bgp_attrs.proofs.FixedLemmas.{Reads}
 
 abbrev pub Says : (Result Body BodyFault → Type 0) → Type 0
 Says P = (reading : Result Body BodyFault) × P reading

@@ -17,7 +17,7 @@ use Rattle.mrt_reader.proofs.RecordLemmas.{head_front, head_long, record_head, r
 
 pub not_too_long : (left : List ℕ) (it : Recorded) (rest : List ℕ) → Begins IsRecord left it rest → IsTooLong left → ⊥
 not_too_long left it rest b long =
-    let heads = same_Some (record { stamp = it.stamp; kind = it.kind; subkind = it.subkind; size = length it.body }) long.0 (sym (record_head left it rest b).0 ∙ long.1) in
+    let heads = same_Some (record { stamp = it.stamp; mrt_type = it.kind; subtype = it.subkind; size = length it.body }) long.0 (sym (record_head left it rest b).0 ∙ long.1) in
     let size : length it.body ≡ long.0.size = ap (λ (h : Head). h.size) heads in
     let allowed = b.spelled.allowed in
     let over = long.2 in
@@ -58,7 +58,7 @@ SomethingComes left = (coming : Coming) × IsComing left coming
 
 by_length : (left : List ℕ) (head : Head) → left ≢ [] → head_at left ≡ Some head → head.size ≤ limit → (whole : Bool) → nat_le (12 + head.size) (length left) ≡ whole → SomethingComes left
 by_length left head some e allowed true test =
-    (Whole (record { stamp = head.stamp; kind = head.kind; subkind = head.subkind; body = take head.size (drop 12 left) }) (drop head.size (drop 12 left)), record_made left head e allowed (grind (arith, nat_tests)))
+    (Whole (record { stamp = head.stamp; kind = head.mrt_type; subkind = head.subtype; body = take head.size (drop 12 left) }) (drop head.size (drop 12 left)), record_made left head e allowed (grind (arith, nat_tests)))
 by_length left head some e allowed false test = (CutShort, (partial_cut left head e allowed (grind (arith, nat_tests)), some))
 
 by_size : (left : List ℕ) (head : Head) → left ≢ [] → head_at left ≡ Some head → (over : Bool) → nat_lt limit head.size ≡ over → SomethingComes left
@@ -99,7 +99,7 @@ ready_by_fault left faults.CutShort is = absurd is
 -- it is what the header says,
 pub stamp_by_head : (left : List ℕ) (head : Heading) → IsHeaded left (Ok (Some head)) → IsNextStamp left (Some head.stamp)
 stamp_by_head left head is = (
-  record { stamp = head.stamp; kind = head.kind; subkind = head.subkind; body = take head.size (drop 12 left) },
+  record { stamp = head.stamp; kind = head.mrt_type; subkind = head.subtype; body = take head.size (drop 12 left) },
   drop head.size (drop 12 left),
   record_made left (head_of head) is.0 is.1 is.2,
   refl,

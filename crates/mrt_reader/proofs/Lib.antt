@@ -1,6 +1,5 @@
 pub mod DumpLemmas
 pub mod EntryLemmas
-pub mod FieldLemmas
 pub mod FormLemmas
 pub mod LawLemmas
 pub mod MemoryLemmas

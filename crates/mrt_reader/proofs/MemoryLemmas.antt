@@ -19,19 +19,19 @@ use Rattle.mrt_reader.specs.Routes.{DumpSays}
 use Rattle.mrt_reader.specs.Sessions.{IsRecordedMessage, IsStateChange}
 use Rattle.mrt_reader.proofs.FormLemmas.{form_reads}
 
-raised_reads : (as4 paths : Bool) (peer : Peer) (message : List ℕ) (inner : Result Noted UpdateFault) → messages.IsMessageReading as4 paths peer message inner → Err NoMemory ≡ raised inner → ⊥
-raised_reads as4 paths peer message (Ok noted) reads is = cc
-raised_reads as4 paths peer message (Err update_faults.Message) reads is = cc
-raised_reads as4 paths peer message (Err update_faults.Attributes) reads is = cc
-raised_reads as4 paths peer message (Err update_faults.NoPath) reads is = cc
-raised_reads as4 paths peer message (Err update_faults.NoMemory) reads is = reads
+raised_reads : (wide add_path : Bool) (peer : Peer) (message : List ℕ) (inner : Result Noted UpdateFault) → messages.IsMessageReading wide add_path peer message inner → Err NoMemory ≡ raised inner → ⊥
+raised_reads wide add_path peer message (Ok noted) reads is = cc
+raised_reads wide add_path peer message (Err update_faults.Message) reads is = cc
+raised_reads wide add_path peer message (Err update_faults.Attributes) reads is = cc
+raised_reads wide add_path peer message (Err update_faults.NoPath) reads is = cc
+raised_reads wide add_path peer message (Err update_faults.NoMemory) reads is = reads
 
 layout_reads : (layout : Layout) (peers : Option (List Peer)) (body : List ℕ) → LayoutSays layout peers body (Err NoMemory) → ⊥
 layout_reads layouts.PeerIndex peers body says = form_reads (IsPeerTable body) TableSays (λ table e. cc) says
-layout_reads (layouts.Rib six paths) peers body says = says
+layout_reads (layouts.Rib six add_path) peers body says = says
 layout_reads (layouts.Dump six) peers body says = form_reads (IsTableDump six body) DumpSays (λ dumped never. never) says
-layout_reads (layouts.Message timed as4 paths) peers body says = form_reads (λ (it : Peer × List ℕ). IsRecordedMessage timed as4 body it.0 it.1) (MessageSays as4 paths) (λ it inner. raised_reads as4 paths it.0 it.1 inner.0 inner.1 inner.2) says
-layout_reads (layouts.State timed as4) peers body says = form_reads (λ (it : Peer × ℕ). IsStateChange timed as4 body it.0 it.1) StateSays (λ it e. cc) says
+layout_reads (layouts.Message timed wide add_path) peers body says = form_reads (λ (it : Peer × List ℕ). IsRecordedMessage timed wide body it.0 it.1) (MessageSays wide add_path) (λ it inner. raised_reads wide add_path it.0 it.1 inner.0 inner.1 inner.2) says
+layout_reads (layouts.State timed wide) peers body says = form_reads (λ (it : Peer × ℕ). IsStateChange timed wide body it.0 it.1) StateSays (λ it e. cc) says
 layout_reads layouts.Other peers body says = cc
 
 pub no_want_of_memory : (it : Recorded) (peers : Option (List Peer)) → IsReading it peers (Err NoMemory) → ⊥

@@ -50,19 +50,19 @@ state_has peer state = by_test (state == 6)
     by_test true = refl
     by_test false = refl
 
-raised_has : (as4 paths : Bool) (peer : Peer) (message : List ℕ) (noted : Noted) (inner : Result Noted UpdateFault) → updates.IsMessageReading as4 paths peer message inner → Ok (bodies.Routes noted) ≡ raised inner → HasNotes noted
-raised_has as4 paths peer message noted (Ok others) reads is =
-    let same : noted ≡ others = cc in subst HasNotes (sym same) (messages.each_has_note as4 paths peer message others reads)
-raised_has as4 paths peer message noted (Err fault) reads is = absurd cc
+raised_has : (wide add_path : Bool) (peer : Peer) (message : List ℕ) (noted : Noted) (inner : Result Noted UpdateFault) → updates.IsMessageReading wide add_path peer message inner → Ok (bodies.Routes noted) ≡ raised inner → HasNotes noted
+raised_has wide add_path peer message noted (Ok others) reads is =
+    let same : noted ≡ others = cc in subst HasNotes (sym same) (messages.each_has_note wide add_path peer message others reads)
+raised_has wide add_path peer message noted (Err fault) reads is = absurd cc
 
 layout_has : (layout : Layout) (peers : Option (List Peer)) (body : List ℕ) (noted : Noted) → LayoutSays layout peers body (Ok (bodies.Routes noted)) → HasNotes noted
 layout_has layouts.PeerIndex peers body noted says = by_form (IsPeerTable body) TableSays noted (λ table e. absurd cc) says
-layout_has (layouts.Rib six paths) peers body noted says = routes_have says.1 says.0.prefix says.0.entries noted says.4
+layout_has (layouts.Rib six add_path) peers body noted says = routes_have says.1 says.0.prefix says.0.entries noted says.4
 layout_has (layouts.Dump six) peers body noted says = by_form (IsTableDump six body) DumpSays noted (λ dumped e. subst HasNotes (sym e.3) refl) says
-layout_has (layouts.Message timed as4 paths) peers body noted says =
-    by_form (λ (it : Peer × List ℕ). IsRecordedMessage timed as4 body it.0 it.1) (MessageSays as4 paths) noted (λ it e. raised_has as4 paths it.0 it.1 noted e.0 e.1 e.2) says
-layout_has (layouts.State timed as4) peers body noted says =
-    by_form (λ (it : Peer × ℕ). IsStateChange timed as4 body it.0 it.1) StateSays noted (λ it e. (let same : noted ≡ updates.without_notes (changes_at it.0 it.1) = cc in subst HasNotes (sym same) (state_has it.0 it.1))) says
+layout_has (layouts.Message timed wide add_path) peers body noted says =
+    by_form (λ (it : Peer × List ℕ). IsRecordedMessage timed wide body it.0 it.1) (MessageSays wide add_path) noted (λ it e. raised_has wide add_path it.0 it.1 noted e.0 e.1 e.2) says
+layout_has (layouts.State timed wide) peers body noted says =
+    by_form (λ (it : Peer × ℕ). IsStateChange timed wide body it.0 it.1) StateSays noted (λ it e. (let same : noted ≡ updates.without_notes (changes_at it.0 it.1) = cc in subst HasNotes (sym same) (state_has it.0 it.1))) says
 layout_has layouts.Other peers body noted says = absurd cc
 
 pub each_has_note : (it : Recorded) (peers : Option (List Peer)) (noted : Noted) → IsReading it peers (Ok (bodies.Routes noted)) → HasNotes noted

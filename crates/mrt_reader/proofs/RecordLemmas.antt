@@ -1,5 +1,5 @@
 -- Whole records at the front of a stream.
-use Rattle.std.proofs.Common.{◌≡◌, ℕ, ◌+◌, ◌-◌, ◌<◌, ◌≤◌, Bool, true, false, cond, List, ◌++◌, length, take, drop, Some, None, refl, sym, ap, subst, ◌∙◌, append_assoc, arith}
+use Rattle.std.proofs.Common.{◌≡◌, ℕ, ◌+◌, ◌<◌, ◌≤◌, Bool, true, false, cond, List, ◌++◌, length, take, drop, Some, None, refl, sym, ap, subst, ◌∙◌, append_assoc, arith}
 use Rattle.std.specs.Prelude.{nat_lt}
 use Rattle.std.specs.Int.{w16, w32, from_be_bytes}
 use Rattle.std.proofs.lemmas.Option.{same_Some}
@@ -12,8 +12,8 @@ use Rattle.mrt_reader.specs.Coming.{IsPartial}
 abbrev numbers : List ℕ → Head
 numbers bytes = record {
   stamp = from_be_bytes w32 (take 4 bytes);
-  kind = from_be_bytes w16 (take 2 (drop 4 bytes));
-  subkind = from_be_bytes w16 (take 2 (drop 6 bytes));
+  mrt_type = from_be_bytes w16 (take 2 (drop 4 bytes));
+  subtype = from_be_bytes w16 (take 2 (drop 6 bytes));
   size = from_be_bytes w32 (take 4 (drop 8 bytes));
 }
 
@@ -37,7 +37,7 @@ head_front header rest e =
 
 -- a whole record at the front is what the header says
 pub record_head : (bytes : List ℕ) (it : Recorded) (rest : List ℕ) (b : Begins IsRecord bytes it rest)
-    → (head_at bytes ≡ Some (record { stamp = it.stamp; kind = it.kind; subkind = it.subkind; size = length it.body })) × (length bytes ≡ 12 + length it.body + length rest)
+    → (head_at bytes ≡ Some (record { stamp = it.stamp; mrt_type = it.kind; subtype = it.subkind; size = length it.body })) × (length bytes ≡ 12 + length it.body + length rest)
 record_head bytes it rest b =
     let s = b.spelled in
     let bytes-is : bytes ≡ s.header ++ (it.body ++ rest) = b.whole ∙ ap (λ (xs : List ℕ). xs ++ rest) s.whole ∙ append_assoc s.header it.body rest in
@@ -45,7 +45,7 @@ record_head bytes it rest b =
 
 -- the first record, where it is whole
 pub record_made : (bytes : List ℕ) (head : Head) → head_at bytes ≡ Some head → head.size ≤ limit → 12 + head.size ≤ length bytes
-    → Begins IsRecord bytes (record { stamp = head.stamp; kind = head.kind; subkind = head.subkind; body = take head.size (drop 12 bytes) }) (drop head.size (drop 12 bytes))
+    → Begins IsRecord bytes (record { stamp = head.stamp; kind = head.mrt_type; subkind = head.subtype; body = take head.size (drop 12 bytes) }) (drop head.size (drop 12 bytes))
 record_made bytes head e allowed long =
     let body = take head.size (drop 12 bytes) in
     let size : length body ≡ head.size = omega (arith, length-take head.size (drop 12 bytes), length-drop 12 bytes) in
@@ -53,7 +53,7 @@ record_made bytes head e allowed long =
     let says : head_at (take 12 bytes) ≡ Some head = sym (head_front (take 12 bytes) (drop 12 bytes) twelve) ∙ ap head_at (take-append-drop 12 bytes) ∙ e in
     record {
       front = take 12 bytes ++ body;
-      spelled = record { header = take 12 bytes; twelve = twelve; says = says ∙ ap (λ (n : ℕ). Some (record { stamp = head.stamp; kind = head.kind; subkind = head.subkind; size = n })) (sym size); allowed = omega arith; whole = refl };
+      spelled = record { header = take 12 bytes; twelve = twelve; says = says ∙ ap (λ (n : ℕ). Some (record { stamp = head.stamp; mrt_type = head.mrt_type; subtype = head.subtype; size = n })) (sym size); allowed = omega arith; whole = refl };
       whole = sym (take-append-drop 12 bytes) ∙ ap (λ (xs : List ℕ). take 12 bytes ++ xs) (sym (take-append-drop head.size (drop 12 bytes))) ∙ sym (append_assoc (take 12 bytes) body (drop head.size (drop 12 bytes)));
     }
 
@@ -80,34 +80,25 @@ partial_short bytes none = record {
 
 pub partial_cut : (bytes : List ℕ) (head : Head) → head_at bytes ≡ Some head → head.size ≤ limit → length bytes < 12 + head.size → IsPartial bytes
 partial_cut bytes head e allowed cut = record {
-  no_record = λ it rest b. (let u = record_head bytes it rest b in let f : Some (record { stamp = it.stamp; kind = it.kind; subkind = it.subkind; size = length it.body }) ≡ Some head = sym u.0 ∙ e in
+  no_record = λ it rest b. (let u = record_head bytes it rest b in let f : Some (record { stamp = it.stamp; mrt_type = it.kind; subtype = it.subkind; size = length it.body }) ≡ Some head = sym u.0 ∙ e in
       let g : length it.body ≡ head.size = cc in omega (arith, u.1));
   allowed = rw e allowed;
   short = omega arith;
 }
 
--- the body of a record that was taken off ends what was taken
-pub taken_body : (taken old : List ℕ) (size : ℕ) → 12 + size ≤ length old → drop (length (taken ++ take (12 + size) old) - size) (taken ++ take (12 + size) old) ≡ take size (drop 12 old)
-taken_body taken old size long =
-    let front = take (12 + size) old in
-    let whole : length front ≡ 12 + size = omega (arith, length-take (12 + size) old) in
-    let place : length (taken ++ front) - size ≡ length taken + 12 = omega (arith, length-append taken front) in
-    ap (λ (n : ℕ). drop n (taken ++ front)) place ∙ sym (drop-drop 12 (length taken) (taken ++ front)) ∙ ap (drop 12) (drop_at taken front (length taken) refl) ∙ drop-take 12 size old
-
 -- the record that was taken off
-pub next_record : (taken old body : List ℕ) (head : Head) → head_at old ≡ Some head → head.size ≤ limit → 12 + head.size ≤ length old
-    → body ≡ drop (length (taken ++ take (12 + head.size) old) - head.size) (taken ++ take (12 + head.size) old)
-    → Begins IsRecord old (record { stamp = head.stamp; kind = head.kind; subkind = head.subkind; body = body }) (drop (12 + head.size) old)
-next_record taken old body head e allowed long body-is =
+pub next_record : (old body : List ℕ) (head : Head) → head_at old ≡ Some head → head.size ≤ limit → 12 + head.size ≤ length old → body ≡ drop 12 (take (12 + head.size) old)
+    → Begins IsRecord old (record { stamp = head.stamp; kind = head.mrt_type; subkind = head.subtype; body = body }) (drop (12 + head.size) old)
+next_record old body head e allowed long body-is =
     let made = record_made old head e allowed long in
-    let body-same : take head.size (drop 12 old) ≡ body = sym (taken_body taken old head.size long) ∙ sym body-is in
-    let a = subst (λ (b : List ℕ). Begins IsRecord old (record { stamp = head.stamp; kind = head.kind; subkind = head.subkind; body = b }) (drop head.size (drop 12 old))) body-same made in
-    subst (λ (r : List ℕ). Begins IsRecord old (record { stamp = head.stamp; kind = head.kind; subkind = head.subkind; body = body }) r) (drop-drop head.size 12 old) a
+    let body-same : take head.size (drop 12 old) ≡ body = sym (drop-take 12 head.size old) ∙ sym body-is in
+    let a = subst (λ (b : List ℕ). Begins IsRecord old (record { stamp = head.stamp; kind = head.mrt_type; subkind = head.subtype; body = b }) (drop head.size (drop 12 old))) body-same made in
+    subst (λ (r : List ℕ). Begins IsRecord old (record { stamp = head.stamp; kind = head.mrt_type; subkind = head.subtype; body = body }) r) (drop-drop head.size 12 old) a
 
 -- ---- the records of a stream are determined by it
 
 abbrev head_with : Recorded → Head
-head_with it = record { stamp = it.stamp; kind = it.kind; subkind = it.subkind; size = length it.body }
+head_with it = record { stamp = it.stamp; mrt_type = it.kind; subtype = it.subkind; size = length it.body }
 
 -- no record begins another
 pub one_record : (bytes : List ℕ) (a b : Recorded) (rest more : List ℕ) → Begins IsRecord bytes a rest → Begins IsRecord bytes b more → (a ≡ b) × (rest ≡ more)
@@ -121,7 +112,7 @@ one_record bytes a b rest more p q =
     let behind : a.body ++ rest ≡ b.body ++ more = sym (drop_at p.spelled.header (a.body ++ rest) 12 p.spelled.twelve) ∙ ap (drop 12) whole ∙ drop_at q.spelled.header (b.body ++ more) 12 q.spelled.twelve in
     let body : a.body ≡ b.body = sym (take_at a.body rest (length a.body) refl) ∙ ap (take (length a.body)) behind ∙ take_at b.body more (length a.body) (sym size) in
     let rests : rest ≡ more = sym (drop_at a.body rest (length a.body) refl) ∙ ap (drop (length a.body)) behind ∙ drop_at b.body more (length a.body) (sym size) in
-    (record_same a b (ap (λ (h : Head). h.stamp) heads) (ap (λ (h : Head). h.kind) heads) (ap (λ (h : Head). h.subkind) heads) body, rests)
+    (record_same a b (ap (λ (h : Head). h.stamp) heads) (ap (λ (h : Head). h.mrt_type) heads) (ap (λ (h : Head). h.subtype) heads) body, rests)
   where
     record_same : (a b : Recorded) → a.stamp ≡ b.stamp → a.kind ≡ b.kind → a.subkind ≡ b.subkind → a.body ≡ b.body → a ≡ b
     record_same a b p q r s = λ i. record { stamp = p i; kind = q i; subkind = r i; body = s i }

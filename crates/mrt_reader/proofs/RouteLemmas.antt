@@ -124,18 +124,18 @@ stops_beyond peers prefix all before left entry noted no_path g e none =
     Going-any (IsBeyond peers) peers prefix all left entry noted no_path h (get_none peers entry.index none)
 
 -- a whole record says what its entries say
-pub rib_from : (paths six : Bool) (peers : Option (List Peer)) (body : List ℕ) (table : List Peer) (rib : Rib) (result : Result Body BodyFault) → IsRib paths six body rib → peers ≡ Some table
-    → EntriesSay table rib.prefix rib.entries result → RibSays paths six peers body result
-rib_from paths six peers body table rib (Ok (bodies.Routes noted)) is e say = (rib, table, is, e, say)
-rib_from paths six peers body table rib (Ok (bodies.Peers others)) is e say = absurd say
-rib_from paths six peers body table rib (Ok bodies.Passed) is e say = absurd say
-rib_from paths six peers body table rib (Err faults.Body) is e say = absurd say
-rib_from paths six peers body table rib (Err faults.NoPeerTable) is e say = absurd say
-rib_from paths six peers body table rib (Err faults.PeerIndex) is e say = (rib, table, is, e, say)
-rib_from paths six peers body table rib (Err faults.Message) is e say = absurd say
-rib_from paths six peers body table rib (Err faults.Attributes) is e say = (rib, table, is, e, say)
-rib_from paths six peers body table rib (Err faults.NoPath) is e say = (rib, table, is, e, say)
-rib_from paths six peers body table rib (Err faults.NoMemory) is e say = absurd say
+pub rib_from : (add_path six : Bool) (peers : Option (List Peer)) (body : List ℕ) (table : List Peer) (rib : Rib) (result : Result Body BodyFault) → IsRib add_path six body rib → peers ≡ Some table
+    → EntriesSay table rib.prefix rib.entries result → RibSays add_path six peers body result
+rib_from add_path six peers body table rib (Ok (bodies.Routes noted)) is e say = (rib, table, is, e, say)
+rib_from add_path six peers body table rib (Ok (bodies.Peers others)) is e say = absurd say
+rib_from add_path six peers body table rib (Ok bodies.Passed) is e say = absurd say
+rib_from add_path six peers body table rib (Err faults.Body) is e say = absurd say
+rib_from add_path six peers body table rib (Err faults.NoPeerTable) is e say = absurd say
+rib_from add_path six peers body table rib (Err faults.PeerIndex) is e say = (rib, table, is, e, say)
+rib_from add_path six peers body table rib (Err faults.Message) is e say = absurd say
+rib_from add_path six peers body table rib (Err faults.Attributes) is e say = (rib, table, is, e, say)
+rib_from add_path six peers body table rib (Err faults.NoPath) is e say = (rib, table, is, e, say)
+rib_from add_path six peers body table rib (Err faults.NoMemory) is e say = absurd say
 
 -- what follows from an answer follows from want of memory too
 or_maps : (P Q : Result Body BodyFault → Type 0) → ((result : Result Body BodyFault) → P result → Q result) → (result : Result Body BodyFault) → OrNoMemory P result → OrNoMemory Q result
@@ -148,6 +148,6 @@ or_maps P Q f (Err faults.Attributes) p = f (Err faults.Attributes) p
 or_maps P Q f (Err faults.NoPath) p = f (Err faults.NoPath) p
 or_maps P Q f (Err faults.NoMemory) p = tt
 
-pub rib_says : (paths six : Bool) (peers : Option (List Peer)) (body : List ℕ) (table : List Peer) (rib : Rib) (result : Result Body BodyFault) → IsRib paths six body rib → peers ≡ Some table
-    → OrNoMemory (EntriesSay table rib.prefix rib.entries) result → OrNoMemory (RibSays paths six peers body) result
-rib_says paths six peers body table rib result is e say = or_maps (EntriesSay table rib.prefix rib.entries) (RibSays paths six peers body) (λ r s. rib_from paths six peers body table rib r is e s) result say
+pub rib_says : (add_path six : Bool) (peers : Option (List Peer)) (body : List ℕ) (table : List Peer) (rib : Rib) (result : Result Body BodyFault) → IsRib add_path six body rib → peers ≡ Some table
+    → OrNoMemory (EntriesSay table rib.prefix rib.entries) result → OrNoMemory (RibSays add_path six peers body) result
+rib_says add_path six peers body table rib result is e say = or_maps (EntriesSay table rib.prefix rib.entries) (RibSays add_path six peers body) (λ r s. rib_from add_path six peers body table rib r is e s) result say

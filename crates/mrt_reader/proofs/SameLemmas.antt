@@ -150,56 +150,56 @@ cases_same peers prefix entries one other (inr (inr (inr p))) (inr (inr (inr q))
 
 -- ---- RIB records
 
-counted_same : (paths : Bool) (bytes : List ℕ) (entries others : List Entry) → IsCounted paths bytes entries → IsCounted paths bytes others → entries ≡ others
-counted_same paths bytes entries others p q =
-    let long = counted_long paths bytes entries p in
-    joined_same (entry_reader paths) (drop 2 bytes) entries others (counted_of paths bytes entries long p).0 (counted_of paths bytes others long q).0
+counted_same : (add_path : Bool) (bytes : List ℕ) (entries others : List Entry) → IsCounted add_path bytes entries → IsCounted add_path bytes others → entries ≡ others
+counted_same add_path bytes entries others p q =
+    let long = counted_long add_path bytes entries p in
+    joined_same (entry_reader add_path) (drop 2 bytes) entries others (counted_of add_path bytes entries long p).0 (counted_of add_path bytes others long q).0
 
-rib_same : (paths six : Bool) (body : List ℕ) (one other : Rib) → IsRib paths six body one → IsRib paths six body other → one ≡ other
-rib_same paths six body one other p q =
-    let parts = some_pair_parts one.prefix other.prefix p.counted q.counted (sym (read_prefix paths six body one p) ∙ read_prefix paths six body other q) in
-    let entries = counted_same paths q.counted one.entries other.entries (subst (λ (bytes : List ℕ). IsCounted paths bytes one.entries) parts.1 p.entries) q.entries in
+rib_same : (add_path six : Bool) (body : List ℕ) (one other : Rib) → IsRib add_path six body one → IsRib add_path six body other → one ≡ other
+rib_same add_path six body one other p q =
+    let parts = some_pair_parts one.prefix other.prefix p.counted q.counted (sym (read_prefix add_path six body one p) ∙ read_prefix add_path six body other q) in
+    let entries = counted_same add_path q.counted one.entries other.entries (subst (λ (bytes : List ℕ). IsCounted add_path bytes one.entries) parts.1 p.entries) q.entries in
     λ i. record { prefix = parts.0 i; entries = entries i }
 
 -- the three things that a RIB record says
 abbrev RibCase : Bool → Bool → Option (List Peer) → List ℕ → Result Body BodyFault → Type 0
-RibCase paths six peers body reading =
-    (((rib : Rib) → IsRib paths six body rib → ⊥) × (reading ≡ Err faults.Body))
-    ⊎ ((rib : Rib) × IsRib paths six body rib × (peers ≡ None) × (reading ≡ Err faults.NoPeerTable))
-    ⊎ HasEntries paths six peers body reading
+RibCase add_path six peers body reading =
+    (((rib : Rib) → IsRib add_path six body rib → ⊥) × (reading ≡ Err faults.Body))
+    ⊎ ((rib : Rib) × IsRib add_path six body rib × (peers ≡ None) × (reading ≡ Err faults.NoPeerTable))
+    ⊎ HasEntries add_path six peers body reading
 
-rib_case : (paths six : Bool) (peers : Option (List Peer)) (body : List ℕ) (reading : Result Body BodyFault) → RibSays paths six peers body reading → RibCase paths six peers body reading
-rib_case paths six peers body (Err faults.Body) say = inl (say, refl)
-rib_case paths six peers body (Err faults.NoPeerTable) say = inr (inl (say.0, say.1, say.2, refl))
-rib_case paths six peers body (Err faults.PeerIndex) say = inr (inr say)
-rib_case paths six peers body (Err faults.Message) say = absurd say
-rib_case paths six peers body (Err faults.Attributes) say = inr (inr say)
-rib_case paths six peers body (Err faults.NoPath) say = inr (inr say)
-rib_case paths six peers body (Err faults.NoMemory) say = absurd say
-rib_case paths six peers body (Ok (bodies.Routes noted)) say = inr (inr say)
-rib_case paths six peers body (Ok (bodies.Peers table)) say = absurd say
-rib_case paths six peers body (Ok bodies.Passed) say = absurd say
+rib_case : (add_path six : Bool) (peers : Option (List Peer)) (body : List ℕ) (reading : Result Body BodyFault) → RibSays add_path six peers body reading → RibCase add_path six peers body reading
+rib_case add_path six peers body (Err faults.Body) say = inl (say, refl)
+rib_case add_path six peers body (Err faults.NoPeerTable) say = inr (inl (say.0, say.1, say.2, refl))
+rib_case add_path six peers body (Err faults.PeerIndex) say = inr (inr say)
+rib_case add_path six peers body (Err faults.Message) say = absurd say
+rib_case add_path six peers body (Err faults.Attributes) say = inr (inr say)
+rib_case add_path six peers body (Err faults.NoPath) say = inr (inr say)
+rib_case add_path six peers body (Err faults.NoMemory) say = absurd say
+rib_case add_path six peers body (Ok (bodies.Routes noted)) say = inr (inr say)
+rib_case add_path six peers body (Ok (bodies.Peers table)) say = absurd say
+rib_case add_path six peers body (Ok bodies.Passed) say = absurd say
 
 tables_apart : (peers : Option (List Peer)) (table : List Peer) → peers ≡ None → peers ≡ Some table → ⊥
 tables_apart peers table p q = let both : None ≡ Some table = sym p ∙ q in cc
 
-entries_same : (paths six : Bool) (peers : Option (List Peer)) (body : List ℕ) (one other : Result Body BodyFault) → HasEntries paths six peers body one → HasEntries paths six peers body other → one ≡ other
-entries_same paths six peers body one other p q =
-    let ribs : p.0 ≡ q.0 = rib_same paths six body p.0 q.0 p.2 q.2 in
+entries_same : (add_path six : Bool) (peers : Option (List Peer)) (body : List ℕ) (one other : Result Body BodyFault) → HasEntries add_path six peers body one → HasEntries add_path six peers body other → one ≡ other
+entries_same add_path six peers body one other p q =
+    let ribs : p.0 ≡ q.0 = rib_same add_path six body p.0 q.0 p.2 q.2 in
     let tables : p.1 ≡ q.1 = same_Some p.1 q.1 (sym p.3 ∙ q.3) in
     let here : EntriesSay p.1 p.0.prefix p.0.entries other = subst (λ (r : Rib). EntriesSay p.1 r.prefix r.entries other) (sym ribs) (subst (λ (t : List Peer). EntriesSay t q.0.prefix q.0.entries other) (sym tables) q.4) in
     cases_same p.1 p.0.prefix p.0.entries one other (entries_case p.1 p.0.prefix p.0.entries one p.4) (entries_case p.1 p.0.prefix p.0.entries other here)
 
-ribs_say_same : (paths six : Bool) (peers : Option (List Peer)) (body : List ℕ) (one other : Result Body BodyFault) → RibCase paths six peers body one → RibCase paths six peers body other → one ≡ other
-ribs_say_same paths six peers body one other (inl p) (inl q) = p.1 ∙ sym q.1
-ribs_say_same paths six peers body one other (inl p) (inr (inl q)) = absurd (p.0 q.0 q.1)
-ribs_say_same paths six peers body one other (inl p) (inr (inr q)) = absurd (p.0 q.0 q.2)
-ribs_say_same paths six peers body one other (inr (inl p)) (inl q) = absurd (q.0 p.0 p.1)
-ribs_say_same paths six peers body one other (inr (inl p)) (inr (inl q)) = p.3 ∙ sym q.3
-ribs_say_same paths six peers body one other (inr (inl p)) (inr (inr q)) = absurd (tables_apart peers q.1 p.2 q.3)
-ribs_say_same paths six peers body one other (inr (inr p)) (inl q) = absurd (q.0 p.0 p.2)
-ribs_say_same paths six peers body one other (inr (inr p)) (inr (inl q)) = absurd (tables_apart peers p.1 q.2 p.3)
-ribs_say_same paths six peers body one other (inr (inr p)) (inr (inr q)) = entries_same paths six peers body one other p q
+ribs_say_same : (add_path six : Bool) (peers : Option (List Peer)) (body : List ℕ) (one other : Result Body BodyFault) → RibCase add_path six peers body one → RibCase add_path six peers body other → one ≡ other
+ribs_say_same add_path six peers body one other (inl p) (inl q) = p.1 ∙ sym q.1
+ribs_say_same add_path six peers body one other (inl p) (inr (inl q)) = absurd (p.0 q.0 q.1)
+ribs_say_same add_path six peers body one other (inl p) (inr (inr q)) = absurd (p.0 q.0 q.2)
+ribs_say_same add_path six peers body one other (inr (inl p)) (inl q) = absurd (q.0 p.0 p.1)
+ribs_say_same add_path six peers body one other (inr (inl p)) (inr (inl q)) = p.3 ∙ sym q.3
+ribs_say_same add_path six peers body one other (inr (inl p)) (inr (inr q)) = absurd (tables_apart peers q.1 p.2 q.3)
+ribs_say_same add_path six peers body one other (inr (inr p)) (inl q) = absurd (q.0 p.0 p.2)
+ribs_say_same add_path six peers body one other (inr (inr p)) (inr (inl q)) = absurd (tables_apart peers p.1 q.2 p.3)
+ribs_say_same add_path six peers body one other (inr (inr p)) (inr (inr q)) = entries_same add_path six peers body one other p q
 
 -- ---- TABLE_DUMP records
 
@@ -244,17 +244,17 @@ dump_says_same dumped one other p q = dumps_say_same dumped one other (dump_case
 
 -- ---- all layouts
 
-message_says_same : (as4 paths : Bool) (it : Peer × List ℕ) (one other : Result Body BodyFault) → MessageSays as4 paths it one → MessageSays as4 paths it other → one ≡ other
-message_says_same as4 paths (peer, message) one other p q = p.2 ∙ ap raised (messages.reading_same as4 paths peer message p.0 q.0 p.1 q.1) ∙ sym q.2
+message_says_same : (wide add_path : Bool) (it : Peer × List ℕ) (one other : Result Body BodyFault) → MessageSays wide add_path it one → MessageSays wide add_path it other → one ≡ other
+message_says_same wide add_path (peer, message) one other p q = p.2 ∙ ap raised (messages.reading_same wide add_path peer message p.0 q.0 p.1 q.1) ∙ sym q.2
 
 layout_says_same : (layout : Layout) (peers : Option (List Peer)) (body : List ℕ) (one other : Result Body BodyFault) → LayoutSays layout peers body one → LayoutSays layout peers body other → one ≡ other
 layout_says_same layouts.PeerIndex peers body one other p q = form_same (IsPeerTable body) TableSays (table_at body) one other (table_reads body) (λ peers a b. a ∙ sym b) p q
-layout_says_same (layouts.Rib six paths) peers body one other p q = ribs_say_same paths six peers body one other (rib_case paths six peers body one p) (rib_case paths six peers body other q)
+layout_says_same (layouts.Rib six add_path) peers body one other p q = ribs_say_same add_path six peers body one other (rib_case add_path six peers body one p) (rib_case add_path six peers body other q)
 layout_says_same (layouts.Dump six) peers body one other p q = form_same (IsTableDump six body) DumpSays (dump_at six body) one other (dump_reads six body) (λ dumped a b. dump_says_same dumped one other a b) p q
-layout_says_same (layouts.Message timed as4 paths) peers body one other p q =
-    form_same (λ (it : Peer × List ℕ). IsRecordedMessage timed as4 body it.0 it.1) (MessageSays as4 paths) (message_at timed as4 body) one other (message_reads timed as4 body) (λ it a b. message_says_same as4 paths it one other a b) p q
-layout_says_same (layouts.State timed as4) peers body one other p q =
-    form_same (λ (it : Peer × ℕ). IsStateChange timed as4 body it.0 it.1) StateSays (state_at timed as4 body) one other (state_reads timed as4 body) (λ it a b. a ∙ sym b) p q
+layout_says_same (layouts.Message timed wide add_path) peers body one other p q =
+    form_same (λ (it : Peer × List ℕ). IsRecordedMessage timed wide body it.0 it.1) (MessageSays wide add_path) (message_at timed wide body) one other (message_reads timed wide body) (λ it a b. message_says_same wide add_path it one other a b) p q
+layout_says_same (layouts.State timed wide) peers body one other p q =
+    form_same (λ (it : Peer × ℕ). IsStateChange timed wide body it.0 it.1) StateSays (state_at timed wide body) one other (state_reads timed wide body) (λ it a b. a ∙ sym b) p q
 layout_says_same layouts.Other peers body one other p q = p ∙ sym q
 
 pub reading_same : (it : Recorded) (peers : Option (List Peer)) (one other : Result Body BodyFault) → IsReading it peers one → IsReading it peers other → one ≡ other

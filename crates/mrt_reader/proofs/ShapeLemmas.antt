@@ -50,37 +50,37 @@ heads (a ∷ b ∷ []) (c ∷ d ∷ x ∷ more) r s p q e = absurd (omega arith)
 
 -- ---- entries behind their count
 
-pub counted_of : (paths : Bool) (bytes : List ℕ) (entries : List Entry) → 2 ≤ length bytes → IsCounted paths bytes entries → IsJoined (IsEntry paths) (drop 2 bytes) entries × (from_be_bytes w16 (get_or bytes 0 0 ∷ get_or bytes 1 0 ∷ []) ≡ length entries)
-counted_of paths [] entries long is = absurd (omega arith)
-counted_of paths (a ∷ []) entries long is = absurd (omega arith)
-counted_of paths (a ∷ b ∷ rest) entries long is =
+pub counted_of : (add_path : Bool) (bytes : List ℕ) (entries : List Entry) → 2 ≤ length bytes → IsCounted add_path bytes entries → IsJoined (IsEntry add_path) (drop 2 bytes) entries × (from_be_bytes w16 (get_or bytes 0 0 ∷ get_or bytes 1 0 ∷ []) ≡ length entries)
+counted_of add_path [] entries long is = absurd (omega arith)
+counted_of add_path (a ∷ []) entries long is = absurd (omega arith)
+counted_of add_path (a ∷ b ∷ rest) entries long is =
     let h = heads (a ∷ b ∷ []) is.count rest is.behind refl is.two is.whole in
-    (subst (λ (bytes : List ℕ). IsJoined (IsEntry paths) bytes entries) (sym h.1) is.are_entries, ap (from_be_bytes w16) h.0 ∙ is.counts)
+    (subst (λ (bytes : List ℕ). IsJoined (IsEntry add_path) bytes entries) (sym h.1) is.are_entries, ap (from_be_bytes w16) h.0 ∙ is.counts)
 
-pub counted_long : (paths : Bool) (bytes : List ℕ) (entries : List Entry) → IsCounted paths bytes entries → 2 ≤ length bytes
-counted_long paths bytes entries is = omega (arith, is.two, ap length is.whole, length-append is.count is.behind)
+pub counted_long : (add_path : Bool) (bytes : List ℕ) (entries : List Entry) → IsCounted add_path bytes entries → 2 ≤ length bytes
+counted_long add_path bytes entries is = omega (arith, is.two, ap length is.whole, length-append is.count is.behind)
 
 -- ---- the whole record
 
-behind_is : (paths six : Bool) (body : List ℕ) (rib : Rib) (is : IsRib paths six body rib) → drop 4 body ≡ is.behind
-behind_is paths six body rib is = ap (drop 4) is.whole ∙ drop_at is.sequence is.behind 4 is.four
+behind_is : (add_path six : Bool) (body : List ℕ) (rib : Rib) (is : IsRib add_path six body rib) → drop 4 body ≡ is.behind
+behind_is add_path six body rib is = ap (drop 4) is.whole ∙ drop_at is.sequence is.behind 4 is.four
 
-pub rib_long : (paths six : Bool) (body : List ℕ) → length body < 4 → (rib : Rib) → IsRib paths six body rib → ⊥
-rib_long paths six body short rib is = omega (arith, is.four, ap length is.whole, length-append is.sequence is.behind)
+pub rib_long : (add_path six : Bool) (body : List ℕ) → length body < 4 → (rib : Rib) → IsRib add_path six body rib → ⊥
+rib_long add_path six body short rib is = omega (arith, is.four, ap length is.whole, length-append is.sequence is.behind)
 
-pub read_prefix : (paths six : Bool) (body : List ℕ) (rib : Rib) (is : IsRib paths six body rib) → prefix_at six (drop 4 body) ≡ Some (rib.prefix, is.counted)
-read_prefix paths six body rib is = ap (prefix_at six) (behind_is paths six body rib is) ∙ (prefix_reader six).only is.behind rib.prefix is.counted is.prefix
+pub read_prefix : (add_path six : Bool) (body : List ℕ) (rib : Rib) (is : IsRib add_path six body rib) → prefix_at six (drop 4 body) ≡ Some (rib.prefix, is.counted)
+read_prefix add_path six body rib is = ap (prefix_at six) (behind_is add_path six body rib is) ∙ (prefix_reader six).only is.behind rib.prefix is.counted is.prefix
 
-pub rib_no_prefix : (paths six : Bool) (body : List ℕ) → prefix_at six (drop 4 body) ≡ None → (rib : Rib) → IsRib paths six body rib → ⊥
-rib_no_prefix paths six body none rib is = let e = read_prefix paths six body rib is in cc
+pub rib_no_prefix : (add_path six : Bool) (body : List ℕ) → prefix_at six (drop 4 body) ≡ None → (rib : Rib) → IsRib add_path six body rib → ⊥
+rib_no_prefix add_path six body none rib is = let e = read_prefix add_path six body rib is in cc
 
-pub rib_no_entries : (paths six : Bool) (body : List ℕ) (prefix : Subnet) (rest : List ℕ) → prefix_at six (drop 4 body) ≡ Some (prefix, rest) → ((entries : List Entry) → IsCounted paths rest entries → ⊥) → (rib : Rib) → IsRib paths six body rib → ⊥
-rib_no_entries paths six body prefix rest e none rib is =
-    let p = some_pair_parts rib.prefix prefix is.counted rest (sym (read_prefix paths six body rib is) ∙ e) in
-    none rib.entries (subst (λ (bytes : List ℕ). IsCounted paths bytes rib.entries) p.1 is.entries)
+pub rib_no_entries : (add_path six : Bool) (body : List ℕ) (prefix : Subnet) (rest : List ℕ) → prefix_at six (drop 4 body) ≡ Some (prefix, rest) → ((entries : List Entry) → IsCounted add_path rest entries → ⊥) → (rib : Rib) → IsRib add_path six body rib → ⊥
+rib_no_entries add_path six body prefix rest e none rib is =
+    let p = some_pair_parts rib.prefix prefix is.counted rest (sym (read_prefix add_path six body rib is) ∙ e) in
+    none rib.entries (subst (λ (bytes : List ℕ). IsCounted add_path bytes rib.entries) p.1 is.entries)
 
-pub rib_made : (paths six : Bool) (body : List ℕ) (prefix : Subnet) (rest : List ℕ) (entries : List Entry) → 4 ≤ length body → prefix_at six (drop 4 body) ≡ Some (prefix, rest) → IsCounted paths rest entries → IsRib paths six body (record { prefix = prefix; entries = entries })
-rib_made paths six body prefix rest entries long e counted = record {
+pub rib_made : (add_path six : Bool) (body : List ℕ) (prefix : Subnet) (rest : List ℕ) (entries : List Entry) → 4 ≤ length body → prefix_at six (drop 4 body) ≡ Some (prefix, rest) → IsCounted add_path rest entries → IsRib add_path six body (record { prefix = prefix; entries = entries })
+rib_made add_path six body prefix rest entries long e counted = record {
   sequence = take 4 body;
   behind = drop 4 body;
   counted = rest;

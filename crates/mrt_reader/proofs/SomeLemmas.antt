@@ -47,37 +47,37 @@ use Rattle.mrt_reader.proofs.ShapeLemmas.{counted_of, counted_long, rib_long, ri
 
 -- ---- the form of a RIB record
 
-counted_by : (paths : Bool) (a b : ℕ) (rest : List ℕ) (entries : List Entry) → IsJoined (IsEntry paths) rest entries → (counts : Bool) → (from_be_bytes w16 (a ∷ b ∷ []) == length entries) ≡ counts → SomeOrNone (IsCounted paths (a ∷ b ∷ rest))
-counted_by paths a b rest entries joined true e = inl (entries, record { count = a ∷ b ∷ []; behind = rest; two = refl; counts = grind (arith, nat_tests); whole = refl; are_entries = joined })
-counted_by paths a b rest entries joined false e = inr (λ (others : List Entry) is.
-    let o = counted_of paths (a ∷ b ∷ rest) others (counted_long paths (a ∷ b ∷ rest) others is) is in
-    let sizes = ap length (joined_same (entry_reader paths) rest others entries o.0 joined) in
+counted_by : (add_path : Bool) (a b : ℕ) (rest : List ℕ) (entries : List Entry) → IsJoined (IsEntry add_path) rest entries → (counts : Bool) → (from_be_bytes w16 (a ∷ b ∷ []) == length entries) ≡ counts → SomeOrNone (IsCounted add_path (a ∷ b ∷ rest))
+counted_by add_path a b rest entries joined true e = inl (entries, record { count = a ∷ b ∷ []; behind = rest; two = refl; counts = grind (arith, nat_tests); whole = refl; are_entries = joined })
+counted_by add_path a b rest entries joined false e = inr (λ (others : List Entry) is.
+    let o = counted_of add_path (a ∷ b ∷ rest) others (counted_long add_path (a ∷ b ∷ rest) others is) is in
+    let sizes = ap length (joined_same (entry_reader add_path) rest others entries o.0 joined) in
     let counts = o.1 in
     grind (arith, nat_tests))
 
-counted_from : (paths : Bool) (a b : ℕ) (rest : List ℕ) → SomeOrNone (IsJoined (IsEntry paths) rest) → SomeOrNone (IsCounted paths (a ∷ b ∷ rest))
-counted_from paths a b rest (inl entries) = counted_by paths a b rest entries.0 entries.1 (from_be_bytes w16 (a ∷ b ∷ []) == length entries.0) refl
-counted_from paths a b rest (inr none) = inr (λ others is. none others (counted_of paths (a ∷ b ∷ rest) others (counted_long paths (a ∷ b ∷ rest) others is) is).0)
+counted_from : (add_path : Bool) (a b : ℕ) (rest : List ℕ) → SomeOrNone (IsJoined (IsEntry add_path) rest) → SomeOrNone (IsCounted add_path (a ∷ b ∷ rest))
+counted_from add_path a b rest (inl entries) = counted_by add_path a b rest entries.0 entries.1 (from_be_bytes w16 (a ∷ b ∷ []) == length entries.0) refl
+counted_from add_path a b rest (inr none) = inr (λ others is. none others (counted_of add_path (a ∷ b ∷ rest) others (counted_long add_path (a ∷ b ∷ rest) others is) is).0)
 
-counted_decided : (paths : Bool) (bytes : List ℕ) → SomeOrNone (IsCounted paths bytes)
-counted_decided paths [] = inr (λ entries is. (let long = counted_long paths [] entries is in omega arith))
-counted_decided paths (a ∷ []) = inr (λ entries is. (let long = counted_long paths (a ∷ []) entries is in omega arith))
-counted_decided paths (a ∷ b ∷ rest) = counted_from paths a b rest (joined_decided (entry_reader paths) rest)
+counted_decided : (add_path : Bool) (bytes : List ℕ) → SomeOrNone (IsCounted add_path bytes)
+counted_decided add_path [] = inr (λ entries is. (let long = counted_long add_path [] entries is in omega arith))
+counted_decided add_path (a ∷ []) = inr (λ entries is. (let long = counted_long add_path (a ∷ []) entries is in omega arith))
+counted_decided add_path (a ∷ b ∷ rest) = counted_from add_path a b rest (joined_decided (entry_reader add_path) rest)
 
-rib_behind : (paths six : Bool) (body : List ℕ) → 4 ≤ length body → (prefix : Subnet) (rest : List ℕ) → prefix_at six (drop 4 body) ≡ Some (prefix, rest) → SomeOrNone (IsCounted paths rest) → SomeOrNone (IsRib paths six body)
-rib_behind paths six body long prefix rest e (inl entries) = inl (record { prefix = prefix; entries = entries.0 }, rib_made paths six body prefix rest entries.0 long e entries.1)
-rib_behind paths six body long prefix rest e (inr none) = inr (rib_no_entries paths six body prefix rest e none)
+rib_behind : (add_path six : Bool) (body : List ℕ) → 4 ≤ length body → (prefix : Subnet) (rest : List ℕ) → prefix_at six (drop 4 body) ≡ Some (prefix, rest) → SomeOrNone (IsCounted add_path rest) → SomeOrNone (IsRib add_path six body)
+rib_behind add_path six body long prefix rest e (inl entries) = inl (record { prefix = prefix; entries = entries.0 }, rib_made add_path six body prefix rest entries.0 long e entries.1)
+rib_behind add_path six body long prefix rest e (inr none) = inr (rib_no_entries add_path six body prefix rest e none)
 
-rib_by_prefix : (paths six : Bool) (body : List ℕ) → 4 ≤ length body → (first : Option (Subnet × List ℕ)) → prefix_at six (drop 4 body) ≡ first → SomeOrNone (IsRib paths six body)
-rib_by_prefix paths six body long None e = inr (rib_no_prefix paths six body e)
-rib_by_prefix paths six body long (Some x) e = rib_behind paths six body long x.0 x.1 e (counted_decided paths x.1)
+rib_by_prefix : (add_path six : Bool) (body : List ℕ) → 4 ≤ length body → (first : Option (Subnet × List ℕ)) → prefix_at six (drop 4 body) ≡ first → SomeOrNone (IsRib add_path six body)
+rib_by_prefix add_path six body long None e = inr (rib_no_prefix add_path six body e)
+rib_by_prefix add_path six body long (Some x) e = rib_behind add_path six body long x.0 x.1 e (counted_decided add_path x.1)
 
-rib_by_length : (paths six : Bool) (body : List ℕ) (short : Bool) → nat_lt (length body) 4 ≡ short → SomeOrNone (IsRib paths six body)
-rib_by_length paths six body true e = inr (rib_long paths six body (grind (arith, nat_tests)))
-rib_by_length paths six body false e = rib_by_prefix paths six body (grind (arith, nat_tests)) (prefix_at six (drop 4 body)) refl
+rib_by_length : (add_path six : Bool) (body : List ℕ) (short : Bool) → nat_lt (length body) 4 ≡ short → SomeOrNone (IsRib add_path six body)
+rib_by_length add_path six body true e = inr (rib_long add_path six body (grind (arith, nat_tests)))
+rib_by_length add_path six body false e = rib_by_prefix add_path six body (grind (arith, nat_tests)) (prefix_at six (drop 4 body)) refl
 
-rib_decided : (paths six : Bool) (body : List ℕ) → SomeOrNone (IsRib paths six body)
-rib_decided paths six body = rib_by_length paths six body (nat_lt (length body) 4) refl
+rib_decided : (add_path six : Bool) (body : List ℕ) → SomeOrNone (IsRib add_path six body)
+rib_decided add_path six body = rib_by_length add_path six body (nat_lt (length body) 4) refl
 
 -- ---- the entries
 
@@ -143,12 +143,12 @@ entries_some peers prefix entries (inl within) = entries_by peers prefix entries
 
 -- ---- all layouts
 
-rib_some : (paths six : Bool) (peers : Option (List Peer)) (body : List ℕ) → SomeOrNone (IsRib paths six body) → Says (RibSays paths six peers body)
-rib_some paths six peers body (inr none) = (Err faults.Body, none)
-rib_some paths six None body (inl rib) = (Err faults.NoPeerTable, (rib.0, rib.1, refl))
-rib_some paths six (Some table) body (inl rib) =
+rib_some : (add_path six : Bool) (peers : Option (List Peer)) (body : List ℕ) → SomeOrNone (IsRib add_path six body) → Says (RibSays add_path six peers body)
+rib_some add_path six peers body (inr none) = (Err faults.Body, none)
+rib_some add_path six None body (inl rib) = (Err faults.NoPeerTable, (rib.0, rib.1, refl))
+rib_some add_path six (Some table) body (inl rib) =
     let say = entries_some table rib.0.prefix rib.0.entries (all_or_any (IsWithin table) (IsBeyond table) (within_or_beyond table) rib.0.entries) in
-    (say.0, rib_from paths six (Some table) body table rib.0 say.0 rib.1 refl say.1)
+    (say.0, rib_from add_path six (Some table) body table rib.0 say.0 rib.1 refl say.1)
 
 dump_by : (dumped : Dumped) → SomeOrNone (IsRead false Table false dumped.attributes) → Says (DumpSays dumped)
 dump_by dumped (inr none) = (Err faults.Attributes, none)
@@ -158,20 +158,20 @@ dump_by dumped (inl x) = with_path (path_or_none false dumped.attributes x.0 x.1
     with_path (inl give) = (Ok (bodies.Routes (with_first (Announce (key_of dumped.peer (dumped_nlri dumped)) give.0) give.1 (without_notes []))), (give.0, give.1, give.2, refl))
     with_path (inr lacks) = (Err faults.NoPath, lacks)
 
-message_some : (as4 paths : Bool) (it : Peer × List ℕ) → Says (MessageSays as4 paths it)
-message_some as4 paths (peer, message) = let inner = messages.reading_some as4 paths peer message in (raised inner.0, (inner.0, inner.1, refl))
+message_some : (wide add_path : Bool) (it : Peer × List ℕ) → Says (MessageSays wide add_path it)
+message_some wide add_path (peer, message) = let inner = messages.reading_some wide add_path peer message in (raised inner.0, (inner.0, inner.1, refl))
 
 state_some : (it : Peer × ℕ) → Says (StateSays it)
 state_some (peer, state) = (Ok (bodies.Routes (without_notes (changes_at peer state))), refl)
 
 layout_some : (layout : Layout) (peers : Option (List Peer)) (body : List ℕ) → Says (LayoutSays layout peers body)
 layout_some layouts.PeerIndex peers body = form_some (IsPeerTable body) TableSays (table_at body) (table_reads body) (λ table. (Ok (bodies.Peers table), refl))
-layout_some (layouts.Rib six paths) peers body = rib_some paths six peers body (rib_decided paths six body)
+layout_some (layouts.Rib six add_path) peers body = rib_some add_path six peers body (rib_decided add_path six body)
 layout_some (layouts.Dump six) peers body = form_some (IsTableDump six body) DumpSays (dump_at six body) (dump_reads six body) (λ dumped. dump_by dumped (reading_decided false Table false dumped.attributes))
-layout_some (layouts.Message timed as4 paths) peers body =
-    form_some (λ (it : Peer × List ℕ). IsRecordedMessage timed as4 body it.0 it.1) (MessageSays as4 paths) (message_at timed as4 body) (message_reads timed as4 body) (message_some as4 paths)
-layout_some (layouts.State timed as4) peers body =
-    form_some (λ (it : Peer × ℕ). IsStateChange timed as4 body it.0 it.1) StateSays (state_at timed as4 body) (state_reads timed as4 body) state_some
+layout_some (layouts.Message timed wide add_path) peers body =
+    form_some (λ (it : Peer × List ℕ). IsRecordedMessage timed wide body it.0 it.1) (MessageSays wide add_path) (message_at timed wide body) (message_reads timed wide body) (message_some wide add_path)
+layout_some (layouts.State timed wide) peers body =
+    form_some (λ (it : Peer × ℕ). IsStateChange timed wide body it.0 it.1) StateSays (state_at timed wide body) (state_reads timed wide body) state_some
 layout_some layouts.Other peers body = (Ok bodies.Passed, refl)
 
 pub one_reading : (it : Recorded) (peers : Option (List Peer)) → HasOne (IsReading it peers)

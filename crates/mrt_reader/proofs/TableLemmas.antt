@@ -8,11 +8,11 @@ use Rattle.held_bytes.specs.Units.{Begins}
 use Rattle.bgp_attrs.specs.Blocks.{IsBlock, block_at}
 use Rattle.bgp_attrs.specs.Joined.{IsReader, items_of}
 use Rattle.bgp_attrs.proofs.BlockLemmas.{block_reader}
-use Rattle.bgp_attrs.proofs.JoinedLemmas.{and_then_some, items_from, joined_from}
-use Rattle.mrt_reader.specs.Fields.{SpellsAsn, SpellsAddr}
+use Rattle.bgp_attrs.proofs.FixedLemmas.{and_then_some, Reads, and_then_is, three_parts, cut_at, cut_finds, two_finds, two_only, asn_finds, asn_only, addr_finds, addr_only}
+use Rattle.bgp_attrs.proofs.JoinedLemmas.{items_from, joined_from}
+use Rattle.bgp_attrs.specs.Fixed.{SpellsAsn, SpellsAddr, cut, asn_at, addr_at, two_at}
 use Rattle.mrt_reader.specs.Peers.{is_six, is_wide, IsPeer, IsPeerTable}
-use Rattle.mrt_reader.specs.Readers.{cut, asn_at, addr_at, peer_at, counted, counted_part, table_at, two_at}
-use Rattle.mrt_reader.proofs.FieldLemmas.{Reads, and_then_is, three_parts, cut_at, cut_finds, two_finds, two_only, asn_finds, asn_only, addr_finds, addr_only}
+use Rattle.mrt_reader.specs.Readers.{peer_at, counted, counted_part, table_at}
 
 -- ---- one peer
 

@@ -31,22 +31,22 @@ ByForm {A} HasForm Says reading = (((value : A) → HasForm value → ⊥) × (r
 abbrev pub TableSays : List Peer → Result Body BodyFault → Type 0
 TableSays peers reading = reading ≡ Ok (bodies.Peers peers)
 
--- a RIB record, where `paths` with path identifiers, with a table before it: what its entries say
+-- a RIB record, where `add_path` with path identifiers, with a table before it: what its entries say
 abbrev pub HasEntries : Bool → Bool → Option (List Peer) → List ℕ → Result Body BodyFault → Type 0
-HasEntries paths six peers body reading = (rib : Rib) × (table : List Peer) × IsRib paths six body rib × (peers ≡ Some table) × EntriesSay table rib.prefix rib.entries reading
+HasEntries add_path six peers body reading = (rib : Rib) × (table : List Peer) × IsRib add_path six body rib × (peers ≡ Some table) × EntriesSay table rib.prefix rib.entries reading
 
 -- a RIB record: the body is out of form; or it is in form, and no table is before it; or what its entries say
 abbrev pub RibSays : Bool → Bool → Option (List Peer) → List ℕ → Result Body BodyFault → Type 0
-RibSays paths six peers body (Err faults.Body) = (rib : Rib) → IsRib paths six body rib → ⊥
-RibSays paths six peers body (Err faults.NoPeerTable) = (rib : Rib) × IsRib paths six body rib × (peers ≡ None)
-RibSays paths six peers body (Err faults.PeerIndex) = HasEntries paths six peers body (Err faults.PeerIndex)
-RibSays paths six peers body (Err faults.Message) = ⊥
-RibSays paths six peers body (Err faults.Attributes) = HasEntries paths six peers body (Err faults.Attributes)
-RibSays paths six peers body (Err faults.NoPath) = HasEntries paths six peers body (Err faults.NoPath)
-RibSays paths six peers body (Err faults.NoMemory) = ⊥
-RibSays paths six peers body (Ok (bodies.Routes noted)) = HasEntries paths six peers body (Ok (bodies.Routes noted))
-RibSays paths six peers body (Ok (bodies.Peers table)) = ⊥
-RibSays paths six peers body (Ok bodies.Passed) = ⊥
+RibSays add_path six peers body (Err faults.Body) = (rib : Rib) → IsRib add_path six body rib → ⊥
+RibSays add_path six peers body (Err faults.NoPeerTable) = (rib : Rib) × IsRib add_path six body rib × (peers ≡ None)
+RibSays add_path six peers body (Err faults.PeerIndex) = HasEntries add_path six peers body (Err faults.PeerIndex)
+RibSays add_path six peers body (Err faults.Message) = ⊥
+RibSays add_path six peers body (Err faults.Attributes) = HasEntries add_path six peers body (Err faults.Attributes)
+RibSays add_path six peers body (Err faults.NoPath) = HasEntries add_path six peers body (Err faults.NoPath)
+RibSays add_path six peers body (Err faults.NoMemory) = ⊥
+RibSays add_path six peers body (Ok (bodies.Routes noted)) = HasEntries add_path six peers body (Ok (bodies.Routes noted))
+RibSays add_path six peers body (Ok (bodies.Peers table)) = ⊥
+RibSays add_path six peers body (Ok bodies.Passed) = ⊥
 
 -- a message's fault as a record's
 abbrev pub fault_of : UpdateFault → BodyFault
@@ -60,9 +60,9 @@ abbrev pub raised : Result Noted UpdateFault → Result Body BodyFault
 raised (Ok noted) = Ok (bodies.Routes noted)
 raised (Err fault) = Err (fault_of fault)
 
--- a recorded message with a peer: what the message says, where `paths` with path identifiers
+-- a recorded message with a peer: what the message says, where `add_path` with path identifiers
 abbrev pub MessageSays : Bool → Bool → Peer × List ℕ → Result Body BodyFault → Type 0
-MessageSays as4 paths (peer, message) reading = (inner : Result Noted UpdateFault) × updates.IsMessageReading as4 paths peer message inner × (reading ≡ raised inner)
+MessageSays wide add_path (peer, message) reading = (inner : Result Noted UpdateFault) × updates.IsMessageReading wide add_path peer message inner × (reading ≡ raised inner)
 
 -- the session of the peer is up (6 Established), or the peer's routes are gone
 abbrev pub changes_at : Peer → ℕ → List Change
@@ -75,10 +75,10 @@ StateSays (peer, state) reading = reading ≡ Ok (bodies.Routes (updates.without
 -- the body of each layout; the bodies of all other types and subtypes are passed over unread
 abbrev pub LayoutSays : Layout → Option (List Peer) → List ℕ → Result Body BodyFault → Type 0
 LayoutSays layouts.PeerIndex peers body reading = ByForm (IsPeerTable body) TableSays reading
-LayoutSays (layouts.Rib six paths) peers body reading = RibSays paths six peers body reading
+LayoutSays (layouts.Rib six add_path) peers body reading = RibSays add_path six peers body reading
 LayoutSays (layouts.Dump six) peers body reading = ByForm (IsTableDump six body) DumpSays reading
-LayoutSays (layouts.Message timed as4 paths) peers body reading = ByForm (λ (it : Peer × List ℕ). IsRecordedMessage timed as4 body it.0 it.1) (MessageSays as4 paths) reading
-LayoutSays (layouts.State timed as4) peers body reading = ByForm (λ (it : Peer × ℕ). IsStateChange timed as4 body it.0 it.1) StateSays reading
+LayoutSays (layouts.Message timed wide add_path) peers body reading = ByForm (λ (it : Peer × List ℕ). IsRecordedMessage timed wide body it.0 it.1) (MessageSays wide add_path) reading
+LayoutSays (layouts.State timed wide) peers body reading = ByForm (λ (it : Peer × ℕ). IsStateChange timed wide body it.0 it.1) StateSays reading
 LayoutSays layouts.Other peers body reading = reading ≡ Ok bodies.Passed
 
 -- What the record says, or the first fault in the order Body, NoPeerTable, PeerIndex, Message, Attributes, NoPath, each over the

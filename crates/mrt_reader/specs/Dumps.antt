@@ -4,7 +4,7 @@ use Rattle.path_model.specs.declared.addr.Addr.{Addr}
 use Rattle.path_model.specs.declared.peer.Peer.{Peer}
 use Rattle.path_model.specs.Prefix.{Subnet, prefix_of}
 use Rattle.bgp_attrs.specs.Blocks.{IsBlock}
-use Rattle.mrt_reader.specs.Fields.{SpellsAsn, SpellsAddr}
+use Rattle.bgp_attrs.specs.Fixed.{SpellsAsn, SpellsAddr}
 
 -- a route as it is recorded
 pub record Dumped : Type 0 where

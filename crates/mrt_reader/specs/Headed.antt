@@ -9,7 +9,7 @@ use Rattle.mrt_reader.specs.Coming.{IsTooLong, IsPartial}
 use Rattle.mrt_reader.specs.Records.{Head, head_at, limit}
 
 abbrev pub head_of : Heading → Head
-head_of h = record { stamp = h.stamp; kind = h.kind; subkind = h.subkind; size = h.size }
+head_of h = record { stamp = h.stamp; mrt_type = h.mrt_type; subtype = h.subtype; size = h.size }
 
 abbrev pub IsHeaded : List ℕ → Result (Option Heading) FrameFault → Type 0
 IsHeaded bytes (Ok None) = IsPartial bytes

@@ -13,7 +13,7 @@ abbrev pub entry_of : RibEntry → Entry
 entry_of entry = record { index = entry.index; path = entry.path; attributes = entry.attributes.now }
 
 abbrev pub entries_left : Entries → List Entry
-entries_left entries = unwrap_or (items_of (entry_at entries.paths) entries.rest.now) []
+entries_left entries = unwrap_or (items_of (entry_at entries.add_path) entries.rest.now) []
 
 abbrev pub rib_of : RibParts → Rib
 rib_of parts = record { prefix = parts.prefix; entries = entries_left parts.entries }

@@ -1,7 +1,6 @@
 pub mod Bodies
 pub mod Coming
 pub mod Dumps
-pub mod Fields
 pub mod Gathering
 pub mod Headed
 pub mod Laws

@@ -3,7 +3,7 @@ use Rattle.std.specs.Prelude.{◌≡◌, ℕ, ◌==◌, not, bit_and, Bool, List
 use Rattle.path_model.specs.declared.peer.Peer.{Peer}
 use Rattle.bgp_attrs.specs.Blocks.{IsBlock}
 use Rattle.bgp_attrs.specs.Joined.{IsJoined}
-use Rattle.mrt_reader.specs.Fields.{SpellsTwo, SpellsAsn, SpellsAddr}
+use Rattle.bgp_attrs.specs.Fixed.{SpellsTwo, SpellsAsn, SpellsAddr}
 
 -- the bits of a peer's kind: an address of IPv6, an AS of four bytes; other bits have no meaning
 abbrev pub is_six : ℕ → Bool

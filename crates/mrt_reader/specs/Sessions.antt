@@ -2,7 +2,7 @@
 -- path identifiers: RFC 8050, section 3).
 use Rattle.std.specs.Prelude.{◌≡◌, ℕ, Bool, true, false, List, ◌++◌, length}
 use Rattle.path_model.specs.declared.peer.Peer.{Peer}
-use Rattle.mrt_reader.specs.Fields.{SpellsTwo, SpellsAsn, asn_size, SpellsAddr, addr_size}
+use Rattle.bgp_attrs.specs.Fixed.{SpellsTwo, SpellsAsn, as_width, SpellsAddr, addr_size}
 
 -- the number of the address family of IPv6, or of IPv4
 abbrev pub family_number : Bool → ℕ
@@ -16,7 +16,7 @@ time_size false = 0
 
 -- The fields of a session: the peer's AS and the local AS, two bytes of interface, the address family, the peer's address and the local
 -- address.
-pub record AreSessionFields (as4 : Bool) (bytes : List ℕ) (peer : Peer) : Type 0 where
+pub record AreSessionFields (wide : Bool) (bytes : List ℕ) (peer : Peer) : Type 0 where
   pub asn : List ℕ
   pub local_asn : List ℕ
   pub interface : List ℕ
@@ -24,8 +24,8 @@ pub record AreSessionFields (as4 : Bool) (bytes : List ℕ) (peer : Peer) : Type
   pub addr : List ℕ
   pub local_addr : List ℕ
   pub six : Bool
-  pub is_asn : SpellsAsn as4 asn peer.asn
-  pub as_long : length local_asn ≡ asn_size as4
+  pub is_asn : SpellsAsn wide asn peer.asn
+  pub as_long : length local_asn ≡ as_width wide
   pub two : length interface ≡ 2
   pub is_family : SpellsTwo family (family_number six)
   pub is_addr : SpellsAddr six addr peer.addr
@@ -33,17 +33,17 @@ pub record AreSessionFields (as4 : Bool) (bytes : List ℕ) (peer : Peer) : Type
   pub whole : bytes ≡ asn ++ (local_asn ++ (interface ++ (family ++ (addr ++ local_addr))))
 
 -- A recorded message: microseconds, if there are some, the fields of the session with this peer, and the message, which is all the rest.
-pub record IsRecordedMessage (timed as4 : Bool) (body : List ℕ) (peer : Peer) (message : List ℕ) : Type 0 where
+pub record IsRecordedMessage (timed wide : Bool) (body : List ℕ) (peer : Peer) (message : List ℕ) : Type 0 where
   pub time : List ℕ
   pub session : List ℕ
   pub is_time : length time ≡ time_size timed
-  pub fields : AreSessionFields as4 session peer
+  pub fields : AreSessionFields wide session peer
   pub whole : body ≡ time ++ (session ++ message)
 
 -- A state change: where a message would stand, two bytes of the old state and two of the new one.
-pub record IsStateChange (timed as4 : Bool) (body : List ℕ) (peer : Peer) (state : ℕ) : Type 0 where
+pub record IsStateChange (timed wide : Bool) (body : List ℕ) (peer : Peer) (state : ℕ) : Type 0 where
   pub behind : List ℕ
-  pub session : IsRecordedMessage timed as4 body peer behind
+  pub session : IsRecordedMessage timed wide body peer behind
   pub old : List ℕ
   pub new : List ℕ
   pub two : length old ≡ 2

@@ -8,10 +8,9 @@ ghost use Rattle.mrt_reader.specs.Routes.{DumpSays};
 
 use crate::body::Body;
 use crate::fault::BodyFault;
-use crate::fields::{take, take_addr, take_asn, take_byte};
 use crate::parts::DumpParts;
 use crate::routing::{no_changes, put_route};
-use bgp_attrs::take_block;
+use bgp_attrs::{take, take_addr, take_asn, take_block, take_byte};
 use path_model::{Key, Peer, Prefix};
 use std::alloc::Global;
 

@@ -19,8 +19,8 @@ pub(crate) struct Entries<'a> {
     // entries, and nothing else
     pub(crate) rest: &'a [u8],
     // whether each has a path identifier
-    pub(crate) paths: bool,
-    ghost whole: { is_some (items_of (entry_at paths) rest.now) ≡ true },
+    pub(crate) add_path: bool,
+    ghost whole: { is_some (items_of (entry_at add_path) rest.now) ≡ true },
 }
 
 impl<'a> Iterator for Entries<'a> {
@@ -34,7 +34,7 @@ impl<'a> Iterator for Entries<'a> {
     ghost remaining = { item_count entries_left };
 
     fn next(&mut self) -> Option<RibEntry<'a>> {
-        let (entry, rest) = take_entry(self.rest, self.paths)?;
+        let (entry, rest) = take_entry(self.rest, self.add_path)?;
         self.rest = rest;
         Some(entry)
     }

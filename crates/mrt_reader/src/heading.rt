@@ -5,6 +5,9 @@ ghost use Rattle.mrt_reader.specs.Records.{head_at};
 
 use crate::fault::FrameFault;
 
+// The bytes of a header.
+pub(crate) const HEADER: usize = 12;
+
 // The most bytes of a body.
 const LIMIT: usize = 4_194_304;
 
@@ -13,8 +16,8 @@ const LIMIT: usize = 4_194_304;
 pub(crate) struct Heading {
     pub(crate) size: usize,
     pub(crate) stamp: u32,
-    pub(crate) kind: u16,
-    pub(crate) subkind: u16,
+    pub(crate) mrt_type: u16,
+    pub(crate) subtype: u16,
 }
 
 // The header of the first record, if all of it is held.
@@ -26,7 +29,7 @@ pub(crate) fn whole_head(held: &[u8]) -> Result<Option<Heading>, FrameFault>
             if head.size > LIMIT {
                 return Err(FrameFault::TooLong);
             }
-            if held.len() - 12 < head.size {
+            if held.len() - HEADER < head.size {
                 return Ok(None);
             }
             Ok(Some(head))
@@ -42,8 +45,8 @@ fn take_head(bytes: &[u8]) -> Option<Heading>
         [a, b, c, d, e, f, g, h, i, j, k, l, ..] => Some(Heading {
             size: u32::from_be_bytes([*i, *j, *k, *l]) as usize,
             stamp: u32::from_be_bytes([*a, *b, *c, *d]),
-            kind: u16::from_be_bytes([*e, *f]),
-            subkind: u16::from_be_bytes([*g, *h]),
+            mrt_type: u16::from_be_bytes([*e, *f]),
+            subtype: u16::from_be_bytes([*g, *h]),
         }),
         _ => None,
     }

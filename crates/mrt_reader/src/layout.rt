@@ -1,42 +1,55 @@
-//! The layouts of bodies.
+//! The layouts of the bodies of records, by type and subtype (RFC 6396, section 4; RFC 8050).
 ghost use Rattle.std.specs.Prelude.{◌≡◌};
 ghost use Rattle.mrt_reader.specs.Layouts as words;
 
-/// Which layout a body has. `paths` says that its entries, or the prefixes of its message, have path identifiers (RFC 8050).
+/// Which layout a body has. `add_path` says that its entries, or the prefixes of its message, have path identifiers (RFC 8050); `wide`
+/// that ASes have four bytes, and else two; `timed` that microseconds stand in front.
 #[derive(Clone, Copy, Debug)]
 pub(crate) enum Layout {
     /// A peer table.
     PeerIndex,
     /// The routes to a prefix of IPv6, or else of IPv4.
-    Rib { six: bool, paths: bool },
+    Rib {
+        six: bool,
+        add_path: bool,
+    },
     /// One route to a prefix of IPv6, or else of IPv4.
-    Dump { six: bool },
-    /// A BGP message: with microseconds, with ASes of four bytes.
-    Message { timed: bool, as4: bool, paths: bool },
-    /// A state change, likewise.
-    State { timed: bool, as4: bool },
+    Dump {
+        six: bool,
+    },
+    /// A BGP message.
+    Message {
+        timed: bool,
+        wide: bool,
+        add_path: bool,
+    },
+    /// A state change.
+    State {
+        timed: bool,
+        wide: bool,
+    },
     /// Passed over unread.
     Other,
 }
 
 // The layout of a type and subtype.
-pub(crate) fn layout_of(kind: u16, subkind: u16) -> Layout
-    ensures { result ≡ words.layout_of kind subkind }
+pub(crate) fn layout_of(mrt_type: u16, subtype: u16) -> Layout
+    ensures { result ≡ words.layout_of mrt_type subtype }
 {
-    match kind {
-        12 => dump_layout(subkind),
-        13 => table_layout(subkind),
-        16 => session_layout(false, subkind),
-        17 => session_layout(true, subkind),
+    match mrt_type {
+        12 => dump_layout(subtype),
+        13 => table_layout(subtype),
+        16 => session_layout(false, subtype),
+        17 => session_layout(true, subtype),
         _ => Layout::Other,
     }
 }
 
 // TABLE_DUMP
-fn dump_layout(subkind: u16) -> Layout
-    ensures { result ≡ words.dump_layout subkind }
+fn dump_layout(subtype: u16) -> Layout
+    ensures { result ≡ words.dump_layout subtype }
 {
-    match subkind {
+    match subtype {
         1 => Layout::Dump { six: false },
         2 => Layout::Dump { six: true },
         _ => Layout::Other,
@@ -44,57 +57,57 @@ fn dump_layout(subkind: u16) -> Layout
 }
 
 // TABLE_DUMP_V2
-fn table_layout(subkind: u16) -> Layout
-    ensures { result ≡ words.table_layout subkind }
+fn table_layout(subtype: u16) -> Layout
+    ensures { result ≡ words.table_layout subtype }
 {
-    match subkind {
+    match subtype {
         1 => Layout::PeerIndex,
         2 => Layout::Rib {
             six: false,
-            paths: false,
+            add_path: false,
         },
         4 => Layout::Rib {
             six: true,
-            paths: false,
+            add_path: false,
         },
         8 => Layout::Rib {
             six: false,
-            paths: true,
+            add_path: true,
         },
         10 => Layout::Rib {
             six: true,
-            paths: true,
+            add_path: true,
         },
         _ => Layout::Other,
     }
 }
 
-// BGP4MP
-fn session_layout(timed: bool, subkind: u16) -> Layout
-    ensures { result ≡ words.session_layout timed subkind }
+// BGP4MP, and BGP4MP_ET, which is timed. LOCAL messages (6, 7, 10 and 11), which the dump's writer itself sent, are passed over.
+fn session_layout(timed: bool, subtype: u16) -> Layout
+    ensures { result ≡ words.session_layout timed subtype }
 {
-    match subkind {
-        0 => Layout::State { timed, as4: false },
+    match subtype {
+        0 => Layout::State { timed, wide: false },
         1 => Layout::Message {
             timed,
-            as4: false,
-            paths: false,
+            wide: false,
+            add_path: false,
         },
         4 => Layout::Message {
             timed,
-            as4: true,
-            paths: false,
+            wide: true,
+            add_path: false,
         },
-        5 => Layout::State { timed, as4: true },
+        5 => Layout::State { timed, wide: true },
         8 => Layout::Message {
             timed,
-            as4: false,
-            paths: true,
+            wide: false,
+            add_path: true,
         },
         9 => Layout::Message {
             timed,
-            as4: true,
-            paths: true,
+            wide: true,
+            add_path: true,
         },
         _ => Layout::Other,
     }

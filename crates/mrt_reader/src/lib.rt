@@ -8,14 +8,16 @@
 //!
 //! Begin reading at `specs/Records.antt` and `specs/Bodies.antt`. `heading` and `framer` cut records; `layout` tells the bodies
 //! apart. Each body has its modules: `table` peer tables; `entries`, `splitting`, `shaping`, `routing` and `rib` RIB records; `dump`
-//! old table records; `session` messages and state changes; `fields` has the fixed fields. `reading` is `read_body`.
+//! old table records; `session` messages and state changes. `reading` is `read_body`.
+//!
+//! Beside `next`, which takes the first record off, a `Framer` has `stamp`. It says the time of the record that `next` would take, and none
+//! exactly where `next` would take none. The program asks for it at an `until` line.
 #![tactic(auto)]
 
 mod body;
 mod dump;
 mod entries;
 mod fault;
-mod fields;
 mod framer;
 mod heading;
 mod laws;

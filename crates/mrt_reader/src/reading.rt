@@ -28,10 +28,14 @@ pub fn read_body(
 {
     match layout_of(unit.kind, unit.subkind) {
         Layout::PeerIndex => read_table(alloc, unit.body),
-        Layout::Rib { six, paths } => read_rib(alloc, unit.body, six, paths, peers),
+        Layout::Rib { six, add_path } => read_rib(alloc, unit.body, six, add_path, peers),
         Layout::Dump { six } => read_dump(alloc, unit.body, six),
-        Layout::Message { timed, as4, paths } => read_message(alloc, unit.body, timed, as4, paths),
-        Layout::State { timed, as4 } => read_state(alloc, unit.body, timed, as4),
+        Layout::Message {
+            timed,
+            wide,
+            add_path,
+        } => read_message(alloc, unit.body, timed, wide, add_path),
+        Layout::State { timed, wide } => read_state(alloc, unit.body, timed, wide),
         Layout::Other => Ok(Body::Passed),
     }
 }

@@ -14,12 +14,12 @@ pub(crate) fn read_rib(
     alloc: Global,
     body: &[u8],
     six: bool,
-    paths: bool,
+    add_path: bool,
     peers: Option<&PeerTable>,
 ) -> Result<Body, BodyFault>
-    ensures { OrNoMemory (RibSays paths six (option_copied peers.entry) body.now) result }
+    ensures { OrNoMemory (RibSays add_path six (option_copied peers.entry) body.now) result }
 {
-    match rib_parts(body, six, paths) {
+    match rib_parts(body, six, add_path) {
         Some(parts) => match peers {
             Some(peers) => {
                 routes_of_entries(alloc, peers, &parts.prefix, parts.entries, parts.count)

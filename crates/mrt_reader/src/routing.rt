@@ -90,8 +90,8 @@ fn are_within(peers: &PeerTable, entries: Entries<'_>) -> bool
     true
 }
 
-// Announces the key, if the attributes have a path, and notes what they say of Only-to-Customer. `wide` says that their ASes have four bytes. A table's attributes are read without
-// path identifiers, since the prefixes in them are unread.
+// Announces the key, if the attributes have a path, and notes what they say of Only-to-Customer. `wide` says that their ASes have four
+// bytes. A table's attributes are read without path identifiers, since the prefixes in them are unread.
 #[inline(always)]
 pub(crate) fn put_route(
     alloc: Global,

@@ -6,26 +6,26 @@ ghost use Rattle.mrt_reader.specs.Readers.{six_of, behind_time, session_at, mess
 
 use crate::body::Body;
 use crate::fault::BodyFault;
-use crate::fields::{take, take_addr, take_asn, take_two};
 use crate::routing::no_changes;
+use bgp_attrs::{take, take_addr, take_asn, take_two};
 use bgp_update::UpdateFault;
 use path_model::Peer;
 use std::alloc::Global;
 
 const ESTABLISHED: u16 = 6;
 
-// The changes of a recorded message. `paths` says that its prefixes have path identifiers.
+// The changes of a recorded message. `add_path` says that its prefixes have path identifiers.
 pub(crate) fn read_message(
     alloc: Global,
     body: &[u8],
     timed: bool,
-    as4: bool,
-    paths: bool,
+    wide: bool,
+    add_path: bool,
 ) -> Result<Body, BodyFault>
-    ensures { OrNoMemory (ByParts (message_at timed as4 body.now) (MessageSays as4 paths)) result }
+    ensures { OrNoMemory (ByParts (message_at timed wide body.now) (MessageSays wide add_path)) result }
 {
-    match take_message(body, timed, as4) {
-        Some((peer, message)) => changes_of(alloc, message, as4, paths, peer),
+    match take_message(body, timed, wide) {
+        Some((peer, message)) => changes_of(alloc, message, wide, add_path, peer),
         None => Err(BodyFault::Body),
     }
 }
@@ -33,13 +33,13 @@ pub(crate) fn read_message(
 fn changes_of(
     alloc: Global,
     message: &[u8],
-    as4: bool,
-    paths: bool,
+    wide: bool,
+    add_path: bool,
     peer: Peer,
 ) -> Result<Body, BodyFault>
-    ensures { OrNoMemory (MessageSays as4 paths (peer, message.now)) result }
+    ensures { OrNoMemory (MessageSays wide add_path (peer, message.now)) result }
 {
-    match bgp_update::read(alloc, message, as4, paths, peer) {
+    match bgp_update::read(alloc, message, wide, add_path, peer) {
         Ok(noted) => Ok(Body::Routes(noted)),
         Err(UpdateFault::Message) => Err(BodyFault::Message),
         Err(UpdateFault::Attributes) => Err(BodyFault::Attributes),
@@ -53,11 +53,11 @@ pub(crate) fn read_state(
     alloc: Global,
     body: &[u8],
     timed: bool,
-    as4: bool,
+    wide: bool,
 ) -> Result<Body, BodyFault>
-    ensures { OrNoMemory (ByParts (state_at timed as4 body.now) StateSays) result }
+    ensures { OrNoMemory (ByParts (state_at timed wide body.now) StateSays) result }
 {
-    match take_state(body, timed, as4) {
+    match take_state(body, timed, wide) {
         Some((peer, state)) => change_at(alloc, peer, state),
         None => Err(BodyFault::Body),
     }
@@ -76,10 +76,10 @@ fn change_at(alloc: Global, peer: Peer, state: u16) -> Result<Body, BodyFault>
 
 // The peer and the new state.
 #[tactic(auto, unfolding(crate::specs::Readers::state_at))]
-fn take_state(body: &[u8], timed: bool, as4: bool) -> Option<(Peer, u16)>
-    ensures { result ≡ state_at timed as4 body.now }
+fn take_state(body: &[u8], timed: bool, wide: bool) -> Option<(Peer, u16)>
+    ensures { result ≡ state_at timed wide body.now }
 {
-    let (peer, rest) = take_message(body, timed, as4)?;
+    let (peer, rest) = take_message(body, timed, wide)?;
     let (_, rest) = take_two(rest)?;
     let (state, rest) = take_two(rest)?;
     if !rest.is_empty() {
@@ -90,10 +90,10 @@ fn take_state(body: &[u8], timed: bool, as4: bool) -> Option<(Peer, u16)>
 
 // The peer and the bytes behind the fields of the session.
 #[tactic(auto, unfolding(crate::specs::Readers::message_at))]
-fn take_message(body: &[u8], timed: bool, as4: bool) -> Option<(Peer, &[u8])>
-    ensures { option_map (λ x. (x.0, x.1.now)) result ≡ message_at timed as4 body.now }
+fn take_message(body: &[u8], timed: bool, wide: bool) -> Option<(Peer, &[u8])>
+    ensures { option_map (λ x. (x.0, x.1.now)) result ≡ message_at timed wide body.now }
 {
-    take_session(fields_of(body, timed)?, as4)
+    take_session(fields_of(body, timed)?, wide)
 }
 
 // The bytes behind the microseconds, if there are some.
@@ -109,11 +109,11 @@ fn fields_of(body: &[u8], timed: bool) -> Option<&[u8]>
 }
 
 #[tactic(auto, unfolding(crate::specs::Readers::session_at))]
-fn take_session(bytes: &[u8], as4: bool) -> Option<(Peer, &[u8])>
-    ensures { option_map (λ x. (x.0, x.1.now)) result ≡ session_at as4 bytes.now }
+fn take_session(bytes: &[u8], wide: bool) -> Option<(Peer, &[u8])>
+    ensures { option_map (λ x. (x.0, x.1.now)) result ≡ session_at wide bytes.now }
 {
-    let (asn, rest) = take_asn(bytes, as4)?;
-    let (_, rest) = take_asn(rest, as4)?;
+    let (asn, rest) = take_asn(bytes, wide)?;
+    let (_, rest) = take_asn(rest, wide)?;
     let (_, rest) = take_two(rest)?;
     let (afi, rest) = take_two(rest)?;
     let six = is_six(afi)?;

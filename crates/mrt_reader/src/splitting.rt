@@ -4,17 +4,16 @@ ghost use Rattle.mrt_reader.specs.Left.{entry_of};
 ghost use Rattle.mrt_reader.specs.Readers.{entry_at};
 
 use crate::entries::RibEntry;
-use crate::fields::{take, take_path, take_two};
-use bgp_attrs::take_block;
+use bgp_attrs::{take, take_block, take_path, take_two};
 
 // The first entry, with its path identifier where entries have one, and the bytes behind it.
 #[tactic(auto, unfolding(crate::specs::Readers::entry_at))]
-pub(crate) fn take_entry(bytes: &[u8], paths: bool) -> Option<(RibEntry<'_>, &[u8])>
-    ensures { option_map (λ x. (entry_of x.0, x.1.now)) result ≡ entry_at paths bytes.now }
+pub(crate) fn take_entry(bytes: &[u8], add_path: bool) -> Option<(RibEntry<'_>, &[u8])>
+    ensures { option_map (λ x. (entry_of x.0, x.1.now)) result ≡ entry_at add_path bytes.now }
 {
     let (index, rest) = take_two(bytes)?;
     let (_, rest) = take(rest, 4)?;
-    let (path, rest) = take_path(rest, paths)?;
+    let (path, rest) = take_path(rest, add_path)?;
     let (attributes, rest) = take_block(rest)?;
     let entry = RibEntry {
         index,

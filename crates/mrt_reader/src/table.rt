@@ -7,10 +7,9 @@ ghost use Rattle.mrt_reader.specs.Readers.{peer_at, counted_part, table_at};
 
 use crate::body::Body;
 use crate::fault::BodyFault;
-use crate::fields::{take, take_addr, take_asn, take_two};
 use crate::peers::PeerTable;
 use av_base::NoMemory;
-use bgp_attrs::take_block;
+use bgp_attrs::{take, take_addr, take_asn, take_block, take_two};
 use path_model::Peer;
 use std::alloc::Global;
 

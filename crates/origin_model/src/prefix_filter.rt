@@ -50,7 +50,7 @@ impl PrefixFilter {
     }
 }
 
-// So many filters are gone through, and more are looked up.
+// Up to so many filters are gone through one by one; among more it is looked up.
 const FEW: usize = 32;
 
 /// A list of prefix filters. One takes its place in the list, and another one in the tree by which it is found.

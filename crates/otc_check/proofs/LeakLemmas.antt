@@ -5,8 +5,8 @@ use Rattle.path_model.specs.declared.otc.Otc.{Otc}
 use Rattle.path_model.specs.declared.otc.Otc.TheVariants.{Absent, As, Malformed as IsMalformed}
 use Rattle.path_model.specs.declared.role.Role.{Role}
 use Rattle.path_model.specs.declared.role.Role.TheVariants.{Provider as OurProvider, Customer as OurCustomer, Peer as OurPeer, Rs as OurRs, RsClient as OurRsClient, Mutual as OurMutual}
-use Rattle.otc_check.specs.declared.leaks.Leak.{Leak}
-use Rattle.otc_check.specs.declared.leaks.Leak.TheVariants.{Clean, Customer, RsClient, Peer, Malformed}
+use Rattle.path_model.specs.declared.leak.Leak.{Leak}
+use Rattle.path_model.specs.declared.leak.Leak.TheVariants.{Clean, Customer, RsClient, Peer, Malformed}
 use Rattle.otc_check.specs.Leak.{IsClean, IsLeak}
 use Rattle.otc_check.specs.LeakBy.{leak_of}
 

@@ -4,8 +4,8 @@ use Rattle.path_model.specs.declared.otc.Otc.{Otc}
 use Rattle.path_model.specs.declared.otc.Otc.TheVariants.{As, Malformed as IsMalformed}
 use Rattle.path_model.specs.declared.role.Role.{Role}
 use Rattle.path_model.specs.declared.role.Role.TheVariants.{Customer as OurCustomer, RsClient as OurRsClient, Peer as OurPeer}
-use Rattle.otc_check.specs.declared.leaks.Leak.{Leak}
-use Rattle.otc_check.specs.declared.leaks.Leak.TheVariants.{Clean, Customer, RsClient, Peer, Malformed}
+use Rattle.path_model.specs.declared.leak.Leak.{Leak}
+use Rattle.path_model.specs.declared.leak.Leak.TheVariants.{Clean, Customer, RsClient, Peer, Malformed}
 
 -- a neighbour of this role may send a route with this AS
 pub record MaySend (role : Role) (neighbour asn : ℕ) : Type 0 where

@@ -4,8 +4,8 @@ use Rattle.path_model.specs.declared.otc.Otc.{Otc}
 use Rattle.path_model.specs.declared.otc.Otc.TheVariants.{Absent, As, Malformed as IsMalformed}
 use Rattle.path_model.specs.declared.role.Role.{Role}
 use Rattle.path_model.specs.declared.role.Role.TheVariants.{Provider as OurProvider, Customer as OurCustomer, Peer as OurPeer, Rs as OurRs, RsClient as OurRsClient, Mutual as OurMutual}
-use Rattle.otc_check.specs.declared.leaks.Leak.{Leak}
-use Rattle.otc_check.specs.declared.leaks.Leak.TheVariants.{Clean, Customer, RsClient, Peer, Malformed}
+use Rattle.path_model.specs.declared.leak.Leak.{Leak}
+use Rattle.path_model.specs.declared.leak.Leak.TheVariants.{Clean, Customer, RsClient, Peer, Malformed}
 
 -- what the attribute makes of a route from a neighbour of this role
 abbrev pub leak_of : Role → ℕ → Otc → Leak

@@ -11,7 +11,6 @@
 #![tactic(auto)]
 
 mod laws;
-mod leaks;
 mod marks;
 mod marks_iter;
 mod noting;
@@ -21,7 +20,7 @@ pub use laws::{
     each_case_has_one_leak, marks_are_of_last_announcements, marks_are_of_routes, marks_go_on,
     marks_go_with_their_routes,
 };
-pub use leaks::Leak;
 pub use marks::Marks;
 pub use marks_iter::MarksIter;
+pub use path_model::Leak;
 pub use procedure::leak;

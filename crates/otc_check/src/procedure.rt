@@ -1,8 +1,7 @@
 //! The procedure for routes that are received.
 ghost use Rattle.otc_check.specs.Leak.{IsLeak};
 
-use crate::leaks::Leak;
-use path_model::{Otc, Role};
+use path_model::{Leak, Otc, Role};
 
 /// What the attribute tells of a route from a neighbour of this role and AS (RFC 9234, section 5). A neighbour with mutual transit, which
 /// the RFC doesn't know, may send any. It takes no memory.

@@ -128,13 +128,6 @@ impl Changes {
         })
     }
 
-    /// The changes themselves in order, in batches.
-    pub fn into_batches(self) -> Vec<Batch>
-        ensures { all_changes result.items ≡ self }
-    {
-        self.batches
-    }
-
     // Appends a batch of so many changes.
     #[tactic(auto, using(crate::proofs::BatchLemmas::all_changes_append, crate::proofs::BatchLemmas::length_all_changes))]
     #[inline(always)]

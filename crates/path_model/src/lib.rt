@@ -15,6 +15,7 @@ mod few_ases;
 mod gathered;
 mod key;
 mod laws;
+mod leak;
 mod name;
 mod nlri;
 mod nlri_iter;
@@ -46,6 +47,7 @@ pub use laws::{
     fullest_completion_decides, hops_decide, hops_decide_witnesses, printed_witness_has_facts,
     ramps_decide, right_verdict_has_witness,
 };
+pub use leak::Leak;
 pub use name::{MOST_NAME_BYTES, Name};
 pub use nlri::Nlri;
 pub use nlri_iter::NlriIter;
@@ -57,7 +59,7 @@ pub use patch::{Patch, PatchEntries};
 pub use peer::Peer;
 pub use prefix::Prefix;
 pub use role::{Direction, Role};
-pub use roles::Roles;
+pub use roles::{OwnRoles, Roles};
 pub use rows::{RowEntries, Rows};
 pub use trail::Trail;
 pub use verdict::Verdict;

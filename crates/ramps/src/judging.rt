@@ -144,7 +144,8 @@ fn downstream(count: u32, up: Ramps, down: Ramps) -> Witness
     }
 }
 
-// Hops that don't settle the verdict, and the climb as far as this ramp.
+// The witness of an unknown path of so many ASes: the first hop that doesn't climb, the last one that doesn't descend (none upstream),
+// and the labelling that climbs as far as this ramp, the maximal up-ramp.
 fn unsettled(first: u32, last: Option<u32>, count: u32, ramp: u32) -> Witness
     requires short { count ≤ 65535 }
     requires some { 1 ≤ ramp }
@@ -164,7 +165,7 @@ fn unsettled(first: u32, last: Option<u32>, count: u32, ramp: u32) -> Witness
     }
 }
 
-// The climb as far as this ramp.
+// The witness of a valid path of so many ASes: the labelling that climbs as far as this ramp, the minimal up-ramp.
 fn valid(count: u32, ramp: u32) -> Witness
     requires short { count ≤ 65535 }
     requires some { 1 ≤ ramp }

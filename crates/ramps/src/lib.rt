@@ -5,6 +5,11 @@
 //!
 //! Begin reading in `walk`, where a chain is walked from one end, and then in `judging`, where the ramps are compared as in
 //! draft-ietf-sidrops-aspa-verification.
+//!
+//! A walk from each end finds the ramps as far as they count (`WalkLemmas` of `proofs/`), and comparing them gives the witness
+//! (`JudgingLemmas`). `path_model` proves that this is the printed witness, and that its verdict is the right one (`RampLemmas`,
+//! `PrintedLemmas` and `WitnessLemmas` there). Two hops that stop the ramps leave no labelling. Where the ramps reach all ASes, the labelling
+//! of the longest climb fits.
 #![tactic(auto)]
 
 mod judging;

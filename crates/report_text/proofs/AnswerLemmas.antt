@@ -17,28 +17,32 @@ use Rattle.path_model.specs.declared.witness.Witness.{Witness}
 use Rattle.path_model.specs.declared.witness.Witness.TheVariants.{Valid as ByLabelling, Empty, Set, Neighbour, Blocked, Unsettled}
 use Rattle.origin_model.specs.declared.origin_state.OriginState.{OriginState}
 use Rattle.origin_model.specs.declared.origin_state.OriginState.TheVariants.{Valid as OriginValid, Invalid as OriginInvalid, NotFound}
-use Rattle.otc_check.specs.declared.leaks.Leak.{Leak}
-use Rattle.otc_check.specs.declared.leaks.Leak.TheVariants.{Clean, Customer, RsClient, Peer as FromPeer, Malformed}
+use Rattle.path_model.specs.declared.leak.Leak.{Leak}
+use Rattle.path_model.specs.declared.leak.Leak.TheVariants.{Clean, Customer, RsClient, Peer as FromPeer, Malformed}
 use Rattle.av_text.specs.AddressText.{addr_text, hex4, octets_text, groups_text, parts_text}
 use Rattle.av_text.specs.Marks.{Lacks}
 use Rattle.av_text.specs.VerdictText.{verdict_text}
 use Rattle.av_text.specs.PeerText.{peer_text}
 use Rattle.av_text.specs.PrefixText.{prefix_text}
+use Rattle.av_text.specs.RoleText.{role_text}
 use Rattle.av_text.specs.Spellings.{IsInLine}
-use Rattle.av_text.proofs.AnySpellingLemmas.{peers_in_line, prefixes_in_line, verdicts_in_line}
+use Rattle.av_text.proofs.AnySpellingLemmas.{addresses_in_line, peers_in_line, prefixes_in_line, roles_in_line, verdicts_in_line}
 use Rattle.av_text.proofs.LackLemmas.{decimal-lacks}
+use Rattle.report_text.specs.declared.peer_summary.PeerSummary.{PeerSummary}
 use Rattle.report_text.specs.declared.summary.Summary.{Summary}
 use Rattle.report_text.specs.Change.{mark_text, marks_text, change_line, changed_line}
 use Rattle.report_text.specs.Keys.{identifier_text, key_text}
 use Rattle.report_text.specs.Laws.{IsAnswerLine}
 use Rattle.report_text.specs.Leaks.{leak_line, shown_text}
 use Rattle.report_text.specs.Origins.{origin_line, state_text}
+use Rattle.report_text.specs.PeerSummaries.{address_text, owner_text, peer_summary_line, routes_part, who_part}
 use Rattle.report_text.specs.Rows.{row_line}
 use Rattle.report_text.specs.Served.{served_line}
 use Rattle.report_text.specs.Summary.{verdicts_part, sources_part, summary_line}
 use Rattle.report_text.specs.Why.{hops_text, labelling_text, witness_text, why_line}
 use Rattle.report_text.specs.Details.{ases_text, detail_line, path_text, set_text}
 use Rattle.report_text.specs.Sayings.{said_line}
+use Rattle.report_text.specs.declared.suspect.Suspect.{Suspect}
 use Rattle.report_text.specs.Suspects.{having_text, suspect_line, to_text, valley_text}
 use Rattle.path_model.specs.Trail.{Path}
 use Rattle.report_text.proofs.InLineLemmas.{clean, both, number}
@@ -309,14 +313,59 @@ having_in_line routes paths =
 suspect_parts : (a b c d e : List ℕ) → (((a ++ 32 ∷ b) ++ 32 ∷ c) ++ 32 ∷ d) ++ e ≡ a ++ 32 ∷ (b ++ 32 ∷ (c ++ 32 ∷ (d ++ e)))
 suspect_parts a b c d e = simp append_assoc refl
 
-pub suspect_is_one_line : (from first last : ℕ) (to : Option ℕ) (routes paths : ℕ) → IsAnswerLine (suspect_line from first last to routes paths)
-suspect_is_one_line from first last to routes paths =
-    let line = suspect_line from first last to routes paths in
-    let back = decimal first ++ 32 ∷ (decimal last ++ 32 ∷ (to_text to ++ having_text routes paths)) in
-    let is = suspect_parts (decimal from) (decimal first) (decimal last) (to_text to) (having_text routes paths) in
+pub suspect_is_one_line : (suspect : Suspect) → IsAnswerLine (suspect_line suspect)
+suspect_is_one_line suspect =
+    let line = suspect_line suspect in
+    let valley = valley_text suspect.from suspect.first suspect.last suspect.to in
+    let having = having_text suspect.routes suspect.paths in
+    let after = decimal suspect.first ++ 32 ∷ (decimal suspect.last ++ 32 ∷ (to_text suspect.to ++ having)) in
+    let is = suspect_parts (decimal suspect.from) (decimal suspect.first) (decimal suspect.last) (to_text suspect.to) having in
     record {
-      in_line = both (valley_text from first last to) (having_text routes paths) (valley_in_line from first last to) (having_in_line routes paths);
-      unmarked = begins_other line (subst StartsOther (sym is) (starts_at (decimal from) 32 back (decimal-lacks 33 from (omega arith)) (λ e. cc)));
+      in_line = both valley having (valley_in_line suspect.from suspect.first suspect.last suspect.to) (having_in_line suspect.routes suspect.paths);
+      unmarked = begins_other line (subst StartsOther (sym is) (starts_at (decimal suspect.from) 32 after (decimal-lacks 33 suspect.from (omega arith)) (λ e. cc)));
+    }
+
+-- ---- peers, with their roles and how many routes they have
+
+address_in_line : (addr : Option Addr) → IsInLine (address_text addr)
+address_in_line None = clean (codes "-") refl
+address_in_line (Some addr) = addresses_in_line addr
+
+owner_in_line : (own : Bool) → IsInLine (owner_text own)
+owner_in_line true = clean (codes " own") refl
+owner_in_line false = clean (codes " default") refl
+
+who_in_line : (peer : PeerSummary) → IsInLine (who_part peer)
+who_in_line peer =
+    both ((address_text peer.addr ++ 32 ∷ decimal peer.asn) ++ 32 ∷ role_text peer.role) (owner_text peer.own)
+    (both (address_text peer.addr ++ 32 ∷ decimal peer.asn) (32 ∷ role_text peer.role)
+    (both (address_text peer.addr) (32 ∷ decimal peer.asn) (address_in_line peer.addr) (behind_space peer.asn))
+    (both (codes " ") (role_text peer.role) (clean (codes " ") refl) (roles_in_line peer.role)))
+    (owner_in_line peer.own)
+
+routes_in_line : (peer : PeerSummary) → IsInLine (routes_part peer)
+routes_in_line peer =
+    counted (codes " routes " ++ decimal peer.routes ++ codes " valid " ++ decimal peer.valid ++ codes " unknown " ++ decimal peer.unknown) (codes " invalid ") peer.invalid
+    (counted (codes " routes " ++ decimal peer.routes ++ codes " valid " ++ decimal peer.valid) (codes " unknown ") peer.unknown
+    (counted (codes " routes " ++ decimal peer.routes) (codes " valid ") peer.valid
+    (worded (codes " routes ") peer.routes (clean (codes " routes ") refl))
+    (clean (codes " valid ") refl))
+    (clean (codes " unknown ") refl))
+    (clean (codes " invalid ") refl)
+
+address_start : (addr : Option Addr) (back : List ℕ) → StartsOther (address_text addr ++ back)
+address_start addr back = elim addr as (λ x. StartsOther (address_text x ++ back)) [ None ↦ head_other 45 back (λ e. cc) | Some a ↦ addr_start a back ]
+
+peer_parts : (a b c d e : List ℕ) → (((a ++ 32 ∷ b) ++ 32 ∷ c) ++ d) ++ e ≡ a ++ 32 ∷ (b ++ 32 ∷ (c ++ (d ++ e)))
+peer_parts a b c d e = simp append_assoc refl
+
+pub peer_summary_is_one_line : (peer : PeerSummary) → IsAnswerLine (peer_summary_line peer)
+peer_summary_is_one_line peer =
+    let back = decimal peer.asn ++ 32 ∷ (role_text peer.role ++ (owner_text peer.own ++ routes_part peer)) in
+    let is = peer_parts (address_text peer.addr) (decimal peer.asn) (role_text peer.role) (owner_text peer.own) (routes_part peer) in
+    record {
+      in_line = both (who_part peer) (routes_part peer) (who_in_line peer) (routes_in_line peer);
+      unmarked = begins_other (peer_summary_line peer) (subst StartsOther (sym is) (address_start peer.addr (32 ∷ back)));
     }
 
 -- ---- what is said

@@ -6,7 +6,7 @@ use Rattle.path_model.specs.declared.key.Key.{Key}
 use Rattle.path_model.specs.declared.peer.Peer.{Peer}
 use Rattle.path_model.specs.declared.verdict.Verdict.{Verdict}
 use Rattle.origin_model.specs.declared.origin_state.OriginState.{OriginState}
-use Rattle.otc_check.specs.declared.leaks.Leak.{Leak}
+use Rattle.path_model.specs.declared.leak.Leak.{Leak}
 use Rattle.av_text.specs.PeerText.{peer_text}
 use Rattle.av_text.specs.PrefixText.{prefix_text}
 use Rattle.av_text.specs.VerdictText.{verdict_text}

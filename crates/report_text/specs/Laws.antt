@@ -7,8 +7,9 @@ use Rattle.path_model.specs.declared.verdict.Verdict.{Verdict}
 use Rattle.path_model.specs.declared.witness.Witness.{Witness}
 use Rattle.path_model.specs.Trail.{Path}
 use Rattle.origin_model.specs.declared.origin_state.OriginState.{OriginState}
-use Rattle.otc_check.specs.declared.leaks.Leak.{Leak}
+use Rattle.path_model.specs.declared.leak.Leak.{Leak}
 use Rattle.av_text.specs.Spellings.{IsInLine}
+use Rattle.report_text.specs.declared.peer_summary.PeerSummary.{PeerSummary}
 use Rattle.report_text.specs.declared.summary.Summary.{Summary}
 use Rattle.report_text.specs.declared.cause.Cause.{Cause}
 use Rattle.report_text.specs.Change.{change_line, changed_line}
@@ -17,11 +18,13 @@ use Rattle.report_text.specs.declared.feed.FeedEnd.{FeedEnd}
 use Rattle.report_text.specs.Feeds.{feed_line}
 use Rattle.report_text.specs.Leaks.{leak_line}
 use Rattle.report_text.specs.Origins.{origin_line}
+use Rattle.report_text.specs.PeerSummaries.{peer_summary_line}
 use Rattle.report_text.specs.Refusals.{AnyPlace, of_line, of_unit, refusal_line}
 use Rattle.report_text.specs.Rows.{row_line}
 use Rattle.report_text.specs.Sayings.{said_line}
 use Rattle.report_text.specs.Served.{served_line}
 use Rattle.report_text.specs.Summary.{summary_line}
+use Rattle.report_text.specs.declared.suspect.Suspect.{Suspect}
 use Rattle.report_text.specs.Suspects.{suspect_line}
 use Rattle.report_text.specs.Why.{why_line}
 
@@ -65,6 +68,9 @@ EachCountOfChangesIsOneLine = (changes : ℕ) → IsAnswerLine (changed_line cha
 abbrev pub EachSummaryIsOneLine : Type 0
 EachSummaryIsOneLine = (summary : Summary) → IsAnswerLine (summary_line summary)
 
+abbrev pub EachPeerSummaryIsOneLine : Type 0
+EachPeerSummaryIsOneLine = (peer : PeerSummary) → IsAnswerLine (peer_summary_line peer)
+
 abbrev pub EachServedIsOneLine : Type 0
 EachServedIsOneLine = (accepted answers : ℕ) → IsAnswerLine (served_line accepted answers)
 
@@ -76,8 +82,7 @@ EachDetailIsOneLine =
     (key : Key) (verdict : Verdict) (witness : Witness) (path : Path) → IsAnswerLine (detail_line key verdict witness path)
 
 abbrev pub EachSuspectIsOneLine : Type 0
-EachSuspectIsOneLine =
-    (from first last : ℕ) (to : Option ℕ) (routes paths : ℕ) → IsAnswerLine (suspect_line from first last to routes paths)
+EachSuspectIsOneLine = (suspect : Suspect) → IsAnswerLine (suspect_line suspect)
 
 abbrev pub EachSayingIsOneLine : Type 0
 EachSayingIsOneLine = (text : List ℕ) → IsInLine text → IsAnswerLine (said_line text)

@@ -1,8 +1,8 @@
 -- The line that reports what Only-to-Customer shows of a route (RFC 9234, section 5).
 use Rattle.std.specs.Prelude.{ℕ, List, [], ◌∷◌, ◌++◌, codes, decimal}
 use Rattle.path_model.specs.declared.key.Key.{Key}
-use Rattle.otc_check.specs.declared.leaks.Leak.{Leak}
-use Rattle.otc_check.specs.declared.leaks.Leak.TheVariants.{Clean, Customer, RsClient, Peer, Malformed}
+use Rattle.path_model.specs.declared.leak.Leak.{Leak}
+use Rattle.path_model.specs.declared.leak.Leak.TheVariants.{Clean, Customer, RsClient, Peer, Malformed}
 use Rattle.report_text.specs.Keys.{key_text}
 
 -- the rule that the route breaks and the attribute's AS, or that the attribute is malformed; a clean one has no line

@@ -7,6 +7,7 @@ pub mod Keys
 pub mod Laws
 pub mod Leaks
 pub mod Origins
+pub mod PeerSummaries
 pub mod Places
 pub mod Refusals
 pub mod Reported

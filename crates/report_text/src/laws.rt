@@ -1,6 +1,7 @@
 //! Laws of the definitions: the contract of each function is the law, and its body does nothing.
-ghost use Rattle.report_text.specs.Laws.{EachChangeIsOneLine, EachCountOfChangesIsOneLine, EachDetailIsOneLine, EachFeedEndIsOneLine, EachLeakIsOneLine};
-ghost use Rattle.report_text.specs.Laws.{EachOriginIsOneLine, EachReasonIsOneLine, EachRefusalIsOneLine, EachRowIsOneLine, EachSayingIsOneLine};
+ghost use Rattle.report_text.specs.Laws.{EachChangeIsOneLine, EachCountOfChangesIsOneLine, EachDetailIsOneLine, EachFeedEndIsOneLine};
+ghost use Rattle.report_text.specs.Laws.{EachLeakIsOneLine, EachOriginIsOneLine, EachPeerSummaryIsOneLine};
+ghost use Rattle.report_text.specs.Laws.{EachReasonIsOneLine, EachRefusalIsOneLine, EachRowIsOneLine, EachSayingIsOneLine};
 ghost use Rattle.report_text.specs.Laws.{EachServedIsOneLine, EachSummaryIsOneLine, EachSuspectIsOneLine};
 
 /// Whatever is refused, at a place whose name has no line feed, is reported by one line that begins with `! `.
@@ -14,8 +15,8 @@ pub fn each_feed_end_is_one_line()
 {}
 
 /// Each answer is one line, and none begins with `! `: a row, a row with what shows its verdict and its path, the state of a route's origin,
-/// what Only-to-Customer shows of a route, a change, how many changed, a summary, what came of serving routers, why a path has its verdict,
-/// a valley of paths, and what the script wants said, where that has no line feed.
+/// what Only-to-Customer shows of a route, a change, how many changed, a summary, a peer with its role and how many routes it has, what came
+/// of serving routers, why a path has its verdict, a valley of paths, and what the script wants said, where that has no line feed.
 pub fn no_answer_reads_as_a_refusal()
     ensures rows { EachRowIsOneLine }
     ensures origins { EachOriginIsOneLine }
@@ -23,6 +24,7 @@ pub fn no_answer_reads_as_a_refusal()
     ensures changes { EachChangeIsOneLine }
     ensures counts { EachCountOfChangesIsOneLine }
     ensures summaries { EachSummaryIsOneLine }
+    ensures peers { EachPeerSummaryIsOneLine }
     ensures servings { EachServedIsOneLine }
     ensures reasons { EachReasonIsOneLine }
     ensures details { EachDetailIsOneLine }

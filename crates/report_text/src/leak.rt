@@ -1,12 +1,11 @@
 //! The line that reports what Only-to-Customer shows of a route.
 ghost use Rattle.std.specs.Prelude.{◌≡◌, ◌≢◌, ◌++◌, OnOk, OnErr};
-ghost use Rattle.otc_check.specs.declared.leaks.Leak.TheVariants.{Clean};
+ghost use Rattle.path_model.specs.declared.leak.Leak.TheVariants.{Clean};
 ghost use Rattle.report_text.specs.Leaks.{leak_text};
 
 use crate::peer_lines::PeerLines;
 use av_base::NoMemory;
-use otc_check::Leak;
-use path_model::Key;
+use path_model::{Key, Leak};
 
 /// Appends `ADDRESS AS PREFIX RULE OTC`, the peer's address first, whole or not at all. Where the route has a path identifier, ` path ID`
 /// stands behind PREFIX. RULE is `customer`, `rs-client` or `peer` (RFC 9234, section 5), and OTC the AS that the attribute names. Where the

@@ -4,13 +4,14 @@
 //! [`put_refusal`] reports a refusal, [`put_feed`] a feed's end or a router's, [`put_row`] a route's verdict, [`put_detail`] that with what
 //! shows it and the path, [`put_origin`] the state of the route's origin, [`put_leak`] what Only-to-Customer shows of it, [`put_change`] a
 //! route whose verdict changed, [`put_changed`] how many changed, [`put_why`] why a path has its verdict, [`put_suspect`] a valley of paths,
-//! [`put_summary`] how many there are of each, [`put_served`] what came of serving routers, and [`put_said`] what the script wants said.
-//! `refusal_text` of `specs/Refusals.antt` and the `.._text` of `Feeds`, `Rows`, `Details`, `Origins`, `Leaks`, `Change`, `Why`, `Suspects`,
-//! `Summary`, `Served` and `Sayings` are those lines: begin there, and at `specs/Causes.antt`, the table of causes with their numbers and
-//! words. Rows, details, origins, leaks and changes begin with the route's key (`specs/Keys.antt`), its path identifier included;
-//! [`PeerLines`] writes them one after another, and a peer's text once for all of its lines that follow one another (`line` and `digits`
-//! write into its room). Whatever is refused and however a feed or a router ends, the line is one line that begins with `! `, and no other
-//! line begins so (`laws`): who reads the program's output finds each of them by its first two bytes.
+//! [`put_summary`] how many there are of each, [`put_peer_summary`] a peer's role and how many of its routes are valid, [`put_served`] what
+//! came of serving routers, and [`put_said`] what the script wants said. `refusal_text` of `specs/Refusals.antt` and the `.._text` of `Feeds`,
+//! `Rows`, `Details`, `Origins`, `Leaks`, `Change`, `Why`, `Suspects`, `Summary`, `PeerSummaries`, `Served` and `Sayings` are those lines:
+//! begin there, and at `specs/Causes.antt`, the table of causes with their numbers and words. Rows, details, origins, leaks and changes begin
+//! with the route's key (`specs/Keys.antt`), its path identifier included; [`PeerLines`] writes them one after another, and a peer's text once
+//! for all of its lines that follow one another (`line` and `digits` write into its room). Whatever is refused and however a feed or a router
+//! ends, the line is one line that begins with `! `, and no other line begins so (`laws`): who reads the program's output finds each of them
+//! by its first two bytes.
 #![tactic(auto)]
 
 mod cause;
@@ -25,6 +26,7 @@ mod leak;
 mod line;
 mod origin;
 mod peer_lines;
+mod peer_summary;
 mod place;
 mod refusal;
 mod row;
@@ -42,11 +44,12 @@ pub use laws::{each_feed_end_is_one_line, each_refusal_is_one_line, no_answer_re
 pub use leak::put_leak;
 pub use origin::put_origin;
 pub use peer_lines::PeerLines;
+pub use peer_summary::{PeerSummary, put_peer_summary};
 pub use place::Place;
 pub use refusal::put_refusal;
 pub use row::put_row;
 pub use said::put_said;
 pub use served::put_served;
 pub use summary::{Summary, put_summary};
-pub use suspect::put_suspect;
+pub use suspect::{Suspect, put_suspect};
 pub use why::put_why;

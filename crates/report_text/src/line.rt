@@ -9,8 +9,7 @@ ghost use Rattle.report_text.specs.Leaks.{shown_text};
 ghost use Rattle.report_text.specs.Writes.{Writes};
 
 use crate::digits::{write_group, write_number, write_octet};
-use otc_check::Leak;
-use path_model::{Addr, Prefix, Verdict};
+use path_model::{Addr, Leak, Prefix, Verdict};
 
 /// How many bytes there is room for: no row, and no line of an origin, a leak or a change, has more.
 pub(crate) const ROOM: usize = 132;

@@ -1,6 +1,6 @@
 //! Rows, origins, leaks, changes and details one after another, each written behind the text of its peer.
 ghost use Rattle.std.specs.Prelude.{◌≡◌, ◌≢◌, ◌++◌, ◌∷◌, ◌+◌, ◌≤◌, [], None, Some, IsTrue, take, OnOk, OnErr};
-ghost use Rattle.otc_check.specs.declared.leaks.Leak.TheVariants.{Clean};
+ghost use Rattle.path_model.specs.declared.leak.Leak.TheVariants.{Clean};
 ghost use Rattle.av_text.specs.PeerText.{peer_text};
 ghost use Rattle.report_text.specs.Change.{change_text};
 ghost use Rattle.report_text.specs.Details.{detail_text};
@@ -21,8 +21,7 @@ use crate::line::{
 use crate::origin::word_of;
 use av_base::NoMemory;
 use origin_model::OriginState;
-use otc_check::Leak;
-use path_model::{Key, Nlri, Peer, Trail, Verdict, Witness};
+use path_model::{Key, Leak, Nlri, Peer, Trail, Verdict, Witness};
 use std::marker::Model;
 
 /// Writes lines one after another, and the text of a peer once for all of its lines that follow one another.

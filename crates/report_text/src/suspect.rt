@@ -7,24 +7,31 @@ use crate::count::push_count;
 use av_base::NoMemory;
 use av_text::put_u64;
 
-/// Appends `FROM FIRST LAST TO routes R paths P`, whole or not at all: the AS in front of the valley, the first and the last one in it, and
-/// the one behind it, or `here` for `None`; and how many routes and how many paths have it. A line has 25 to 99 bytes with its line feed,
-/// and what it takes is that room in `out` alone.
-pub fn put_suspect(
-    out: &mut Vec<u8>,
-    from: u32,
-    first: u32,
-    last: u32,
-    to: Option<u32>,
-    routes: u64,
-    paths: u64,
-) -> Result<(), NoMemory>
-    ensures ok { OnOk result
-        (out.new.items ≡ out.old.items ++ suspect_text from first last to routes paths) }
+/// A valley of paths, and how many have it.
+#[derive(Clone, Copy, Debug, PartialEq, Eq)]
+pub struct Suspect {
+    /// The AS before the valley.
+    pub from: u32,
+    /// The first AS in it.
+    pub first: u32,
+    /// The last AS in it.
+    pub last: u32,
+    /// The AS after it; `None` where that is us.
+    pub to: Option<u32>,
+    /// How many routes have it.
+    pub routes: u64,
+    /// How many paths have it.
+    pub paths: u64,
+}
+
+/// Appends `FROM FIRST LAST TO routes R paths P`, whole or not at all; TO is `here` for `None`. A line has 25 to 99 bytes with its line
+/// feed, and what it takes is that room in `out` alone.
+pub fn put_suspect(out: &mut Vec<u8>, suspect: Suspect) -> Result<(), NoMemory>
+    ensures ok { OnOk result (out.new.items ≡ out.old.items ++ suspect_text suspect) }
     ensures err { OnErr result (out.new.items ≡ out.old.items) }
 {
     let start = out.len();
-    let done = push_suspect(out, from, first, last, to, routes, paths);
+    let done = push_suspect(out, suspect);
     if done.is_err() {
         out.truncate(start);
     }
@@ -32,21 +39,12 @@ pub fn put_suspect(
 }
 
 // Appends the line, or a front of it where that fails.
-fn push_suspect(
-    out: &mut Vec<u8>,
-    from: u32,
-    first: u32,
-    last: u32,
-    to: Option<u32>,
-    routes: u64,
-    paths: u64,
-) -> Result<(), NoMemory>
-    ensures ok { OnOk result
-        (out.new.items ≡ out.old.items ++ suspect_text from first last to routes paths) }
+fn push_suspect(out: &mut Vec<u8>, suspect: Suspect) -> Result<(), NoMemory>
+    ensures ok { OnOk result (out.new.items ≡ out.old.items ++ suspect_text suspect) }
     ensures grown { IsGrown out.old.items out.new.items }
 {
-    push_valley(out, from, first, last, to)?;
-    push_having(out, routes, paths)?;
+    push_valley(out, suspect.from, suspect.first, suspect.last, suspect.to)?;
+    push_having(out, suspect.routes, suspect.paths)?;
     out.push(b'\n')?;
     Ok(())
 }
@@ -67,7 +65,7 @@ fn push_valley(
     push_to(out, to)
 }
 
-// Appends the AS in front of the valley and the first and the last one in it, or a front of that where it fails.
+// Appends the AS before the valley and the first and the last one in it, or a front of that where it fails.
 fn push_inside(out: &mut Vec<u8>, from: u32, first: u32, last: u32) -> Result<(), NoMemory>
     ensures ok { OnOk result (out.new.items ≡ out.old.items ++ inside_text from first last) }
     ensures grown { IsGrown out.old.items out.new.items }
@@ -77,7 +75,7 @@ fn push_inside(out: &mut Vec<u8>, from: u32, first: u32, last: u32) -> Result<()
     push_count(out, b" ", u64::from(last))
 }
 
-// Appends the AS behind the valley, or `here` for us.
+// Appends the AS after the valley, or `here` for us.
 fn push_to(out: &mut Vec<u8>, to: Option<u32>) -> Result<(), NoMemory>
     ensures ok { OnOk result (out.new.items ≡ out.old.items ++ to_text to) }
     ensures grown { IsGrown out.old.items out.new.items }

@@ -11,12 +11,15 @@ use Rattle.vap_table.specs.Change.{Alters}
 use Rattle.vap_table.proofs.ChangeLemmas.{one_outcome}
 use Rattle.shared_cases.specs.Cases.{Slots, AreSameCases}
 use Rattle.shared_cases.specs.Differed.{AreNewlyDiffering}
-use Rattle.shared_cases.specs.Grounds.{Grounds, grounds}
+use Rattle.shared_cases.specs.Grounds.{Grounds}
+use Rattle.rib_store.specs.Grounds.{grounds}
 use Rattle.shared_cases.specs.Touched.{AreWithinTouched}
 use Rattle.route_map.specs.Keys.{Entries}
 use Rattle.rib_store.specs.Cased.{Noted, Numbered, AreStored}
 use Rattle.rib_store.specs.Marks.{AreCovered, AreKeysOfRoutes, AreMarks, AreNoted, AreSound, TellsMarks, Defers}
 use Rattle.rib_store.specs.declared.marks.Marks.{Marks}
+use Rattle.rib_store.specs.declared.routing.Routing.{Routing}
+use Rattle.rib_store.specs.Routing.{routed_state, AreJudgedAnew}
 use Rattle.rib_store.specs.Touched.{IsWithinTouched}
 use Rattle.rib_store.proofs.MarksLemmas.{marked_told, noted_event, noted_gathered}
 use Rattle.rib_store.proofs.NotedLemmas.{marked_rejudged}
@@ -39,11 +42,6 @@ module _ (parts parts' : Parts) (relations relations' : Relations) (is_marked : 
 pub same_outcome : (parts one other : Parts) (change : TableChange) → Alters parts change one → Alters parts change other → one ≡ other
 same_outcome parts one other change a b = let outcome = one_outcome parts change in outcome.only one a ∙ sym (outcome.only other b)
 
--- the marks are the same but for the pending cases
-pub deferred_state : (parts : Parts) (relations : Relations) (was is : Bool) (routes : Numbered) (cases : Slots) (notes notes' : Noted) → notes' ≡ notes → is ≡ was
-    → state_by parts relations is cases routes notes' ≡ state_by parts relations was cases routes notes
-deferred_state parts relations was is routes cases notes notes' noted same = λ i. state_by parts relations (same i) cases routes (noted i)
-
 -- new notes of what is marked leave the state
 pub noted_state : (parts : Parts) (relations : Relations) (was is : Bool) (routes : Numbered) (cases : Slots) (notes notes' : Noted) → TellsMarks routes cases notes notes' → is ≡ was
     → state_by parts relations is cases routes notes' ≡ state_by parts relations was cases routes notes
@@ -51,7 +49,7 @@ noted_state parts relations was is routes cases notes notes' told same = ap (λ 
     ∙ same_state parts relations _ _ _ _ refl (marked_told was routes cases notes notes' told)
 
 -- the marks belong to the cases once those that newly differ are pending
-pub event_sound : (g : Grounds) (routes : Numbered) (old new : Slots) (marks marks' : Marks) (numbers : List ℕ) → AreMarks routes old marks → AreStored g routes new → AreNewlyDiffering old new numbers
+event_sound : (g : Grounds) (routes : Numbered) (old new : Slots) (marks marks' : Marks) (numbers : List ℕ) → AreMarks routes old marks → AreStored g routes new → AreNewlyDiffering old new numbers
     → Defers marks.is_marked marks.pending numbers marks'.pending → marks'.is_marked ≡ marks.is_marked → marks'.notes ≡ marks.notes → marks'.keys ≡ marks.keys → AreSound g routes new marks'
 event_sound g routes old new marks marks' numbers are stored newly defers same notes keys = record {
   stored = stored;
@@ -62,6 +60,14 @@ event_sound g routes old new marks marks' numbers are stored newly defers same n
     keys = subst (λ (index : Option Entries). AreKeysOfRoutes index routes) (sym keys) are.keys;
   };
 }
+
+module _ (routes : Numbered) (cases : Slots) (marks : Marks) (differing : List ℕ) (r : Routing) (judged : AreJudgedAnew routes cases marks differing r) where
+  pub judged_sound : (g : Grounds) (old : Slots) → AreMarks routes old marks → AreStored g routes cases → AreNewlyDiffering old cases differing → AreSound g r.routes r.cases r.marks
+  judged_sound g old are stored newly = subst (λ (x : Routing). AreSound g x.routes x.cases x.marks) (sym judged.same)
+      (event_sound g routes old cases marks (record marks { pending = r.marks.pending }) differing are stored newly judged.deferred refl refl refl)
+
+  pub judged_state : (parts : Parts) (relations : Relations) → routed_state parts relations r ≡ state_by parts relations marks.is_marked cases routes marks.notes
+  judged_state parts relations = ap (λ (x : Routing). routed_state parts relations x) judged.same
 
 -- and once the keys of the pending cases are noted
 pub gathered_sound : (g : Grounds) (routes : Numbered) (cases : Slots) (marks marks' : Marks) → AreSound g routes cases marks → TellsMarks routes cases marks.notes marks'.notes

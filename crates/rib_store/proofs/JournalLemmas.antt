@@ -15,7 +15,7 @@ use Rattle.path_model.specs.Roles.{Relations}
 use Rattle.shared_cases.specs.declared.case.StoredCase.{StoredCase}
 use Rattle.shared_cases.specs.Cases.{Slots, at, verdict_or, marked_or, IsSettled}
 use Rattle.shared_cases.specs.Differed.{AreSettledOrDiffered}
-use Rattle.shared_cases.specs.Grounds.{grounds}
+use Rattle.rib_store.specs.Grounds.{grounds}
 use Rattle.rib_store.specs.Cased.{Noted, Numbered, noted_or, path_or, AreStored, marked_by}
 use Rattle.rib_store.specs.Changes.{StandsAs, AreChanges}
 use Rattle.rib_store.specs.ChangesLeft.{changed, row_change}

@@ -25,7 +25,8 @@ use Rattle.attestations.proofs.PartsLemmas.{table_is_current}
 use Rattle.path_model.proofs.WitnessLemmas.{printed_facts}
 use Rattle.shared_cases.specs.declared.case.StoredCase.{StoredCase}
 use Rattle.shared_cases.specs.Cases.{Slots, at, AreDistinct, IsStoredAs}
-use Rattle.shared_cases.specs.Grounds.{grounds, IsJudged}
+use Rattle.shared_cases.specs.Grounds.{IsJudged}
+use Rattle.rib_store.specs.Grounds.{grounds}
 use Rattle.shared_cases.specs.Listed.{listed, cases_of}
 use Rattle.shared_cases.specs.Touched.{AreApart}
 use Rattle.shared_cases.proofs.ListedLemmas.{each_listed, pair_listed, pairs_apart}

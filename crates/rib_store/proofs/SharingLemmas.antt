@@ -13,7 +13,7 @@ use Rattle.path_model.specs.Roles.{Relations}
 use Rattle.path_model.specs.Trail.{Path}
 use Rattle.shared_cases.specs.declared.case.StoredCase.{StoredCase}
 use Rattle.shared_cases.specs.Cases.{Slots, at, AreDistinct, IsStoredAs}
-use Rattle.shared_cases.specs.Grounds.{grounds}
+use Rattle.rib_store.specs.Grounds.{grounds}
 use Rattle.rib_store.specs.Cased.{Numbered, path_or, users_of, IsCounted, IsOfAs, AreStored}
 use Rattle.rib_store.specs.Sharing.{AreCasesOf}
 use Rattle.rib_store.proofs.CasedLemmas.{get_through}

@@ -24,7 +24,8 @@ use Rattle.shared_cases.specs.declared.case.Case.{Case}
 use Rattle.shared_cases.specs.declared.case.StoredCase.{StoredCase}
 use Rattle.shared_cases.specs.Cases.{Slots, at}
 use Rattle.shared_cases.specs.Cases.{IsShown as IsCase}
-use Rattle.shared_cases.specs.Grounds.{grounds, IsJudged}
+use Rattle.shared_cases.specs.Grounds.{IsJudged}
+use Rattle.rib_store.specs.Grounds.{grounds}
 use Rattle.rib_store.specs.Cased.{Numbered, path_or, through, routes_by, users_of, IsCounted, IsOfAs, AreStored}
 use Rattle.rib_store.specs.Shown.{Standing, IsRouteStanding, AreShown}
 use Rattle.rib_store.specs.ShownLeft.{standing_by, shown_at}

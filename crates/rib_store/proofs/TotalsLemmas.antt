@@ -14,7 +14,8 @@ use Rattle.path_model.specs.Roles.{Relations}
 use Rattle.shared_cases.specs.declared.case.StoredCase.{StoredCase}
 use Rattle.shared_cases.specs.declared.totals.Totals.{Totals}
 use Rattle.shared_cases.specs.Cases.{Slots, at, verdict_or}
-use Rattle.shared_cases.specs.Grounds.{Grounds, grounds}
+use Rattle.shared_cases.specs.Grounds.{Grounds}
+use Rattle.rib_store.specs.Grounds.{grounds}
 use Rattle.shared_cases.specs.Totals.{is_valid, is_unknown, is_invalid, users_if, users_with, totals_of}
 use Rattle.shared_cases.proofs.NumberLemmas.{decide_eq}
 use Rattle.rib_store.specs.Cased.{Numbered, through, routes_by, one, IsCounted, AreStored}

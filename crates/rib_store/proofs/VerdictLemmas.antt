@@ -16,7 +16,8 @@ use Rattle.path_model.specs.Routes.{Routes}
 use Rattle.path_model.specs.Trail.{Path}
 use Rattle.shared_cases.specs.declared.case.StoredCase.{StoredCase}
 use Rattle.shared_cases.specs.Cases.{Slots, at, verdict_or, marked_or, marked_now}
-use Rattle.shared_cases.specs.Grounds.{grounds, IsJudged}
+use Rattle.shared_cases.specs.Grounds.{IsJudged}
+use Rattle.rib_store.specs.Grounds.{grounds}
 use Rattle.rib_store.specs.Cased.{Numbered, path_or, through, routes_by, marked_by, users_of, IsCounted, IsOfAs, AreStored}
 use Rattle.rib_store.specs.Changes.{IsMarked}
 use Rattle.rib_store.specs.Rows.{current_verdict, current_verdicts, rows_of}

@@ -4,6 +4,7 @@ pub mod Changes
 pub mod ChangesLeft
 pub mod Codes
 pub mod Counts
+pub mod Grounds
 pub mod Held
 pub mod Laws
 pub mod Marks

@@ -6,7 +6,8 @@ use Rattle.path_model.specs.declared.change.Change.TheVariants.{Remove, Announce
 use Rattle.path_model.specs.declared.key.Key.{Key}
 use Rattle.path_model.specs.Routes.{Routes}
 use Rattle.path_model.specs.Trail.{Path}
-use Rattle.shared_cases.specs.Grounds.{Grounds, grounds}
+use Rattle.shared_cases.specs.Grounds.{Grounds}
+use Rattle.rib_store.specs.Grounds.{grounds}
 use Rattle.shared_cases.specs.Touched.{IsTouched, AreApart}
 use Rattle.rib_store.specs.State.{State}
 

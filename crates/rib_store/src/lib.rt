@@ -10,6 +10,15 @@
 //! lists the routes with their verdicts, `trails` with their paths and `shown_rows` as they stand, `pairs` lists the distinct pairs of a peer
 //! AS and a path (`specs/Pairs.antt`), and `journal` what changed since verdicts were marked, from the notes. How many routes have which
 //! verdict (`counts`) the cases keep; `grounds` lends what they rest on, and `ahead` gets what changes need ahead of its use.
+//!
+//! An announcement takes its case: the one under its hint, else the one that its name finds, else a new one, which is judged. The key gets the
+//! number of that case, and leaves the case that it had. The last route takes a case along.
+//!
+//! How that is proved: the cases stay those of the routes through each change (`StoredLemmas`, `CountedLemmas` of `proofs/`), so their
+//! verdicts are the current ones (`VerdictLemmas`). The rows are the routes' keys in order with these verdicts (`RowLemmas`, `ReportLemmas`).
+//! The changes are those among notes and routes (`NotedLemmas`, `MergeLemmas`, `JournalLemmas`); they are those among the notes alone where
+//! each key whose case differed has one (`MarksLemmas`). A touched case is one of a touched route, so no event costs more than it touches
+//! (`TouchedLemmas`), and what it touches is one number (`NumberLemmas`).
 #![tactic(auto)]
 
 mod ahead;

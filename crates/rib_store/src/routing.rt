@@ -2,26 +2,27 @@
 ghost use Rattle.std.specs.Prelude.{◌≡◌, ◌≤◌, ◌+◌, [], not, IfNone, IfOk, IfSome, OnOk};
 ghost use Rattle.std.specs.FinMap as fin;
 ghost use Rattle.std.specs.Map.{values_of};
+ghost use Rattle.attestations.specs.ComputedTable.{table_of};
 ghost use Rattle.attestations.specs.CurrentTable.{Parts};
 ghost use Rattle.path_model.specs.Roles.{Relations};
 ghost use Rattle.path_model.specs.Batches.{announcements, changes_in, removals};
 ghost use Rattle.path_model.specs.Routes.{changed, performed, is_of_peer};
 ghost use Rattle.shared_cases.specs.Cases.{at, IsStoredAs};
-ghost use Rattle.shared_cases.specs.Grounds.{grounds};
+ghost use Rattle.shared_cases.specs.Grounds.{lent};
 ghost use Rattle.shared_cases.specs.Taking.{Takes};
 ghost use Rattle.rib_store.specs.Cased.{routes_by};
 ghost use Rattle.rib_store.specs.Marks.{AreIdle};
 ghost use Rattle.rib_store.specs.OfPeer.{HasNoRouteOf, IsRouteOf};
-ghost use Rattle.rib_store.specs.Routing.{routed_state, AreRouted, path_by, IsFound};
+ghost use Rattle.rib_store.specs.Routing.{path_by, state_on, AreJudgedAnew, AreRouted, AreRoutedOn, IsFound};
 ghost use Rattle.rib_store.specs.Steps.{Leaves};
 ghost use Rattle.rib_store.specs.Touched.{announces, announced};
 
 use crate::ahead::{MOST_HINTS, hint_at, look_ahead};
 use crate::marks::Marks;
 use av_base::{NoMemory, Steps};
-use path_model::{Batch, Change, Changes, Key, NlriList, Peer, Roles, Trail};
+use path_model::{Batch, Change, Changes, Key, NlriList, Peer, Trail};
 use route_map::{PeerTable, RouteMap};
-use shared_cases::SharedCases;
+use shared_cases::{FoundCases, Grounds, SharedCases};
 use std::alloc::Global;
 use std::sync::ledger::Ledger;
 use vap_table::Vaps;
@@ -64,15 +65,14 @@ impl Routing {
         &mut self,
         alloc: Global,
         changes: &Changes,
-        table: &Vaps,
-        roles: &Roles,
+        on: &Grounds<'_, Vaps>,
         steps: &mut Steps<L>,
     ) -> Result<(), NoMemory>
-        requires { AreRouted table.now roles.now self.old }
-        ensures routed { OnOk result (AreRouted table.now roles.now self.new) }
-        ensures state { OnOk result (routed_state table.now roles.now self.new
-            ≡ record (routed_state table.now roles.now self.old) {
-              routes = performed changes.now (routed_state table.now roles.now self.old).routes;
+        requires { AreRoutedOn on.now self.old }
+        ensures routed { OnOk result (AreRoutedOn on.now self.new) }
+        ensures state { OnOk result (state_on on.now self.new
+            ≡ record (state_on on.now self.old) {
+              routes = performed changes.now (state_on on.now self.old).routes;
             }) }
         ensures ticks { steps.new ≤ steps.old + announced changes.now }
     {
@@ -83,7 +83,7 @@ impl Routing {
         for batch in batches {
             let hint = hint_at(&hints, place);
             place = place.wrapping_add(1);
-            self.perform_batch(alloc, batch, hint, table, roles, steps)?;
+            self.perform_batch(alloc, batch, hint, on, steps)?;
         }
         Ok(())
     }
@@ -95,24 +95,23 @@ impl Routing {
         alloc: Global,
         batch: &Batch,
         hint: Option<u32>,
-        table: &Vaps,
-        roles: &Roles,
+        on: &Grounds<'_, Vaps>,
         steps: &mut Steps<L>,
     ) -> Result<(), NoMemory>
-        requires { AreRouted table.now roles.now self.old }
-        ensures routed { OnOk result (AreRouted table.now roles.now self.new) }
-        ensures state { OnOk result (routed_state table.now roles.now self.new
-            ≡ record (routed_state table.now roles.now self.old) {
+        requires { AreRoutedOn on.now self.old }
+        ensures routed { OnOk result (AreRoutedOn on.now self.new) }
+        ensures state { OnOk result (state_on on.now self.new
+            ≡ record (state_on on.now self.old) {
               routes = performed (changes_in batch.now)
-                  (routed_state table.now roles.now self.old).routes;
+                  (state_on on.now self.old).routes;
             }) }
         ensures ticks { steps.new ≤ steps.old + announced (changes_in batch.now) }
     {
         match batch {
-            Batch::One(change) => self.perform(alloc, change, hint, table, roles, steps),
-            Batch::RemoveAll(peer, nlris) => self.withdraw_all(peer, nlris, table, roles),
+            Batch::One(change) => self.perform(alloc, change, hint, on, steps),
+            Batch::RemoveAll(peer, nlris) => self.withdraw_all(peer, nlris, on),
             Batch::AnnounceAll(peer, trail, nlris) => {
-                self.announce_all(peer, trail, hint, nlris, table, roles, steps)
+                self.announce_all(peer, CaseBy::Path(trail, hint), nlris, on, steps)
             }
         }
     }
@@ -124,24 +123,23 @@ impl Routing {
         alloc: Global,
         change: &Change,
         hint: Option<u32>,
-        table: &Vaps,
-        roles: &Roles,
+        on: &Grounds<'_, Vaps>,
         steps: &mut Steps<L>,
     ) -> Result<(), NoMemory>
-        requires { AreRouted table.now roles.now self.old }
-        ensures routed { OnOk result (AreRouted table.now roles.now self.new) }
-        ensures state { OnOk result (routed_state table.now roles.now self.new
-            ≡ record (routed_state table.now roles.now self.old) {
-              routes = changed change.now (routed_state table.now roles.now self.old).routes;
+        requires { AreRoutedOn on.now self.old }
+        ensures routed { OnOk result (AreRoutedOn on.now self.new) }
+        ensures state { OnOk result (state_on on.now self.new
+            ≡ record (state_on on.now self.old) {
+              routes = changed change.now (state_on on.now self.old).routes;
             }) }
         ensures ticks { steps.new ≤ steps.old + announces change.now }
     {
         match change {
-            Change::Remove(key) => self.withdraw(key, table, roles)?,
+            Change::Remove(key) => self.withdraw(key, on)?,
             Change::Announce(key, trail) => {
-                self.announce(key, CaseBy::Path(trail, hint), table, roles, steps)?;
+                self.announce(key, CaseBy::Path(trail, hint), on, steps)?;
             }
-            Change::RemovePeer(peer) => self.withdraw_peer(alloc, peer, table, roles)?,
+            Change::RemovePeer(peer) => self.withdraw_peer(alloc, peer, on)?,
         }
         Ok(())
     }
@@ -152,25 +150,26 @@ impl Routing {
     fn announce_all<L: Ledger>(
         &mut self,
         peer: &Peer,
-        trail: &Trail,
-        hint: Option<u32>,
+        by: CaseBy<'_>,
         nlris: &NlriList,
-        table: &Vaps,
-        roles: &Roles,
+        on: &Grounds<'_, Vaps>,
         steps: &mut Steps<L>,
     ) -> Result<(), NoMemory>
-        requires { AreRouted table.now roles.now self.old }
-        ensures routed { OnOk result (AreRouted table.now roles.now self.new) }
-        ensures state { OnOk result (routed_state table.now roles.now self.new
-            ≡ record (routed_state table.now roles.now self.old) {
-              routes = performed (announcements peer.now trail.now nlris.now)
-                  (routed_state table.now roles.now self.old).routes;
+        requires routed { AreRoutedOn on.now self.old }
+        requires found { IsFound self.old.cases peer.now.asn by }
+        ensures routed { OnOk result (AreRoutedOn on.now self.new) }
+        ensures state { OnOk result (state_on on.now self.new
+            ≡ record (state_on on.now self.old) {
+              routes = performed
+                  (announcements peer.now (path_by self.old.cases by.entry) nlris.now)
+                  (state_on on.now self.old).routes;
             }) }
-        ensures ticks { steps.new ≤ steps.old + announced (announcements peer.now trail.now nlris.now) }
+        ensures ticks { steps.new
+            ≤ steps.old + announced (announcements peer.now (path_by self.old.cases by.entry) nlris.now) }
     {
-        let mut by = CaseBy::Path(trail, hint);
+        let mut by = by;
         for nlri in nlris.iter() {
-            let number = self.announce(&Key::new(*peer, nlri), by, table, roles, steps)?;
+            let number = self.announce(&Key::new(*peer, nlri), by, on, steps)?;
             by = CaseBy::Number(number);
         }
         Ok(())
@@ -181,16 +180,15 @@ impl Routing {
         &mut self,
         key: &Key,
         by: CaseBy<'_>,
-        table: &Vaps,
-        roles: &Roles,
+        on: &Grounds<'_, Vaps>,
         steps: &mut Steps<L>,
     ) -> Result<u32, NoMemory>
-        requires routed { AreRouted table.now roles.now self.old }
+        requires routed { AreRoutedOn on.now self.old }
         requires found { IsFound self.old.cases key.now.peer.asn by }
-        ensures routed { OnOk result (AreRouted table.now roles.now self.new) }
-        ensures state { OnOk result (routed_state table.now roles.now self.new
-            ≡ record (routed_state table.now roles.now self.old) {
-              routes = fin.insert (routed_state table.now roles.now self.old).routes key.now
+        ensures routed { OnOk result (AreRoutedOn on.now self.new) }
+        ensures state { OnOk result (state_on on.now self.new
+            ≡ record (state_on on.now self.old) {
+              routes = fin.insert (state_on on.now self.old).routes key.now
                   (path_by self.old.cases by.entry);
             }) }
         ensures case { IfOk result (λ n.
@@ -199,7 +197,7 @@ impl Routing {
     {
         // it comes with the order of the keys
         let _length = self.routes.len();
-        let number = take(&mut self.cases, key.peer.asn, by, table, roles, steps)?;
+        let number = take(&mut self.cases, key.peer.asn, by, on, steps)?;
         let before = self.routes.insert(*key, number)?;
         self.marks.follow(&self.cases, key, before, Some(number))?;
         leave(&mut self.cases, before);
@@ -212,30 +210,29 @@ impl Routing {
         &mut self,
         peer: &Peer,
         nlris: &NlriList,
-        table: &Vaps,
-        roles: &Roles,
+        on: &Grounds<'_, Vaps>,
     ) -> Result<(), NoMemory>
-        requires { AreRouted table.now roles.now self.old }
-        ensures routed { OnOk result (AreRouted table.now roles.now self.new) }
-        ensures state { OnOk result (routed_state table.now roles.now self.new
-            ≡ record (routed_state table.now roles.now self.old) {
+        requires { AreRoutedOn on.now self.old }
+        ensures routed { OnOk result (AreRoutedOn on.now self.new) }
+        ensures state { OnOk result (state_on on.now self.new
+            ≡ record (state_on on.now self.old) {
               routes = performed (removals peer.now nlris.now)
-                  (routed_state table.now roles.now self.old).routes;
+                  (state_on on.now self.old).routes;
             }) }
     {
         for nlri in nlris.iter() {
-            self.withdraw(&Key::new(*peer, nlri), table, roles)?;
+            self.withdraw(&Key::new(*peer, nlri), on)?;
         }
         Ok(())
     }
 
     // The key has no route from now on.
-    fn withdraw(&mut self, key: &Key, table: &Vaps, roles: &Roles) -> Result<(), NoMemory>
-        requires { AreRouted table.now roles.now self.old }
-        ensures routed { OnOk result (AreRouted table.now roles.now self.new) }
-        ensures state { OnOk result (routed_state table.now roles.now self.new
-            ≡ record (routed_state table.now roles.now self.old) {
-              routes = fin.remove (routed_state table.now roles.now self.old).routes key.now;
+    fn withdraw(&mut self, key: &Key, on: &Grounds<'_, Vaps>) -> Result<(), NoMemory>
+        requires { AreRoutedOn on.now self.old }
+        ensures routed { OnOk result (AreRoutedOn on.now self.new) }
+        ensures state { OnOk result (state_on on.now self.new
+            ≡ record (state_on on.now self.old) {
+              routes = fin.remove (state_on on.now self.old).routes key.now;
             }) }
     {
         // it comes with the order of the keys
@@ -253,21 +250,20 @@ impl Routing {
         &mut self,
         alloc: Global,
         peer: &Peer,
-        table: &Vaps,
-        roles: &Roles,
+        on: &Grounds<'_, Vaps>,
     ) -> Result<(), NoMemory>
-        requires { AreRouted table.now roles.now self.old }
-        ensures routed { OnOk result (AreRouted table.now roles.now self.new) }
-        ensures state { OnOk result (routed_state table.now roles.now self.new
-            ≡ record (routed_state table.now roles.now self.old) {
-              routes = fin.retain_keys (routed_state table.now roles.now self.old).routes
+        requires { AreRoutedOn on.now self.old }
+        ensures routed { OnOk result (AreRoutedOn on.now self.new) }
+        ensures state { OnOk result (state_on on.now self.new
+            ≡ record (state_on on.now self.old) {
+              routes = fin.retain_keys (state_on on.now self.old).routes
                   (λ key. not (is_of_peer peer.now key));
             }) }
     {
         if self.marks.are_idle() {
-            self.take_peer(alloc, peer, table, roles)
+            self.take_peer(alloc, peer, on)
         } else {
-            self.withdraw_each(peer, table, roles)
+            self.withdraw_each(peer, on)
         }
     }
 
@@ -276,15 +272,14 @@ impl Routing {
         &mut self,
         alloc: Global,
         peer: &Peer,
-        table: &Vaps,
-        roles: &Roles,
+        on: &Grounds<'_, Vaps>,
     ) -> Result<(), NoMemory>
-        requires routed { AreRouted table.now roles.now self.old }
+        requires routed { AreRoutedOn on.now self.old }
         requires idle { AreIdle self.old.marks }
-        ensures routed { OnOk result (AreRouted table.now roles.now self.new) }
-        ensures state { OnOk result (routed_state table.now roles.now self.new
-            ≡ record (routed_state table.now roles.now self.old) {
-              routes = fin.retain_keys (routed_state table.now roles.now self.old).routes
+        ensures routed { OnOk result (AreRoutedOn on.now self.new) }
+        ensures state { OnOk result (state_on on.now self.new
+            ≡ record (state_on on.now self.old) {
+              routes = fin.retain_keys (state_on on.now self.old).routes
                   (λ key. not (is_of_peer peer.now key));
             }) }
     {
@@ -295,17 +290,17 @@ impl Routing {
     }
 
     // The same, one route after another.
-    fn withdraw_each(&mut self, peer: &Peer, table: &Vaps, roles: &Roles) -> Result<(), NoMemory>
-        requires { AreRouted table.now roles.now self.old }
-        ensures routed { OnOk result (AreRouted table.now roles.now self.new) }
-        ensures state { OnOk result (routed_state table.now roles.now self.new
-            ≡ record (routed_state table.now roles.now self.old) {
-              routes = fin.retain_keys (routed_state table.now roles.now self.old).routes
+    fn withdraw_each(&mut self, peer: &Peer, on: &Grounds<'_, Vaps>) -> Result<(), NoMemory>
+        requires { AreRoutedOn on.now self.old }
+        ensures routed { OnOk result (AreRoutedOn on.now self.new) }
+        ensures state { OnOk result (state_on on.now self.new
+            ≡ record (state_on on.now self.old) {
+              routes = fin.retain_keys (state_on on.now self.old).routes
                   (λ key. not (is_of_peer peer.now key));
             }) }
     {
         while let Some(key) = self.one_of(peer) {
-            self.withdraw(&key, table, roles)?;
+            self.withdraw(&key, on)?;
         }
         Ok(())
     }
@@ -324,23 +319,40 @@ impl Routing {
     }
 }
 
+// The routes and the marks, with cases that were judged anew: the keys of those that newly differ are to be noted.
+pub(crate) fn judged_anew(
+    routes: RouteMap<u32>,
+    cases: SharedCases,
+    marks: Marks,
+    differing: &FoundCases,
+) -> Result<Routing, NoMemory>
+    ensures { IfOk result (AreJudgedAnew routes cases marks differing.now) }
+{
+    let mut marks = marks;
+    marks.defer(differing)?;
+    Ok(Routing {
+        routes,
+        cases,
+        marks,
+    })
+}
+
 // One route more has the case.
 #[inline(always)]
 fn take<L: Ledger>(
     cases: &mut SharedCases,
     asn: u32,
     by: CaseBy<'_>,
-    table: &Vaps,
-    roles: &Roles,
+    on: &Grounds<'_, Vaps>,
     steps: &mut Steps<L>,
 ) -> Result<u32, NoMemory>
     requires { IsFound cases.old asn by }
-    ensures taken { IfOk result (λ n. Takes (grounds table.now roles.now) asn
+    ensures taken { IfOk result (λ n. Takes (lent table_of on.now) asn
         (path_by cases.old by.entry) cases.old cases.new n) }
     ensures ticks { steps.new ≤ steps.old + 1 }
 {
     match by {
-        CaseBy::Path(trail, hint) => cases.take(asn, trail, hint, table, roles, steps),
+        CaseBy::Path(trail, hint) => cases.take(asn, trail, hint, on, steps),
         CaseBy::Number(number) => {
             cases.take_again(number)?;
             Ok(number)

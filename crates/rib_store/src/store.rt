@@ -1,9 +1,13 @@
 //! The store.
 ghost use Rattle.std.specs.Prelude.{◌≡◌, ◌<◌, ◌≤◌, ◌^◌, ◌+◌, ◌-◌, [], length, IfNone, IfSome, IfOk, OnOk, None};
 ghost use Rattle.std.specs.FinMap as fin;
+ghost use Rattle.std.specs.List.Sorted.{IsStrictlySortedBy};
+ghost use Rattle.std.specs.Map.{keys_of};
 ghost use Rattle.attestations.specs.CurrentTable.{Parts};
+ghost use Rattle.path_model.specs.Key.{peer_cmp};
 ghost use Rattle.path_model.specs.Roles.{set_role};
 ghost use Rattle.path_model.specs.Routes.{performed};
+ghost use Rattle.route_map.specs.Flat.{HaveRoutes};
 ghost use Rattle.vap_table.specs.Change.{Alters};
 ghost use Rattle.rib_store.specs.State.{no_state, AreRows};
 ghost use Rattle.rib_store.specs.Altered.{IsAltered};
@@ -20,12 +24,12 @@ use crate::journal::{Journal, Left};
 use crate::marks::Marks;
 use crate::merged::Merged;
 use crate::rib::{Rib, RibPeers, Shown};
-use crate::routing::Routing;
+use crate::routing::{Routing, judged_anew};
 use crate::trails::Trails;
 use av_base::{NoMemory, Steps};
 use path_model::{Changes, Key, Role, Roles};
 use route_map::RouteMap;
-use shared_cases::{FoundCases, SharedCases};
+use shared_cases::{FoundCases, Grounds, SharedCases};
 use std::alloc::Global;
 use std::marker::Model;
 use std::sync::ledger::Ledger;
@@ -41,7 +45,7 @@ pub struct RibStore {
     pub(crate) routing: Routing,
 }
 
-/// A function of its own, so that what lets a store go needn't say how.
+/// Written by hand and not derived: a check of a function that lets a store go then has one call there, and not each field.
 impl Drop for RibStore {
     fn drop(self) {
         let RibStore {
@@ -109,10 +113,11 @@ impl RibStore {
             ≡ record self.old.state { routes = performed changes self.old.state.routes }) }
         ensures ticks { steps.new ≤ steps.old + announced changes }
     {
-        match self
-            .routing
-            .perform_all(self.alloc, &changes, &self.table, &self.roles, steps)
-        {
+        let on = Grounds {
+            table: &self.table,
+            roles: &self.roles,
+        };
+        match self.routing.perform_all(self.alloc, &changes, &on, steps) {
             Ok(()) => Ok(()),
             Err(none) => {
                 self.routing = Routing::new(self.alloc);
@@ -142,22 +147,22 @@ impl RibStore {
         let Routing {
             routes,
             cases,
-            mut marks,
+            marks,
         } = routing;
         let _length = routes.len();
         cases.are_distinct();
         let (table, moves) = table.change(change)?;
-        let (cases, differing) = cases.follow_table(&moves, &table, &roles, steps)?;
-        marks.defer(&differing)?;
+        let on = Grounds {
+            table: &table,
+            roles: &roles,
+        };
+        let (cases, differing) = cases.follow_table(&moves, &on, steps)?;
+        let routing = judged_anew(routes, cases, marks, &differing)?;
         Ok(RibStore {
             alloc,
             table,
             roles,
-            routing: Routing {
-                routes,
-                cases,
-                marks,
-            },
+            routing,
         })
     }
 
@@ -183,22 +188,22 @@ impl RibStore {
         let Routing {
             routes,
             cases,
-            mut marks,
+            marks,
         } = routing;
         let _length = routes.len();
         let before = roles.of(asn);
         roles.set(asn, role)?;
-        let (cases, differing) = cases.follow_role(asn, before, &table, &roles, steps)?;
-        marks.defer(&differing)?;
+        let on = Grounds {
+            table: &table,
+            roles: &roles,
+        };
+        let (cases, differing) = cases.follow_role(asn, before, &on, steps)?;
+        let routing = judged_anew(routes, cases, marks, &differing)?;
         Ok(RibStore {
             alloc,
             table,
             roles,
-            routing: Routing {
-                routes,
-                cases,
-                marks,
-            },
+            routing,
         })
     }
 
@@ -224,22 +229,22 @@ impl RibStore {
         let Routing {
             routes,
             cases,
-            mut marks,
+            marks,
         } = routing;
         let _length = routes.len();
         let before = roles.default();
         roles.set_default(role);
-        let (cases, differing) = cases.follow_default(before, &table, &roles, steps)?;
-        marks.defer(&differing)?;
+        let on = Grounds {
+            table: &table,
+            roles: &roles,
+        };
+        let (cases, differing) = cases.follow_default(before, &on, steps)?;
+        let routing = judged_anew(routes, cases, marks, &differing)?;
         Ok(RibStore {
             alloc,
             table,
             roles,
-            routing: Routing {
-                routes,
-                cases,
-                marks,
-            },
+            routing,
         })
     }
 
@@ -254,10 +259,12 @@ impl RibStore {
         }
     }
 
-    /// The same rows, by their peers: who writes them tells each peer once. It takes no memory.
+    /// The same rows, by their peers, each once: who writes them tells each peer once. It takes no memory.
     pub fn rows_by_peer(&self) -> RibPeers<'_>
         ensures rows { AreRows self.now.state (all_rows (peers_left result)) }
         ensures few { length (all_rows (peers_left result)) < 2 ^ 63 }
+        ensures peers { IsStrictlySortedBy peer_cmp (keys_of (peers_left result)) }
+        ensures some { HaveRoutes (peers_left result) }
     {
         RibPeers {
             rest: self.routing.routes.by_peer(),

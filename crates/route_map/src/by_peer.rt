@@ -4,8 +4,8 @@ ghost use Rattle.std.specs.BTreeMap.{insert_entry, is_at};
 ghost use Rattle.std.specs.List.Sorted.{IsStrictlySortedBy};
 ghost use Rattle.std.specs.Map.{keys_of, lookup, remove_entry, set_value};
 ghost use Rattle.path_model.specs.Key.{key_cmp, nlri_of, peer_cmp};
-ghost use Rattle.route_map.specs.Flat.{flat};
-ghost use Rattle.route_map.specs.Held.{found, value_at, without, HaveRoutes, Puts, TakesOut};
+ghost use Rattle.route_map.specs.Flat.{flat, HaveRoutes};
+ghost use Rattle.route_map.specs.Held.{found, value_at, without, Puts, TakesOut};
 ghost use Rattle.route_map.specs.Slots.{resolved, IsInverse};
 
 use crate::hints::Hints;

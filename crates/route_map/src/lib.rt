@@ -3,12 +3,17 @@
 //!
 //! The layers above see the list of its entries in key order and use the words of std's maps: **[`RouteMap::insert`] makes
 //! `insert_entry key_cmp` of that list and [`RouteMap::remove`] `remove_entry`, [`RouteMap::get`] looks up in it, and [`RouteMap::iter`]
-//! gives it**; [`RouteMap::of_peer`] gives a part of it, and [`RouteMap::take_peer`] takes that part out. Begin reading at [`RouteMap`],
+//! gives it**; [`RouteMap::by_peer`] gives it peer by peer, and [`RouteMap::take_peer`] takes a peer's out. Begin reading at [`RouteMap`],
 //! and then at `specs/Flat.antt`, which says how the routes of the peers make one list. The values are of any type that is `Copy`, or for
 //! all but `insert` and [`PeerTable::push_values`] of any type.
 //!
 //! Where the values are numbers, [`KeysByNumber`] is the way back: it finds the keys that have a number, of the peers of one AS. The layer
 //! above keeps it in step by [`KeysByNumber::follow`], and `specs/Keys.antt` says what it is that a key has a number.
+//!
+//! The module `by_peer` has the routes of each peer in a slot, which `hints` most often finds at once. The routes of one peer stand in four
+//! maps of `sorted_map`. One of IPv4 and one of IPv6 have those without a path identifier (`plain_routes`). Another two have those with one
+//! (`identified_routes`), and stand in a box, which is there only where there are some (`boxed_routes`). `nlri_iter` and `left` give all four
+//! in one order. `peer_table` has the routes of a peer that was taken out.
 #![tactic(auto)]
 
 mod boxed_iter;

@@ -4,16 +4,15 @@ ghost use Rattle.std.specs.BTreeMap.{insert_entry, is_at};
 ghost use Rattle.std.specs.List.{filter};
 ghost use Rattle.std.specs.List.Sorted.{IsStrictlySortedBy};
 ghost use Rattle.std.specs.Map.{keys_of, lookup, remove_entry};
-ghost use Rattle.path_model.specs.Key.{key_cmp};
+ghost use Rattle.path_model.specs.Key.{key_cmp, peer_cmp};
 ghost use Rattle.path_model.specs.Routes.{is_of_peer};
-ghost use Rattle.route_map.specs.Flat.{flat};
-ghost use Rattle.route_map.specs.Held.{found, value_at, without, HaveRoutes, Puts, TakesOut};
+ghost use Rattle.route_map.specs.Flat.{flat, HaveRoutes};
+ghost use Rattle.route_map.specs.Held.{found, value_at, without, Puts, TakesOut};
 ghost use Rattle.route_map.specs.OfPeer.{HasNoRouteOf, IsRouteOf};
 ghost use Rattle.route_map.specs.Updates.{Gets, Loses};
 
 use crate::by_peer::ByPeer;
 use crate::iter::Iter;
-use crate::peer_iter::PeerIter;
 use crate::peer_table::PeerTable;
 use crate::peers::Peers;
 use av_base::NoMemory;
@@ -41,7 +40,7 @@ pub struct RouteMap<V> {
 impl<V> Model for RouteMap<V> {
     ghost use Rattle.std.specs.Prelude.{List};
     ghost use Rattle.path_model.specs.declared.key.Key.{Key};
-    ghost use Rattle.route_map.specs.Flat.{flat};
+    ghost use Rattle.route_map.specs.Flat.{flat, HaveRoutes};
     ghost use Rattle.route_map.specs.Held.{AreHeld};
 
     ghost Value = { List (Key × V) };
@@ -104,22 +103,11 @@ impl<V> RouteMap<V> {
         ensures whole { flat result ≡ self.now }
         ensures few { length (flat result) < 2 ^ 63 }
         ensures in_order { IsStrictlySortedBy key_cmp (keys_of (flat result)) }
-    {
-        self.peers.iter_peers()
-    }
-
-    /// The routes of one peer, in key order. It costs to find the peer, and then what these routes cost.
-    pub fn of_peer(&self, peer: &Peer) -> PeerIter<'_, V>
-        ensures { result ≡ filter (λ e. is_of_peer peer.now e.0) self.now }
+        ensures peers { IsStrictlySortedBy peer_cmp (keys_of result) }
+        ensures some { HaveRoutes result }
     {
         let _peers = self.peers.len();
-        match self.peers.get(peer) {
-            None => PeerIter {
-                peer: *peer,
-                routes: None,
-            },
-            Some(routes) => routes.iter_of(*peer),
-        }
+        self.peers.iter_peers()
     }
 
     /// Some route of one peer, and it isn't said which; `None` exactly where it has none. It is the last one of a family, which takes the

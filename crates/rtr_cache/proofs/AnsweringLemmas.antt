@@ -8,12 +8,12 @@ use Rattle.std.specs.Prelude.{IfOk, OnOk}
 use Rattle.std.proofs.lemmas.Bool.Decides.{eqb_tells, nat_tests}
 use Rattle.path_model.specs.Rows.{RowMap, PatchMap}
 use Rattle.rtr_pdu.specs.declared.pdu.Pdu.{Pdu}
-use Rattle.rtr_pdu.specs.declared.pdu.Pdu.TheVariants.{CacheReset, CacheResponse, EndOfData, ResetQuery}
+use Rattle.rtr_pdu.specs.declared.pdu.Pdu.TheVariants.{CacheReset, CacheResponse, EndOfData}
 use Rattle.rtr_cache.specs.declared.turn.Turn.{Turn}
 use Rattle.rtr_cache.specs.declared.turn.Turn.TheVariants.{More}
 use Rattle.rtr_cache.specs.Cache.{Versions}
 use Rattle.rtr_cache.specs.Kept.{Appended, Gives, LeadsTo, TellsChanged, TellsRows, changed, older_of, patched, rows_after, versions_of}
-use Rattle.rtr_cache.specs.Served.{GivesDifference, GivesRows, IsReply, OnSerial, answer, rows_at, told_of}
+use Rattle.rtr_cache.specs.Served.{GivesDifference, GivesRows, OnSerial, answer, rows_at, told_of}
 use Rattle.rtr_cache.proofs.TellingLemmas.{appended_both, difference}
 
 framed : (cache : Versions) (pdus : List Pdu) (old one two new : List ℕ) → Appended (CacheResponse cache.session ∷ []) old one → Appended pdus one two → Appended (EndOfData cache.session cache.current.serial ∷ []) two new → Appended (answer cache pdus) old new
@@ -72,8 +72,3 @@ pub resets : {E : Type 0} (cache : Versions) (kept : Option RowMap) (r : Result 
     → IfOk r (λ turn. Gives (OnSerial cache kept) turn old new)
 resets cache kept (Ok turn) old new none more appended = record { pdus = CacheReset ∷ []; are = subst (λ (o : Option RowMap). OnSerial cache o (CacheReset ∷ []) turn) (sym none) (refl, more); appended = appended }
 resets cache kept (Err fault) old new none more appended = tt
-
-pub rows_given : {E : Type 0} (session serial : ℕ) (rows : RowMap) (backs : List PatchMap) (r : Result Turn E) (old new : List ℕ) → IfOk r (λ turn. (back : List PatchMap) → Gives (GivesRows (versions_of session serial rows back)) turn old new)
-    → IfOk r (λ turn. Gives (IsReply (versions_of session serial rows backs) ResetQuery) turn old new)
-rows_given session serial rows backs (Ok turn) old new gives = let given = gives backs in record { pdus = given.pdus; are = given.are; appended = given.appended }
-rows_given session serial rows backs (Err fault) old new gives = tt

@@ -12,8 +12,8 @@ use Rattle.attestations.specs.ComputedTable.{table_of}
 use Rattle.path_model.specs.Rows.{RowMap, PatchMap, SetsPatch, SetsRow, IsRowOf}
 use Rattle.path_model.proofs.MapLemmas.{get_rows}
 use Rattle.attestations.proofs.PartsLemmas.{one_row, table_is_current}
-use Rattle.vap_table.specs.Moves.{same_rows}
-use Rattle.vap_table.proofs.MovesLemmas.{same_rows_equal}
+use Rattle.attestations.specs.Moves.{same_rows}
+use Rattle.attestations.proofs.MovesLemmas.{same_rows_equal}
 use Rattle.rtr_session.proofs.SetLemmas.{IsSetOf-unique, row_given}
 use Rattle.vap_table.specs.Sources.{IsSetIfGiven}
 use Rattle.rtr_cache.specs.Kept.{LeadsBack, Visits, held_noted, new_noted, row_taken, visited}

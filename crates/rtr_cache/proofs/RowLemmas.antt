@@ -15,7 +15,7 @@ use Rattle.std.proofs.lemmas.Grind.{common_steps}
 use Rattle.path_model.specs.Authority.{has}
 use Rattle.path_model.specs.Rows.{RowMap}
 use Rattle.path_model.specs.Sets.{IsSetOf}
-use Rattle.vap_table.specs.Moves.{same_rows}
+use Rattle.attestations.specs.Moves.{same_rows}
 use Rattle.rtr_cache.specs.Kept.{with_row}
 
 -- ---- customers

@@ -16,8 +16,8 @@ use Rattle.path_model.specs.Authority.{has}
 use Rattle.path_model.specs.Rows.{RowMap, PatchMap, PatchHasSets}
 use Rattle.rtr_pdu.specs.declared.pdu.Pdu.{Pdu}
 use Rattle.rtr_pdu.specs.Spelled.{spelled, FitsFields, IsWritable}
-use Rattle.vap_table.specs.Moves.{same_rows}
-use Rattle.vap_table.proofs.MovesLemmas.{same_rows_equal}
+use Rattle.attestations.specs.Moves.{same_rows}
+use Rattle.attestations.proofs.MovesLemmas.{same_rows_equal}
 use Rattle.vap_table.specs.Sources.{IsSetIfGiven}
 use Rattle.rtr_cache.specs.Kept.{Appended, LeadsTo, RowsFit, TellsChanged, TellsRows, Visits, changed, given_now, patched, patched_row, rows_after, visited, with_all}
 use Rattle.rtr_cache.specs.Served.{IsDifference, spelled_all, told, told_of}

@@ -23,8 +23,8 @@ use Rattle.rtr_session.specs.declared.act.Act.{Act}
 use Rattle.rtr_session.specs.declared.act.Query.{Query}
 use Rattle.rtr_session.specs.State.{State}
 use Rattle.rtr_session.proofs.CaseLemmas.{one_case}
-use Rattle.vap_table.specs.Moves.{same_rows}
-use Rattle.vap_table.proofs.MovesLemmas.{same_rows_equal}
+use Rattle.attestations.specs.Moves.{same_rows}
+use Rattle.attestations.proofs.MovesLemmas.{same_rows_equal}
 use Rattle.rtr_cache.specs.declared.turn.Turn.{Turn}
 use Rattle.rtr_cache.specs.declared.turn.Turn.TheVariants.{More, Close}
 use Rattle.rtr_cache.specs.Cache.{Versions}

@@ -12,7 +12,8 @@ use Rattle.path_model.specs.Authority.{Table}
 use Rattle.path_model.specs.Rows.{RowMap, PatchMap}
 use Rattle.rtr_pdu.specs.declared.pdu.Pdu.{Pdu}
 use Rattle.rtr_pdu.specs.Spelled.{FitsFields}
-use Rattle.vap_table.specs.Moves.{same_rows}
+use Rattle.attestations.specs.Moves.{same_rows}
+use Rattle.rtr_cache.specs.declared.kept.KeptVersions.{KeptVersions}
 use Rattle.rtr_cache.specs.declared.turn.Turn.{Turn}
 use Rattle.rtr_cache.specs.Cache.{Version, Versions}
 use Rattle.rtr_cache.specs.Served.{AreRows, spelled_all, told_of}
@@ -47,6 +48,13 @@ pub record IsKeptWell (serial : ℕ) (rows : RowMap) (back : List PatchMap) : Ty
   pub fit : RowsFit rows
   pub few : length back ≤ 63
   pub serials : length back ≤ serial
+
+-- the versions that are kept so, and that they are kept well
+abbrev pub versions_in : KeptVersions → Versions
+versions_in kept = versions_of kept.session kept.serial kept.rows.now kept.back.now.items
+
+abbrev pub AreKeptWell : KeptVersions → Type 0
+AreKeptWell kept = IsKeptWell kept.serial kept.rows.now kept.back.now.items
 
 -- where the rows aren't those of the table the patch has what they are, and else nothing
 pub record LeadsBack (rows : RowMap) (table : Table) (back : PatchMap) : Type 0 where

@@ -1,42 +1,39 @@
 //! The reply to a PDU (RFC 8210, section 8).
-ghost use Rattle.std.specs.Prelude.{◌≡◌, ◌+◌, ◌<◌, ◌≤◌, ℕ, List, Some, [], ◌∷◌, length, take, IfOk, OnOk, IfSome, IfNone};
-ghost use Rattle.path_model.specs.Rows.{PatchMap};
+ghost use Rattle.std.specs.Prelude.{◌≡◌, ◌+◌, ◌<◌, ◌≤◌, ℕ, Some, [], ◌∷◌, length, take, IfOk, OnOk, IfSome, IfNone};
 ghost use Rattle.rtr_pdu.specs.declared.pdu.Pdu.TheVariants.{CacheReset as Resets, CacheResponse as Begins, EndOfData as Ends, ErrorReport as Reports};
 ghost use Rattle.rtr_cache.specs.declared.turn.Turn.TheVariants.{Close as Closes, More as GoesOn};
-ghost use Rattle.rtr_cache.specs.Kept.{Appended, Gives, IsKeptWell, RowsFit, rows_after, versions_of};
+ghost use Rattle.rtr_cache.specs.Kept.{Appended, AreKeptWell, Gives, RowsFit, rows_after, versions_in};
 ghost use Rattle.rtr_cache.specs.Served.{GivesDifference, GivesRows, IsReply, OnSerial, kept_rows};
 
+use crate::kept::KeptVersions;
 use crate::telling::{merged, put_difference, put_rows};
 use crate::turn::Turn;
 use av_base::NoMemory;
-use path_model::{Patch, Rows};
+use path_model::Patch;
 use rtr_pdu::{Pdu, write};
 use std::alloc::Global;
 use std::collections::VecDeque;
 
-/// Appends the reply to a PDU, of a cache with these rows and with what leads back from them.
+/// Appends the reply to a PDU, of a cache that keeps these versions.
 pub(crate) fn reply(
     alloc: Global,
-    session: u16,
-    serial: u32,
-    rows: &Rows,
-    back: &VecDeque<Patch>,
+    kept: KeptVersions<'_>,
     pdu: &Pdu,
     out: &mut Vec<u8>,
 ) -> Result<Turn, NoMemory>
-    requires { IsKeptWell serial rows.now back.now.items }
+    requires { AreKeptWell kept }
     ensures { IfOk result (λ turn. Gives
-        (IsReply (versions_of session serial rows.now back.now.items) pdu.now)
+        (IsReply (versions_in kept.entry) pdu.now)
         turn out.old.items out.new.items) }
 {
     match pdu {
-        Pdu::ResetQuery => give_rows(alloc, session, serial, rows, out),
+        Pdu::ResetQuery => give_rows(alloc, kept, out),
         Pdu::SerialQuery {
             session: asked_session,
             serial: asked,
         } => {
-            if *asked_session == session {
-                give_changes(alloc, session, serial, rows, back, *asked, out)
+            if *asked_session == kept.session {
+                give_changes(alloc, kept, *asked, out)
             } else {
                 refuse(0, out)
             }
@@ -53,42 +50,33 @@ pub(crate) fn reply(
 }
 
 // Everything.
-fn give_rows(
-    alloc: Global,
-    session: u16,
-    serial: u32,
-    rows: &Rows,
-    out: &mut Vec<u8>,
-) -> Result<Turn, NoMemory>
-    requires { RowsFit rows.now }
-    ensures { IfOk result (λ turn. (back : List PatchMap)
-        → Gives (GivesRows (versions_of session serial rows.now back))
+fn give_rows(alloc: Global, kept: KeptVersions<'_>, out: &mut Vec<u8>) -> Result<Turn, NoMemory>
+    requires { RowsFit kept.rows.now }
+    ensures { IfOk result (λ turn. Gives
+        (GivesRows (versions_in kept.entry))
         turn out.old.items out.new.items) }
 {
-    begin(session, out)?;
-    put_rows(alloc, rows, out)?;
-    end(session, serial, out)?;
+    begin(kept.session, out)?;
+    put_rows(alloc, kept.rows, out)?;
+    end(kept.session, kept.serial, out)?;
     Ok(Turn::More)
 }
 
 // What changed since the version of a serial.
 fn give_changes(
     alloc: Global,
-    session: u16,
-    serial: u32,
-    rows: &Rows,
-    back: &VecDeque<Patch>,
+    kept: KeptVersions<'_>,
     asked: u32,
     out: &mut Vec<u8>,
 ) -> Result<Turn, NoMemory>
-    requires { IsKeptWell serial rows.now back.now.items }
+    requires { AreKeptWell kept }
     ensures { IfOk result (λ turn. Gives
-        (OnSerial (versions_of session serial rows.now back.now.items)
-        (kept_rows (versions_of session serial rows.now back.now.items) asked))
+        (OnSerial (versions_in kept.entry)
+        (kept_rows (versions_in kept.entry) asked))
         turn out.old.items out.new.items) }
 {
-    match steps_back(serial, asked, count(back)) {
-        Some(steps) => give_difference(alloc, session, serial, rows, back, steps, out),
+    match steps_back(kept.serial, asked, count(kept.back)) {
+        Some(steps) => give_difference(alloc, kept, steps, out),
         None => reset(out),
     }
 }
@@ -96,24 +84,21 @@ fn give_changes(
 // What changed since the version so many steps back.
 fn give_difference(
     alloc: Global,
-    session: u16,
-    serial: u32,
-    rows: &Rows,
-    back: &VecDeque<Patch>,
+    kept: KeptVersions<'_>,
     steps: usize,
     out: &mut Vec<u8>,
 ) -> Result<Turn, NoMemory>
-    requires fit { RowsFit rows.now }
-    requires within { steps ≤ length back.now.items }
+    requires fit { RowsFit kept.rows.now }
+    requires within { steps ≤ length kept.back.now.items }
     ensures { IfOk result (λ turn. Gives
-        (GivesDifference (versions_of session serial rows.now back.now.items)
-        (rows_after rows.now (take steps back.now.items)))
+        (GivesDifference (versions_in kept.entry)
+        (rows_after kept.entry.rows.now (take steps kept.entry.back.now.items)))
         turn out.old.items out.new.items) }
 {
-    let patch = merged(alloc, back, steps)?;
-    begin(session, out)?;
-    put_difference(alloc, rows, &patch, out)?;
-    end(session, serial, out)?;
+    let patch = merged(alloc, kept.back, steps)?;
+    begin(kept.session, out)?;
+    put_difference(alloc, kept.rows, &patch, out)?;
+    end(kept.session, kept.serial, out)?;
     Ok(Turn::More)
 }
 

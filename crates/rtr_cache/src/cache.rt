@@ -5,6 +5,7 @@ ghost use Rattle.rtr_cache.specs.Served.{Answers, Replies};
 
 use crate::answering::reply;
 use crate::following::{back_from, follow, rows_of};
+use crate::kept::KeptVersions;
 use crate::rows::is_none;
 use crate::turn::Turn;
 use av_base::NoMemory;
@@ -111,15 +112,13 @@ impl Cache {
         ensures { IfOk result (λ r. Replies self.now pdu.now r.1.items r.0) }
     {
         let mut bytes = Vec::new(self.alloc);
-        let turn = reply(
-            self.alloc,
-            self.session,
-            self.serial,
-            &self.rows,
-            &self.back,
-            pdu,
-            &mut bytes,
-        )?;
+        let kept = KeptVersions {
+            session: self.session,
+            serial: self.serial,
+            rows: &self.rows,
+            back: &self.back,
+        };
+        let turn = reply(self.alloc, kept, pdu, &mut bytes)?;
         Ok((turn, bytes))
     }
 }

@@ -7,14 +7,15 @@
 //! router that asks and takes the reply as `rtr_session` does holds exactly the current table.
 //!
 //! Begin reading at `specs/Cache.antt`, then at `specs/Served.antt` and `specs/Laws.antt`. The contracts see whole tables; `cache` keeps
-//! one of them, and for each older version what leads back to it (`specs/Kept.antt`). `following` makes the next version, with `rows`
-//! for one customer; `answering` replies, with `telling` for what is told of rows.
+//! one of them, and for each older version what leads back to it (`specs/Kept.antt`; lent to a reply as `kept`). `following` makes the next
+//! version, with `rows` for one customer; `answering` replies, with `telling` for what is told of rows.
 #![tactic(auto)]
 
 mod answering;
 mod cache;
 mod fitting;
 mod following;
+mod kept;
 mod laws;
 mod rows;
 mod telling;

@@ -3,7 +3,7 @@ ghost use Rattle.std.specs.Prelude.{◌≡◌, ◌↔◌, ℕ, Some, None, nat_e
 ghost use Rattle.std.specs.Option.{option_copied};
 ghost use Rattle.std.specs.FinMap as map;
 ghost use Rattle.std.specs.List.Sorted.{IsStrictlyIncreasing};
-ghost use Rattle.vap_table.specs.Moves.{same_rows};
+ghost use Rattle.attestations.specs.Moves.{same_rows};
 ghost use Rattle.vap_table.specs.Sources.{IsSetIfGiven};
 
 use av_base::NoMemory;

@@ -5,7 +5,7 @@ ghost use Rattle.std.specs.Option.{option_copied};
 ghost use Rattle.std.specs.FinMap as map;
 ghost use Rattle.path_model.specs.Rows.{RowMap};
 ghost use Rattle.rtr_pdu.specs.Spelled.{FitsFields, IsWritable};
-ghost use Rattle.vap_table.specs.Moves.{same_rows};
+ghost use Rattle.attestations.specs.Moves.{same_rows};
 ghost use Rattle.vap_table.specs.Sources.{IsSetIfGiven};
 ghost use Rattle.rtr_cache.specs.Kept.{Appended, LeadsTo, RowsFit, TellsChanged, TellsRows, Visits, given_now};
 ghost use Rattle.rtr_cache.specs.Served.{providers_told, told};

@@ -42,12 +42,11 @@ impl Framer {
     }
 
     /// Adds a piece to what is held. The bytes of the PDUs that were taken are let go here, once for all of them.
-    pub fn feed(self, piece: &[u8]) -> Result<Framer, NoMemory>
+    pub fn feed(mut self, piece: &[u8]) -> Result<Framer, NoMemory>
         ensures { IfOk result (λ framer. framer ≡ self ++ piece.now) }
     {
-        let Framer { held, alloc } = self;
-        let held = held.feed(piece)?;
-        Ok(Framer { held, alloc })
+        self.held.push(piece)?;
+        Ok(self)
     }
 
     /// Takes the next PDU. `None` says that the bytes begin with a PDU that isn't whole yet. A refused PDU stays held, so each later
@@ -66,7 +65,7 @@ impl Framer {
         }
         let (bytes, _) = held.split_at(length);
         let pdu = read_pdu(self.alloc, kind, bytes)?;
-        self.held.drop_front(length);
+        self.held.take(length);
         Ok(Some(pdu))
     }
 

@@ -80,6 +80,8 @@ pub enum Command {
     Leaks,
     /// `suspects`: the valleys of the table's paths, each by the ASes at its ends, with how many routes and paths have it.
     Suspects,
+    /// `peers`: each peer that has routes, with its role and how many they are, and each AS with a role of its own and no routes.
+    Peers,
     /// `summary`: how many routes and customers there are, and how many units were passed over and lines refused.
     Summary,
     /// `why ADDRESS AS PREFIX` or `why ADDRESS AS PREFIX ID`: the verdict of the route of that peer and prefix, without a path identifier
@@ -118,6 +120,7 @@ pub(crate) enum CommandName {
     Origins,
     Leaks,
     Suspects,
+    Peers,
     Summary,
 }
 
@@ -155,6 +158,7 @@ pub(crate) fn command_name(word: &[u8]) -> Option<CommandName>
         b"origins" => Some(CommandName::Origins),
         b"leaks" => Some(CommandName::Leaks),
         b"suspects" => Some(CommandName::Suspects),
+        b"peers" => Some(CommandName::Peers),
         b"summary" => Some(CommandName::Summary),
         _ => None,
     }
@@ -294,6 +298,10 @@ pub(crate) fn read_fields(
         CommandName::Suspects => {
             End::read(alloc, words)?;
             Ok(Command::Suspects)
+        }
+        CommandName::Peers => {
+            End::read(alloc, words)?;
+            Ok(Command::Peers)
         }
         CommandName::Summary => {
             End::read(alloc, words)?;

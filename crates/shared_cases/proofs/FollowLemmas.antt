@@ -7,8 +7,8 @@ use Rattle.path_model.specs.declared.role.Role.{Role}
 use Rattle.path_model.specs.Authority.{Table}
 use Rattle.path_model.specs.Roles.{Relations, role_of}
 use Rattle.hop_index.specs.Index.{Entries, has as hops_have}
-use Rattle.vap_table.specs.declared.moves.RowMove.{RowMove}
-use Rattle.vap_table.specs.Moves.{AreMoves}
+use Rattle.attestations.specs.declared.moves.RowMove.{RowMove}
+use Rattle.attestations.specs.Moves.{AreMoves}
 use Rattle.shared_cases.specs.declared.case.StoredCase.{StoredCase}
 use Rattle.shared_cases.specs.declared.names.Names.{Names}
 use Rattle.shared_cases.specs.Cases.{Slots, at, is_of_peer, AreSameCases}

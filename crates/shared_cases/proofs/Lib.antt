@@ -1,3 +1,4 @@
+pub mod BitLemmas
 pub mod CaseLemmas
 pub mod FitLemmas
 pub mod FollowLemmas
@@ -14,6 +15,7 @@ pub mod PeerLemmas
 pub mod RejudgingLemmas
 pub mod RoleLemmas
 pub mod RowLemmas
+pub mod SortLemmas
 pub mod TotalsLemmas
 pub mod TouchLemmas
 pub mod VerdictLemmas

@@ -18,8 +18,8 @@ use Rattle.hop_index.specs.Index as hops
 use Rattle.hop_index.specs.Ends.{has_end}
 use Rattle.hop_index.specs.Numbers.{has_number}
 use Rattle.hop_index.proofs.HopLemmas.{hops_are_told}
-use Rattle.vap_table.specs.declared.moves.RowMove.{RowMove}
-use Rattle.vap_table.specs.Moves.{customers_of, IsMove, AreMoves}
+use Rattle.attestations.specs.declared.moves.RowMove.{RowMove}
+use Rattle.attestations.specs.Moves.{customers_of, IsMove, AreMoves}
 use Rattle.shared_cases.specs.declared.case.StoredCase.{StoredCase}
 use Rattle.shared_cases.specs.Cases.{hops_of}
 use Rattle.shared_cases.specs.Grounds.{by_table, IsRightCase}

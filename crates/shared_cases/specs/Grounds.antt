@@ -3,14 +3,14 @@ use Rattle.std.specs.Prelude.{◌≡◌, ⊤, ℕ, Bool, true, is_some}
 use Rattle.std.specs.declared.option.Option.{Option}
 use Rattle.std.specs.declared.option.Option.TheVariants.{Some, None}
 use Rattle.std.specs.FinMap as map
+use Rattle.path_model.specs.declared.role.Role.{Role}
 use Rattle.path_model.specs.Authority.{Table}
-use Rattle.attestations.specs.ComputedTable.{table_of}
-use Rattle.attestations.specs.CurrentTable.{Parts}
 use Rattle.path_model.specs.PrintedWitness.{IsPrinted}
 use Rattle.path_model.specs.Roles.{Relations, role_of}
 use Rattle.path_model.specs.Trail.{Path}
 use Rattle.ramps.specs.Judgement.{Judgement}
 use Rattle.shared_cases.specs.declared.case.StoredCase.{StoredCase}
+use Rattle.shared_cases.specs.declared.grounds.Grounds.{Grounds as LentGrounds}
 
 -- a table of attestations, and the roles of the peers
 pub record Grounds : Type 0 where
@@ -20,9 +20,19 @@ pub record Grounds : Type 0 where
 abbrev pub by_table : Table → Relations → Grounds
 by_table table relations = record { table = table; roles = relations }
 
--- the current table of these parts, and these roles
-abbrev pub grounds : Parts → Relations → Grounds
-grounds parts relations = by_table (table_of parts) relations
+-- what is lent, where these are the rows of such a table
+abbrev pub lent : {T : Type 0} → (T → Table) → LentGrounds T → Grounds
+lent rows on = by_table (rows on.table.now) on.roles.now
+
+-- the same with another table, with other roles, and with another default role
+abbrev pub with_table : Table → Grounds → Grounds
+with_table table g = record g { table = table }
+
+abbrev pub with_roles : Relations → Grounds → Grounds
+with_roles relations g = record g { roles = relations }
+
+abbrev pub with_default : Role → Grounds → Grounds
+with_default role g = record g { roles = record g.roles { default = role } }
 
 -- the right verdict of a path from this AS, in the role of that AS, and the witness that is printed
 abbrev pub IsRightJudgement : Grounds → ℕ → Path → Judgement → Type 0

@@ -1,11 +1,10 @@
 -- What keeps the cases, their names and their indexes together. Private contracts alone cite it.
 use Rattle.std.specs.Prelude.{◌≡◌, ℕ, nat_eq, Bool, true, not, ◌||◌, ◌&&◌, List}
-use Rattle.path_model.specs.declared.verdict.Verdict.{Verdict}
 use Rattle.hop_index.specs.declared.gone.GoneHop.{GoneHop}
 use Rattle.hop_index.specs.Hops.{has_hop}
-use Rattle.hop_index.specs.Index.{Entries, stays}
+use Rattle.hop_index.specs.Index.{Entries, has as hops_have, stays}
+use Rattle.shared_cases.specs.declared.kept.Kept.{Kept}
 use Rattle.shared_cases.specs.declared.names.Names.{Names}
-use Rattle.shared_cases.specs.declared.totals.Totals.{Totals}
 use Rattle.shared_cases.specs.Cases.{Slots, at, has_differed, hops_of, is_of_peer}
 use Rattle.shared_cases.specs.Differed.{AreSettledOrDiffered}
 use Rattle.shared_cases.specs.Naming.{AreNamed}
@@ -48,11 +47,15 @@ pub record AreKept (cases : Slots) (names : Names) (hops : Hops) (peers : ByPeer
   pub listed : (n : ℕ) → has_differed (at cases n) ≡ true → has differed n ≡ true
   pub defaulted : (n : ℕ) → IsOwnOrAmong peers.defaulted (at cases n)
 
--- and the totals and the verdicts are those of the cases
-abbrev pub FitTogether : Slots → Names → Hops → ByPeer → List ℕ → Totals → List Verdict → Type 0
-FitTogether cases names hops peers differed totals verdicts =
-    AreKept cases names hops peers differed × (totals ≡ totals_of cases) × AreVerdictsOf cases verdicts
+-- what is kept of the cases is theirs, with these hops: and the totals and the verdicts are those of the cases
+abbrev pub FitBy : Hops → Slots → Kept → Type 0
+FitBy hops cases kept =
+    AreKept cases kept.names hops kept.peers kept.differed × (kept.totals ≡ totals_of cases) × AreVerdictsOf cases kept.verdicts
 
--- the same of some such list
-abbrev pub AreFit : Slots → Names → Hops → ByPeer → Totals → List Verdict → Type 0
-AreFit cases names hops peers totals verdicts = (differed : List ℕ) × FitTogether cases names hops peers differed totals verdicts
+-- the same with the hops of the index
+abbrev pub FitTogether : Slots → Kept → Type 0
+FitTogether cases kept = FitBy (hops_have kept.index) cases kept
+
+-- the same, but for the totals and the verdicts
+abbrev pub AreOnlyRejudged : Kept → Kept → Type 0
+AreOnlyRejudged before after = after ≡ record before { totals = after.totals; verdicts = after.verdicts }

@@ -8,7 +8,7 @@ use Rattle.path_model.specs.declared.authority.Authority.{Authority}
 use Rattle.path_model.specs.declared.authority.Authority.TheVariants.{Silent, Refuses, Provides}
 use Rattle.path_model.specs.Authority.{said_by, has}
 use Rattle.hop_index.specs.Index.{Entries, has as hops_have}
-use Rattle.vap_table.specs.declared.moves.RowMove.{RowMove}
+use Rattle.attestations.specs.declared.moves.RowMove.{RowMove}
 
 abbrev pub same_authority : Authority → Authority → Bool
 same_authority Silent Silent = true

@@ -1,38 +1,32 @@
 //! The cases.
-ghost use Rattle.std.specs.Prelude.{◌≡◌, ◌≤◌, ◌+◌, ◌||◌, ◌&&◌, not, nat_eq, ℕ, true, false, [], length, None, Some, IfOk, IfNone, IfSome, OnOk};
+ghost use Rattle.std.specs.Prelude.{◌≡◌, ◌≤◌, ◌+◌, ℕ, true, false, [], length, None, Some, IfOk, IfNone, IfSome, OnOk};
 ghost use Rattle.std.specs.List.Sorted.{IsStrictlySortedBy};
 ghost use Rattle.std.specs.Ordering.{nat_cmp};
-ghost use Rattle.hop_index.specs.Index.{has as hops_have, Adds};
 ghost use Rattle.shared_cases.specs.Cases.{at, marked_now, AreSameCases, Rewrites, IsAbsent, IsStoredAs, AreDistinct, IsIndexOf, IsShown};
 ghost use Rattle.shared_cases.specs.Differed.{AreNewlyDiffering, AreSettledOrDiffered, HaveDiffered};
-ghost use Rattle.shared_cases.specs.Grounds.{grounds, IsRightCase};
+ghost use Rattle.shared_cases.specs.Grounds.{lent, IsRightCase};
 ghost use Rattle.shared_cases.specs.Kept.{FitTogether};
 ghost use Rattle.shared_cases.specs.Names.{name_of};
-ghost use Rattle.shared_cases.specs.Naming.{AddsName};
 ghost use Rattle.shared_cases.specs.Numbers.{has};
 ghost use Rattle.shared_cases.specs.Owning.{SayTheSame};
-ghost use Rattle.shared_cases.specs.Peers.{AddsMember};
 ghost use Rattle.shared_cases.specs.Taking.{raised, new_case, Takes};
-ghost use Rattle.shared_cases.specs.Verdicts.{SetsVerdict};
 
 use crate::case::{Case, StoredCase, new_case};
 use crate::case_name::CaseName;
 use crate::found::FoundCases;
-use crate::names::Names;
-use crate::peers::Peers;
+use crate::grounds::Grounds;
+use crate::kept::Kept;
 use crate::rejudging::rejudge_all;
 use crate::slots;
 use crate::totals::Totals;
-use crate::verdicts::Verdicts;
 use av_base::{NoMemory, Steps};
 use hop_index::HopIndex;
-use path_model::{Roles, Trail, Verdict};
+use path_model::{Table, Trail};
 use ramps::{Judged, judge};
 use slab::Slab;
 use std::alloc::Global;
 use std::marker::Model;
 use std::sync::ledger::Ledger;
-use vap_table::Vaps;
 
 /// The cases that routes share, each under a number below 2^32 for as long as some route has it. A case takes 111 to 152 bytes, 4 more for
 /// each AS of its path where that has more than seven, and what its chain or its hops take in the index ([`HopIndex`]); one that got another
@@ -41,35 +35,21 @@ use vap_table::Vaps;
 pub struct SharedCases {
     pub(crate) alloc: Global,
     pub(crate) slab: Slab<StoredCase>,
-    pub(crate) names: Names,
-    pub(crate) index: HopIndex,
-    pub(crate) peers: Peers,
-    // how many routes have them, by their verdicts
-    pub(crate) totals: Totals,
-    // the verdict of each
-    pub(crate) verdicts: Verdicts,
-    // those that got another verdict since the last mark; some may be gone
-    pub(crate) differed: FoundCases,
+    pub(crate) kept: Kept,
 }
 
-/// A function of its own, so that what lets the cases go needn't say how.
+/// Written by hand and not derived: a check of a function that lets the cases go then has one call there, and not each field.
 impl Drop for SharedCases {
     fn drop(self) {
         let SharedCases {
             alloc: _alloc,
             slab: _slab,
-            names: _names,
-            index: _index,
-            peers: _peers,
-            totals: _totals,
-            verdicts: _verdicts,
-            differed: _differed,
+            kept: _kept,
         } = self;
     }
 }
 
 impl Model for SharedCases {
-    ghost use Rattle.hop_index.specs.Index.{has as hops_have};
     ghost use Rattle.shared_cases.specs.Cases.{Slots};
     ghost use Rattle.shared_cases.specs.Kept.{FitTogether};
 
@@ -77,8 +57,7 @@ impl Model for SharedCases {
 
     ghost view = { λ a. a.slab.slots };
 
-    ghost invariant = { λ a. FitTogether a.slab.slots a.names (hops_have a.index) a.peers a.differed
-        a.totals a.verdicts };
+    ghost invariant = { λ a. FitTogether a.slab.slots a.kept };
 }
 
 impl SharedCases {
@@ -89,12 +68,7 @@ impl SharedCases {
         SharedCases {
             alloc,
             slab: Slab::new(alloc),
-            names: Names::new(alloc),
-            index: HopIndex::unlisted(alloc),
-            peers: Peers::new(alloc),
-            totals: Totals::none(),
-            verdicts: Verdicts::new(alloc),
-            differed: FoundCases::new(alloc),
+            kept: Kept::new(alloc),
         }
     }
 
@@ -110,7 +84,7 @@ impl SharedCases {
     pub fn index(&self) -> &HopIndex
         ensures { IsIndexOf self.now result.now }
     {
-        &self.index
+        &self.kept.index
     }
 
     /// The hops of the cases are listed from now on, where some case ever came ([`HopIndex::list`]): a change of the table asks for them. Where
@@ -118,17 +92,17 @@ impl SharedCases {
     pub fn list_hops(&mut self) -> Result<(), NoMemory>
         ensures { self.new ≡ self.old }
     {
-        if self.index.has_no_case_yet() {
+        if self.kept.index.has_no_case_yet() {
             return Ok(());
         }
-        self.index.list()
+        self.kept.index.list()
     }
 
     /// No two cases have the same peer AS and path: a law, and the body does nothing.
     pub fn are_distinct(&self)
         ensures { AreDistinct self.now }
     {
-        let _names = &self.names;
+        let _kept = &self.kept;
     }
 
     /// Each case that hasn't got another verdict since the last mark, or since it came, has its marked verdict: a law, and the body does
@@ -136,24 +110,23 @@ impl SharedCases {
     pub fn are_settled(&self)
         ensures { AreSettledOrDiffered self.now }
     {
-        let _differed = &self.differed;
+        let _kept = &self.kept;
     }
 
     /// One route more has the case of this AS and path, and the number of the case, which stays until its last route leaves it. It is looked
     /// for under the hint first, which may be any number ([`SharedCases::hint`]). A new case is judged, for one step, and its verdict is the
     /// marked one. For 2^32 routes of one case there is no memory. Where there was none, nothing is promised of the cases but that they fit
     /// together.
-    pub fn take<L: Ledger>(
+    pub fn take<T: Table, L: Ledger>(
         &mut self,
         asn: u32,
         trail: &Trail,
         hint: Option<u32>,
-        table: &Vaps,
-        roles: &Roles,
+        on: &Grounds<'_, T>,
         steps: &mut Steps<L>,
     ) -> Result<u32, NoMemory>
         ensures taken { IfOk result (λ n.
-            Takes (grounds table.now roles.now) asn trail.now self.old self.new n) }
+            Takes (lent T.rows on.now) asn trail.now self.old self.new n) }
         ensures ticks { steps.new ≤ steps.old + 1 }
     {
         if let Some(number) = self.hinted(hint, asn, trail) {
@@ -165,7 +138,7 @@ impl SharedCases {
             self.take_again(number)?;
             return Ok(number);
         }
-        self.take_new(name, table, roles, steps)
+        self.take_new(name, on, steps)
     }
 
     /// One route more has the case under a number that some route has already, as where [`SharedCases::take`] has just given it: no path is
@@ -174,10 +147,11 @@ impl SharedCases {
         ensures { OnOk result (Rewrites self.old self.new number (raised (at self.old number))) }
     {
         let totals = self
+            .kept
             .totals
             .plus(slots::one_user(&self.slab, number as usize))?;
         slots::raise(&mut self.slab, number as usize)?;
-        self.totals = totals;
+        self.kept.totals = totals;
         Ok(())
     }
 
@@ -189,37 +163,23 @@ impl SharedCases {
         let SharedCases {
             alloc,
             mut slab,
-            names,
-            index,
-            peers,
-            totals,
-            verdicts,
-            differed,
+            mut kept,
         } = self;
-        slots::mark_all(&mut slab, &differed);
-        SharedCases {
-            alloc,
-            slab,
-            names,
-            index,
-            peers,
-            totals,
-            verdicts,
-            differed: FoundCases::new(alloc),
-        }
+        slots::mark_all(&mut slab, &kept.differed);
+        kept.differed = FoundCases::new(alloc);
+        SharedCases { alloc, slab, kept }
     }
 
     // These cases are judged anew, once each.
-    pub(crate) fn rejudge<L: Ledger>(
+    pub(crate) fn rejudge<T: Table, L: Ledger>(
         self,
         touched: &[u32],
-        table: &Vaps,
-        roles: &Roles,
+        on: &Grounds<'_, T>,
         steps: &mut Steps<L>,
     ) -> Result<(SharedCases, FoundCases), NoMemory>
         requires { IsStrictlySortedBy nat_cmp touched.now }
         ensures judged { IfOk result (λ r. (n : ℕ) → has touched.now n ≡ true
-            → IsRightCase (grounds table.now roles.now) (at r.0 n)) }
+            → IsRightCase (lent T.rows on.now) (at r.0 n)) }
         ensures others { IfOk result (λ r. (n : ℕ) → has touched.now n ≡ false
             → at r.0 n ≡ at self n) }
         ensures same { IfOk result (λ r. AreSameCases self r.0) }
@@ -231,34 +191,11 @@ impl SharedCases {
         let SharedCases {
             alloc,
             mut slab,
-            names,
-            index,
-            peers,
-            mut totals,
-            mut verdicts,
-            mut differed,
+            mut kept,
         } = self;
-        let newly = rejudge_all(
-            alloc,
-            &mut slab,
-            &mut totals,
-            &mut verdicts,
-            touched,
-            table,
-            roles,
-            steps,
-        )?;
-        differed.append(&newly)?;
-        let cases = SharedCases {
-            alloc,
-            slab,
-            names,
-            index,
-            peers,
-            totals,
-            verdicts,
-            differed,
-        };
+        let newly = rejudge_all(alloc, &mut slab, &mut kept, touched, on, steps)?;
+        kept.differed.append(&newly)?;
+        let cases = SharedCases { alloc, slab, kept };
         Ok((cases, newly))
     }
 
@@ -268,28 +205,27 @@ impl SharedCases {
         ensures some { IfSome result (λ n. IsStoredAs (at self.now n) name.now.asn name.now.trail) }
         ensures none { IfNone result (IsAbsent self.now name.now.asn name.now.trail) }
     {
-        self.names.find(&self.slab, name)
+        self.kept.names.find(&self.slab, name)
     }
 
     // One route has a new case, of this name. It isn't inlined, so that where the case is there the stack slots of the whole state aren't
     // cleared.
     #[inline(never)]
-    fn take_new<L: Ledger>(
+    fn take_new<T: Table, L: Ledger>(
         &mut self,
         name: CaseName,
-        table: &Vaps,
-        roles: &Roles,
+        on: &Grounds<'_, T>,
         steps: &mut Steps<L>,
     ) -> Result<u32, NoMemory>
         requires named { name ≡ name_of name.asn name.trail }
         requires absent { IsAbsent self.old name.asn name.trail }
         ensures taken { IfOk result (λ n.
-            Takes (grounds table.now roles.now) name.asn name.trail self.old self.new n) }
+            Takes (lent T.rows on.now) name.asn name.trail self.old self.new n) }
         ensures ticks { steps.new ≤ steps.old + 1 }
     {
         let asn = name.asn;
-        let judged = judge(table, roles.of(asn), asn, &name.trail, steps);
-        let number = self.add(name, judged, roles.has_own(asn))?;
+        let judged = judge(on.table, on.roles.of(asn), asn, &name.trail, steps);
+        let number = self.add(name, judged, on.roles.has_own(asn))?;
         Ok(number)
     }
 
@@ -302,90 +238,27 @@ impl SharedCases {
             Rewrites self.old self.new n (Some (new_case name.asn name.trail judged own))) }
     {
         let verdict = judged.verdict();
-        let totals = self.totals.plus(Totals::of(verdict, 1))?;
+        let totals = self.kept.totals.plus(Totals::of(verdict, 1))?;
         let case = new_case(&name, judged, own)?;
         let number = self.slab.insert(case)?;
-        match find_by(
-            &mut self.names,
-            &mut self.index,
-            &mut self.peers,
-            &mut self.verdicts,
-            name,
-            number,
-            verdict,
-            own,
-        ) {
+        match self.kept.add(name, number, verdict, own) {
             Ok(short) => {
-                self.totals = totals;
+                self.kept.totals = totals;
                 Ok(short)
             }
             Err(_) => {
-                start_anew(
-                    self.alloc,
-                    &mut self.slab,
-                    &mut self.names,
-                    &mut self.index,
-                    &mut self.peers,
-                    &mut self.totals,
-                    &mut self.verdicts,
-                    &mut self.differed,
-                );
+                start_anew(self.alloc, &mut self.slab, &mut self.kept);
                 Err(NoMemory)
             }
         }
     }
 }
 
-// The case under this number is found by its name, by its hops and by its AS from now on, and its verdict stands there. The number in 32
-// bits is answered.
-#[inline(always)]
-fn find_by(
-    names: &mut Names,
-    index: &mut HopIndex,
-    peers: &mut Peers,
-    verdicts: &mut Verdicts,
-    name: CaseName,
-    number: usize,
-    verdict: Verdict,
-    own: bool,
-) -> Result<u32, NoMemory>
-    requires { name ≡ name_of name.asn name.trail }
-    ensures same { IfOk result (λ short. short ≡ number) }
-    ensures hops { OnOk result (Adds index.old number name.trail.chain index.new) }
-    ensures members { OnOk result (AddsMember peers.old.members name.asn number peers.new.members) }
-    ensures defaulted { OnOk result ((a : ℕ) → has peers.new.defaulted a
-        ≡ (has peers.old.defaulted a || (nat_eq a name.asn && not own))) }
-    ensures name { OnOk result (AddsName names.old name.asn name.trail number names.new) }
-    ensures verdict { OnOk result (SetsVerdict verdicts.old verdicts.new number verdict) }
-{
-    let short = u32::try_from(number).ok().ok_or(NoMemory)?;
-    index.put(number, name.trail.chain())?;
-    peers.add(name.asn, number, own)?;
-    names.add(name, short)?;
-    verdicts.set(number, verdict)?;
-    Ok(short)
-}
-
 // No case is left.
 #[inline(never)]
-pub(crate) fn start_anew(
-    alloc: Global,
-    slab: &mut Slab<StoredCase>,
-    names: &mut Names,
-    index: &mut HopIndex,
-    peers: &mut Peers,
-    totals: &mut Totals,
-    verdicts: &mut Verdicts,
-    differed: &mut FoundCases,
-)
-    ensures { FitTogether slab.new.slots names.new (hops_have index.new) peers.new differed.new
-        totals.new verdicts.new }
+pub(crate) fn start_anew(alloc: Global, slab: &mut Slab<StoredCase>, kept: &mut Kept)
+    ensures { FitTogether slab.new.slots kept.new }
 {
     *slab = Slab::new(alloc);
-    *names = Names::new(alloc);
-    *index = HopIndex::unlisted(alloc);
-    *peers = Peers::new(alloc);
-    *totals = Totals::none();
-    *verdicts = Verdicts::new(alloc);
-    *differed = FoundCases::new(alloc);
+    *kept = Kept::new(alloc);
 }

@@ -12,14 +12,14 @@ impl SharedCases {
     /// It reads no case, so that where many hints are got one after another, memory is waited for once and not for each.
     #[inline(always)]
     pub fn hint(&self, asn: u32, trail: &Trail) -> Option<u32> {
-        self.names.hint(mixed(asn, trail))
+        self.kept.names.hint(mixed(asn, trail))
     }
 
     /// The same hint, where it is found with one look, as most are: got for many cases before [`SharedCases::hint`] is asked for the others,
     /// it lets the looks wait for memory together.
     #[inline(always)]
     pub fn near(&self, asn: u32, trail: &Trail) -> Option<u32> {
-        self.names.near(mixed(asn, trail))
+        self.kept.names.near(mixed(asn, trail))
     }
 
     /// The same hint, if a case stands there. It reads the case at both ends, so that it is at hand for who takes it.
@@ -37,13 +37,13 @@ impl SharedCases {
     /// Looks up the hops of a path that no case may have yet, ahead of the case's coming. Nothing is promised of them.
     #[inline(always)]
     pub fn look_up_hops(&self, trail: &Trail, hops: &mut HopsAhead) {
-        hops.look_up(&self.index, trail.chain());
+        hops.look_up(&self.kept.index, trail.chain());
     }
 
     /// Reads hops that were looked up. The number says nothing.
     #[inline(always)]
     pub fn read_hops(&self, hops: &HopsAhead) -> usize {
-        hops.read(&self.index)
+        hops.read(&self.kept.index)
     }
 
     /// The hint, if it is the number of the case of this AS and path.

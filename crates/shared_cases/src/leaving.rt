@@ -1,17 +1,15 @@
 //! Routes leave their cases, one or many at once.
 ghost use Rattle.std.specs.Prelude.{◌≡◌, ◌≤◌, ◌-◌, ℕ, true, List, length, None, IfNone, IfSome, OnOk};
-ghost use Rattle.hop_index.specs.Index.{has as hops_have, AreGathered};
+ghost use Rattle.hop_index.specs.Index.{AreGathered};
 ghost use Rattle.shared_cases.specs.Cases.{at, Rewrites};
-ghost use Rattle.shared_cases.specs.Kept.{staying, without_chain, AreFit, AreSameHops, FitTogether, Hops};
+ghost use Rattle.shared_cases.specs.Kept.{staying, without_chain, AreSameHops, FitBy, FitTogether, Hops};
 ghost use Rattle.shared_cases.specs.Taking.{is_shared, left, left_times, lowered, times, TakesOut};
 
 use crate::case::StoredCase;
 use crate::case_name::CaseName;
 use crate::cases::start_anew;
-use crate::names::Names;
-use crate::peers::Peers;
+use crate::kept::Kept;
 use crate::totals::Totals;
-use crate::verdicts::Verdicts;
 use crate::{SharedCases, ahead, grouping, slots};
 use av_base::NoMemory;
 use hop_index::{GoneHops, HopIndex};
@@ -52,25 +50,12 @@ impl SharedCases {
         match leave_each(
             self.alloc,
             &mut self.slab,
-            &mut self.names,
-            &mut self.index,
-            &mut self.peers,
-            &mut self.totals,
-            &mut self.verdicts,
+            &mut self.kept,
             numbers.as_slice(),
         ) {
             Ok(()) => Ok(()),
             Err(_) => {
-                start_anew(
-                    self.alloc,
-                    &mut self.slab,
-                    &mut self.names,
-                    &mut self.index,
-                    &mut self.peers,
-                    &mut self.totals,
-                    &mut self.verdicts,
-                    &mut self.differed,
-                );
+                start_anew(self.alloc, &mut self.slab, &mut self.kept);
                 Err(NoMemory)
             }
         }
@@ -82,24 +67,17 @@ impl SharedCases {
         ensures { Rewrites self.old self.new number (lowered (at self.old number)) }
     {
         let one = slots::lower_by(&mut self.slab, number as usize, 1);
-        self.totals = self.totals.minus(one);
+        self.kept.totals = self.kept.totals.minus(one);
     }
 
     // The case goes, if there is one, with its name and its hops.
     fn remove(&mut self, number: u32)
         ensures { Rewrites self.old self.new number None }
     {
-        let Some(trail) = take_out(
-            &mut self.slab,
-            &mut self.names,
-            &mut self.peers,
-            &mut self.totals,
-            &mut self.verdicts,
-            number,
-        ) else {
+        let Some(trail) = take_out(&mut self.slab, &mut self.kept, number) else {
             return;
         };
-        self.index.forget(number as usize, trail.chain());
+        self.kept.index.forget(number as usize, trail.chain());
     }
 }
 
@@ -107,20 +85,11 @@ impl SharedCases {
 fn leave_each(
     alloc: Global,
     slab: &mut Slab<StoredCase>,
-    names: &mut Names,
-    index: &mut HopIndex,
-    peers: &mut Peers,
-    totals: &mut Totals,
-    verdicts: &mut Verdicts,
+    kept: &mut Kept,
     numbers: &[u32],
 ) -> Result<(), NoMemory>
-    requires { AreFit slab.old.slots names.old (hops_have index.old) peers.old
-        totals.old verdicts.old }
-    ensures kept { OnOk result ((differed : List ℕ)
-        → FitTogether slab.old.slots names.old (hops_have index.old) peers.old differed
-        totals.old verdicts.old
-        → FitTogether slab.new.slots names.new (hops_have index.new) peers.new differed
-        totals.new verdicts.new) }
+    requires { FitTogether slab.old.slots kept.old }
+    ensures fit { OnOk result (FitTogether slab.new.slots kept.new) }
     ensures left { OnOk result ((n : ℕ)
         → at slab.new.slots n ≡ left_times (times n numbers.now) (at slab.old.slots n)) }
 {
@@ -130,18 +99,16 @@ fn leave_each(
     let mut read: usize = 0;
     while let Some((number, front)) = left.split_last() {
         if read == 0 {
-            read = ahead::read_last(slab, names, left);
+            read = ahead::read_last(slab, &kept.names, left);
         }
         read = read.wrapping_sub(1);
         let rest = ahead_of(front, *number);
         let count = left.len() - rest.len();
-        leave_many(
-            slab, names, index, peers, totals, verdicts, &mut gone, *number, count,
-        )?;
-        gone = settled(alloc, index, gone);
+        leave_many(slab, kept, &mut gone, *number, count)?;
+        gone = settled(alloc, &mut kept.index, gone);
         left = rest;
     }
-    index.remove_each(gone);
+    kept.index.remove_each(gone);
     Ok(())
 }
 
@@ -163,69 +130,51 @@ fn ahead_of(list: &[u32], number: u32) -> &[u32]
 // So many routes leave a case. The hops of a case that goes go too, or come to those that go.
 fn leave_many(
     slab: &mut Slab<StoredCase>,
-    names: &mut Names,
-    index: &mut HopIndex,
-    peers: &mut Peers,
-    totals: &mut Totals,
-    verdicts: &mut Verdicts,
+    kept: &mut Kept,
     gone: &mut GoneHops,
     number: u32,
     count: usize,
 ) -> Result<(), NoMemory>
     requires some { 1 ≤ count }
-    requires fit { AreFit slab.old.slots names.old (staying index.old gone.old) peers.old
-        totals.old verdicts.old }
-    requires gathered { AreGathered index.old gone.old }
-    ensures kept { OnOk result ((differed : List ℕ)
-        → FitTogether slab.old.slots names.old (staying index.old gone.old) peers.old differed
-        totals.old verdicts.old
-        → FitTogether slab.new.slots names.new (staying index.new gone.new) peers.new differed
-        totals.new verdicts.new) }
-    ensures gathered { OnOk result (AreGathered index.new gone.new) }
+    requires fit { FitBy (staying kept.old.index gone.old) slab.old.slots kept.old }
+    requires gathered { AreGathered kept.old.index gone.old }
+    ensures fit { OnOk result
+        (FitBy (staying kept.new.index gone.new) slab.new.slots kept.new) }
+    ensures gathered { OnOk result (AreGathered kept.new.index gone.new) }
     ensures left { OnOk result (Rewrites slab.old.slots slab.new.slots number
         (left_times count (at slab.old.slots number))) }
 {
     if slots::users(slab, number as usize) as usize > count {
         let less = slots::lower_by(slab, number as usize, count as u32);
-        *totals = totals.minus(less);
+        kept.totals = kept.totals.minus(less);
         return Ok(());
     }
-    if let Some(trail) = take_out(slab, names, peers, totals, verdicts, number) {
-        index.let_go(number as usize, trail.chain(), gone)?;
+    if let Some(trail) = take_out(slab, kept, number) {
+        kept.index.let_go(number as usize, trail.chain(), gone)?;
     }
     Ok(())
 }
 
 // The case goes, if there is one, with its name; its path is answered, and its hops have to go as well.
 #[inline(always)]
-fn take_out(
-    slab: &mut Slab<StoredCase>,
-    names: &mut Names,
-    peers: &mut Peers,
-    totals: &mut Totals,
-    verdicts: &mut Verdicts,
-    number: u32,
-) -> Option<Trail>
-    ensures kept { IfSome result (λ trail. (hops : Hops) (differed : List ℕ)
-        → FitTogether slab.old.slots names.old hops peers.old differed
-        totals.old verdicts.old
-        → FitTogether slab.new.slots names.new (without_chain hops number trail.chain) peers.new differed
-        totals.new verdicts.new) }
-    ensures same { IfNone result ((hops : Hops) (differed : List ℕ)
-        → FitTogether slab.old.slots names.old hops peers.old differed
-        totals.old verdicts.old
-        → FitTogether slab.new.slots names.new hops peers.new differed
-        totals.new verdicts.new) }
+fn take_out(slab: &mut Slab<StoredCase>, kept: &mut Kept, number: u32) -> Option<Trail>
+    ensures fit { IfSome result (λ trail. (hops : Hops) → FitBy hops slab.old.slots kept.old
+        → FitBy (without_chain hops number trail.chain) slab.new.slots kept.new) }
+    ensures none { IfNone result ((hops : Hops) → FitBy hops slab.old.slots kept.old
+        → FitBy hops slab.new.slots kept.new) }
+    ensures index { kept.new.index ≡ kept.old.index }
     ensures gone { Rewrites slab.old.slots slab.new.slots number None }
 {
     let Some(case) = slab.try_remove(number as usize) else {
         return None;
     };
-    *totals = totals.minus(Totals::of(case.judged.verdict(), case.users));
-    verdicts.clear(number as usize);
-    peers.remove(case.asn, number);
+    kept.totals = kept
+        .totals
+        .minus(Totals::of(case.judged.verdict(), case.users));
+    kept.verdicts.clear(number as usize);
+    kept.peers.remove(case.asn, number);
     let name = CaseName::new(case.asn, case.trail);
-    names.remove(&name, number);
+    kept.names.remove(&name, number);
     Some(name.trail)
 }
 

@@ -6,12 +6,12 @@ ghost use Rattle.path_model.specs.Authority.{has, said_by};
 ghost use Rattle.shared_cases.specs.Touching.{differs, same_authority, AreAllOf, IsRisen};
 
 use crate::unmatched::unmatched;
+use attestations::RowMove;
 use av_base::NoMemory;
 use path_model::{AsList, Authority};
 use std::alloc::Global;
 use std::marker::Model;
 use std::vec::Vec;
-use vap_table::RowMove;
 
 // The rows of a move, where they stand.
 #[derive(Drop)]
@@ -24,7 +24,7 @@ pub(crate) struct MovedRows<'a> {
 
 impl<'a> Model for MovedRows<'a> {
     ghost use Rattle.std.specs.Prelude.{IsTrue};
-    ghost use Rattle.vap_table.specs.declared.moves.RowMove.{RowMove};
+    ghost use Rattle.attestations.specs.declared.moves.RowMove.{RowMove};
     ghost use Rattle.shared_cases.specs.Touching.{IsRisen};
 
     ghost Value = { RowMove };

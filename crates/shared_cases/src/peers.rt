@@ -17,7 +17,7 @@ pub(crate) struct Peers {
     alloc: Global,
     // an AS without cases has no entry, as the invariant says
     members: BTreeMap<u32, CaseNumbers>,
-    // each AS with a case that doesn't say that the AS has a role of its own, and no AS without cases
+    // the ASes that may follow the default role: each with a case that doesn't say that the AS has a role of its own
     defaulted: BTreeSet<u32>,
 }
 
@@ -47,7 +47,8 @@ impl Peers {
         }
     }
 
-    // One case of an AS more, which says that the AS has a role of its own, or doesn't. Where there was no memory, nothing is promised.
+    // One case of an AS more; `own` is whether the case says that the AS has a role of its own (`StoredCase::own`). For a number of 2^32 or
+    // above there is no memory. Where there was none, nothing is promised: all cases of all ASes are let go.
     pub(crate) fn add(&mut self, asn: u32, number: usize, own: bool) -> Result<(), NoMemory>
         ensures members { OnOk result
             (AddsMember self.old.members asn number self.new.members) }

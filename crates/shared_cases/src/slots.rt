@@ -2,7 +2,7 @@
 ghost use Rattle.std.specs.Prelude.{◌≡◌, ◌≢◌, ◌≤◌, ◌+◌, ◌↔◌, ◌&&◌, not, true, false, ℕ, IsTrue, OnOk, OnErr};
 ghost use Rattle.shared_cases.specs.Cases.{at, has_differed, marked_now, same_verdict, verdict_or, Rewrites, IsSameCase, IsStoredAs};
 ghost use Rattle.shared_cases.specs.Differed.{HasDiffered};
-ghost use Rattle.shared_cases.specs.Grounds.{grounds, IsRightCase};
+ghost use Rattle.shared_cases.specs.Grounds.{lent, IsRightCase};
 ghost use Rattle.shared_cases.specs.Numbers.{has};
 ghost use Rattle.shared_cases.specs.Owning.{owned, says_own};
 ghost use Rattle.shared_cases.specs.Taking.{is_shared, lowered_by, raised, users_or};
@@ -10,14 +10,14 @@ ghost use Rattle.shared_cases.specs.Totals.{one_user, share_of, some_users, user
 
 use crate::case::StoredCase;
 use crate::found::FoundCases;
+use crate::grounds::Grounds;
 use crate::numbers::CaseNumbers;
 use crate::totals::Totals;
 use av_base::{NoMemory, Steps};
-use path_model::{Roles, Trail, Verdict};
+use path_model::{Table, Trail, Verdict};
 use ramps::judge;
 use slab::Slab;
 use std::sync::ledger::Ledger;
-use vap_table::Vaps;
 
 // Whether the number is that of the case of this AS and path.
 pub(crate) fn is_stored_as(slab: &Slab<StoredCase>, number: usize, asn: u32, trail: &Trail) -> bool
@@ -152,14 +152,13 @@ pub(crate) struct Anew {
 }
 
 // It is judged anew.
-pub(crate) fn judge_anew<L: Ledger>(
+pub(crate) fn judge_anew<T: Table, L: Ledger>(
     slab: &mut Slab<StoredCase>,
     number: usize,
-    table: &Vaps,
-    roles: &Roles,
+    on: &Grounds<'_, T>,
     steps: &mut Steps<L>,
 ) -> Anew
-    ensures judged { IsRightCase (grounds table.now roles.now) (at slab.new.slots number) }
+    ensures judged { IsRightCase (lent T.rows on.now) (at slab.new.slots number) }
     ensures same { IsSameCase (at slab.old.slots number) (at slab.new.slots number) }
     ensures own { says_own (at slab.new.slots number) ≡ says_own (at slab.old.slots number) }
     ensures differed { HasDiffered (at slab.old.slots number) (at slab.new.slots number) }
@@ -180,7 +179,13 @@ pub(crate) fn judge_anew<L: Ledger>(
         };
     };
     let before = case.judged.verdict();
-    case.judged = judge(table, roles.of(case.asn), case.asn, &case.trail, steps);
+    case.judged = judge(
+        on.table,
+        on.roles.of(case.asn),
+        case.asn,
+        &case.trail,
+        steps,
+    );
     let after = case.judged.verdict();
     let users = case.users;
     if case.differed {

@@ -11,12 +11,12 @@ ghost use Rattle.shared_cases.specs.Touching.{AreAllOf, IsTouchedAt, IsTouchedBy
 use crate::found::FoundCases;
 use crate::moved_rows::MovedRows;
 use crate::peers::Peers;
+use attestations::{Moves, RowMove};
 use av_base::NoMemory;
 use hop_index::HopIndex;
 use path_model::{Role, Roles};
 use std::alloc::Global;
 use std::vec::Vec;
-use vap_table::{Moves, RowMove};
 
 // The cases that some move touches, rising. It takes the time of a look-up for each move; where its customer has hops, also of a walk over its
 // rows, of a look-up for each AS that is in one row alone or, where its hops are fewer or there is one row only, for each of its neighbours, and
@@ -143,7 +143,8 @@ fn touch_ends(
     Ok(())
 }
 
-// The same, where the customer attests another thing of none but these: each is looked up among its hops.
+// The same, where `asked` has each AS of which the customer attests another thing than before, and maybe more: each that is one is looked
+// up among the customer's hops.
 fn touch_asked(
     index: &HopIndex,
     rows: &MovedRows<'_>,

@@ -89,7 +89,7 @@ impl SharedCases {
     pub fn verdict(&self, number: usize) -> Verdict
         ensures { result ≡ verdict_or (at self.now number) }
     {
-        self.verdicts.of(number)
+        self.kept.verdicts.of(number)
     }
 
     /// The verdict of a case at the last mark or when it came, or `Invalid` where there is no case.
@@ -106,6 +106,6 @@ impl SharedCases {
     pub fn totals(&self) -> Totals
         ensures { result ≡ totals_of self.now }
     {
-        self.totals
+        self.kept.totals
     }
 }

@@ -16,10 +16,8 @@ mod laws;
 mod performing;
 mod roles;
 mod rows;
-mod stop;
 mod workload;
 
 pub use laws::{each_seed_has_one_text, each_seed_has_one_workload};
 pub use performing::perform;
-pub use stop::Stop;
 pub use workload::{Workload, workload_of};

@@ -5,10 +5,9 @@ ghost use Rattle.rib_store.specs.ChangesLeft.{changes_left};
 ghost use Rattle.stated_workload.specs.Text.{IsTextOf, WritesFront, WritesPart, WritesText};
 
 use crate::happening::happen_all;
-use crate::stop::Stop;
 use crate::workload::workload_of;
 use analyser::Analyser;
-use av_base::{NoMemory, Sink, Steps, pour};
+use av_base::{NoMemory, Sink, Steps, Stop, pour};
 use listings::summary_of;
 use report_text::{put_changed, put_summary};
 use rib_store::Journal;
@@ -26,6 +25,7 @@ pub fn perform<W: Sink>(alloc: Global, seed: u64, out: &mut W) -> Result<(), Sto
 
     // Whether it ended early or not.
     ensures front { WritesFront seed (W.written out.old) (W.written out.new) }
+    ensures no_shelf { IsErrOf result Stop.Shelf → ⊥ }
     ensures sink_cause { IsErrOf result Stop.Sink → Rose (W.faults out.old) (W.faults out.new) }
     ensures sink_faults { W.faults out.old ≤ W.faults out.new }
 {

@@ -1,4 +1,5 @@
 pub mod ComingLemmas
+pub mod ExtentLemmas
 pub mod FrameLemmas
 pub mod HoldingLemmas
 pub mod JudgementLemmas

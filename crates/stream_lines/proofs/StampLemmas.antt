@@ -8,10 +8,10 @@ use Rattle.held_bytes.specs.Units.{Begins, BeginsWithNone}
 use Rattle.mrt_reader.specs.Coming as records
 use Rattle.mrt_reader.specs.Records.{Recorded, IsRecord}
 use Rattle.mrt_reader.proofs.LawLemmas as record_laws
-use Rattle.stream_lines.specs.Gives.{HasStamp, IsPartial, TellsFrom}
+use Rattle.stream_lines.specs.Gives.{HasStamp, IsPartial, TellsPast}
 use Rattle.stream_lines.specs.Streams.{Dump}
 use Rattle.stream_lines.specs.Units.{Known, Mrt, Bmp, is_of_records}
-use Rattle.stream_lines.specs.Until.{IsFrom, GoesOn}
+use Rattle.stream_lines.specs.Until.{IsFrom, IsPast, GoesOn}
 use Rattle.stream_lines.proofs.NextLemmas.{begins_more}
 
 -- ---- stamps
@@ -34,7 +34,7 @@ none_more held more (inr long) at_end = λ it rest begins. record_laws.not_too_l
 -- ---- what the stamp tells; `held` is held, and `left` is left of the file
 
 pub tells_stamp : (moment : ℕ) (known : Known) (held : List ℕ) (left : Option (List ℕ)) (stamp : ℕ) (answer : Bool) → HasStamp known held (Some stamp)
-    → IsTrue answer ↔ (moment ≤ stamp) → TellsFrom moment known (prepend_known held left) answer
+    → IsTrue answer ↔ (moment ≤ stamp) → TellsPast (Some moment) known (prepend_known held left) answer
 tells_stamp moment (Mrt peers) held None stamp answer has tests = λ dump same told. absurd (let no : ⊥ = cc in no)
 tells_stamp moment (Mrt peers) held (Some left) stamp answer has tests = λ dump same told.
     let whole : held ++ left ≡ dump.left = cc in
@@ -45,7 +45,7 @@ tells_stamp moment (Mrt peers) held (Some left) stamp answer has tests = λ dump
 tells_stamp moment (Bmp view peers) held left stamp answer has tests = absurd (let no : ⊥ = cc in no)
 
 pub tells_none : (moment : ℕ) (known : Known) (held : List ℕ) (left : Option (List ℕ)) → HasStamp known held None → (IsPartial known held → IsAtEnd left)
-    → TellsFrom moment known (prepend_known held left) false
+    → TellsPast (Some moment) known (prepend_known held left) false
 tells_none moment (Mrt peers) held None has at_end = λ dump same told. absurd (let no : ⊥ = cc in no)
 tells_none moment (Mrt peers) held (Some left) has at_end = λ dump same told.
     let whole : held ++ left ≡ dump.left = cc in
@@ -57,6 +57,10 @@ tells_none moment (Bmp view peers) held left has at_end = λ dump same told. (
   λ on. absurd (let no : ⊥ = cc in no),
   λ from. let never : true ≡ false = sym from.of_records ∙ ap is_of_records same in absurd (let no : ⊥ = cc in no),
 )
+
+-- without a moment it never is
+pub tells_never : (known : Known) (left : Option (List ℕ)) → TellsPast None known left false
+tells_never known left = λ dump same told. (λ on. absurd (let no : ⊥ = cc in no), λ never. absurd never)
 
 -- ---- it is from the moment on, or not
 
@@ -83,14 +87,18 @@ from_or_not moment dump = elim (cases_Bool (is_of_records dump.known)) [
 
 -- ---- it goes on, or not
 
--- not where the dump is over
-pub over_stops : (moment : ℕ) (dump : Dump) → dump.over ≡ true → ¬ GoesOn moment dump
-over_stops moment dump over = λ goes. let never : true ≡ false = sym over ∙ goes.0 in absurd (let no : ⊥ = cc in no)
+past_or_not : (until : Option ℕ) (dump : Dump) → IsPast until dump ⊎ ¬ IsPast until dump
+past_or_not None dump = inr (λ past. past)
+past_or_not (Some moment) dump = from_or_not moment dump
 
-pub goes_on_or_not : (moment : ℕ) (dump : Dump) → GoesOn moment dump ⊎ ¬ GoesOn moment dump
-goes_on_or_not moment dump = elim (cases_Bool dump.over) [
-  | inl over ↦ inr (over_stops moment dump over)
-  | inr yet ↦ elim (from_or_not moment dump) [
+-- not where the dump is over
+pub over_stops : (until : Option ℕ) (dump : Dump) → dump.over ≡ true → ¬ GoesOn until dump
+over_stops until dump over = λ goes. let never : true ≡ false = sym over ∙ goes.0 in absurd (let no : ⊥ = cc in no)
+
+pub goes_on_or_not : (until : Option ℕ) (dump : Dump) → GoesOn until dump ⊎ ¬ GoesOn until dump
+goes_on_or_not until dump = elim (cases_Bool dump.over) [
+  | inl over ↦ inr (over_stops until dump over)
+  | inr yet ↦ elim (past_or_not until dump) [
     | inl from ↦ inr (λ goes. goes.1 from)
     | inr before ↦ inl (yet, before)
   ]

@@ -14,7 +14,7 @@ use Rattle.stream_lines.specs.declared.next.Next.{Next}
 use Rattle.stream_lines.specs.declared.next.Next.TheVariants.{Unit as AUnit, Broken, End}
 use Rattle.stream_lines.specs.Streams.{Dump}
 use Rattle.stream_lines.specs.Units.{Known, Mrt, Bmp, Coming, comes, IsComing}
-use Rattle.stream_lines.specs.Until.{IsFrom}
+use Rattle.stream_lines.specs.Until.{IsPast}
 
 -- no whole unit, and nothing with which none can begin
 abbrev pub IsPartial : Known → List ℕ → Type 0
@@ -55,9 +55,9 @@ IsLast held (AUnit effect) = ⊥
 IsLast held (Broken cause) = (held ≢ []) × (cause ≡ causes.CutShort)
 IsLast held End = held ≡ []
 
--- whether what comes next in a dump is from the moment on, where it is told what is left
-abbrev pub TellsFrom : ℕ → Known → Option (List ℕ) → Bool → Type 0
-TellsFrom moment known left answer = (dump : Dump) → dump.known ≡ known → left ≡ Some dump.left → IsTrue answer ↔ IsFrom moment dump
+-- whether what comes next in a dump is from the moment on, if there is one, where it is told what is left
+abbrev pub TellsPast : Option ℕ → Known → Option (List ℕ) → Bool → Type 0
+TellsPast until known left answer = (dump : Dump) → dump.known ≡ known → left ≡ Some dump.left → IsTrue answer ↔ IsPast until dump
 
 -- what the stamp that comes next tells: it is that of a record that is held, and without one none is held, of a dump of messages never
 abbrev pub HasStamp : Known → List ℕ → Option ℕ → Type 0

@@ -5,15 +5,14 @@ ghost use Rattle.std.specs.Io.KnownBytes.{prepend_known, IsAtEnd};
 ghost use Rattle.av_base.specs.Files.{closes, left_of, reads};
 ghost use Rattle.av_base.specs.Told.{HasCause, Rose, Took};
 ghost use Rattle.stream_lines.specs.Frames.{Leaves};
-ghost use Rattle.stream_lines.specs.Gives.{IsNext, IsPartial, TellsFrom};
+ghost use Rattle.stream_lines.specs.Gives.{IsNext, IsPartial, TellsPast};
 ghost use Rattle.stream_lines.specs.Held.{fresh_of, held_of, known_of};
 ghost use Rattle.stream_lines.specs.Units.{first_known, is_of_records};
 
 use crate::kind::DumpKind;
 use crate::next::Next;
 use crate::reader::Reader;
-use av_base::{Fault, Shelf};
-use listings::ReadFault;
+use av_base::{Fault, ReadFault, Shelf};
 use std::alloc::Global;
 use std::marker::Model;
 
@@ -115,16 +114,16 @@ impl OpenDump {
         shelf.close_file(self.file);
     }
 
-    /// Whether what comes next, where the dump isn't over, is a record whose stamp isn't below this moment, in seconds since 1970. It reads
-    /// while that can't be told, and takes nothing off.
-    pub(crate) fn is_from<F: Shelf>(
+    /// Whether what comes next, where the dump isn't over, is a record whose stamp isn't below this moment, in seconds since 1970; without a
+    /// moment it never is. It reads while that can't be told, and takes nothing off.
+    pub(crate) fn is_past<F: Shelf>(
         &mut self,
         alloc: Global,
-        moment: u32,
+        until: Option<u32>,
         shelf: &mut F,
     ) -> Result<bool, ReadFault>
         requires given { self.old.file < F.opened shelf.old }
-        ensures tells { IfOk result (TellsFrom moment self.new.known
+        ensures tells { IfOk result (TellsPast until self.new.known
             (prepend_known self.new.held (left_of (F.files shelf.new) self.new.file))) }
         ensures same { IfOk result (λ _.
             prepend_known self.new.held (left_of (F.files shelf.new) self.old.file)
@@ -138,6 +137,9 @@ impl OpenDump {
             → Rose (F.faults shelf.old) (F.faults shelf.new) }
         ensures faults { F.faults shelf.old ≤ F.faults shelf.new }
     {
+        let Some(moment) = until else {
+            return Ok(false);
+        };
         fill(alloc, &mut self.reader, self.file, shelf)?;
         match self.reader.stamp() {
             Some(stamp) => Ok(moment <= stamp),

@@ -10,11 +10,9 @@ ghost use Rattle.stream_lines.specs.Extent.{TicksWithinTaken, Took, TookSomeOf};
 ghost use Rattle.stream_lines.specs.Taking.{GrewBy, asking_of};
 
 use crate::dump::OpenDump;
-use crate::taking::{Asked, take_units};
-use crate::until::take_until;
+use crate::taking::{Asked, flush_before, take_unit};
 use analyser::Progress;
-use av_base::{Shelf, Sink, Steps};
-use listings::Stop;
+use av_base::{Shelf, Sink, Steps, Stop};
 use std::alloc::Global;
 use std::sync::ledger::Ledger;
 
@@ -74,10 +72,15 @@ pub fn take<F: Shelf, W: Sink, L: Ledger>(
         → AddsQuiet (append_known (W.written out.old) text.old.items)
         (append_known (W.written out.new) text.new.items) }
 {
-    match asked.until {
-        None => take_units(alloc, dump, asked, progress, shelf, out, text, steps),
-        Some(moment) => take_until(
-            alloc, dump, asked, moment, progress, shelf, out, text, steps,
-        ),
+    for _turn in 0..asked.count {
+        if dump.is_over() {
+            return Ok(());
+        }
+        if dump.is_past(alloc, asked.until, shelf)? {
+            return Ok(());
+        }
+        take_unit(alloc, dump, asked, progress, shelf, text, steps)?;
+        flush_before(dump, out, text)?;
     }
+    Ok(())
 }

@@ -13,11 +13,11 @@
 //! cases stand side by side in `specs/Extent.antt`.
 //!
 //! `dump` reads the file piece by piece and takes off what comes next, by its `reader`: `records` has that of MRT and `messages` that of
-//! BMP, `kind` says which it is, and `next` has what both give. `extent` chooses between `taking`, which performs so many units, and `until`,
-//! up to a moment; `effect` does what an accepted unit does.
+//! BMP, `kind` says which it is, and `next` has what both give. `extent` has the loop over units, `taking` performs one, and `effect` does
+//! what an accepted unit does.
 //!
 //! Lemmas for the proofs above are in `proofs/`: `FrameLemmas` for the files that a call leaves as they were, `LawLemmas` and `UnitsLemmas`
-//! for units, `UntilLemmas` for those up to a moment, `JudgementLemmas` for what units may cost, and `RefusalLemmas` for the refusals in a
+//! for units, `UntilLemmas` for those up to a moment, `ExtentLemmas` for both, `JudgementLemmas` for what units may cost, and `RefusalLemmas` for the refusals in a
 //! text.
 #![tactic(auto)]
 
@@ -31,7 +31,6 @@ mod next;
 mod reader;
 mod records;
 mod taking;
-mod until;
 
 pub use dump::OpenDump;
 pub use extent::take;

@@ -7,7 +7,7 @@ ghost use Rattle.stream_lines.specs.Units.{Bmp, MessageSays, learnt as learnt_of
 use crate::next::{Effect, Next};
 use av_base::{NoMemory, PIECE};
 use bmp_reader::{BmpFault, BmpFrameFault, Body, Framer, PathPeers, View, read_message};
-use held_bytes::Room;
+use held_bytes::{HeldBytes, Room};
 use path_model::{Peer, Role};
 use report_text::Cause;
 use std::alloc::Global;
@@ -94,7 +94,7 @@ impl Messages {
         ensures view { self.new.view ≡ self.old.view }
     {
         let framer = mem::replace(&mut self.framer, Framer::new(alloc));
-        framer.into_room(PIECE)
+        framer.into_held().into_room(PIECE)
     }
 
     /// Takes the buffer back, of which the bytes up to `end` are held now.
@@ -102,7 +102,7 @@ impl Messages {
         requires { end ≤ length room.bytes.items }
         ensures { self.new ≡ record self.old { framer = take end room.bytes.items } }
     {
-        self.framer = Framer::from_room(room, end);
+        self.framer = Framer::from_held(HeldBytes::from_room(room, end));
     }
 }
 

@@ -5,7 +5,7 @@ ghost use Rattle.stream_lines.specs.Units.{Mrt, RecordSays, record_cause as caus
 
 use crate::next::{Effect, Next};
 use av_base::{NoMemory, PIECE};
-use held_bytes::Room;
+use held_bytes::{HeldBytes, Room};
 use mrt_reader::{Body, BodyFault, Framer, PeerTable, read_body};
 use report_text::Cause;
 use std::alloc::Global;
@@ -73,7 +73,7 @@ impl Records {
         ensures peers { self.new.peers ≡ self.old.peers }
     {
         let framer = mem::replace(&mut self.framer, Framer::new(alloc));
-        framer.into_room(PIECE)
+        framer.into_held().into_room(PIECE)
     }
 
     /// Takes the buffer back, of which the bytes up to `end` are held now.
@@ -81,7 +81,7 @@ impl Records {
         requires { end ≤ length room.bytes.items }
         ensures { self.new ≡ record self.old { framer = take end room.bytes.items } }
     {
-        self.framer = Framer::from_room(room, end);
+        self.framer = Framer::from_held(HeldBytes::from_room(room, end));
     }
 }
 

@@ -15,8 +15,7 @@ use crate::dump::OpenDump;
 use crate::effect::take_effect;
 use crate::next::Next;
 use analyser::Progress;
-use av_base::{Fault, NoMemory, Shelf, Sink, Steps, pour, pour_piece};
-use listings::{ReadFault, Stop};
+use av_base::{Fault, NoMemory, ReadFault, Shelf, Sink, Steps, Stop, pour, pour_piece};
 use report_text::{Cause, Place, put_refusal};
 use std::alloc::Global;
 use std::sync::ledger::Ledger;
@@ -30,76 +29,13 @@ pub struct Asked<'a> {
     pub name: &'a str,
     /// The most units that are taken.
     pub count: u32,
-    /// The moment, in seconds since 1970-01-01 00:00 UTC, at whose first record the line stops, which stays; none where only the count
+    /// The moment, in seconds since 1970-01-01 00:00 UTC: the line stops before the first record from it on. None where only the count
     /// bounds it.
     pub until: Option<u32>,
 }
 
-/// Takes the next units of a dump, or all that come until it is over; then its file is let go at once. A refused unit is reported by a
-/// line. The text is held, and written in pieces. Each judgement is a step.
-pub(crate) fn take_units<F: Shelf, W: Sink, L: Ledger>(
-    alloc: Global,
-    dump: &mut OpenDump,
-    asked: Asked<'_>,
-    progress: &mut Progress,
-    shelf: &mut F,
-    out: &mut W,
-    text: &mut Vec<u8>,
-    steps: &mut Steps<L>,
-) -> Result<(), Stop>
-    requires given { dump.old.file < F.opened shelf.old }
-    requires few_taken { dump.old.taken < 2 ^ 62 }
-    requires few_passed { progress.old.passed < 2 ^ 62 }
-    requires few_refused { progress.old.refused < 2 ^ 62 }
-    ensures took { OnOk result (TookUnits (asking_of asked.entry) asked.entry.count
-        dump.old dump.new progress.old
-        (F.files shelf.old) (F.files shelf.new)
-        (append_known (W.written out.old) text.old.items)
-        (append_known (W.written out.new) text.new.items) progress.new) }
-
-    // Whether it ended early or not: the text of some first units was added, and no more steps were taken than these and perhaps one
-    // unit more may cost.
-    ensures some { TookSome (asking_of asked.entry) asked.entry.count
-        dump.old progress.old (F.files shelf.old)
-        (append_known (W.written out.old) text.old.items)
-        (append_known (W.written out.new) text.new.items) steps.old steps.new }
-    ensures ticks { TicksWithinUnits (asking_of asked.entry) asked.entry.count
-        dump.old progress.old (F.files shelf.old) steps.old steps.new }
-    ensures file { dump.new.file ≡ dump.old.file }
-    ensures few { OnOk result (GrewBy asked.entry.count
-        dump.old dump.new progress.old progress.new) }
-
-    // A dump that ends lets its file, its bytes and what its units told go.
-    ensures lets_go { OnOk result (LetsGo dump.old dump.new (F.files shelf.new)) }
-    ensures others { Leaves (λ other. other ≢ dump.old.file)
-        (F.files shelf.old) (F.files shelf.new) }
-    ensures names { names_of (F.files shelf.new) ≡ names_of (F.files shelf.old) }
-    ensures opened { F.opened shelf.new ≡ F.opened shelf.old }
-    ensures shelf_cause { IsErrOf result Stop.Shelf
-        → Rose (F.faults shelf.old) (F.faults shelf.new) }
-    ensures shelf_faults { F.faults shelf.old ≤ F.faults shelf.new }
-    ensures held { IsErrOf result Stop.Sink → 0 < length text.new.items }
-    ensures sink_cause { IsErrOf result Stop.Sink → Rose (W.faults out.old) (W.faults out.new) }
-    ensures sink_faults { W.faults out.old ≤ W.faults out.new }
-    ensures grows { Grows (W.written out.old) (W.written out.new) }
-
-    // Whatever the shelf tells: only whole lines are added, and none says that a feed's place wasn't to be had.
-    ensures reports { IsInLine asked.entry.name.now
-        → AddsQuiet (append_known (W.written out.old) text.old.items)
-        (append_known (W.written out.new) text.new.items) }
-{
-    for _turn in 0..asked.count {
-        if dump.is_over() {
-            return Ok(());
-        }
-        take_unit(alloc, dump, asked, progress, shelf, text, steps)?;
-        pour_before(dump, out, text)?;
-    }
-    Ok(())
-}
-
 /// Writes what is held once that is a whole piece, and all of it before a read that may wait.
-pub(crate) fn pour_before<W: Sink>(
+pub(crate) fn flush_before<W: Sink>(
     dump: &OpenDump,
     out: &mut W,
     text: &mut Vec<u8>,

@@ -13,8 +13,8 @@ use std::fs::File;
 use std::io::{self, ErrorKind};
 use std::rt::{Clock, Files};
 
-/// The files of the system as a shelf, which counts each error but a name that isn't there as a fault. As a shelf it tells no names and no bytes;
-/// what it does to those that an opened file knows is said by its own clause.
+/// The files of the system as a shelf. Each error counts as a fault, but for a name that isn't there. As a shelf it tells no names and no
+/// bytes; where it is known what remains of an opened file, the clause `known` of `read` says what becomes of these bytes.
 #[derive(Drop)]
 pub struct FileShelf<R: Files + Clock> {
     runtime: R,
@@ -111,7 +111,8 @@ impl<R: Files + Clock> Shelf for FileShelf<R> {
         ensures others { (other : ℕ) → other ≢ file
             → slice_get self.new.opened.items other ≡ slice_get self.old.opened.items other }
 
-        // Bytes that the file knows are given as they are, 0 comes only at their end, and at a fault none is lost.
+        // Where it is known what remains of the file, these bytes are given as they are, 0 comes only at their end, and at a fault none is
+        // lost. Of a file that was let go nothing remains.
         ensures known { IfSome (slice_get self.old.opened.items file) (λ old.
             IfSome (slice_get self.new.opened.items file) (λ new.
             ReadConsumes (left_in R.File.remaining old.reader) (left_in R.File.remaining new.reader) result buf.new)) }

@@ -8,7 +8,6 @@ pub mod FilterLemmas
 pub mod IdleLemmas
 pub mod LastsLemmas
 pub mod MemberLemmas
-pub mod MovesLemmas
 pub mod NamingLemmas
 pub mod PatchLemmas
 pub mod PlacesLemmas

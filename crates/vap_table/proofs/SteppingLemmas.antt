@@ -21,7 +21,7 @@ use Rattle.vap_table.specs.declared.stepping.Step.{Step}
 use Rattle.vap_table.specs.declared.stepping.Step.TheVariants.{SourceMore, SourceLess, AssertionMore, AssertionLess}
 use Rattle.vap_table.specs.Tally.{counted}
 use Rattle.vap_table.specs.Stepping.{numbers_of, one, pair_of, stepped, stepped_pair, times, listed, uncounted, ArePartedAt, AreStepped, IsBehind}
-use Rattle.vap_table.proofs.MovesLemmas.{or_left, or_right}
+use Rattle.attestations.proofs.MovesLemmas.{or_left, or_right}
 
 less_is : (a b : ℕ) → a < b → nat_cmp a b ≡ Less
 less_is a b lt = sym (nat_cmp_is a b Less lt)

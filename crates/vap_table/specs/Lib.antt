@@ -7,7 +7,6 @@ pub mod Entries
 pub mod Filter
 pub mod Lasts
 pub mod Laws
-pub mod Moves
 pub mod Naming
 pub mod Quick
 pub mod Shown

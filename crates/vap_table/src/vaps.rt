@@ -13,7 +13,7 @@ ghost use Rattle.vap_table.specs.Counting.{AreTallies};
 ghost use Rattle.vap_table.specs.Current.{kept_row, rows_among};
 ghost use Rattle.vap_table.specs.Entries.{entries_left, rows_of};
 ghost use Rattle.vap_table.specs.Lasts.{AreLasts};
-ghost use Rattle.vap_table.specs.Moves.{AreMoves};
+ghost use Rattle.attestations.specs.Moves.{AreMoves};
 ghost use Rattle.vap_table.specs.Naming.{Names, NamesLasts};
 ghost use Rattle.vap_table.specs.Tally.{IsTallyOf};
 ghost use Rattle.vap_table.specs.Vaps.{IsNumberOfRows};
@@ -27,7 +27,8 @@ use crate::parts::HeldParts;
 use crate::refreshing::refreshed;
 use crate::searching::holds;
 use crate::tallies::Tallies;
-use crate::{Entries, Moves, TableChange, Tally};
+use crate::{Entries, TableChange, Tally};
+use attestations::Moves;
 use av_base::NoMemory;
 use path_model::{AsList, Authority, Table};
 use std::alloc::Global;
@@ -46,7 +47,7 @@ pub struct Vaps {
     lasts: Lasts,
 }
 
-/// A function of its own, so that what lets a table go needn't say how.
+/// Written by hand and not derived: a check of a function that lets a table go then has one call there, and not each field.
 impl Drop for Vaps {
     fn drop(self) {
         let Vaps {

@@ -1,7 +1,9 @@
-//! Details of routes, valleys of paths and sayings, as they are written.
+//! Details of routes, valleys of paths, peers and sayings, as they are written.
 use av_base::NoMemory;
-use path_model::{Addr, Key, Peer, Prefix, Trail, Verdict, Witness};
-use report_text::{PeerLines, put_detail, put_said, put_suspect};
+use path_model::{Addr, Key, Peer, Prefix, Role, Trail, Verdict, Witness};
+use report_text::{
+    PeerLines, PeerSummary, Suspect, put_detail, put_peer_summary, put_said, put_suspect,
+};
 use std::alloc::Global;
 
 // The route of 198.51.100.0/24 by the peer 192.0.2.1 in AS 64501.
@@ -76,17 +78,29 @@ fn puts_details(rt: HostRuntime) -> Result<(), NoMemory> {
     Ok(())
 }
 
-// Valleys: behind an AS, and handed to us.
+// Valleys: after an AS, and handed to us.
 fn put_valleys(out: &mut Vec<u8>) -> Result<(), NoMemory> {
-    put_suspect(out, 64_503, 64_502, 64_502, Some(64_501), 1, 2)?;
     put_suspect(
         out,
-        0,
-        1,
-        4_294_967_295,
-        None,
-        18_446_744_073_709_551_615,
-        0,
+        Suspect {
+            from: 64_503,
+            first: 64_502,
+            last: 64_502,
+            to: Some(64_501),
+            routes: 1,
+            paths: 2,
+        },
+    )?;
+    put_suspect(
+        out,
+        Suspect {
+            from: 0,
+            first: 1,
+            last: 4_294_967_295,
+            to: None,
+            routes: 18_446_744_073_709_551_615,
+            paths: 0,
+        },
     )
 }
 
@@ -112,6 +126,42 @@ fn puts_valleys_and_sayings(rt: HostRuntime) -> Result<(), NoMemory> {
     assert_eq!(rt;
         said.as_slice(),
         b"# ! line 1 cause 33 Words\n# x\n".as_slice()
+    );
+    Ok(())
+}
+
+// The shortest line of an AS without routes, and a long one of a peer.
+#[test]
+fn puts_peers(rt: HostRuntime) -> Result<(), NoMemory> {
+    let mut out = Vec::new(rt.alloc());
+    let idle = PeerSummary {
+        addr: None,
+        asn: 0,
+        role: Role::Rs,
+        own: true,
+        routes: 0,
+        valid: 0,
+        unknown: 0,
+        invalid: 0,
+    };
+    let most = PeerSummary {
+        addr: Some(Addr::V6(0x2001_0db8_0000_0000_0000_0000_0000_0001)),
+        asn: u32::MAX,
+        role: Role::RsClient,
+        own: false,
+        routes: u64::MAX,
+        valid: 1,
+        unknown: 2,
+        invalid: u64::MAX - 3,
+    };
+    put_peer_summary(&mut out, idle)?;
+    put_peer_summary(&mut out, most)?;
+    assert_eq!(rt;
+        out.as_slice(),
+        b"- 0 rs own routes 0 valid 0 unknown 0 invalid 0
+2001:0db8:0000:0000:0000:0000:0000:0001 4294967295 rs-client default routes 18446744073709551615 valid 1 unknown 2 invalid 18446744073709551612
+"
+            .as_slice()
     );
     Ok(())
 }

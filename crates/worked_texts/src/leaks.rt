@@ -1,8 +1,7 @@
 //! Lines of what Only-to-Customer shows of routes (RFC 9234, section 5).
 use Leak::{Clean, Customer, Malformed, RsClient};
 use av_base::NoMemory;
-use otc_check::Leak;
-use path_model::{Addr, Key, Peer, Prefix};
+use path_model::{Addr, Key, Leak, Peer, Prefix};
 use report_text::put_leak;
 
 // Appends the line of a leak; there is none where the route is clean.

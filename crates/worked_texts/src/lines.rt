@@ -33,6 +33,7 @@ pub(crate) enum Reading {
     Origins,
     Leaks,
     Suspects,
+    Peers,
     Details(Option<Verdict>),
     Clear,
     Say(&'static str),
@@ -287,9 +288,12 @@ pub(crate) const VALIDATED: [Row; 13] = [
     (b"until 1 d", Reading::Refused(LineFault::Number)),
 ];
 
-pub(crate) const TABLES: [Row; 14] = [
+pub(crate) const TABLES: [Row; 17] = [
     (b"suspects", Reading::Suspects),
     (b"suspects 64501", Reading::Refused(LineFault::Words)),
+    (b"peers", Reading::Peers),
+    (b"peers 64501", Reading::Refused(LineFault::Words)),
+    (b"peer", Reading::Refused(LineFault::Command)),
     (b"suspect", Reading::Refused(LineFault::Command)),
     (b"details", Reading::Details(None)),
     (b"details valid", Reading::Details(Some(Verdict::Valid))),

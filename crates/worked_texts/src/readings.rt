@@ -60,6 +60,7 @@ fn is_read_so(read: &Result<Command, LineFault>, reading: Reading) -> bool {
         (Ok(Command::Origins), Reading::Origins) => true,
         (Ok(Command::Leaks), Reading::Leaks) => true,
         (Ok(Command::Suspects), Reading::Suspects) => true,
+        (Ok(Command::Peers), Reading::Peers) => true,
         (Ok(Command::Details(verdict)), Reading::Details(wanted)) => *verdict == wanted,
         (Ok(Command::Clear), Reading::Clear) => true,
         (Ok(Command::Say(saying)), Reading::Say(text)) => saying.text() == text,

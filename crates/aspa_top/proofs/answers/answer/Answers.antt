@@ -1,9 +1,9 @@
 use Rattle.std.proofs.Common.{refl, ap, arith}
 use Rattle.std.specs.Io.KnownBytes.{append_known}
 use Rattle.report_text.specs.declared.cause.Cause.TheVariants as causes
-use Rattle.listings.specs.declared.stop.Stop.TheVariants as stops
-use Rattle.aspa_top.specs.declared.task.Question.TheVariants.{Report, Origins, Leaks, Suspects, Summary, Details, Why}
-use Rattle.aspa_top.proofs.AnswerLemmas.{all_listed, answered, details_answer, leaks_answer, not_answered, origins_answer, report_answers, some_listed, summary_answers, suspects_answer, why_answers, why_refused}
+use Rattle.av_base.specs.declared.stop.Stop.TheVariants as stops
+use Rattle.aspa_top.specs.declared.task.Question.TheVariants.{Report, Origins, Leaks, Suspects, Peers, Summary, Details, Why}
+use Rattle.aspa_top.proofs.AnswerLemmas.{all_listed, answered, details_answer, leaks_answer, not_answered, origins_answer, peers_answer, report_answers, some_listed, summary_answers, suspects_answer, why_answers, why_refused}
 use Rattle.aspa_top.proofs.DidLemmas.{did_err, nothing}
 use Rattle.aspa_top.proofs.KeepLemmas.{keeps_all, keeps_sink}
 use Rattle.aspa_top.proofs.StandsLemmas.{added_text}
@@ -67,6 +67,21 @@ returns-in_err-put_suspects-in-Suspects g c =
     record {
       keeps = record { lent = refl; keeps = keeps_sink _ _ _ _ _ c.put_suspects.ensures.listed.grows c.put_suspects.ensures.listed.sink_faults };
       did = rw c.in-Suspects.is (some_listed c.args.working Suspects _ _ c.requires.begun (suspects_answer c.args.working _ c.store-store.ensures) _ c.in_err-put_suspects-in-Suspects.ensures c.from_residual-in_err-put_suspects-in-Suspects.result c.from_residual-in_err-put_suspects-in-Suspects.ensures.1);
+    }
+
+-- `peers`
+pub returns-in_ok-put_peers-in-Peers : goal.returns-in_ok-put_peers-in-Peers
+returns-in_ok-put_peers-in-Peers g c =
+    record {
+      keeps = record { lent = refl; keeps = keeps_sink _ _ _ _ _ c.put_peers.ensures.listed.grows c.put_peers.ensures.listed.sink_faults };
+      did = rw c.in-Peers.is (all_listed c.args.working Peers _ _ c.requires.begun (peers_answer c.args.working _ c.store-store.ensures) _ c.in_ok-put_peers-in-Peers.ensures _ refl);
+    }
+
+pub returns-in_err-put_peers-in-Peers : goal.returns-in_err-put_peers-in-Peers
+returns-in_err-put_peers-in-Peers g c =
+    record {
+      keeps = record { lent = refl; keeps = keeps_sink _ _ _ _ _ c.put_peers.ensures.listed.grows c.put_peers.ensures.listed.sink_faults };
+      did = rw c.in-Peers.is (some_listed c.args.working Peers _ _ c.requires.begun (peers_answer c.args.working _ c.store-store.ensures) _ c.in_err-put_peers-in-Peers.ensures c.from_residual-in_err-put_peers-in-Peers.result c.from_residual-in_err-put_peers-in-Peers.ensures.1);
     }
 
 -- `details`

@@ -1,6 +1,6 @@
 use Rattle.std.proofs.Common.{refl, sym, ap, ◌∙◌, arith}
 use Rattle.std.specs.Io.KnownBytes.{append_known}
-use Rattle.listings.specs.declared.stop.Stop.TheVariants as stops
+use Rattle.av_base.specs.declared.stop.Stop.TheVariants as stops
 use Rattle.aspa_top.proofs.DidLemmas.{did_err, nothing}
 use Rattle.aspa_top.proofs.TakeLemmas.{take_over}
 use Rattle.aspa_top.proofs.FeedLemmas.{takes_feed}

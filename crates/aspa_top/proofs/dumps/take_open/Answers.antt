@@ -2,7 +2,7 @@ use Rattle.std.proofs.Common.{Err, List, ℕ, refl, sym, ap, subst, ◌∙◌, a
 use Rattle.std.specs.Option.{IsSome}
 use Rattle.av_text.specs.Spellings.{IsInLine}
 use Rattle.av_text.proofs.AnySpellingLemmas.{names_in_line}
-use Rattle.feed_lines.proofs.NamedLemmas.{at_name}
+use Rattle.rtr_client.proofs.NamedLemmas.{at_name}
 use Rattle.aspa_top.proofs.DidLemmas.{did_err}
 use Rattle.aspa_top.proofs.KeepLemmas.{keeps_both}
 use Rattle.aspa_top.proofs.OpenLemmas.{open_done, open_stopped}

@@ -1,6 +1,6 @@
 use Rattle.std.proofs.Common.{refl, ap, arith}
 use Rattle.analyser.specs.declared.progress.Progress.{Progress}
-use Rattle.listings.specs.declared.stop.Stop.TheVariants as stops
+use Rattle.av_base.specs.declared.stop.Stop.TheVariants as stops
 use Rattle.aspa_top.proofs.DidLemmas.{did_err}
 use Rattle.aspa_top.proofs.FeedLemmas.{work_stopped, worked}
 use Rattle.aspa_top.proofs.KeepLemmas.{keeps_links}

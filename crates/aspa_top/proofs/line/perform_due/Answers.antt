@@ -1,5 +1,5 @@
 use Rattle.std.proofs.Common.{refl}
-use Rattle.listings.specs.declared.stop.Stop.TheVariants as stops
+use Rattle.av_base.specs.declared.stop.Stop.TheVariants as stops
 use Rattle.aspa_top.proofs.DidLemmas.{did_err, did_poured, pour_stopped}
 use Rattle.aspa_top.proofs.KeepLemmas.{keeps_sink}
 use Rattle.aspa_top.proofs.PassedLemmas.{KeepsAll-trans}

@@ -3,7 +3,7 @@ use Rattle.std.specs.Io.KnownBytes.{append_known}
 use Rattle.script_lines.specs.declared.commands.Command.TheVariants.{Idle}
 use Rattle.script_lines.specs.declared.fault.LineFault.TheVariants.{NoMemory}
 use Rattle.script_lines.proofs.LawLemmas.{some_reading}
-use Rattle.listings.specs.declared.stop.Stop.TheVariants as stops
+use Rattle.av_base.specs.declared.stop.Stop.TheVariants as stops
 use Rattle.aspa_top.specs.Bounds.{IsWithinTask}
 use Rattle.aspa_top.specs.Evaluation.{asked_of}
 use Rattle.aspa_top.specs.Working.{counted_in}

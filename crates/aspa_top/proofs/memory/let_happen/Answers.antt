@@ -1,5 +1,5 @@
 use Rattle.std.proofs.Common.{refl}
-use Rattle.listings.specs.declared.stop.Stop.TheVariants as stops
+use Rattle.av_base.specs.declared.stop.Stop.TheVariants as stops
 use Rattle.aspa_top.proofs.DidLemmas.{did_err}
 use Rattle.aspa_top.proofs.KeepLemmas.{keeps_all}
 use Rattle.aspa_top.proofs.MemoryLemmas.{event_stopped, happened}

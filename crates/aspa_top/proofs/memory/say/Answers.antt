@@ -1,7 +1,7 @@
 use Rattle.std.proofs.Common.{ℕ, List, ◌++◌, ap, refl, ◌∙◌, arith}
 use Rattle.std.specs.Io.KnownBytes.{append_known}
 use Rattle.report_text.specs.Sayings.{said_text}
-use Rattle.listings.specs.declared.stop.Stop.TheVariants as stops
+use Rattle.av_base.specs.declared.stop.Stop.TheVariants as stops
 use Rattle.aspa_top.proofs.DidLemmas.{did_err, nothing}
 use Rattle.aspa_top.proofs.KeepLemmas.{keeps_all}
 use Rattle.aspa_top.proofs.MemoryLemmas.{said}

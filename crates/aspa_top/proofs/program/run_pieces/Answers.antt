@@ -1,5 +1,5 @@
 use Rattle.std.proofs.Common.{◌≡◌, ℕ, ◌+◌, ◌≤◌, length, take, Err, refl, sym, ap, subst, ◌∙◌, arith}
-use Rattle.feed_lines.proofs.StandingLemmas.{start_sound}
+use Rattle.rtr_client.proofs.StandingLemmas.{start_sound}
 use Rattle.aspa_top.specs.declared.program.TheConstants.{SCRIPT_LIMIT}
 use Rattle.aspa_top.specs.Standing.{IsSound}
 use Rattle.aspa_top.proofs.KeepLemmas.{Keeps-trans, keeps_all}

@@ -3,12 +3,12 @@ use Rattle.std.specs.Io.KnownBytes.{append_known}
 use Rattle.attestations.specs.CurrentTable.{Parts}
 use Rattle.rib_store.specs.State.{State as Analysis}
 use Rattle.rtr_cache.specs.Cache.{FitsPdus}
-use Rattle.listings.specs.declared.stop.Stop.TheVariants as stops
+use Rattle.av_base.specs.declared.stop.Stop.TheVariants as stops
 use Rattle.aspa_top.specs.Serving.{TakesTable}
 use Rattle.aspa_top.specs.Working.{cache_in}
 use Rattle.aspa_top.proofs.DidLemmas.{did_err, nothing}
 use Rattle.aspa_top.proofs.KeepLemmas.{keeps_all, keeps_talk}
-use Rattle.aspa_top.proofs.RoutersLemmas.{put_back, room_of, serve_done, serve_halted, serve_refused, serve_unsummed}
+use Rattle.aspa_top.proofs.RoutersLemmas.{put_back, room_of, serve_done, serve_refused, serve_stopped, serve_unsummed}
 use Rattle.aspa_top.proofs.routers.serve_routers.Goals as goal
 
 -- some row fits no PDU
@@ -45,25 +45,16 @@ returns-in_err-cache g c = record {
 }
 
 -- it ended early at a router
-pub returns-in-Err-Sink : goal.returns-in-Err-Sink
-returns-in-Err-Sink g c =
+pub returns-in_err-served : goal.returns-in_err-served
+returns-in_err-served g c =
     let fits : FitsPdus c.args.working.progress.analyser.parts = subst FitsPdus (c.table.ensures ∙ ap (λ (s : Analysis). s.parts) c.store.ensures) (c.if-not-fits_pdus.ensures.0 refl) in
     let takes = subst (λ (parts : Parts). TakesTable (cache_in c.args.working c.args.session) c.args.session parts c.in_ok-cache.cache)
     (c.table-table.ensures ∙ ap (λ (s : Analysis). s.parts) c.store-2.ensures) c.in_ok-cache.ensures.takes in
     record {
       keeps = record { lent = refl; keeps = keeps_talk _ _ _ _ _ _ _ _ (record { attempts = c.serve.ensures.attempts; wire = c.serve.ensures.others.later }) c.serve.ensures.broke c.serve.ensures.grows c.serve.ensures.sink_faults };
-      did = serve_halted c.args.working c.args.place.now c.args.session c.args.count c.in_ok-cache.cache _ _ _ _ _ _ c.requires.begun fits takes c.serve.ensures.others c.serve.ensures.broke stops.Sink _ _ (g.met.K.Links.agrees c.serve.new.links) (rw c.text.ensures.text at c.in-Err-Sink.ensures.halts) refl
-          (c.in-Err-Sink.ensures.held (ap Err c.in-Err-Sink.field-0-is), c.in-Err-Sink.ensures.sink_cause (ap Err c.in-Err-Sink.field-0-is));
-    }
-
-pub returns-in-Err-NoMemory : goal.returns-in-Err-NoMemory
-returns-in-Err-NoMemory g c =
-    let fits : FitsPdus c.args.working.progress.analyser.parts = subst FitsPdus (c.table.ensures ∙ ap (λ (s : Analysis). s.parts) c.store.ensures) (c.if-not-fits_pdus.ensures.0 refl) in
-    let takes = subst (λ (parts : Parts). TakesTable (cache_in c.args.working c.args.session) c.args.session parts c.in_ok-cache.cache)
-    (c.table-table.ensures ∙ ap (λ (s : Analysis). s.parts) c.store-2.ensures) c.in_ok-cache.ensures.takes in
-    record {
-      keeps = record { lent = refl; keeps = keeps_talk _ _ _ _ _ _ _ _ (record { attempts = c.serve.ensures.attempts; wire = c.serve.ensures.others.later }) c.serve.ensures.broke c.serve.ensures.grows c.serve.ensures.sink_faults };
-      did = serve_halted c.args.working c.args.place.now c.args.session c.args.count c.in_ok-cache.cache _ _ _ _ _ _ c.requires.begun fits takes c.serve.ensures.others c.serve.ensures.broke stops.NoMemory _ _ (g.met.K.Links.agrees c.serve.new.links) (rw c.text.ensures.text at c.in-Err-NoMemory.ensures.halts) refl tt;
+      did = did_err c.args.working _ _ _ c.from_residual-in_err-served.result c.in_err-served.field-0.0 c.from_residual-in_err-served.ensures.1
+          (serve_stopped c.args.working c.args.place.now c.args.session c.args.count c.in_ok-cache.cache _ _ _ _ _ _ c.requires.begun fits takes c.serve.ensures.others c.serve.ensures.broke c.in_err-served.field-0.0 _ _ (g.met.K.Links.agrees c.serve.new.links) (rw c.text.ensures.text at c.in_err-served.ensures.halts) refl
+          (λ same. c.in_err-served.ensures.no_shelf (ap Err same)) (λ same. c.in_err-served.ensures.held (ap Err same)) (λ same. c.in_err-served.ensures.sink_cause (ap Err same)));
     }
 
 -- all were served
@@ -75,7 +66,7 @@ returns-in_err-keep g c =
     record {
       keeps = record { lent = refl; keeps = keeps_talk _ _ _ _ _ _ _ _ (record { attempts = c.serve.ensures.attempts; wire = c.serve.ensures.others.later }) c.serve.ensures.broke c.serve.ensures.grows c.serve.ensures.sink_faults };
       did = did_err c.args.working _ _ _ c.from_residual-in_err-keep.result stops.NoMemory c.from_residual-in_err-keep.ensures.1
-          (serve_unsummed c.args.working c.args.place.now c.args.session c.args.count c.in_ok-cache.cache _ _ _ _ _ _ c.requires.begun fits takes c.serve.ensures.others c.serve.ensures.broke c.in-Ok.served _ _ _ (g.met.K.Links.agrees c.serve.new.links) (rw c.text.ensures.text at c.in-Ok.ensures.serves) refl c.in-Ok.ensures.unreachable refl);
+          (serve_unsummed c.args.working c.args.place.now c.args.session c.args.count c.in_ok-cache.cache _ _ _ _ _ _ c.requires.begun fits takes c.serve.ensures.others c.serve.ensures.broke c.in_ok-served.served _ _ _ (g.met.K.Links.agrees c.serve.new.links) (rw c.text.ensures.text at c.in_ok-served.ensures.serves) refl c.in_ok-served.ensures.unreachable refl);
     }
 
 pub returns-in_err-put_served : goal.returns-in_err-put_served
@@ -86,7 +77,7 @@ returns-in_err-put_served g c =
     record {
       keeps = record { lent = refl; keeps = keeps_talk _ _ _ _ _ _ _ _ (record { attempts = c.serve.ensures.attempts; wire = c.serve.ensures.others.later }) c.serve.ensures.broke c.serve.ensures.grows c.serve.ensures.sink_faults };
       did = did_err c.args.working _ _ _ c.from_residual-in_err-put_served.result stops.NoMemory c.from_residual-in_err-put_served.ensures.1
-          (serve_unsummed c.args.working c.args.place.now c.args.session c.args.count c.in_ok-cache.cache _ _ _ _ _ _ c.requires.begun fits takes c.serve.ensures.others c.serve.ensures.broke c.in-Ok.served _ _ _ (g.met.K.Links.agrees c.serve.new.links) (rw c.text.ensures.text at c.in-Ok.ensures.serves) c.in_err-put_served.ensures.err c.in-Ok.ensures.unreachable refl);
+          (serve_unsummed c.args.working c.args.place.now c.args.session c.args.count c.in_ok-cache.cache _ _ _ _ _ _ c.requires.begun fits takes c.serve.ensures.others c.serve.ensures.broke c.in_ok-served.served _ _ _ (g.met.K.Links.agrees c.serve.new.links) (rw c.text.ensures.text at c.in_ok-served.ensures.serves) c.in_err-put_served.ensures.err c.in_ok-served.ensures.unreachable refl);
     }
 
 pub returns : goal.returns
@@ -96,6 +87,6 @@ returns g c =
     (c.table-table.ensures ∙ ap (λ (s : Analysis). s.parts) c.store-2.ensures) c.in_ok-cache.ensures.takes in
     record {
       keeps = record { lent = refl; keeps = keeps_talk _ _ _ _ _ _ _ _ (record { attempts = c.serve.ensures.attempts; wire = c.serve.ensures.others.later }) c.serve.ensures.broke c.serve.ensures.grows c.serve.ensures.sink_faults };
-      did = serve_done c.args.working c.args.place.now c.args.session c.args.count c.in_ok-cache.cache _ _ _ _ _ _ c.requires.begun fits takes c.serve.ensures.others c.serve.ensures.broke _ c.in-Ok.served _ _ _ (rw c.text.ensures.text at c.in-Ok.ensures.serves) c.in-Ok.ensures.few c.requires.few c.in-Ok.ensures.unreachable c.in_ok-put_served.ensures.ok refl
+      did = serve_done c.args.working c.args.place.now c.args.session c.args.count c.in_ok-cache.cache _ _ _ _ _ _ c.requires.begun fits takes c.serve.ensures.others c.serve.ensures.broke _ c.in_ok-served.served _ _ _ (rw c.text.ensures.text at c.in_ok-served.ensures.serves) c.in_ok-served.ensures.few c.requires.few c.in_ok-served.ensures.unreachable c.in_ok-put_served.ensures.ok refl
           (λ q. put_back c.args.session q c.in_ok-cache.cache _ _ _ (c.in_ok-cache.ensures.gone q) (c.in_ok-keep.ensures q)) refl;
     }

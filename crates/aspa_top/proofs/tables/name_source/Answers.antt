@@ -1,5 +1,5 @@
 use Rattle.std.proofs.Common.{refl, ◌∙◌}
-use Rattle.feed_lines.proofs.NamedLemmas.{at_name}
+use Rattle.rtr_client.proofs.NamedLemmas.{at_name}
 use Rattle.aspa_top.proofs.tables.name_source.Goals as goal
 
 pub returns : goal.returns

@@ -1,6 +1,6 @@
 use Rattle.std.proofs.Common.{◌≡◌, ℕ, List, ◌∷◌, ap, sym, subst, ◌∙◌}
 use Rattle.bmp_reader.specs.Coming.{IsPartial}
-use Rattle.bmp_reader.proofs.FieldLemmas.{byte_finds, byte_none}
+use Rattle.bgp_attrs.proofs.FixedLemmas.{byte_finds, byte_none}
 use Rattle.bmp_reader.proofs.MessageLemmas.{headed_by, partial_empty, partial_short}
 use Rattle.bmp_reader.proofs.heading.whole_head.Goals as goal
 

@@ -8,8 +8,8 @@ pub returns : goal.returns
 returns c =
     let sent = c.seen_in-sent.result in
     let received = c.seen_in-received.result in
-    let both : c.if-sent.result ≡ (sent.paths && received.paths) = elim c.if-sent.branch [
-      | then-sent w ↦ w.result-is ∙ sym (ap (λ (b : Bool). b && received.paths) w.if-sent.true)
-      | else-sent w ↦ w.result-is ∙ w.if-sent.false ∙ sym (ap (λ (b : Bool). b && received.paths) w.if-sent.false)
+    let both : c.if-sent.result ≡ (sent.add_path && received.add_path) = elim c.if-sent.branch [
+      | then-sent w ↦ w.result-is ∙ sym (ap (λ (b : Bool). b && received.add_path) w.if-sent.true)
+      | else-sent w ↦ w.result-is ∙ w.if-sent.false ∙ sym (ap (λ (b : Bool). b && received.add_path) w.if-sent.false)
     ] in
     opens_say (up_of c.args.parts) c.role.result sent received c.if-sent.result c.seen_in-sent.ensures c.seen_in-received.ensures c.role.ensures both

@@ -33,13 +33,13 @@ returns-in-Dump c =
 pub returns-in-Message : goal.returns-in-Message
 returns-in-Message c =
     let body = c.args.unit.now.body.now in
-    let is : layout_of c.args.unit.now.kind c.args.unit.now.subkind ≡ Message c.in-Message.timed c.in-Message.as4 c.in-Message.paths = sym c.layout_of.ensures ∙ c.in-Message.is in
+    let is : layout_of c.args.unit.now.kind c.args.unit.now.subkind ≡ Message c.in-Message.timed c.in-Message.wide c.in-Message.add_path = sym c.layout_of.ensures ∙ c.in-Message.is in
     subst (λ (layout : Layout). OrNoMemory (λ r. LayoutSays layout (option_copied c.args.peers) body r) c.read_message.result) (sym is)
-    (or_by_form (λ (it : Peer × List ℕ). IsRecordedMessage c.in-Message.timed c.in-Message.as4 body it.0 it.1) (MessageSays c.in-Message.as4 c.in-Message.paths) (message_at c.in-Message.timed c.in-Message.as4 body) c.read_message.result (message_reads c.in-Message.timed c.in-Message.as4 body) c.read_message.ensures)
+    (or_by_form (λ (it : Peer × List ℕ). IsRecordedMessage c.in-Message.timed c.in-Message.wide body it.0 it.1) (MessageSays c.in-Message.wide c.in-Message.add_path) (message_at c.in-Message.timed c.in-Message.wide body) c.read_message.result (message_reads c.in-Message.timed c.in-Message.wide body) c.read_message.ensures)
 
 pub returns-in-State : goal.returns-in-State
 returns-in-State c =
     let body = c.args.unit.now.body.now in
-    let is : layout_of c.args.unit.now.kind c.args.unit.now.subkind ≡ State c.in-State.timed c.in-State.as4 = sym c.layout_of.ensures ∙ c.in-State.is in
+    let is : layout_of c.args.unit.now.kind c.args.unit.now.subkind ≡ State c.in-State.timed c.in-State.wide = sym c.layout_of.ensures ∙ c.in-State.is in
     subst (λ (layout : Layout). OrNoMemory (λ r. LayoutSays layout (option_copied c.args.peers) body r) c.read_state.result) (sym is)
-    (or_by_form (λ (it : Peer × ℕ). IsStateChange c.in-State.timed c.in-State.as4 body it.0 it.1) StateSays (state_at c.in-State.timed c.in-State.as4 body) c.read_state.result (state_reads c.in-State.timed c.in-State.as4 body) c.read_state.ensures)
+    (or_by_form (λ (it : Peer × ℕ). IsStateChange c.in-State.timed c.in-State.wide body it.0 it.1) StateSays (state_at c.in-State.timed c.in-State.wide body) c.read_state.result (state_reads c.in-State.timed c.in-State.wide body) c.read_state.ensures)

@@ -6,7 +6,7 @@ use Rattle.mrt_reader.proofs.shaping.entries.Given as goal
 
 abbrev pub invariant-loop-rest : goal.invariant-loop-rest
 invariant-loop-rest l = record {
-  same : number_with l.number (items_of (entry_at l.paths) l.rest) ≡ number_with 0 (items_of (entry_at l.paths) l.bytes);
+  same : number_with l.number (items_of (entry_at l.add_path) l.rest) ≡ number_with 0 (items_of (entry_at l.add_path) l.bytes);
   small : l.number + length l.rest ≤ length l.bytes;
 }
 

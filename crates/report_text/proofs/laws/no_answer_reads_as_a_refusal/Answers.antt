@@ -1,4 +1,4 @@
-use Rattle.report_text.proofs.AnswerLemmas.{row_is_one_line, origin_is_one_line, leak_is_one_line, change_is_one_line, changed_is_one_line, summary_is_one_line, served_is_one_line, reason_is_one_line, detail_is_one_line, suspect_is_one_line, saying_is_one_line}
+use Rattle.report_text.proofs.AnswerLemmas.{row_is_one_line, origin_is_one_line, leak_is_one_line, change_is_one_line, changed_is_one_line, summary_is_one_line, peer_summary_is_one_line, served_is_one_line, reason_is_one_line, detail_is_one_line, suspect_is_one_line, saying_is_one_line}
 use Rattle.report_text.proofs.laws.no_answer_reads_as_a_refusal.Goals as goal
 
 pub returns-clause-rows : goal.returns-clause-rows
@@ -18,6 +18,9 @@ returns-clause-counts c = changed_is_one_line
 
 pub returns-clause-summaries : goal.returns-clause-summaries
 returns-clause-summaries c = summary_is_one_line
+
+pub returns-clause-peers : goal.returns-clause-peers
+returns-clause-peers c = peer_summary_is_one_line
 
 pub returns-clause-servings : goal.returns-clause-servings
 returns-clause-servings c = served_is_one_line

@@ -7,7 +7,7 @@ use Rattle.path_model.specs.declared.rows.RowEntries.{RowEntries}
 use Rattle.path_model.specs.Entries.{rows_left}
 use Rattle.path_model.proofs.MapLemmas.{get_rows}
 use Rattle.rtr_cache.specs.Kept.{held_noted}
-use Rattle.vap_table.specs.Moves.{same_rows}
+use Rattle.attestations.specs.Moves.{same_rows}
 use Rattle.rtr_cache.proofs.FollowingLemmas.{row_looked}
 use Rattle.rtr_cache.proofs.VisitLemmas.{Visiting, visiting_end, visiting_item, visiting_next, visiting_start}
 use Rattle.rtr_cache.proofs.following.note_held.Goals as goal

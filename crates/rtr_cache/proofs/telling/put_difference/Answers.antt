@@ -1,7 +1,7 @@
 use Rattle.std.proofs.Common.{ℕ, List, [], ◌∷◌, Option, cond, sym, ap, subst, ◌∙◌}
 use Rattle.std.specs.Option.{option_copied}
 use Rattle.rtr_cache.specs.Kept.{Appended}
-use Rattle.vap_table.specs.Moves.{same_rows}
+use Rattle.attestations.specs.Moves.{same_rows}
 use Rattle.rtr_cache.specs.Served.{told}
 use Rattle.std.specs.FinMap as map
 use Rattle.path_model.specs.Rows.{PatchMap}

@@ -3,7 +3,7 @@ use Rattle.std.proofs.lemmas.Iterator.Adapters.{option_map_id}
 use Rattle.path_model.specs.declared.verdict.Verdict.{Verdict}
 use Rattle.av_text.specs.Words.{words_left}
 use Rattle.script_lines.specs.declared.commands.Command.TheVariants.{Details, Why}
-use Rattle.script_lines.specs.declared.commands.CommandName.TheVariants.{Aspa as AspaName, Aspa64 as Aspa64Name, Validated as ValidatedName, Slurm as SlurmName, Filter as FilterName, Unfilter as UnfilterName, Assert as AssertName, Unassert as UnassertName, At as AtName, Role as RoleName, Open as OpenName, Bmp as BmpName, Take as TakeName, Until as UntilName, Feed as FeedName, Ask as AskName, Sync as SyncName, Serve as ServeName, Judge as JudgeName, Clear as ClearName, Changes as ChangesName, Why as WhyName, Details as DetailsName, Say as SayName, Report as ReportName, Origins as OriginsName, Leaks as LeaksName, Suspects as SuspectsName, Summary as SummaryName}
+use Rattle.script_lines.specs.declared.commands.CommandName.TheVariants.{Aspa as AspaName, Aspa64 as Aspa64Name, Validated as ValidatedName, Slurm as SlurmName, Filter as FilterName, Unfilter as UnfilterName, Assert as AssertName, Unassert as UnassertName, At as AtName, Role as RoleName, Open as OpenName, Bmp as BmpName, Take as TakeName, Until as UntilName, Feed as FeedName, Ask as AskName, Sync as SyncName, Serve as ServeName, Judge as JudgeName, Clear as ClearName, Changes as ChangesName, Why as WhyName, Details as DetailsName, Say as SayName, Report as ReportName, Origins as OriginsName, Leaks as LeaksName, Suspects as SuspectsName, Peers as PeersName, Summary as SummaryName}
 use Rattle.script_lines.specs.Commands.{made_by, SpellsCommand}
 use Rattle.script_lines.proofs.commands.read_fields.Goals as goal
 
@@ -96,6 +96,9 @@ returns-in_ok-read-in-Leaks-clause-spelled c = rw c.in-Leaks.is (c.in_ok-read-in
 
 pub returns-in_ok-read-in-Suspects-clause-spelled : goal.returns-in_ok-read-in-Suspects-clause-spelled
 returns-in_ok-read-in-Suspects-clause-spelled c = rw c.in-Suspects.is (c.in_ok-read-in-Suspects.ensures.spelled (made_by SuspectsName))
+
+pub returns-in_ok-read-in-Peers-clause-spelled : goal.returns-in_ok-read-in-Peers-clause-spelled
+returns-in_ok-read-in-Peers-clause-spelled c = rw c.in-Peers.is (c.in_ok-read-in-Peers.ensures.spelled (made_by PeersName))
 
 pub returns-in_ok-read-in-Summary-clause-spelled : goal.returns-in_ok-read-in-Summary-clause-spelled
 returns-in_ok-read-in-Summary-clause-spelled c = rw c.in-Summary.is (c.in_ok-read-in-Summary.ensures.spelled (made_by SummaryName))

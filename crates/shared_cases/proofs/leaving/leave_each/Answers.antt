@@ -10,15 +10,11 @@ use Rattle.shared_cases.proofs.leaving.leave_each.Goals as goal
 
 pub loop-number-init : goal.loop-number-init
 loop-number-init c = record {
-  kept = λ differed fit.
-      fit_same c.args.slab.now.slots c.args.names.now (hops_have c.args.index.now) (staying c.args.index.now c.new-gone.result) c.args.peers.now differed c.args.totals.now c.args.verdicts.now
-      (staying_all c.args.index.now c.new-gone.result c.new-gone.ensures.none) fit;
+  fit = fit_same (hops_have c.args.kept.now.index) (staying c.args.kept.now.index c.new-gone.result) c.args.slab.now.slots c.args.kept.now
+      (staying_all c.args.kept.now.index c.new-gone.result c.new-gone.ensures.none) c.requires;
   left = λ n. refl;
   gathered = inr c.new-gone.ensures.none;
 }
-
-pub leave_many-requires-clause-fit : goal.leave_many-requires-clause-fit
-leave_many-requires-clause-fit c = (c.requires.0, c.loop-number.invariant.kept c.requires.0 c.requires.1)
 
 pub leave_many-requires-clause-some : goal.leave_many-requires-clause-some
 leave_many-requires-clause-some c = omega (arith, c.in-Some.ensures.cases.1, c.ahead_of-rest.ensures.fewer)
@@ -32,10 +28,8 @@ loop-number-preserved c =
     let takes : TakesOut left x (length left - length rest) rest = takes_both left front rest x 1 (length front - length rest) (length left - length rest)
     (takes_last left front x c.in-Some.ensures.cases.0) c.ahead_of-rest.ensures.ahead (omega (arith, c.in-Some.ensures.cases.1, c.ahead_of-rest.ensures.fewer)) in
     record {
-      kept = λ differed fit.
-          fit_same c.leave_many.new.slab.slots c.leave_many.new.names (staying c.leave_many.new.index c.leave_many.new.gone) (staying c.settled-gone.new.index c.settled-gone.result) c.leave_many.new.peers differed
-          c.leave_many.new.totals c.leave_many.new.verdicts c.settled-gone.ensures.same
-          (c.in_ok-leave_many.ensures.kept differed (c.loop-number.invariant.kept differed fit));
+      fit = fit_same (staying c.leave_many.new.kept.index c.leave_many.new.gone) (staying c.settled-gone.new.index c.settled-gone.result) c.leave_many.new.slab.slots c.leave_many.new.kept
+          c.settled-gone.ensures.same c.in_ok-leave_many.ensures.fit;
       left = λ n. left_step c.loop-number.slab.slots c.leave_many.new.slab.slots x (length left - length rest) left rest takes c.in_ok-leave_many.ensures.left n ∙ c.loop-number.invariant.left n;
       gathered = c.settled-gone.ensures.gathered;
     }
@@ -43,10 +37,10 @@ loop-number-preserved c =
 pub loop-number-smaller : goal.loop-number-smaller
 loop-number-smaller c = omega (arith, c.in-Some.ensures.cases.1, c.ahead_of-rest.ensures.fewer)
 
-pub returns-clause-kept : goal.returns-clause-kept
-returns-clause-kept c = λ differed fit.
-    fit_same c.loop-number.slab.slots c.loop-number.names (staying c.loop-number.index c.loop-number.gone) (hops_have c.remove_each.new.self) c.loop-number.peers differed
-    c.loop-number.totals c.loop-number.verdicts c.remove_each.ensures (c.loop-number.invariant.kept differed fit)
+pub returns-clause-fit : goal.returns-clause-fit
+returns-clause-fit c =
+    fit_same (staying c.loop-number.kept.index c.loop-number.gone) (hops_have c.remove_each.new.self) c.loop-number.slab.slots c.loop-number.kept
+    c.remove_each.ensures c.loop-number.invariant.fit
 
 pub returns-clause-left : goal.returns-clause-left
 returns-clause-left c = λ n.

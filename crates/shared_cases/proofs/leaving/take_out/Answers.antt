@@ -4,7 +4,7 @@ use Rattle.path_model.specs.declared.verdict.Verdict.{Verdict}
 use Rattle.shared_cases.specs.declared.case.StoredCase.{StoredCase}
 use Rattle.shared_cases.specs.declared.case_name.CaseName.{CaseName}
 use Rattle.shared_cases.specs.Cases.{Rewrites, at, is_of_peer}
-use Rattle.shared_cases.specs.Kept.{without_chain, AreIndexed, FitTogether, Hops}
+use Rattle.shared_cases.specs.Kept.{without_chain, AreIndexed, FitBy, Hops}
 use Rattle.shared_cases.specs.Naming.{RemovesName}
 use Rattle.shared_cases.specs.Totals.{users_of}
 use Rattle.shared_cases.proofs.CaseLemmas.{case_gone}
@@ -14,8 +14,8 @@ use Rattle.shared_cases.proofs.TotalsLemmas.{totals_gone}
 use Rattle.shared_cases.proofs.VerdictLemmas.{rewritten_verdicts}
 use Rattle.shared_cases.proofs.leaving.take_out.Goals as goal
 
-pub returns-clause-kept : goal.returns-clause-kept
-returns-clause-kept c = λ hops differed fit.
+pub returns-clause-fit : goal.returns-clause-fit
+returns-clause-fit c = λ hops fit.
     let old = c.args.slab.now.slots in
     let new = c.try_remove.new.self.slots in
     let case : StoredCase = c.in-Some.case in
@@ -23,14 +23,15 @@ returns-clause-kept c = λ hops differed fit.
     let here : at old c.args.number ≡ Some case = sym c.try_remove.ensures.value ∙ c.in-Some.is in
     let writes : Rewrites old new c.args.number None = record { here = c.in-Some.ensures.updates.changed; others = c.in-Some.ensures.updates.others } in
     let indexed : AreIndexed new c.remove-2.new.self rest c.remove.new.self.members =
-    case_gone old new c.args.names.now c.remove-2.new.self hops rest c.args.peers.now.members c.remove.new.self.members c.args.number case fit.0.indexed here writes
-    (subst (λ (name : CaseName). RemovesName c.args.names.now name.asn name.trail c.args.number c.remove-2.new.self) c.new-name.ensures c.remove-2.ensures)
+    case_gone old new c.args.kept.now.names c.remove-2.new.self hops rest c.args.kept.now.peers.members c.remove.new.self.members c.args.number case fit.0.indexed here writes
+    (subst (λ (name : CaseName). RemovesName c.args.kept.now.names name.asn name.trail c.args.number c.remove-2.new.self) c.new-name.ensures c.remove-2.ensures)
     (λ x y n. refl) c.remove.ensures.members in
-    subst (λ (name : CaseName). FitTogether new c.remove-2.new.self (without_chain hops c.args.number name.trail.chain) c.remove.new.self differed c.minus.result c.clear.new.self) (sym c.new-name.ensures) (
-      rewritten_kept old new c.args.number None c.args.names.now c.remove-2.new.self hops rest c.args.peers.now c.remove.new.self differed fit.0 writes refl tt
-          indexed tt (λ m other was. left_among c.args.peers.now.defaulted c.remove.new.self.defaulted c.remove.new.self.members m c.remove.ensures.defaulted
+    subst (λ (name : CaseName). FitBy (without_chain hops c.args.number name.trail.chain) new
+    (record c.args.kept.now { names = c.remove-2.new.self; peers = c.remove.new.self; totals = c.minus-kept.result; verdicts = c.clear.new.self })) (sym c.new-name.ensures) (
+      rewritten_kept old new c.args.number None c.args.kept.now.names c.remove-2.new.self hops rest c.args.kept.now.peers c.remove.new.self c.args.kept.now.differed fit.0 writes refl tt
+          indexed tt (λ m other was. left_among c.args.kept.now.peers.defaulted c.remove.new.self.defaulted c.remove.new.self.members m c.remove.ensures.defaulted
           (at old m) (λ asn. indexed.members asn m ∙ ap (λ (o : Option StoredCase). is_of_peer o asn) (writes.others m other)) was),
-      totals_gone old new c.args.number c.args.totals.now c.minus.result c.of.result fit.1
-          case writes here (c.of.ensures ∙ ap (λ (verdict : Verdict). users_of verdict case.users) c.verdict.ensures) c.minus.ensures,
-      rewritten_verdicts old new c.args.number None c.args.verdicts.now c.clear.new.self writes c.clear.ensures fit.2,
+      totals_gone old new c.args.number c.args.kept.now.totals c.minus-kept.result c.of.result fit.1
+          case writes here (c.of.ensures ∙ ap (λ (verdict : Verdict). users_of verdict case.users) c.verdict.ensures) c.minus-kept.ensures,
+      rewritten_verdicts old new c.args.number None c.args.kept.now.verdicts c.clear.new.self writes c.clear.ensures fit.2,
     )

@@ -1,6 +1,6 @@
 use Rattle.std.proofs.Common.{◌≡◌, ◌↔◌, ◌⊎◌, ◌+◌, true, ℕ, List, ◌∷◌, drop, ap, sym, subst, ◌∙◌}
 use Rattle.std.proofs.lemmas.List.{drop_more}
-use Rattle.vap_table.specs.declared.moves.RowMove.{RowMove}
+use Rattle.attestations.specs.declared.moves.RowMove.{RowMove}
 use Rattle.shared_cases.specs.Numbers.{has}
 use Rattle.shared_cases.specs.Touching.{IsTouchedBy}
 use Rattle.shared_cases.proofs.MoveLemmas.{touched_next}

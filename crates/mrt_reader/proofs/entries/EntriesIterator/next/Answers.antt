@@ -6,16 +6,16 @@ use Rattle.mrt_reader.proofs.entries.EntriesIterator.next.Goals as goal
 
 pub returns-in_err-entry-clause-steps : goal.returns-in_err-entry-clause-steps
 returns-in_err-entry-clause-steps c =
-    let empty = left-none (entry_at c.args.self.now.paths) c.args.self.now.rest.now c.args.self.now.whole (sym c.in_err-entry.ensures) in
+    let empty = left-none (entry_at c.args.self.now.add_path) c.args.self.now.rest.now c.args.self.now.whole (sym c.in_err-entry.ensures) in
     rw c.from_residual.ensures (empty, empty)
 
 pub invariant_of-self : goal.invariant_of-self
-invariant_of-self c = record { whole = whole-rest (entry_at c.args.self.now.paths) (shortens (entry_reader c.args.self.now.paths)) c.args.self.now.rest.now _ c.in_ok-entry.rest.now c.args.self.now.whole (sym c.in_ok-entry.ensures) }
+invariant_of-self c = record { whole = whole-rest (entry_at c.args.self.now.add_path) (shortens (entry_reader c.args.self.now.add_path)) c.args.self.now.rest.now _ c.in_ok-entry.rest.now c.args.self.now.whole (sym c.in_ok-entry.ensures) }
 
 pub returns-clause-steps : goal.returns-clause-steps
-returns-clause-steps c = left-some (entry_at c.args.self.now.paths) (shortens (entry_reader c.args.self.now.paths)) c.args.self.now.rest.now _ c.in_ok-entry.rest.now c.args.self.now.whole (sym c.in_ok-entry.ensures)
+returns-clause-steps c = left-some (entry_at c.args.self.now.add_path) (shortens (entry_reader c.args.self.now.add_path)) c.args.self.now.rest.now _ c.in_ok-entry.rest.now c.args.self.now.whole (sym c.in_ok-entry.ensures)
 
 pub returns-clause-goes : goal.returns-clause-goes
 returns-clause-goes c =
-    let shorter = ap length (left-some (entry_at c.args.self.now.paths) (shortens (entry_reader c.args.self.now.paths)) c.args.self.now.rest.now _ c.in_ok-entry.rest.now c.args.self.now.whole (sym c.in_ok-entry.ensures)) in
+    let shorter = ap length (left-some (entry_at c.args.self.now.add_path) (shortens (entry_reader c.args.self.now.add_path)) c.args.self.now.rest.now _ c.in_ok-entry.rest.now c.args.self.now.whole (sym c.in_ok-entry.ensures)) in
     search rules

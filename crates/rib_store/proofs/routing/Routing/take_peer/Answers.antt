@@ -2,7 +2,7 @@ use Rattle.std.proofs.Common.{◌≡◌, ℕ, List, Bool, true, false, Option, a
 use Rattle.std.specs.Map.{values_of}
 use Rattle.route_map.specs.Keys.{Entries}
 use Rattle.shared_cases.specs.Cases.{Slots, at}
-use Rattle.shared_cases.specs.Grounds.{grounds}
+use Rattle.rib_store.specs.Grounds.{grounds}
 use Rattle.shared_cases.specs.Taking.{left_times, times}
 use Rattle.rib_store.specs.Cased.{Numbered, marked_by}
 use Rattle.rib_store.specs.Marks.{AreKeysOfRoutes}
@@ -17,7 +17,7 @@ leaves old new taken numbers left same n = left n ∙ ap (λ (ns : List ℕ). le
 
 pub returns-clause-routed : goal.returns-clause-routed
 returns-clause-routed c = record {
-  stored = parted_stored (grounds c.args.table.now c.args.roles.now) c.args.self.now.routes c.take_peer-taken.new.self c.take_peer-taken.result c.args.peer.now
+  stored = parted_stored (grounds c.args.on.now.table.now c.args.on.now.roles.now) c.args.self.now.routes c.take_peer-taken.new.self c.take_peer-taken.result c.args.peer.now
       c.args.self.now.cases c.leave_all.new.self c.requires.routed.stored c.take_peer-taken.ensures.taken c.take_peer-taken.ensures.left (leaves c.args.self.now.cases c.leave_all.new.self c.take_peer-taken.result c.in_ok-numbers.numbers.items c.in_ok-leave_all.ensures c.in_ok-numbers.ensures);
   marks = record {
     noted = λ marked key n here differed. absurd (true≢false (sym marked ∙ c.requires.idle.unmarked));
@@ -26,8 +26,8 @@ returns-clause-routed c = record {
 }
 
 pub returns-clause-state : goal.returns-clause-state
-returns-clause-state c = same_state c.args.table.now c.args.roles.now _ _ _ _
-    (parted_routes (grounds c.args.table.now c.args.roles.now) c.args.self.now.routes c.take_peer-taken.new.self c.take_peer-taken.result c.args.peer.now
+returns-clause-state c = same_state c.args.on.now.table.now c.args.on.now.roles.now _ _ _ _
+    (parted_routes (grounds c.args.on.now.table.now c.args.on.now.roles.now) c.args.self.now.routes c.take_peer-taken.new.self c.take_peer-taken.result c.args.peer.now
     c.args.self.now.cases c.leave_all.new.self c.requires.routed.stored c.take_peer-taken.ensures.taken c.take_peer-taken.ensures.left (leaves c.args.self.now.cases c.leave_all.new.self c.take_peer-taken.result c.in_ok-numbers.numbers.items c.in_ok-leave_all.ensures c.in_ok-numbers.ensures))
     (unmarked c.args.self.now.marks.is_marked c.requires.idle.unmarked) where
       unmarked : (b : Bool) → b ≡ false → marked_by b c.leave_all.new.self c.take_peer-taken.new.self c.args.self.now.marks.notes

@@ -1,6 +1,6 @@
 use Rattle.std.proofs.Common.{ap, subst, sym, ◌∙◌}
 use Rattle.shared_cases.specs.Cases.{Slots}
-use Rattle.shared_cases.specs.Grounds.{grounds}
+use Rattle.rib_store.specs.Grounds.{grounds}
 use Rattle.rib_store.specs.Marks.{AreSound}
 use Rattle.rib_store.specs.Stored.{Stored}
 use Rattle.rib_store.proofs.EventLemmas.{gathered_sound, noted_state}

@@ -2,7 +2,7 @@ use Rattle.std.proofs.Common.{true, sym, subst}
 use Rattle.rib_store.specs.Cased.{Noted, marked_by}
 use Rattle.rib_store.specs.Changes.{IsMarked}
 use Rattle.rib_store.specs.Stored.{Stored}
-use Rattle.shared_cases.specs.Grounds.{grounds}
+use Rattle.rib_store.specs.Grounds.{grounds}
 use Rattle.rib_store.proofs.MarksLemmas.{noted_marked}
 use Rattle.rib_store.proofs.RouteLemmas.{state_by}
 use Rattle.rib_store.proofs.StoredLemmas.{marked_stored}

@@ -1,7 +1,7 @@
 use Rattle.std.proofs.Common.{◌∙◌, ap}
 use Rattle.std.specs.FinMap as fin
 use Rattle.std.specs.List.{filter_map}
-use Rattle.shared_cases.specs.Grounds.{grounds}
+use Rattle.rib_store.specs.Grounds.{grounds}
 use Rattle.rib_store.specs.Cased.{Numbered}
 use Rattle.rib_store.specs.Stored.{Stored}
 use Rattle.rib_store.specs.Trails.{trail_at}

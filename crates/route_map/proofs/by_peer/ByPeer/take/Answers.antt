@@ -1,6 +1,5 @@
 use Rattle.std.proofs.Common.{ap, sym, subst, ◌∙◌, true≢false}
-use Rattle.route_map.specs.Flat.{flat}
-use Rattle.route_map.specs.Held.{HaveRoutes}
+use Rattle.route_map.specs.Flat.{flat, HaveRoutes}
 use Rattle.route_map.proofs.FlatLemmas.{lookup_flat}
 use Rattle.route_map.proofs.HeldLemmas.{have_taken, have_rest, flat_taken, emptied_gone}
 use Rattle.route_map.proofs.by_peer.ByPeer.take.Goals as goal

@@ -1,8 +1,7 @@
 use Rattle.std.proofs.Common.{◌≡◌, ℕ, true, false, List, ◌-◌, subst, arith}
-use Rattle.attestations.specs.ComputedTable.{table_of}
 use Rattle.hop_index.specs.Index.{has as hops_have}
 use Rattle.shared_cases.specs.Cases.{Slots, at}
-use Rattle.shared_cases.specs.Grounds.{grounds, IsRightCase}
+use Rattle.shared_cases.specs.Grounds.{lent, IsRightCase}
 use Rattle.shared_cases.specs.Kept.{AreIndexed}
 use Rattle.shared_cases.specs.Numbers.{has}
 use Rattle.shared_cases.specs.Owning.{IsOwnOrAmong}
@@ -11,22 +10,22 @@ use Rattle.shared_cases.proofs.cases.SharedCases.follow_default.Goals as goal
 
 pub returns-in_err-cases-clause-ticks : goal.returns-in_err-cases-clause-ticks
 returns-in_err-cases-clause-ticks g c =
-    roles_touch c.args.self c.args.self c.self.inside.names c.self.inside.index c.self.inside.peers.members
-    (subst (λ (cases : Slots). AreIndexed cases c.self.inside.names (hops_have c.self.inside.index) c.self.inside.peers.members) c.self.view_is c.self.invariant.0.indexed)
-    c.in_ok-touched.touched.items (table_of c.args.table.now) (record c.args.roles.now { default = c.args.before }) c.args.roles.now c.in_ok-touched.ensures.only
+    roles_touch c.args.self c.args.self c.self.inside.kept.names c.self.inside.kept.index c.self.inside.kept.peers.members
+    (subst (λ (cases : Slots). AreIndexed cases c.self.inside.kept.names (hops_have c.self.inside.kept.index) c.self.inside.kept.peers.members) c.self.view_is c.self.invariant.0.indexed)
+    c.in_ok-touched.touched.items (g.T.Table.rows c.args.on.now.table.now) (record c.args.on.now.roles.now { default = c.args.before }) c.args.on.now.roles.now c.in_ok-touched.ensures.only
     (c.rejudge.new.steps - c.args.steps.now) c.in_ok-touched.ensures.rising (omega (arith, c.rejudge.ensures.ticks))
 
 pub returns-clause-judged : goal.returns-clause-judged
 returns-clause-judged g c =
-    default_followed c.args.self c.in_ok-cases.cases c.self.inside.names c.self.inside.index c.self.inside.peers.members
-    (subst (λ (cases : Slots). AreIndexed cases c.self.inside.names (hops_have c.self.inside.index) c.self.inside.peers.members) c.self.view_is c.self.invariant.0.indexed)
-    c.in_ok-touched.touched.items (table_of c.args.table.now) c.args.roles.now c.args.before c.self.inside.peers.defaulted
-    (subst (λ (cases : Slots). (n : ℕ) → IsOwnOrAmong c.self.inside.peers.defaulted (at cases n)) c.self.view_is c.self.invariant.0.defaulted)
-    c.in_ok-touched.ensures.others (subst (λ (xs : List ℕ). (n : ℕ) → has xs n ≡ true → IsRightCase (grounds c.args.table.now c.args.roles.now) (at c.in_ok-cases.cases n)) c.as_slice.ensures.value c.in_ok-cases.ensures.judged) (subst (λ (xs : List ℕ). (n : ℕ) → has xs n ≡ false → at c.in_ok-cases.cases n ≡ at c.args.self n) c.as_slice.ensures.value c.in_ok-cases.ensures.others) c.in_ok-cases.ensures.same c.in_ok-cases.ensures.own
+    default_followed c.args.self c.in_ok-cases.cases c.self.inside.kept.names c.self.inside.kept.index c.self.inside.kept.peers.members
+    (subst (λ (cases : Slots). AreIndexed cases c.self.inside.kept.names (hops_have c.self.inside.kept.index) c.self.inside.kept.peers.members) c.self.view_is c.self.invariant.0.indexed)
+    c.in_ok-touched.touched.items (g.T.Table.rows c.args.on.now.table.now) c.args.on.now.roles.now c.args.before c.self.inside.kept.peers.defaulted
+    (subst (λ (cases : Slots). (n : ℕ) → IsOwnOrAmong c.self.inside.kept.peers.defaulted (at cases n)) c.self.view_is c.self.invariant.0.defaulted)
+    c.in_ok-touched.ensures.others (subst (λ (xs : List ℕ). (n : ℕ) → has xs n ≡ true → IsRightCase (lent g.T.Table.rows c.args.on.now) (at c.in_ok-cases.cases n)) c.as_slice.ensures.value c.in_ok-cases.ensures.judged) (subst (λ (xs : List ℕ). (n : ℕ) → has xs n ≡ false → at c.in_ok-cases.cases n ≡ at c.args.self n) c.as_slice.ensures.value c.in_ok-cases.ensures.others) c.in_ok-cases.ensures.same c.in_ok-cases.ensures.own
 
 pub returns-clause-ticks : goal.returns-clause-ticks
 returns-clause-ticks g c =
-    roles_touch c.args.self c.args.self c.self.inside.names c.self.inside.index c.self.inside.peers.members
-    (subst (λ (cases : Slots). AreIndexed cases c.self.inside.names (hops_have c.self.inside.index) c.self.inside.peers.members) c.self.view_is c.self.invariant.0.indexed)
-    c.in_ok-touched.touched.items (table_of c.args.table.now) (record c.args.roles.now { default = c.args.before }) c.args.roles.now c.in_ok-touched.ensures.only
+    roles_touch c.args.self c.args.self c.self.inside.kept.names c.self.inside.kept.index c.self.inside.kept.peers.members
+    (subst (λ (cases : Slots). AreIndexed cases c.self.inside.kept.names (hops_have c.self.inside.kept.index) c.self.inside.kept.peers.members) c.self.view_is c.self.invariant.0.indexed)
+    c.in_ok-touched.touched.items (g.T.Table.rows c.args.on.now.table.now) (record c.args.on.now.roles.now { default = c.args.before }) c.args.on.now.roles.now c.in_ok-touched.ensures.only
     (c.rejudge.new.steps - c.args.steps.now) c.in_ok-touched.ensures.rising (omega (arith, c.rejudge.ensures.ticks))

@@ -4,7 +4,7 @@ use Rattle.shared_cases.specs.Taking.{left_times, times}
 use Rattle.shared_cases.proofs.cases.SharedCases.leave_all.Goals as goal
 
 pub invariant_of-self : goal.invariant_of-self
-invariant_of-self c = c.in-Ok.ensures.kept c.self.inside.differed c.self.invariant
+invariant_of-self c = c.in-Ok.ensures.fit
 
 pub returns-in-Ok : goal.returns-in-Ok
 returns-in-Ok c = λ n.

@@ -10,8 +10,8 @@ use Rattle.shared_cases.proofs.cases.SharedCases.lower.Goals as goal
 
 pub invariant_of-self : goal.invariant_of-self
 invariant_of-self c =
-    fit_lowered c.self.inside.slab.slots c.lower_by-one.new.slab.slots c.args.number 1 c.self.inside.names (hops_have c.self.inside.index) c.self.inside.peers c.self.inside.differed
-    c.self.inside.totals c.minus-self-inside.result c.lower_by-one.result c.self.inside.verdicts c.lower_by-one.ensures.lowered
+    fit_lowered (hops_have c.self.inside.kept.index) c.self.inside.slab.slots c.lower_by-one.new.slab.slots c.args.number 1 c.self.inside.kept
+    c.minus-self-inside.result c.lower_by-one.result c.lower_by-one.ensures.lowered
     (shared_some (at c.self.inside.slab.slots c.args.number) (subst (λ (cases : Slots). is_shared (at cases c.args.number) ≡ true) (sym c.self.view_is) c.requires))
     c.lower_by-one.ensures.less c.minus-self-inside.ensures c.self.invariant
 

@@ -6,8 +6,8 @@ use Rattle.shared_cases.proofs.cases.SharedCases.take_again.Goals as goal
 
 pub invariant_of-self-2 : goal.invariant_of-self-2
 invariant_of-self-2 c = (
-  raised_kept c.self.inside.slab.slots c.raise.new.slab.slots c.args.number c.self.inside.names (hops_have c.self.inside.index) c.self.inside.peers c.self.inside.differed c.self.invariant.0 c.in_ok-raise.ensures.raised,
-  raised_totals c.self.inside.slab.slots c.raise.new.slab.slots c.args.number c.self.inside.totals c.in_ok-totals.totals c.one_user.result c.self.invariant.1
+  raised_kept c.self.inside.slab.slots c.raise.new.slab.slots c.args.number c.self.inside.kept.names (hops_have c.self.inside.kept.index) c.self.inside.kept.peers c.self.inside.kept.differed c.self.invariant.0 c.in_ok-raise.ensures.raised,
+  raised_totals c.self.inside.slab.slots c.raise.new.slab.slots c.args.number c.self.inside.kept.totals c.in_ok-totals.totals c.one_user.result c.self.invariant.1
       c.in_ok-raise.ensures.raised c.one_user.ensures c.in_ok-totals.ensures,
-  raised_verdicts c.self.inside.slab.slots c.raise.new.slab.slots c.self.inside.verdicts c.self.invariant.2 c.args.number c.in_ok-raise.ensures.raised,
+  raised_verdicts c.self.inside.slab.slots c.raise.new.slab.slots c.self.inside.kept.verdicts c.self.invariant.2 c.args.number c.in_ok-raise.ensures.raised,
 )

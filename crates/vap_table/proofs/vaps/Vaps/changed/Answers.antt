@@ -2,10 +2,10 @@ use Rattle.std.proofs.Common.{◌≡◌, ℕ, false, List, sym, subst, ◌∙◌
 use Rattle.path_model.specs.Authority.{Table, has}
 use Rattle.attestations.specs.CurrentTable.{Parts}
 use Rattle.attestations.specs.ComputedTable.{table_of}
-use Rattle.vap_table.specs.declared.moves.RowMove.{RowMove}
+use Rattle.attestations.specs.declared.moves.RowMove.{RowMove}
 use Rattle.vap_table.specs.Current.{rows_among}
-use Rattle.vap_table.specs.Moves.{AreMoves}
-use Rattle.vap_table.proofs.MovesLemmas.{are_moves, same_moves}
+use Rattle.attestations.specs.Moves.{AreMoves}
+use Rattle.attestations.proofs.MovesLemmas.{are_moves, same_moves}
 use Rattle.vap_table.proofs.VapsLemmas.{same_row, still_kept}
 use Rattle.vap_table.proofs.vaps.Vaps.changed.Goals as goal
 

@@ -1,5 +1,0 @@
-use Rattle.feed_lines.proofs.LawLemmas.{telling_is_one_line}
-use Rattle.feed_lines.proofs.laws.each_telling_is_one_line.Goals as goal
-
-pub returns : goal.returns
-returns c = telling_is_one_line

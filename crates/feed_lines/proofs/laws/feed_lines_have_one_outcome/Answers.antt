@@ -1,5 +1,0 @@
-use Rattle.feed_lines.proofs.LawLemmas.{one_outcome}
-use Rattle.feed_lines.proofs.laws.feed_lines_have_one_outcome.Goals as goal
-
-pub returns : goal.returns
-returns c = one_outcome

@@ -1,5 +1,0 @@
-use Rattle.feed_lines.proofs.LostLemmas.{broke_or_ended}
-use Rattle.feed_lines.proofs.laws.lost_feeds_broke_or_ended.Goals as goal
-
-pub returns : goal.returns
-returns c = broke_or_ended

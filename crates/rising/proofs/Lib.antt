@@ -1,2 +1,0 @@
-mod BitLemmas
-mod SortLemmas

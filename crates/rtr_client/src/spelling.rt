@@ -1,0 +1,19 @@
+//! Spelling queries.
+ghost use Rattle.std.specs.Prelude.{◌≡◌, IfOk};
+ghost use Rattle.rtr_client.specs.Feeds.{query_bytes};
+
+use av_base::NoMemory;
+use connection_calls::spell;
+use rtr_pdu::Pdu;
+use rtr_session::Query;
+use std::alloc::Global;
+
+/// The bytes of a query.
+pub(crate) fn spell_query(alloc: Global, query: Query) -> Result<Vec<u8>, NoMemory>
+    ensures { IfOk result (λ bytes. bytes.items ≡ query_bytes query) }
+{
+    match query {
+        Query::Reset => spell(alloc, Pdu::ResetQuery),
+        Query::Serial { session, serial } => spell(alloc, Pdu::SerialQuery { session, serial }),
+    }
+}

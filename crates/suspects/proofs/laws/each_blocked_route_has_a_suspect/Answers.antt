@@ -1,5 +1,0 @@
-use Rattle.suspects.proofs.BlockedLemmas as lemmas
-use Rattle.suspects.proofs.laws.each_blocked_route_has_a_suspect.Goals as goal
-
-pub returns : goal.returns
-returns c = lemmas.blocked_are_suspected
