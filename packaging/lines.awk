@@ -19,7 +19,7 @@ function spelled(    text, i, joined, closing) {
 function show() {
     if (WORD == "" && heading != "") printf "\n%s\n", heading
     heading = ""
-    printf "%s%-27s %s\n", (WORD == "" ? "  " : ""), line, effect
+    printf "%s%-30s %s\n", (WORD == "" ? "  " : ""), line, effect
     if (WORD != "") printf "  example: %s\n", example
     shown = 1
 }

@@ -42,10 +42,18 @@ def peer_table(count, first=PEER, step=0):
     return record(1, struct.pack(">IHH", 1, 0, count) + peers)
 
 
+def as_path(path):
+    """The AS_PATH of these ASes (RFC 4271, section 4.3), in segments of 255 at most; two bytes say its length where one can't."""
+    parts = (path[place : place + 255] for place in range(0, len(path), 255))
+    hops = b"".join(struct.pack(f">BB{len(part)}I", 2, len(part), *part) for part in parts)
+    if len(hops) < 256:
+        return bytes([0x40, 2, len(hops)]) + hops
+    return struct.pack(">BBH", 0x50, 2, len(hops)) + hops
+
+
 def route(number, peer, path):
     """A route of a peer with this path, to the network of 24 bits of that number."""
-    hops = struct.pack(f">BB{len(path)}I", 2, len(path), *path)
-    attributes = bytes([0x40, 2, len(hops)]) + hops
+    attributes = as_path(path)
     prefix = bytes([24]) + struct.pack(">I", (0x0B000000 + 256 * number) & 0xFFFFFFFF)[:3]
     entry = struct.pack(">HIH", peer, 0, len(attributes)) + attributes
     return record(2, struct.pack(">I", number) + prefix + struct.pack(">H", 1) + entry)
@@ -53,8 +61,7 @@ def route(number, peer, path):
 
 def update(path, withdrawn, announced):
     """An UPDATE of the first peer in BGP4MP (RFC 6396, section 4.4.3): prefixes that go, and prefixes that come with this path."""
-    hops = struct.pack(f">BB{len(path)}I", 2, len(path), *path)
-    attributes = bytes([0x40, 1, 1, 0, 0x40, 2, len(hops)]) + hops + bytes([0x40, 3, 4, 1, 1, 1, 1]) if announced else b""
+    attributes = bytes([0x40, 1, 1, 0]) + as_path(path) + bytes([0x40, 3, 4, 1, 1, 1, 1]) if announced else b""
     body = struct.pack(">H", len(withdrawn)) + withdrawn + struct.pack(">H", len(attributes)) + attributes + announced
     message = b"\xff" * 16 + struct.pack(">HB", 19 + len(body), 2) + body
     head = struct.pack(">IIHHII", PEER, 64_500, 0, 1, 0x0A000000, 0x0A0000FF)
@@ -209,17 +216,17 @@ KINDS = (
 
 
 def run(program, folder, script):
-    """The status and the processor seconds."""
+    """The status, the processor seconds, and the most bytes that were held."""
     lines = write(folder, "script", script.encode())
     with open(lines, "rb") as given:
         child = subprocess.Popen([program, "run"], stdin=given, stdout=subprocess.DEVNULL)
         _, status, used = os.wait4(child.pid, 0)
     child.returncode = os.waitstatus_to_exitcode(status)
-    return child.returncode, used.ru_utime + used.ru_stime
+    return child.returncode, used.ru_utime + used.ru_stime, used.ru_maxrss * 1024
 
 
 class Measured:
-    """Lines of one kind and one size: whether all runs had status 0, and the least seconds with the lines and without them so far."""
+    """Lines of one kind and one size: whether all runs had status 0, and the least seconds and bytes with the lines and without them so far."""
 
     def __init__(self, folder, lines, size):
         self.size = size
@@ -228,18 +235,24 @@ class Measured:
         before, measured = lines(self.folder, size)
         self.scripts = (before + measured, before)
         self.least = [float("inf")] * 2
+        self.held = [float("inf")] * 2
         self.ends = True
 
     def again(self, program):
         """Two more runs."""
         for place, script in enumerate(self.scripts):
-            status, used = run(program, self.folder, script)
+            status, used, held = run(program, self.folder, script)
             self.ends = self.ends and status == 0
             self.least[place] = min(self.least[place], used)
+            self.held[place] = min(self.held[place], held)
 
     def seconds(self):
         """What the lines take."""
         return max(0.0, self.least[0] - self.least[1])
+
+    def memory(self):
+        """How many bytes more are held with the lines."""
+        return max(0, self.held[0] - self.held[1])
 
 
 def grow_little(sizes, most):
@@ -259,20 +272,29 @@ def measured(program, folder, lines, sizes, most):
     return kind
 
 
+class Checks:
+    """How many things hold and how many don't; what doesn't is said."""
+    def __init__(self):
+        self.passed, self.failed = 0, 0
+
+    def __call__(self, good, what):
+        if good:
+            self.passed += 1
+        else:
+            self.failed += 1
+            print(f"failed: {what}")
+
+    def end(self):
+        """Says how many, and answers the script's status."""
+        print(f"{self.passed} passed, {self.failed} failed")
+        return 0 if self.failed == 0 else 1
+
+
 def main():
     if len(sys.argv) != 2:
         sys.exit(__doc__)
     program = os.path.abspath(sys.argv[1])
-    passed, failed = 0, 0
-
-    def check(good, what):
-        nonlocal passed, failed
-        if good:
-            passed += 1
-        else:
-            failed += 1
-            print(f"failed: {what}")
-
+    check = Checks()
     with tempfile.TemporaryDirectory() as folder:
         for what, lines, sizes, most in KINDS:
             kind = measured(program, os.path.join(folder, lines.__name__), lines, sizes, most)
@@ -282,8 +304,7 @@ def main():
             check(grow_little(kind, most), f"{what}: where the size doubles the time grows at most by {most}")
             if lines is assertions:
                 check(kind[-1].seconds() <= MOST_SECONDS, f"{what}: {sizes[-1]:,} take at most {MOST_SECONDS} s")
-    print(f"{passed} passed, {failed} failed")
-    return 0 if failed == 0 else 1
+    return check.end()
 
 
 if __name__ == "__main__":

@@ -35,13 +35,13 @@ spellings() {
 ./aspaview --help >"$work/help"
 # (each argument in brackets makes two spellings, as the tables have them)
 grep '^  [a-z]' "$work/help" >"$work/page"
-cut -c 3-29 "$work/page" | sed -E 's/ *$//; s/ \.\.$/../; s/^(.*) \[(.*)\]$/\1\n\1 \2/' | LC_ALL=C sort -u >"$work/lines"
+cut -c 3-32 "$work/page" | sed -E 's/ *$//; s/ \.\.$/../; s/^(.*) \[(.*)\]$/\1\n\1 \2/' | LC_ALL=C sort -u >"$work/lines"
 check 'the lines of --help are those of docs/formats.md' \
     "$(sed -n '/^| Command | Effect |/,/^$/p' docs/formats.md | spellings)" "$(cat "$work/lines")"
 check 'the lines of --help are those of README.md' "$(sed -n '/^| Line | Effect |/,/^$/p' README.md | spellings)" "$(cat "$work/lines")"
 check 'no line of them has more than 80 columns' '' "$(grep -E '.{81}' "$work/page")"
-check '--help take' "$(printf '%s\n' 'take NAME N                 takes the next N PDUs of a feed' '  example: take cache 1' \
-    'take NAME N                 takes the next N records of a dump, or messages' '  example: take table 100000000')" "$(./aspaview --help take)"
+check '--help take' "$(printf '%s\n' 'take NAME N                    takes the next N PDUs of a feed' '  example: take cache 1' \
+    'take NAME N                    takes the next N records of a dump, or messages' '  example: take table 100000000')" "$(./aspaview --help take)"
 cut -d ' ' -f 1 "$work/lines" | sort -u >"$work/words"
 while read -r word; do
     ./aspaview --help "$word" | sed -n 's/^  example: //p' >"$work/examples"

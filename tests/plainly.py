@@ -108,9 +108,16 @@ def identifier(number):
     return b"" if number is None else struct.pack(">I", number)
 
 
+def sequence(ases):
+    return struct.pack(f">BB{len(ases)}I", 2, len(ases), *ases) if ases else b""
+
+
 def as_path(path):
-    segments = struct.pack(f">BB{len(path.ases)}I", 2, len(path.ases), *path.ases) if path.ases else b""
-    segments += struct.pack(">BBI", 1, 1, 64999) if path.set else b""
+    """A set stands in the middle, behind one AS alone."""
+    middle = (len(path.ases) + 1) // 2
+    segments = sequence(path.ases)
+    if path.set:
+        segments = sequence(path.ases[:middle]) + struct.pack(">BBI", 1, 1, 64999) + sequence(path.ases[middle:])
     return bytes([0x40, 2, len(segments)]) + segments
 
 

@@ -15,7 +15,7 @@ def types_are_right():
         return True
     there = {**os.environ, "MYPYPATH": "python:examples:examples/collectors"}
     what = ["-p", "aspaview", "-p", "tests", "-p", "page_parts"]
-    for name in "asrel", "job", "merge", "page", "watch":
+    for name in "asrel", "attests", "job", "merge", "page", "watch":
         what += ["-m", name]
     done = subprocess.run(["mypy", "--strict", "--cache-dir", os.devnull, *what], env=there, encoding="utf-8", stdout=subprocess.PIPE, check=False)
     if done.returncode:

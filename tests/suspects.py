@@ -32,9 +32,9 @@ ROLES = ["provider", "customer", "peer", "rs", "rs-client", "mutual"]
 # ---- scripts
 
 class Script:
-    """Lines, the dump that they take, and the lines of text that are wanted."""
+    """Lines, the dump that they take, the other files that they name, and the lines of text that are wanted."""
     def __init__(self, draw):
-        self.draw, self.lines, self.dump, self.wanted = draw, [], [], []
+        self.draw, self.lines, self.dump, self.files, self.wanted = draw, [], [], {}, []
 
     def ask(self, line, answers):
         self.lines.append(line)
@@ -43,8 +43,9 @@ class Script:
     def performed(self, program):
         """What the program writes, in lines, and its status."""
         with tempfile.TemporaryDirectory() as work:
-            with open(os.path.join(work, "dump"), "wb") as file:
-                file.write(b"".join(self.dump))
+            for name, data in {**self.files, "dump": b"".join(self.dump)}.items():
+                with open(os.path.join(work, name), "wb") as file:
+                    file.write(data)
             text = "".join(f"{line}\n" for line in self.lines).encode()
             ended = subprocess.run([program, "run"], input=text, cwd=work, capture_output=True, timeout=300)
             return ended.stdout.decode().splitlines(), ended.returncode
@@ -52,12 +53,14 @@ class Script:
 
 class Drawn(Script):
     """Few ASes, so that paths meet what is attested, and come through the same valleys."""
+    ANALYSIS = Analysis
+
     def __init__(self, draw, size):
         super().__init__(draw)
         self.ases = draw.sample(range(1, 100), draw.randrange(4, 9)) + [4294967295]
         near = sorted(draw.sample(self.ases, 3))
         self.peers = [Peer("192.0.2.1", near[0]), Peer("192.0.2.1", near[1]), Peer("192.0.2.2", near[0]), Peer("2001:db8::3", near[2])]
-        self.analysis, self.size, self.ends = Analysis(self.peers), size, [draw.sample(self.ases, draw.randrange(1, 4)) for _ in range(4)]
+        self.analysis, self.size, self.ends = self.ANALYSIS(self.peers), size, [draw.sample(self.ases, draw.randrange(1, 4)) for _ in range(4)]
         self.lines, self.dump = ["open d dump", "take d 1"], [peer_table(self.peers)]
         for asn in draw.sample(self.ases, len(self.ases) * 2 // 3):
             self.attest(asn)

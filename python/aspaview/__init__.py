@@ -6,15 +6,15 @@ from .errors import AspaviewError, ProgramEnded, Refused
 from .process import find_program
 from .records import Key, Record, Witness
 from .session import Answer, Session
-from .spellings import Address, Network, NotAText, Rule, State, Verdict
+from .spellings import Address, Network, NotAText, Rule, Stance, State, Verdict
 from .suspects import Suspects
-from .texts import (Change, Demo, Detail, Judged, Leak, Origin, Peer, Refusal, Route, Said, Served, Summary, Suspect, Why, parse,
-                    parse_line)
+from .texts import (Assertion, Attested, Change, Demo, Detail, Hop, Judged, Leak, Neighbour, Origin, Own, Peer, Refusal, Route, Said, Sent, Served,
+                    Silent, Summary, Suspect, Why, parse, parse_line)
 
 __all__ = [
-    "Address", "Answer", "AspaviewError", "Change", "Demo", "Detail", "Judged", "Key", "Leak", "Network", "NotAText", "Origin",
-    "Peer", "ProgramEnded", "Record", "Refusal", "Refused", "Route", "Rule", "Said", "Served", "Session", "State", "Summary", "Suspect",
-    "Suspects", "Verdict", "Why", "Witness", "find_program", "parse", "parse_line",
+    "Address", "Answer", "AspaviewError", "Assertion", "Attested", "Change", "Demo", "Detail", "Hop", "Judged", "Key", "Leak", "Neighbour",
+    "Network", "NotAText", "Origin", "Own", "Peer", "ProgramEnded", "Record", "Refusal", "Refused", "Route", "Rule", "Said", "Sent", "Served",
+    "Session", "Silent", "Stance", "State", "Summary", "Suspect", "Suspects", "Verdict", "Why", "Witness", "find_program", "parse", "parse_line",
 ]
 
 

@@ -1,9 +1,11 @@
 """Any output of the program as JSON Lines or CSV: python3 -m aspaview jsonl|csv [--only KIND,..] < TEXT
 
 Each line becomes one object, or one row, with its kind and its values. The kinds are the lines of a
-script that ask for them (report, details, changes, leaks, origins, suspects, peers, summary, why,
-judge, say, serve), demo for the last line of 'demo N', and refused for lines that begin with '! '.
-Addresses and prefixes are written as RFC 5952 has them.
+script that ask for them (report, sent, details, changes, leaks, origins, suspects, peers, neighbours,
+silent, attests, summary, why, judge, say, serve); own, hop and assert for lines that begin so; demo
+for the last line of 'demo N'; and refused for lines that begin with '! '. What 'routes' lists is
+details, and the first line of 'explain' is why. Addresses and prefixes are written as RFC 5952 has
+them.
 
 CSV has the same header whatever the text has; with --only it has the columns of these kinds alone.
 A value that there is none of is an empty field, and a list has blanks between its numbers. The
@@ -19,7 +21,7 @@ from typing import IO, Dict, Iterable, Iterator, List, Optional, Sequence, Type
 
 from .records import Cell, Record
 from .spellings import NotAText
-from .texts import BY_KIND, Detail, parse_line
+from .texts import BY_KIND, Detail, Origin, Route, Sent, parse_line
 
 
 def _kinds(text: str) -> List[Type[Record]]:
@@ -32,14 +34,14 @@ def _kinds(text: str) -> List[Type[Record]]:
 
 def _read(lines: Iterable[bytes], only: Optional[List[Type[Record]]]) -> Iterator[Record]:
     """The records, or those of some kinds alone."""
-    # A row with `valid` or `invalid` may be one of `report` or of `origins`: who wants origins and no report has it so.
-    origins = only is not None and BY_KIND["origins"] in only and BY_KIND["report"] not in only
+    # A row with a verdict alone may be one of `report`, of `sent` or of `origins`: who wants one of these and no report has it so.
+    alike: Optional[Type[Record]] = None if only is None or Route in only else next((kind for kind in (Sent, Origin) if kind in only), None)
     for number, line in enumerate(lines, 1):
         text = line.decode("ascii", "replace").rstrip("\n")
         try:
             record = parse_line(text)
-            if origins and record.kind == "report" and text.endswith("valid"):
-                record = parse_line(text, "origins")
+            if alike is not None and isinstance(record, Route):
+                record = alike.match(text) or record
         except NotAText as fault:
             raise NotAText(f"line {number}: {fault}") from fault
         if only is None or type(record) in only:

@@ -1,17 +1,27 @@
 """A session with the program, which is kept: it is told lines of a script, and asked."""
 import weakref
 from collections import deque
+from ipaddress import ip_address, ip_network
 from secrets import token_hex
 from types import TracebackType
-from typing import Any, Deque, Dict, Generic, Iterable, Iterator, List, Literal, Optional, Sequence, Tuple, Type, TypeVar, Union
+from typing import (Any, Deque, Dict, Generic, Iterable, Iterator, List, Literal, Optional, Sequence, Tuple, Type, TypeVar, Union, cast,
+                    overload)
 
 from .errors import ProgramEnded, Refused
 from .process import PathLike, Process, find_program
 from .records import Key, Record
-from .spellings import NotAText, Verdict, written_address, written_network
-from .texts import BY_KIND, Change, Detail, Judged, Leak, Origin, Peer, Refusal, Route, Suspect, Summary, Why, parse_line
+from .spellings import Address, Network, NotAText, Verdict, written_address, written_network
+from .texts import (ANSWERS, Assertion, Attested, Change, Detail, Hop, Judged, Leak, Neighbour, Origin, Own, Peer, Refusal, Route, Sent, Silent,
+                    Suspect, Summary, Why, parse_line)
 
 Asked = TypeVar("Asked", bound=Record)
+First = TypeVar("First", bound=Record)
+
+
+def _named(route: Key) -> str:
+    """The words by which a line names a route."""
+    path_id = "" if route.path_id is None else f" {route.path_id}"
+    return f"{written_address(route.peer)} {route.peer_as} {written_network(route.prefix)}{path_id}"
 
 
 class Session:
@@ -62,6 +72,19 @@ class Session:
         """Each route, or each with this verdict, with its witness and its path."""
         return self._asked(["details" if verdict is None else f"details {verdict}"], Detail)
 
+    def routes(self, *, verdict: Optional[Union[Verdict, str]] = None, peer: Optional[int] = None, address: Optional[Union[Address, str]] = None,
+               prefix: Optional[Union[Network, str]] = None, within: Optional[Union[Network, str]] = None,
+               covering: Optional[Union[Network, str]] = None, origin: Optional[int] = None,
+               through: Optional[int] = None) -> "Answer[Detail]":
+        """Each route that meets all of the conditions, as ``details`` has it. ``address`` is that of the peer, which a script calls ``from``.
+        Addresses and prefixes may have any spelling."""
+        networks = {"prefix": prefix, "within": within, "covering": covering}
+        given: Dict[str, object] = {
+            "verdict": verdict, "peer": peer, "from": None if address is None else written_address(ip_address(address)),
+            **{word: None if network is None else written_network(ip_network(network)) for word, network in networks.items()},
+            "origin": origin, "through": through}
+        return self._asked([" ".join(["routes", *(f"{word} {value}" for word, value in given.items() if value is not None)])], Detail)
+
     def changes(self) -> "Answer[Change]":
         """Each route whose verdict isn't the one that was marked; and marks all as they are now."""
         return self._asked(["changes"], Change)
@@ -73,6 +96,31 @@ class Session:
     def peers(self) -> "Answer[Peer]":
         """Each peer that has routes, with its role and how many they are; and then each AS with a role of its own and none."""
         return self._asked(["peers"], Peer)
+
+    def neighbours(self, asn: int) -> "Answer[Neighbour]":
+        """Each AS that stands beside this one on some route's path."""
+        return self._asked([f"neighbours {asn}"], Neighbour)
+
+    def silent(self) -> "Answer[Silent]":
+        """Each AS that attests nothing and that some unknown route asks about."""
+        return self._asked(["silent"], Silent)
+
+    def sent(self, role: str, ases: Iterable[int]) -> "Tuple[Own, Answer[Sent]]":
+        """What we originate, and each route that is sent upwards, as an AS sees them that gets them over these ASes: the one that hands them
+        to it comes first, with its role there, and our own AS last."""
+        return self._first(" ".join(map(str, ("sent", role, *ases))), Own, Sent)
+
+    @overload
+    def attests(self) -> "Answer[Assertion]": ...
+
+    @overload
+    def attests(self, asn: int) -> "Answer[Attested]": ...
+
+    def attests(self, asn: Optional[int] = None) -> "Union[Answer[Assertion], Answer[Attested]]":
+        """All that attests, as lines of a script; or where the row of one customer comes from, and last that row."""
+        if asn is None:
+            return self._asked(["attests"], Assertion)
+        return self._asked([f"attests {asn}"], Attested)
 
     def origins(self) -> "Answer[Origin]":
         """Each route with the state of its origin."""
@@ -88,8 +136,15 @@ class Session:
 
     def why(self, route: Key) -> Why:
         """The verdict of a route, and its witness; Refused with the cause 39 where there is none. Any record of a route names it."""
-        path_id = "" if route.path_id is None else f" {route.path_id}"
-        return self._one(f"why {written_address(route.peer)} {route.peer_as} {written_network(route.prefix)}{path_id}", Why)
+        return self._one(f"why {_named(route)}", Why)
+
+    def explain(self, route: Key) -> "Tuple[Why, List[Hop]]":
+        """The same, and what the two ASes of each hop of its path attest of each other, from the origin on."""
+        return self._explained(f"explain {_named(route)}")
+
+    def explain_path(self, role: str, neighbour: int, path: Iterable[int]) -> "Tuple[Why, List[Hop]]":
+        """The same of a path that this neighbour, which has this role, would send; the neighbour comes first in the path too."""
+        return self._explained(" ".join(map(str, ("explain", role, neighbour, *path))))
 
     def judge(self, role: str, neighbour: int, path: Iterable[int]) -> Verdict:
         """The verdict of a path that this neighbour, which has this role, would send; the neighbour comes first in the path too."""
@@ -134,6 +189,20 @@ class Session:
         record, = self._asked([line], of)
         return record
 
+    def _first(self, line: str, first: Type[First], of: Type[Asked]) -> "Tuple[First, Answer[Asked]]":
+        """The first record of an answer, which is of another kind than all that follow, and an iterator over these."""
+        answer = self._asked([line], Record)
+        record = next(answer, None)
+        if not isinstance(record, first):
+            answer.close()
+            raise NotAText(f"not what was asked for: {record}")
+        answer._of = of
+        return record, cast("Answer[Asked]", answer)
+
+    def _explained(self, line: str) -> "Tuple[Why, List[Hop]]":
+        why, hops = self._first(line, Why, Hop)
+        return why, list(hops)
+
     def _asked(self, lines: Iterable[str], of: Type[Asked], raises: bool = True) -> "Answer[Asked]":
         """Sends the lines, with a mark of its own behind each question and behind the last line."""
         self._set_aside()
@@ -146,9 +215,10 @@ class Session:
                 raise ValueError(f"more than one line: {line!r}")
             sent.append(line)
             numbered[self._lines + len(sent)] = line
-            question = BY_KIND.get((line.split(maxsplit=1) or [""])[0])
+            word = (line.split(maxsplit=1) or [""])[0]
+            question = word if word in ANSWERS else None
             if question is not None:
-                steps.append((question.kind, self._mark(sent)))
+                steps.append((question, self._mark(sent)))
         if question is None:
             steps.append((None, self._mark(sent)))
         self._lines += len(sent)

@@ -9,6 +9,7 @@ Network = Union[IPv4Network, IPv6Network]
 
 # As regular expressions. An IPv6 address is eight groups of four digits.
 NUMBER = r"(?:0|[1-9][0-9]*)"
+NAME = r"[A-Za-z0-9._-]{1,64}"
 ADDRESS = rf"(?:{NUMBER}(?:\.{NUMBER}){{3}}|[0-9a-f]{{4}}(?::[0-9a-f]{{4}}){{7}})"
 PREFIX = f"{ADDRESS}/{NUMBER}"
 
@@ -44,6 +45,13 @@ class Rule(_Word):
     RS_CLIENT = "rs-client"
     PEER = "peer"
     MALFORMED = "malformed"
+
+
+class Stance(_Word):
+    """What one AS attests of another: that this is its provider, that it isn't, or nothing at all."""
+    PROVIDES = "provides"
+    REFUSES = "refuses"
+    SILENT = "silent"
 
 
 # The rows of a peer stand together, so its address is read once.

@@ -1,14 +1,22 @@
 """The lines that the program writes, each as a frozen dataclass: docs/formats.md lists them under 'What is written'.
 
 ``parse_line`` makes a record of a line, and ``str()`` of a record is its line, byte for byte and without the LF. To add a text, write a
-class as these are, and name it in ``RECORDS``.
+class as these are, and name it in ``RECORDS``, and under what it answers in ``_ALONE`` or ``ANSWERS``.
 """
 from dataclasses import dataclass
 from typing import Dict, Iterable, Iterator, Match, Optional, Tuple, Type
 
 from .records import (KEY, KEY_COLUMNS, VERDICT, WITNESS, WITNESS_COLUMNS, Key, Record, Witness, Witnessed, compiled, read_key,
                       read_number, read_witness)
-from .spellings import ADDRESS, NUMBER, Address, NotAText, Rule, State, Verdict, read_address, written_address
+from .spellings import ADDRESS, NAME, NUMBER, Address, NotAText, Rule, Stance, State, Verdict, read_address, written_address
+
+STANCES = "(?P<climb>provides|refuses|silent) descend (?P<descend>provides|refuses|silent)"
+ASES = rf"(?P<providers>(?: {NUMBER})+)"
+
+
+def written_ases(numbers: Iterable[int]) -> str:
+    """ASes as a line has them, a blank in front of each."""
+    return "".join(f" {number}" for number in numbers)
 
 
 # ---- rows of routes
@@ -30,8 +38,40 @@ class Route(Key, Record):
 
 
 @dataclass(frozen=True)
+class Own(Record):
+    """The first line of ``sent``: the verdict of what we originate, as the AS sees it that gets it over the line's ASes."""
+    kind = "own"
+    columns = ("verdict",)
+    _shape = compiled(f"own {VERDICT}")
+    verdict: Verdict
+
+    @classmethod
+    def _of(cls, found: Match[str]) -> "Own":
+        return cls(Verdict(found["verdict"]))
+
+    def __str__(self) -> str:
+        return f"own {self.verdict}"
+
+
+@dataclass(frozen=True)
+class Sent(Key, Record):
+    """A row of ``sent``: a route that is sent upwards, with the verdict that its path has there."""
+    kind = "sent"
+    columns = (*KEY_COLUMNS, "verdict")
+    _shape = compiled(f"{KEY} {VERDICT}")
+    verdict: Verdict
+
+    @classmethod
+    def _of(cls, found: Match[str]) -> "Sent":
+        return cls(*read_key(found), Verdict(found["verdict"]))
+
+    def __str__(self) -> str:
+        return f"{self._key_text()} {self.verdict}"
+
+
+@dataclass(frozen=True)
 class Detail(Witnessed, Key, Record):
-    """A row of ``details``: a route with its verdict, its witness and its path.
+    """A row of ``details`` or ``routes``: a route with its verdict, its witness and its path.
 
     ``path`` has the neighbour first and no prepends. ``set`` says that the path has an AS_SET, of which no AS stands in ``path``.
     """
@@ -54,8 +94,7 @@ class Detail(Witnessed, Key, Record):
         return cls(*read_key(found), *read_witness(found), path, found["set"] is not None)
 
     def __str__(self) -> str:
-        ases = "".join(f" {number}" for number in self.path)
-        return f"{self._key_text()} {self.verdict} {self.witness} path{' set' if self.set else ''}{ases}"
+        return f"{self._key_text()} {self.verdict} {self.witness} path{' set' if self.set else ''}{written_ases(self.path)}"
 
 
 @dataclass(frozen=True)
@@ -109,7 +148,7 @@ class Origin(Key, Record):
         return f"{self._key_text()} {self.state}"
 
 
-# ---- answers about all routes, or about one
+# ---- rows of ASes and of peers
 
 @dataclass(frozen=True)
 class Suspect(Record):
@@ -172,6 +211,107 @@ class Peer(Record):
 
 
 @dataclass(frozen=True)
+class Neighbour(Record):
+    """A row of ``neighbours``: an AS beside the one that was asked for, on some route's path.
+
+    ``climb`` is what ``asn`` attests of ``neighbour``, and ``descend`` what that attests of ``asn``. ``to_routes`` went from ``asn`` to the
+    neighbour, and ``from_routes`` came from it.
+    """
+    kind = "neighbours"
+    columns = ("asn", "neighbour", "climb", "descend", "to_routes", "from_routes")
+    _shape = compiled(rf"(?P<asn>{NUMBER}) (?P<neighbour>{NUMBER}) climb {STANCES} to (?P<to>{NUMBER}) from (?P<from>{NUMBER})")
+    asn: int
+    neighbour: int
+    climb: Stance
+    descend: Stance
+    to_routes: int
+    from_routes: int
+
+    @classmethod
+    def _of(cls, found: Match[str]) -> "Neighbour":
+        stances = Stance(found["climb"]), Stance(found["descend"])
+        return cls(int(found["asn"]), int(found["neighbour"]), *stances, int(found["to"]), int(found["from"]))
+
+    def __str__(self) -> str:
+        return f"{self.asn} {self.neighbour} climb {self.climb} descend {self.descend} to {self.to_routes} from {self.from_routes}"
+
+
+@dataclass(frozen=True)
+class Silent(Record):
+    """A row of ``silent``: an AS that attests nothing, with how many unknown routes ask about it, and how many distinct paths these have."""
+    kind = "silent"
+    columns = ("asn", "routes", "paths")
+    _shape = compiled(rf"(?P<asn>{NUMBER}) routes (?P<routes>{NUMBER}) paths (?P<paths>{NUMBER})")
+    asn: int
+    routes: int
+    paths: int
+
+    @classmethod
+    def _of(cls, found: Match[str]) -> "Silent":
+        return cls(*map(int, found.group("asn", "routes", "paths")))
+
+    def __str__(self) -> str:
+        return f"{self.asn} routes {self.routes} paths {self.paths}"
+
+
+# ---- what attests
+
+@dataclass(frozen=True)
+class Assertion(Record):
+    """A line of ``attests``, which is one of a script: the customer attests these providers. ``(0,)`` says that it has none.
+
+    A customer with very many providers has several lines.
+    """
+    kind = "assert"
+    columns = ("customer", "providers")
+    _shape = compiled(rf"assert (?P<customer>{NUMBER}){ASES}")
+    customer: int
+    providers: Tuple[int, ...]
+
+    @classmethod
+    def _of(cls, found: Match[str]) -> "Assertion":
+        return cls(int(found["customer"]), tuple(map(int, found["providers"].split())))
+
+    def __str__(self) -> str:
+        return f"assert {self.customer}{written_ases(self.providers)}"
+
+
+@dataclass(frozen=True)
+class Attested(Record):
+    """A line of ``attests AS``: where the row of one customer comes from, and last the row itself.
+
+    ``word`` is ``source``, ``slurm``, ``hand``, ``filtered`` or ``row``. ``name`` is that of the source, or ``slurm`` or ``hand`` of a filter.
+    ``providers`` are those that are attested, in which ``(0,)`` says none; they are None of a filter, and of a row that isn't there. ``until``
+    is the end of a source's attestation, None where it never ends, and ``ended`` says that this is over.
+    """
+    kind = "attests"
+    columns = ("word", "name", "until", "ended", "providers")
+    _shape = compiled(rf"(?:source (?P<name>{NAME})(?: until (?P<until>{NUMBER}))?(?P<attested>(?: {NUMBER})+)(?P<ended> ended)?"
+                      rf"|(?P<part>slurm|hand|row){ASES}|filtered (?P<filter>slurm|hand)|row none)")
+    word: str
+    name: Optional[str]
+    until: Optional[int]
+    ended: bool
+    providers: Optional[Tuple[int, ...]]
+
+    @classmethod
+    def _of(cls, found: Match[str]) -> "Attested":
+        listed = found["attested"] or found["providers"]
+        providers = None if listed is None else tuple(map(int, listed.split()))
+        return cls(found[0].partition(" ")[0], found["name"] or found["filter"], read_number(found["until"]), found["ended"] is not None,
+                   providers)
+
+    def __str__(self) -> str:
+        name = "" if self.name is None else f" {self.name}"
+        until = "" if self.until is None else f" until {self.until}"
+        if self.providers is None:
+            return f"{self.word}{name}{' none' if self.word == 'row' else ''}"
+        return f"{self.word}{name}{until}{written_ases(self.providers)}{' ended' if self.ended else ''}"
+
+
+# ---- answers about all routes together, or about one
+
+@dataclass(frozen=True)
 class Summary(Record):
     """The line of ``summary``. ``refused`` counts the lines so far that begin with ``! ``."""
     kind = "summary"
@@ -195,7 +335,7 @@ class Summary(Record):
 
 @dataclass(frozen=True)
 class Why(Witnessed, Record):
-    """The answer to ``why``: the verdict of a route and its witness."""
+    """The answer to ``why``, and the first line of ``explain``: the verdict of a route, or of a path, and its witness."""
     kind = "why"
     columns = ("verdict", "witness", "hops", *WITNESS_COLUMNS)
     _shape = compiled(f"{VERDICT} {WITNESS}")
@@ -208,6 +348,30 @@ class Why(Witnessed, Record):
 
     def __str__(self) -> str:
         return f"{self.verdict} {self.witness}"
+
+
+@dataclass(frozen=True)
+class Hop(Record):
+    """A further line of ``explain``: hop ``number``, counted from 1 at the origin, from the lower AS to the upper one.
+
+    ``climb`` is what ``from_as`` attests of ``to_as``, and ``descend`` what ``to_as`` attests of ``from_as``.
+    """
+    kind = "hop"
+    columns = ("number", "from_as", "to_as", "climb", "descend")
+    _shape = compiled(rf"hop (?P<number>{NUMBER}) (?P<from>{NUMBER}) (?P<to>{NUMBER}) climb {STANCES}")
+    number: int
+    from_as: int
+    to_as: int
+    climb: Stance
+    descend: Stance
+
+    @classmethod
+    def _of(cls, found: Match[str]) -> "Hop":
+        number, from_as, to_as = map(int, found.group("number", "from", "to"))
+        return cls(number, from_as, to_as, Stance(found["climb"]), Stance(found["descend"]))
+
+    def __str__(self) -> str:
+        return f"hop {self.number} {self.from_as} {self.to_as} climb {self.climb} descend {self.descend}"
 
 
 @dataclass(frozen=True)
@@ -310,25 +474,40 @@ class Refusal(Record):
 
 # ---- which line it is
 
-# By shape, the first of these that fits: a row with `valid` or `invalid` behind its prefix is taken for one of a report.
-RECORDS: Tuple[Type[Record], ...] = (Route, Detail, Change, Leak, Origin, Suspect, Peer, Refusal, Summary, Why, Judged, Said, Served, Demo)
+# By shape, the first of these that fits: a row with a verdict alone behind its prefix is taken for one of a report.
+RECORDS: Tuple[Type[Record], ...] = (
+    Route, Detail, Change, Leak, Origin, Own, Suspect, Peer, Neighbour, Silent, Assertion, Attested, Refusal, Summary, Why, Hop, Judged, Said, Served,
+    Demo, Sent)
 
 BY_KIND: Dict[str, Type[Record]] = {record.kind: record for record in RECORDS}
+
+# Those whose kind is the question that they alone answer.
+_ALONE: Tuple[Type[Record], ...] = (
+    Route, Detail, Change, Leak, Origin, Suspect, Peer, Neighbour, Silent, Summary, Why, Judged, Said, Served, Demo)
+
+# What each question is answered by, by its first word.
+ANSWERS: Dict[str, Tuple[Type[Record], ...]] = {
+    **{record.kind: (record,) for record in _ALONE},
+    "sent": (Own, Sent),
+    "routes": (Detail,),
+    "explain": (Why, Hop),
+    "attests": (Assertion, Attested),
+}
 
 
 def parse_line(text: str, asked: Optional[str] = None) -> Record:
     """The record of a line, which may have its LF.
 
-    ``asked`` is the line of the script that it answers, or the first word of that: then it is of that kind, or a refusal. Without it the
-    line is told by its shape. That leaves one doubt: ``ADDRESS AS PREFIX valid`` and ``.. invalid`` are rows of ``report`` and of
-    ``origins`` alike, and are taken for those of ``report``. It raises NotAText where the line is none that the program writes.
+    ``asked`` is the line of the script that it answers, or the first word of that: then it is of a kind that answers this, or a refusal.
+    Without it the line is told by its shape. That leaves one doubt: ``ADDRESS AS PREFIX VERDICT`` is a row of ``report`` or of ``sent``, and
+    with ``valid`` or ``invalid`` perhaps of ``origins``; it is taken for one of ``report``. It raises NotAText where the line is none that the
+    program writes.
     """
     text = text[:-1] if text.endswith("\n") else text
     if asked is None:
         candidates = RECORDS
     else:
-        kind = BY_KIND.get((asked.split() or [""])[0])
-        candidates = (Refusal,) if kind is None or text.startswith("! ") else (kind,)
+        candidates = (Refusal,) if text.startswith("! ") else ANSWERS.get((asked.split() or [""])[0], (Refusal,))
     for candidate in candidates:
         record = candidate.match(text)
         if record is not None:

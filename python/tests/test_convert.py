@@ -85,6 +85,24 @@ class Convert(unittest.TestCase):
         self.assertEqual(kinds(), ["report", "origins", "report"])
         self.assertEqual(kinds("--only", "origins"), ["origins", "origins"])
         self.assertEqual(kinds("--only", "report,origins"), ["report", "origins", "report"])
+        self.assertEqual(kinds("--only", "sent"), ["sent", "sent"])
+        self.assertEqual(kinds("--only", "sent,origins"), ["sent", "origins", "sent"])
+
+    def test_what_stands_beside_rows(self) -> None:
+        text = ("own valid\nhop 2 64503 64501 climb refuses descend provides\nassert 64501 64500 64503\nsource a until 7 0 ended\n"
+                "filtered hand\nrow none\n64503 64541 climb refuses descend silent to 0 from 1\n64540 routes 1 paths 1\n")
+        status, out, _ = convert("jsonl", text=text)
+        self.assertEqual(status, 0)
+        self.assertEqual([json.loads(line) for line in out.splitlines()], [
+            {"kind": "own", "verdict": "valid"},
+            {"kind": "hop", "number": 2, "from_as": 64503, "to_as": 64501, "climb": "refuses", "descend": "provides"},
+            {"kind": "assert", "customer": 64501, "providers": [64500, 64503]},
+            {"kind": "attests", "word": "source", "name": "a", "until": 7, "ended": True, "providers": [0]},
+            {"kind": "attests", "word": "filtered", "name": "hand", "until": None, "ended": False, "providers": None},
+            {"kind": "attests", "word": "row", "name": None, "until": None, "ended": False, "providers": None},
+            {"kind": "neighbours", "asn": 64503, "neighbour": 64541, "climb": "refuses", "descend": "silent", "to_routes": 0,
+             "from_routes": 1},
+            {"kind": "silent", "asn": 64540, "routes": 1, "paths": 1}])
 
     def test_every_example(self) -> None:
         names = sorted(path.stem for path in EXAMPLES.glob("*.txt") if path.stem not in ("feed", "serve", "router"))

@@ -12,7 +12,8 @@ from pathlib import Path
 from typing import Any, List
 from unittest import mock
 
-from aspaview import Change, Detail, Judged, Key, Refusal, ProgramEnded, Refused, Route, Said, Session, Suspects, Summary, Verdict, parse_line
+from aspaview import (Assertion, Change, Detail, Judged, Key, Refusal, ProgramEnded, Refused, Route, Said, Sent, Session, Stance, Suspects, Summary,
+                      Verdict, parse_line)
 from aspaview.process import find_program
 
 from .places import EXAMPLES, TOP
@@ -38,6 +39,55 @@ def table(**how: Any) -> Session:
 class Questions(unittest.TestCase):
     """What docs/guide.md shows, in chapters 5 to 9, 14 and 15."""
 
+    def test_what_an_as_above_sees(self) -> None:
+        with table() as it:
+            it.tell("assert 64500 64503")
+            own, rows = it.sent("peer", [64503, 64500])
+            self.assertEqual(own.verdict, Verdict.VALID)
+            self.assertEqual([(type(row), str(row.prefix), str(row.verdict)) for row in rows],
+                             [(Sent, "198.51.100.0/24", "valid"), (Sent, "203.0.113.0/24", "invalid")])
+            own, rows = it.sent("peer", [64502, 64500])
+            # (the next question has the rest of this answer kept)
+            self.assertEqual(it.summary().routes, 6)
+            self.assertEqual((own.verdict, [str(row.verdict) for row in rows]), ("invalid", ["invalid", "invalid"]))
+            with self.assertRaises(Refused):
+                it.sent("peer", [])
+
+    def test_hops(self) -> None:
+        with table() as it:
+            why, hops = it.explain(LEAKED)
+            self.assertEqual(why, it.why(LEAKED))
+            self.assertEqual([str(hop) for hop in hops], ["hop 1 64530 64503 climb provides descend refuses",
+                                                          "hop 2 64503 64501 climb refuses descend provides"])
+            self.assertEqual(it.explain_path("customer", 64501, [64501, 64503, 64530]), (why, hops))
+            self.assertIs(hops[0].climb, Stance.PROVIDES)
+            self.assertEqual([str(record) for record in it.ask("explain customer 5")], ["invalid empty"])
+            with self.assertRaises(Refused):
+                it.explain(Key.of("192.0.2.1", 64501, "192.0.2.0/24"))
+
+    def test_what_attests(self) -> None:
+        with table() as it:
+            lines = list(it.attests())
+            self.assertEqual(lines[:2], [Assertion(64501, (64500, 64503)), Assertion(64502, (0,))])
+            it.tell("assert 64501 64502", "filter 64501")
+            self.assertEqual([str(line) for line in it.attests(64501)],
+                             ["source rpki 64500 64503", "hand 64502", "filtered hand", "row 64502"])
+            self.assertEqual([line.providers for line in it.attests(7)], [None])
+        with session() as it:
+            it.tell("\n".join(map(str, lines)))
+            self.assertEqual(list(it.attests()), lines)
+
+    def test_some_routes(self) -> None:
+        with table() as it:
+            self.assertEqual(list(it.routes()), list(it.details()))
+            self.assertEqual(list(it.routes(verdict=Verdict.INVALID)), list(it.details("invalid")))
+            self.assertEqual([str(row.peer) for row in it.routes(covering="203.0.113.7/32", address="192.0.2.3")], ["192.0.2.3"])
+            self.assertEqual([row.peer_as for row in it.routes(within="2001:db8::/32", through=64502)], [64502])
+            self.assertEqual([row.peer_as for row in it.routes(origin=64510)], [64501, 64503])
+            self.assertEqual([row.key for row in it.routes(peer=64501, prefix="203.0.113.0/24")], [LEAKED])
+            with self.assertRaises(ValueError):
+                it.routes(prefix="203.0.113.1/24")
+
     def test_each_question(self) -> None:
         with table() as it:
             self.assertEqual([str(row) for row in it.report()][1], "192.0.2.1 64501 203.0.113.0/24 invalid")
@@ -52,6 +102,10 @@ class Questions(unittest.TestCase):
             self.assertEqual([str(row) for row in it.suspects()], ["64503 64501 64501 here routes 1 paths 1"])
             self.assertEqual([(row.peer_as, row.role, row.own, row.routes) for row in it.peers()],
                              [(64501, "customer", True, 2), (64502, "peer", True, 1), (64503, "provider", True, 3)])
+            self.assertEqual([str(row) for row in it.neighbours(64503)], [
+                "64503 64501 climb refuses descend provides to 1 from 1", "64503 64530 climb refuses descend provides to 0 from 2",
+                "64503 64541 climb refuses descend silent to 0 from 1"])
+            self.assertEqual([(row.asn, row.routes, row.paths) for row in it.silent()], [(64540, 1, 1), (64541, 1, 1)])
             self.assertEqual([str(row.state) for row in it.origins()], ["not-found"] * 6)
             self.assertEqual(list(it.leaks()), [])
             self.assertIs(it.judge("customer", 64501, [64501, 64503, 64530]), Verdict.INVALID)

@@ -108,6 +108,14 @@ impl Analyser {
         Ok(())
     }
 
+    /// The hops of its paths stand in lists from now on, so that those of an AS are found without going over all paths
+    /// ([`RibStore::list_hops`]), and nothing else changes.
+    pub fn list_hops(&mut self) -> Result<(), NoMemory>
+        ensures { self.new ≡ self.old }
+    {
+        self.store.list_hops()
+    }
+
     /// The store, for what is read of it.
     pub fn store(&self) -> &RibStore
         ensures { result.now.state ≡ self.now }

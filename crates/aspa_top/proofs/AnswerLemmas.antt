@@ -1,10 +1,10 @@
 -- A question that was answered, or refused.
-use Rattle.std.proofs.Common.{◌≡◌, ℕ, ◌+◌, ◌<◌, List, ◌++◌, length, flat_map, false, Ok, Err, IsErrAnd, refl, sym, ap, subst, ◌∙◌, arith}
+use Rattle.std.proofs.Common.{◌≡◌, ℕ, ◌+◌, ◌<◌, ◌≤◌, List, ◌++◌, length, flat_map, false, Ok, Err, IsErrAnd, refl, sym, ap, subst, ◌∙◌, arith}
 use Rattle.std.specs.declared.option.Option.{Option}
 use Rattle.std.specs.declared.result.Result.{Result}
 use Rattle.std.specs.declared.option.Option.TheVariants.{Some, None}
 use Rattle.std.specs.Io.KnownBytes.{append_known}
-use Rattle.av_base.specs.Told.{AppendsFront, Rose}
+use Rattle.av_base.specs.Told.{AppendsFront, Grows, Rose}
 use Rattle.std.specs.FinMap as fin
 use Rattle.path_model.specs.declared.key.Key.{Key}
 use Rattle.path_model.specs.declared.verdict.Verdict.{Verdict}
@@ -37,22 +37,33 @@ use Rattle.stream_lines.proofs.FrameLemmas.{Leaves-refl}
 use Rattle.rtr_server.specs.Routers.{NoneMore}
 use Rattle.listings.specs.declared.tally.Tally.{Tally}
 use Rattle.listings.specs.Suspects.{AreSuspects}
+use Rattle.conditions.specs.declared.asked.Conditions.{Conditions}
+use Rattle.attestations.specs.ComputedTable.{table_of}
+use Rattle.attestations.specs.CurrentTable.{Parts}
+use Rattle.report_text.specs.declared.neighbour.Neighbour.{Neighbour}
+use Rattle.report_text.specs.Attested.{with_lf}
+use Rattle.listings.specs.Attests.{AreAttested, attested_row}
+use Rattle.listings.specs.AttestsOf.{AreAttestsOf}
+use Rattle.listings.specs.Hops.{explained_text}
+use Rattle.listings.specs.Neighbours.{AreNeighboursOf, neighbour_row}
+use Rattle.listings.specs.Silent.{AreSilent, silent_row}
 use Rattle.listings.specs.Details.{AreDetails, detail_row}
 use Rattle.listings.specs.Peers.{ArePeers, peer_row}
 use Rattle.listings.specs.Suspected.{suspect_row}
 use Rattle.valleys.specs.declared.valley.Valley.{Valley}
 use Rattle.aspa_top.specs.Working.{refused_in}
 use Rattle.aspa_top.specs.declared.task.Question.{Question}
-use Rattle.aspa_top.specs.declared.task.Question.TheVariants.{Report, Origins as ListOrigins, Leaks as ListLeaks, Suspects as ListSuspects, Peers as ListPeers, Summary as SumUp, Details, Why}
+use Rattle.aspa_top.specs.declared.task.Question.TheVariants.{Report, Origins as ListOrigins, Leaks as ListLeaks, Suspects as ListSuspects, Peers as ListPeers, Summary as SumUp, Routes, Why, Explain, Attests, Neighbours, Silent}
 use Rattle.aspa_top.specs.declared.task.Task.TheVariants.{Answer}
 use Rattle.aspa_top.specs.declared.working.Working.{Working}
 use Rattle.aspa_top.specs.Answers.{Answers, AnswersUnless, no_route, refused_for}
+use Rattle.aspa_top.specs.Asked.{ListsAttested}
 use Rattle.aspa_top.specs.Outside.{Outside, all_of}
 use Rattle.aspa_top.specs.Performing.{Did, Done, EndedEarly}
 use Rattle.aspa_top.specs.Standing.{IsBegun}
 use Rattle.aspa_top.specs.Tasks.{State}
 use Rattle.aspa_top.proofs.DidLemmas.{did_err, done_refused, some_done, stopped_by_sink}
-use Rattle.aspa_top.proofs.QuestionLemmas.{answer_lines}
+use Rattle.aspa_top.proofs.QuestionLemmas.{answer_lines, explained_same}
 use Rattle.aspa_top.proofs.ReadyLemmas.{kept_all, ready_streams}
 
 -- what the working state says of an evaluation that it stands for, as far as questions are asked of it
@@ -206,11 +217,42 @@ module _ (working : Working) (held : Analysis) (is : held ≡ working.progress.a
     answers = record { rows = rows; are = subst (λ (a : Analysis). ArePeers a rows) (is ∙ reads.analysis) are; text_is = refl };
   }
 
-  pub details_answer : (verdict : Option Verdict) (rows : List (Key × Standing)) → AreDetails held verdict rows → (state : State) → Reads working state
-      → IsAnswered state (Details verdict) (flat_map detail_row rows)
-  details_answer verdict rows are = λ state reads. record {
+  pub details_answer : (conditions : Conditions) (rows : List (Key × Standing)) → AreDetails held conditions rows → (state : State) → Reads working state
+      → IsAnswered state (Routes conditions) (flat_map detail_row rows)
+  details_answer conditions rows are = λ state reads. record {
     there = refl;
-    answers = record { rows = rows; are = subst (λ (a : Analysis). AreDetails a verdict rows) (is ∙ reads.analysis) are; text_is = refl };
+    answers = record { rows = rows; are = subst (λ (a : Analysis). AreDetails a conditions rows) (is ∙ reads.analysis) are; text_is = refl };
+  }
+
+  pub attests_answer : (parts : Parts) → parts ≡ held.parts → (rows : List (ℕ × List ℕ)) → AreAttested parts rows → (state : State) → Reads working state
+      → IsAnswered state (Attests None) (flat_map attested_row rows)
+  attests_answer parts are_its rows are = λ state reads. record {
+    there = refl;
+    answers = record { rows = rows; are = subst (λ (p : Parts). AreAttested p rows) (are_its ∙ ap (λ (a : Analysis). a.parts) (is ∙ reads.analysis)) are; text_is = refl };
+  }
+
+  pub attests_of_answer : (customer : ℕ) (parts : Parts) → parts ≡ held.parts → (rows : List (List ℕ)) → AreAttestsOf parts customer rows → (state : State) → Reads working state
+      → IsAnswered state (Attests (Some customer)) (flat_map with_lf rows)
+  attests_of_answer customer parts are_its rows are = λ state reads. record {
+    there = refl;
+    answers = record {
+      rows = rows;
+      are = subst (λ (p : Parts). AreAttestsOf p customer rows) (are_its ∙ ap (λ (a : Analysis). a.parts) (is ∙ reads.analysis)) are;
+      text_is = refl;
+    };
+  }
+
+  pub neighbours_answer : (asn : ℕ) (rows : List Neighbour) → AreNeighboursOf held asn rows → (state : State) → Reads working state
+      → IsAnswered state (Neighbours asn) (flat_map neighbour_row rows)
+  neighbours_answer asn rows are = λ state reads. record {
+    there = refl;
+    answers = record { rows = rows; are = subst (λ (a : Analysis). AreNeighboursOf a asn rows) (is ∙ reads.analysis) are; text_is = refl };
+  }
+
+  pub silent_answer : (rows : List (ℕ × Tally)) → AreSilent held rows → (state : State) → Reads working state → IsAnswered state Silent (flat_map silent_row rows)
+  silent_answer rows are = λ state reads. record {
+    there = refl;
+    answers = record { rows = rows; are = subst (λ (a : Analysis). AreSilent a rows) (is ∙ reads.analysis) are; text_is = refl };
   }
 
   pub summary_answers : (summary : Summary) → IsSummary held working.progress.passed working.progress.refused summary → (state : State) → Reads working state
@@ -235,6 +277,27 @@ module _ (working : Working) (held : Analysis) (is : held ≡ working.progress.a
         answers = record { verdict = verdict; witness = witness; explained = subst (λ (a : Analysis). IsExplained a key verdict witness) same shows; text_is = refl };
       }
 
+  -- and what is attested of its hops
+  pub explain_answers : (parts : Parts) → parts ≡ held.parts → (key : Key) (path : Path) (verdict : Verdict) (witness : Witness) → fin.get held.routes key ≡ Some path
+      → IsExplained held key verdict witness → (state : State) → Reads working state → IsAnswered state (Explain key) (explained_text (table_of parts) path verdict witness)
+  explain_answers parts are_its key path verdict witness route shows = λ state reads.
+      let same = is ∙ reads.analysis in
+      let there : fin.get state.analysis.routes key ≡ Some path = ap (λ (a : Analysis). fin.get a.routes key) (sym same) ∙ route in
+      let explained : IsExplained state.analysis key verdict witness = subst (λ (a : Analysis). IsExplained a key verdict witness) same shows in
+      record {
+        there = ap no_route there;
+        answers = record {
+          verdict = verdict;
+          witness = witness;
+          explained = explained;
+          text_is = ap (λ (p : Parts). explained_text (table_of p) path verdict witness) (are_its ∙ ap (λ (a : Analysis). a.parts) same)
+              ∙ explained_same state.analysis key path verdict witness explained there;
+        };
+      }
+
+  pub explain_refused : (key : Key) → fin.get held.routes key ≡ None → (state : State) → Reads working state → refused_for state (Explain key) ≡ Some NoRoute
+  explain_refused key none = λ state reads. ap no_route (ap (λ (a : Analysis). fin.get a.routes key) (sym (is ∙ reads.analysis)) ∙ none)
+
   -- or there is no such route
   pub why_refused : (key : Key) → fin.get held.routes key ≡ None → (state : State) → Reads working state → refused_for state (Why key) ≡ Some NoRoute
   why_refused key none = λ state reads. ap no_route (ap (λ (a : Analysis). fin.get a.routes key) (sym (is ∙ reads.analysis)) ∙ none)
@@ -250,3 +313,24 @@ not_answered working next question cause old held begun refuses added is =
     (λ world tells state stands.
     subst (λ (c : Option Cause). AnswersUnless c state question (refusal_text state.lines of_line cause) (record state { refused = state.refused + 1 }))
     (sym (refuses state (record { analysis = stands.analysis; marks = stands.marks; origins = stands.origins; passed = stands.passed; refused = stands.refused }))) (refl, refl))
+
+-- ---- `attests`
+
+pub attested_grows : {T : Type 0} (parts : Parts) (customer : Option ℕ) (old new : Pouring) (result : Result T Stop) → ListsAttested parts customer old new result
+    → Grows old.written new.written × (old.faults ≤ new.faults)
+attested_grows parts None old new result lists = (lists.listed.grows, lists.listed.sink_faults)
+attested_grows parts (Some customer) old new result lists = (lists.listed.grows, lists.listed.sink_faults)
+
+pub attested_done : {T : Type 0} (working : Working) (held : Analysis) (is : held ≡ working.progress.analyser) (parts : Parts) (its : parts ≡ held.parts) (customer : Option ℕ) (old : Outside)
+    (new : Pouring) → IsBegun old working → (done : T) → ListsAttested parts customer (pouring_of old) new (Ok done) → (next : Working) → next ≡ working
+    → Done working (Ok (Answer (Attests customer))) old (record old { written = new.written; sink_faults = new.faults; held = new.held }) next
+attested_done working held is parts its None old new begun done lists next same = all_listed working (Attests None) old new begun (attests_answer working held is parts its) done lists next same
+attested_done working held is parts its (Some customer) old new begun done lists next same =
+    all_listed working (Attests (Some customer)) old new begun (attests_of_answer working held is customer parts its) done lists next same
+
+pub attested_err : (T : Type 0) (working : Working) (held : Analysis) (is : held ≡ working.progress.analyser) (parts : Parts) (its : parts ≡ held.parts) (customer : Option ℕ) (old : Outside)
+    (new : Pouring) → IsBegun old working → (stop : Stop) → ListsAttested {T = T} parts customer (pouring_of old) new (Err stop) → (result : Result Working Stop) → IsErrAnd result (λ e. e ≡ stop)
+    → Did working (Ok (Answer (Attests customer))) old (record old { written = new.written; sink_faults = new.faults; held = new.held }) result
+attested_err T working held is parts its None old new begun stop lists result err = some_listed working (Attests None) old new begun (attests_answer working held is parts its) stop lists result err
+attested_err T working held is parts its (Some customer) old new begun stop lists result err =
+    some_listed working (Attests (Some customer)) old new begun (attests_of_answer working held is customer parts its) stop lists result err

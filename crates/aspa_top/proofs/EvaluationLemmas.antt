@@ -23,7 +23,7 @@ use Rattle.aspa_top.specs.declared.files.Outcome.{Outcome}
 use Rattle.aspa_top.specs.declared.files.Outcome.TheVariants.{NoFile, Long as FileLong, Flawed, Good}
 use Rattle.aspa_top.specs.declared.task.Question.{Question}
 use Rattle.aspa_top.specs.declared.task.Task.{Task}
-use Rattle.aspa_top.specs.declared.task.Task.TheVariants.{Idle as Nothing, Happen, Clear, Judge, Say, Load, Open, Take, Until, Connect, OnFeed, Serve, Answer, Changes}
+use Rattle.aspa_top.specs.declared.task.Task.TheVariants.{Idle as Nothing, Happen, Clear, Judge, Explain, Sent, Say, Load, Open, Take, Until, Connect, OnFeed, Serve, Answer, Changes}
 use Rattle.aspa_top.specs.Tasks.{State, Moves, TakesFile, LoadsUnless, OpensNamed, TakesOpen, TakesNamed, TakesRecordsUnless, TakesUntilNamed, Works, DoesTask, feeds_of, is_stream, is_taken}
 use Rattle.aspa_top.specs.Answers.{AnswersUnless, Replies, refused_for}
 use Rattle.aspa_top.specs.Evaluation.{Asked, Begins, Does, DoesAsked, asked_of, counted, Performs, Evaluates}
@@ -98,6 +98,8 @@ task_keeps world state (Happen event) text next other none does = ap (λ (s : St
 task_keeps world state Clear text next other none does = ap (λ (s : State). s.feeds) does.1
 task_keeps world state (Say words) text next other none does = ap (λ (s : State). s.feeds) does.1
 task_keeps world state (Judge role neighbour path) text next other none does = ap (λ (s : State). s.feeds) does.1
+task_keeps world state (Explain role neighbour path) text next other none does = ap (λ (s : State). s.feeds) does.1
+task_keeps world state (Sent role path) text next other none does = ap (λ (s : State). s.feeds) does.left
 task_keeps world state (Load kind file) text next other none does = load_keeps (is_taken state kind) world state kind file text next does
 task_keeps world state (Open kind name file) text next other none does = open_keeps (state.sources name || is_stream state name) (world.named file) state kind name text next does
 task_keeps world state (Take name count) text next other none does = take_keeps (state.dumps name) world state name count text next (none name) does
@@ -252,6 +254,8 @@ front_of_task world attempts told state (Happen event) part text moved next move
 front_of_task world attempts told state Clear part text moved next moves does = absurd moves
 front_of_task world attempts told state (Say words) part text moved next moves does = absurd moves
 front_of_task world attempts told state (Judge role neighbour path) part text moved next moves does = absurd moves
+front_of_task world attempts told state (Explain role neighbour path) part text moved next moves does = absurd moves
+front_of_task world attempts told state (Sent role path) part text moved next moves does = absurd moves
 front_of_task world attempts told state (Load kind file) part text moved next moves does = absurd moves
 front_of_task world attempts told state (Open kind name file) part text moved next moves does = absurd moves
 front_of_task world attempts told state (Answer question) part text moved next moves does = absurd moves

@@ -22,7 +22,7 @@ use Rattle.aspa_top.specs.declared.files.Outcome.{Outcome}
 use Rattle.aspa_top.specs.declared.files.Outcome.TheVariants.{NoFile, Long as FileLong, Flawed, Good}
 use Rattle.aspa_top.specs.declared.task.Question.{Question}
 use Rattle.aspa_top.specs.declared.task.Task.{Task}
-use Rattle.aspa_top.specs.declared.task.Task.TheVariants.{Idle as Nothing, Happen, Clear, Judge as JudgePath, Say, Load, Open, Take, Until, Connect, OnFeed, Serve, Answer, Changes}
+use Rattle.aspa_top.specs.declared.task.Task.TheVariants.{Idle as Nothing, Happen, Clear, Judge as JudgePath, Explain as ExplainPath, Sent as ListSent, Say, Load, Open, Take, Until, Connect, OnFeed, Serve, Answer, Changes}
 use Rattle.aspa_top.specs.Answers.{AnswersUnless, Replies, refused_for}
 use Rattle.aspa_top.specs.Evaluation.{Asked, DoesAsked, Evaluates, asked_of, counted}
 use Rattle.aspa_top.specs.Files.{ComesOf, Makes}
@@ -141,6 +141,8 @@ module _ (world : World) (Is : State → Type 0) (left : IsLeft world Is) where
   DoesTask-left state next Clear text is does = left.keeps state next (kept state next _ refl refl refl does.1) is
   DoesTask-left state next (Say words) text is does = left.keeps state next (kept state next _ refl refl refl does.1) is
   DoesTask-left state next (JudgePath role neighbour path) text is does = left.keeps state next (kept state next _ refl refl refl does.1) is
+  DoesTask-left state next (ExplainPath role neighbour path) text is does = left.keeps state next (kept state next _ refl refl refl does.1) is
+  DoesTask-left state next (ListSent role path) text is does = left.keeps state next (kept state next _ refl refl refl does.left) is
   DoesTask-left state next (Load kind file) text is does = left.keeps state next (Loads-keeps (is_taken state kind) world state kind file text next refl does) is
   DoesTask-left state next (Open kind name file) text is does =
       left.keeps state next (Opens-keeps (state.sources name || is_stream state name) (world.named file) state kind name text next does) is

@@ -1,4 +1,5 @@
 pub mod AnswerLemmas
+pub mod AttestedTextLemmas
 pub mod BeginningLemmas
 pub mod ChangesLemmas
 pub mod ConnectedLemmas
@@ -9,6 +10,7 @@ pub mod FeedLemmas
 pub mod FeedStateLemmas
 pub mod FileLemmas
 pub mod JudgedLemmas
+pub mod JudgedListLemmas
 pub mod KeepLemmas
 pub mod LawLemmas
 pub mod LostLemmas

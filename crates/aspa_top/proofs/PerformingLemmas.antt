@@ -5,7 +5,7 @@ use Rattle.std.proofs.lemmas.Bool.Decides.{nat_tests}
 use Rattle.report_text.specs.declared.cause.Cause.{Cause}
 use Rattle.report_text.specs.Refusals.{of_line, refusal_text}
 use Rattle.script_lines.specs.declared.commands.Command.{Command}
-use Rattle.script_lines.specs.declared.commands.Command.TheVariants.{Idle, Take, Ask, Sync, Serve, Judge}
+use Rattle.script_lines.specs.declared.commands.Command.TheVariants.{Idle, Take, Ask, Sync, Serve, Judge, Explain}
 use Rattle.script_lines.specs.declared.fault.LineFault.{LineFault}
 use Rattle.script_lines.specs.Grammar.{IsReading}
 use Rattle.script_lines.proofs.CommandLemmas.{reading_bounded}
@@ -32,6 +32,7 @@ IsWithinBounds-IsReading line (Ask name) is = omega arith
 IsWithinBounds-IsReading line (Sync name count) is = within_most (reading_bounded line (Sync name count) is).1
 IsWithinBounds-IsReading line (Serve place session count) is = within_most (reading_bounded line (Serve place session count) is).1
 IsWithinBounds-IsReading line (Judge role neighbour path) is = let few = reading_bounded line (Judge role neighbour path) is in omega (arith, few)
+IsWithinBounds-IsReading line (Explain role neighbour path) is = let few = reading_bounded line (Explain role neighbour path) is in omega (arith, few)
 IsWithinBounds-IsReading line other is = tt
 
 -- a line that isn't read so is refused

@@ -39,7 +39,24 @@ use Rattle.listings.proofs.LeaksLemmas.{leak_line_of, leaks_answer, leaks_are_li
 use Rattle.stream_lines.proofs.RefusalLemmas.{lacks, refusals_in-line}
 use Rattle.listings.proofs.ReportedLemmas.{line_of, rows_answer, rows_are_lines}
 use Rattle.listings.proofs.SummaryLemmas.{some_summary, one_summary}
+use Rattle.report_text.specs.Attested.{with_lf}
+use Rattle.report_text.specs.Hops.{hop_line}
+use Rattle.report_text.specs.Neighbours.{neighbour_line}
+use Rattle.listings.specs.Attests.{AreAttested, attested_row}
+use Rattle.listings.specs.AttestsOf.{AreAttestsOf}
 use Rattle.listings.specs.Details.{AreDetails, detail_row}
+use Rattle.listings.specs.Hops.{explained_text, path_hops}
+use Rattle.listings.specs.Neighbours.{AreNeighboursOf, neighbour_row}
+use Rattle.listings.specs.Silent.{AreSilent, silent_row}
+use Rattle.listings.proofs.AttestsLemmas.{attests_answer, attests_are_lines, line_of_row}
+use Rattle.listings.proofs.AttestsOfLemmas.{attests_of_answer, attests_of_are_lines}
+use Rattle.listings.proofs.AttestedListLemmas.{one_list_of_attests, one_list_of_attests_of}
+use Rattle.listings.proofs.HopsLemmas.{hops_answer, hops_are_lines}
+use Rattle.listings.proofs.NeighbourLemmas.{neighbours_answer, neighbours_are_lines}
+use Rattle.listings.proofs.BesideLemmas.{one_list_of_neighbours}
+use Rattle.listings.specs.Sent.{SentRow, sent_row}
+use Rattle.listings.proofs.SentLemmas.{sent_answer, sent_are_lines, sent_line_of}
+use Rattle.listings.proofs.SilentLemmas.{one_list_of_silent_ases, silent_answer, silent_are_lines, silent_line_of}
 use Rattle.listings.specs.Peers.{ArePeers, peer_row}
 use Rattle.listings.specs.Suspected.{suspect_row}
 use Rattle.listings.specs.Suspects.{AreSuspects}
@@ -47,7 +64,7 @@ use Rattle.listings.proofs.DetailsLemmas.{detail_line_of, details_answer, detail
 use Rattle.listings.proofs.PeersLemmas.{one_list_of_peers, peers_answer, peers_are_lines}
 use Rattle.listings.proofs.SuspectedLemmas.{one_list_of_suspects, suspect_line_of, suspects_answer, suspects_are_lines}
 use Rattle.aspa_top.specs.declared.task.Question.{Question}
-use Rattle.aspa_top.specs.declared.task.Question.TheVariants.{Report, Origins as ListOrigins, Leaks as ListLeaks, Suspects, Peers, Summary as SumUp, Details, Why}
+use Rattle.aspa_top.specs.declared.task.Question.TheVariants.{Report, Origins as ListOrigins, Leaks as ListLeaks, Suspects, Peers, Summary as SumUp, Routes, Why, Explain, Attests, Neighbours, Silent}
 use Rattle.aspa_top.specs.Answers.{Answers, AnswersUnless, Replies, Shows, no_route, refused_for}
 use Rattle.aspa_top.specs.Tasks.{State}
 
@@ -66,6 +83,25 @@ one_reason state key v w x y a b =
     let v_is = one.only v x first in
     let w_is = one.only w y b.printed in
     (v_is.0 ∙ sym w_is.0, v_is.1 ∙ sym w_is.1)
+
+-- and one text that explains it with its hops
+one_explanation : (state : Analysis) (key : Key) (v w : Verdict) (x y : Witness) (a : IsExplained state key v x) (b : IsExplained state key w y)
+    → explained_text a.table a.path v x ≡ explained_text b.table b.path w y
+one_explanation state key v w x y a b =
+    let path : a.path ≡ b.path = ap (λ (o : Option Path). unwrap_or o a.path) (sym a.route ∙ b.route) in
+    let tables = parts_have_one_table state.parts in
+    let table : a.table ≡ b.table = λ i q. (tables.only a.table a.current q ∙ sym (tables.only b.table b.current q)) i in
+    let same = one_reason state key v w x y a b in
+    λ i. explained_text (table i) (path i) (same.0 i) (same.1 i)
+
+-- it is that of the computed table
+pub explained_same : (state : Analysis) (key : Key) (path : Path) (v : Verdict) (x : Witness) (a : IsExplained state key v x) → fin.get state.routes key ≡ Some path
+    → explained_text (table_of state.parts) path v x ≡ explained_text a.table a.path v x
+explained_same state key path v x a route =
+    let same : path ≡ a.path = ap (λ (o : Option Path). unwrap_or o path) (sym route ∙ a.route) in
+    let table : table_of state.parts ≡ a.table = λ i q. ((parts_have_one_table state.parts).only (table_of state.parts) (table_is_current state.parts) q
+    ∙ sym ((parts_have_one_table state.parts).only a.table a.current q)) i in
+    λ i. explained_text (table i) (same i) v x
 
 some_reason : (path : Option Path) (state : Analysis) (key : Key) → fin.get state.routes key ≡ path → no_route path ≡ None
     → (verdict : Verdict) × (witness : Witness) × IsExplained state key verdict witness
@@ -112,8 +148,23 @@ one_answer state SumUp there =
       is = record { summary = found.0; is = found.1; text_is = refl };
       only = λ other is. is.text_is ∙ ap summary_text (one_summary state.analysis state.passed state.refused is.summary found.0 is.is found.1);
     }
-one_answer state (Details verdict) there =
-    one_listing (AreDetails state.analysis verdict) detail_row (one_list_of_details state.analysis verdict)
+one_answer state (Routes conditions) there =
+    one_listing (AreDetails state.analysis conditions) detail_row (one_list_of_details state.analysis conditions)
+one_answer state (Attests None) there =
+    one_listing (AreAttested state.analysis.parts) attested_row (one_list_of_attests state.analysis.parts)
+one_answer state (Attests (Some customer)) there =
+    one_listing (AreAttestsOf state.analysis.parts customer) with_lf (one_list_of_attests_of state.analysis.parts customer)
+one_answer state (Neighbours asn) there =
+    one_listing (AreNeighboursOf state.analysis asn) neighbour_row (one_list_of_neighbours state.analysis asn)
+one_answer state Silent there =
+    one_listing (AreSilent state.analysis) silent_row (one_list_of_silent_ases state.analysis)
+one_answer state (Explain key) there =
+    let found = some_reason (fin.get state.analysis.routes key) state.analysis key refl there in
+    record {
+      one = explained_text found.2.table found.2.path found.0 found.1;
+      is = record { verdict = found.0; witness = found.1; explained = found.2; text_is = refl };
+      only = λ other is. is.text_is ∙ one_explanation state.analysis key is.verdict found.0 is.witness found.1 is.explained found.2;
+    }
 one_answer state (Why key) there =
     let found = some_reason (fin.get state.analysis.routes key) state.analysis key refl there in
     record {
@@ -132,6 +183,24 @@ pub record AreAnswers (text : List ℕ) : Type 0 where
   pub each : All IsAnswerLine lines
   pub is : text ≡ lines_text lines
 
+-- what explains a path is its first line, and those of its hops
+pub explanation_lines : (table : Table) (path : Path) (verdict : Verdict) (witness : Witness) → AreAnswers (explained_text table path verdict witness)
+explanation_lines table path verdict witness =
+    let hops = path_hops table path in
+    record {
+      lines = why_line verdict witness ∷ map hop_line hops;
+      each = All-cons IsAnswerLine (why_line verdict witness) (map hop_line hops) (reason_is_one_line verdict witness) (hops_answer hops);
+      is = ap (λ (t : List ℕ). why_text verdict witness ++ t) (hops_are_lines hops);
+    }
+
+-- what is sent, and how our own routes stand
+pub sent_lines : (rows : List SentRow) → AreAnswers (flat_map sent_row rows)
+sent_lines rows = record { lines = map sent_line_of rows; each = sent_answer rows; is = sent_are_lines rows }
+
+-- a text that is one of answers
+answers_as : (text other : List ℕ) → text ≡ other → AreAnswers other → AreAnswers text
+answers_as text other is are = record { lines = are.lines; each = are.each; is = is ∙ are.is }
+
 -- of one
 one_line : (line text : List ℕ) → IsAnswerLine line → text ≡ line ++ 10 ∷ [] → AreAnswers text
 one_line line text answer is = record { lines = line ∷ []; each = All-cons IsAnswerLine line [] answer (All-nil IsAnswerLine); is = is ∙ sym (append-nil (line ++ 10 ∷ [])) }
@@ -147,7 +216,18 @@ answer_lines state Suspects text lists =
     record { lines = map suspect_line_of lists.rows; each = suspects_answer lists.rows; is = lists.text_is ∙ suspects_are_lines lists.rows }
 answer_lines state Peers text lists =
     record { lines = map peer_summary_line lists.rows; each = peers_answer lists.rows; is = lists.text_is ∙ peers_are_lines lists.rows }
-answer_lines state (Details verdict) text lists =
+answer_lines state (Attests None) text lists =
+    record { lines = map line_of_row lists.rows; each = attests_answer lists.rows; is = lists.text_is ∙ attests_are_lines lists.rows }
+answer_lines state (Attests (Some customer)) text lists =
+    record { lines = lists.rows; each = attests_of_answer state.analysis.parts customer lists.rows lists.are; is = lists.text_is ∙ attests_of_are_lines lists.rows }
+answer_lines state (Neighbours asn) text lists =
+    record { lines = map neighbour_line lists.rows; each = neighbours_answer lists.rows; is = lists.text_is ∙ neighbours_are_lines lists.rows }
+answer_lines state Silent text lists =
+    record { lines = map silent_line_of lists.rows; each = silent_answer lists.rows; is = lists.text_is ∙ silent_are_lines lists.rows }
+answer_lines state (Explain key) text explains =
+    answers_as text (explained_text explains.explained.table explains.explained.path explains.verdict explains.witness) explains.text_is
+    (explanation_lines explains.explained.table explains.explained.path explains.verdict explains.witness)
+answer_lines state (Routes conditions) text lists =
     record { lines = map detail_line_of lists.rows; each = details_answer lists.rows; is = lists.text_is ∙ details_are_lines lists.rows }
 answer_lines state SumUp text sums = one_line (summary_line sums.summary) text (summary_is_one_line sums.summary) sums.text_is
 answer_lines state (Why key) text explains = one_line (why_line explains.verdict explains.witness) text (reason_is_one_line explains.verdict explains.witness) explains.text_is

@@ -34,10 +34,10 @@ use Rattle.aspa_top.specs.declared.files.Amendment.{Amendment}
 use Rattle.aspa_top.specs.declared.files.Outcome.{Outcome}
 use Rattle.aspa_top.specs.declared.files.Outcome.TheVariants.{NoFile, Long as FileLong, Flawed, Good}
 use Rattle.aspa_top.specs.declared.task.Task.{Task}
-use Rattle.aspa_top.specs.declared.task.Task.TheVariants.{Idle, Happen, Clear, Judge, Say, Load, Open, Take, Until, Connect, OnFeed, Serve, Answer, Changes}
+use Rattle.aspa_top.specs.declared.task.Task.TheVariants.{Idle, Happen, Clear, Judge, Explain, Sent, Say, Load, Open, Take, Until, Connect, OnFeed, Serve, Answer, Changes}
 use Rattle.aspa_top.specs.Tasks.{State, MakesHappen, Holds, TakesFile, LoadsUnless, OpensNamed, TakesOpen, TakesNamed, TakesRecordsUnless, TakesUntilNamed, Works, ConnectsUnless, ShowsChanges, DoesTask, amended, is_stream, is_taken, with_name, asking_of, asking_on, feeds_of, with_feeds, taking_of, after_taking, most_records}
 use Rattle.aspa_top.specs.World.{World}
-use Rattle.aspa_top.proofs.JudgedLemmas.{IsJudged-unique}
+use Rattle.aspa_top.proofs.JudgedLemmas.{ExplainsPath-unique, IsJudged-unique, ListsSent-unique, some_explanation, some_sent}
 use Rattle.aspa_top.proofs.OutcomeLemmas.{some_outcome, outcome_unique}
 use Rattle.aspa_top.proofs.QuestionLemmas.{replies_unique, some_reply}
 use Rattle.aspa_top.proofs.ServingLemmas.{ServesTable-unique}
@@ -151,6 +151,8 @@ some_task world state (Happen event) other none = some_event state event
 some_task world state Clear other none = ([], _, (refl, refl))
 some_task world state (Say words) other none = (said_text words, state, (refl, refl))
 some_task world state (Judge role neighbour path) other none = some_judgement world state role neighbour path
+some_task world state (Explain role neighbour path) other none = let found = some_explanation state.analysis.parts role neighbour path in (found.0, _, (found.1, refl))
+some_task world state (Sent role path) other none = some_sent state role path
 some_task world state (Load kind file) other none = some_load (is_taken state kind) world state kind file
 some_task world state (Open kind name file) other none = some_opening (state.sources name || is_stream state name) (world.named file) state kind name
 some_task world state (Take name count) other none = some_take (state.dumps name) world state name count (none name)
@@ -265,6 +267,9 @@ DoesTask-unique world attempts told state Clear one other end last a b = both on
 DoesTask-unique world attempts told state (Say words) one other end last a b = both one other _ end last _ a b
 DoesTask-unique world attempts told state (Judge role neighbour path) one other end last a b =
     (IsJudged-unique state.analysis.parts role neighbour path one other a.0 b.0, a.1 ∙ sym b.1)
+DoesTask-unique world attempts told state (Explain role neighbour path) one other end last a b =
+    (ExplainsPath-unique state.analysis.parts role neighbour path one other a.0 b.0, a.1 ∙ sym b.1)
+DoesTask-unique world attempts told state (Sent role path) one other end last a b = ListsSent-unique state role path one other end last a b
 DoesTask-unique world attempts told state (Load kind file) one other end last a b = Loads-unique (is_taken state kind) world state kind file one other end last a b
 DoesTask-unique world attempts told state (Open kind name file) one other end last a b =
     Opens-unique (state.sources name || is_stream state name) (world.named file) state kind name one other end last a b

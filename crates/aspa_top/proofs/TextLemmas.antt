@@ -47,14 +47,17 @@ use Rattle.aspa_top.specs.declared.files.Outcome.{Outcome}
 use Rattle.aspa_top.specs.declared.files.Outcome.TheVariants.{NoFile, Long as FileLong, Flawed, Good}
 use Rattle.aspa_top.specs.declared.task.Question.{Question}
 use Rattle.aspa_top.specs.declared.task.Task.{Task}
-use Rattle.aspa_top.specs.declared.task.Task.TheVariants.{Idle as Nothing, Happen, Clear, Judge as JudgePath, Say, Load, Open, Take, Until, Connect, OnFeed, Serve, Answer, Changes}
+use Rattle.aspa_top.specs.declared.task.Task.TheVariants.{Idle as Nothing, Happen, Clear, Judge as JudgePath, Explain as ExplainPath, Sent as ListSent, Say, Load, Open, Take, Until, Connect, OnFeed, Serve, Answer, Changes}
 use Rattle.aspa_top.specs.Files.{unit_name}
 use Rattle.aspa_top.specs.Tasks.{State, MakesHappen, Refuses, TakesFile, LoadsUnless, OpensNamed, TakesOpen, TakesNamed, TakesRecordsUnless, TakesUntilNamed, Works, ConnectsUnless, DoesTask, is_stream, is_taken, asking_of, asking_on, feeds_of, with_feeds, taking_of}
 use Rattle.aspa_top.specs.Answers.{AnswersUnless, Replies, refused_for}
 use Rattle.aspa_top.specs.Evaluation.{Asked, DoesAsked, asked_of, counted, Evaluates}
 use Rattle.aspa_top.specs.World.{World}
 use Rattle.aspa_top.proofs.NamedLemmas.{IsAskedInLine, IsNamedInLine, reading_in_line}
-use Rattle.aspa_top.proofs.QuestionLemmas.{answer_counted, answer_lines, answers_counted}
+use Rattle.aspa_top.proofs.QuestionLemmas.{answer_counted, answer_lines, answers_counted, explanation_lines, sent_lines}
+use Rattle.path_model.specs.Trail.{path_of}
+use Rattle.listings.specs.Hops.{explained_text}
+use Rattle.listings.specs.Sent.{sent_row}
 
 -- a verdict counts no refusal
 no_mark : (v : Verdict) → begins (verdict_text v) ≡ false
@@ -242,6 +245,14 @@ DoesTask-refused world state (Say words) text next rest in_line does =
     answered state next text (said_text words) rest does.0 (answer_counted (said_line words) rest (saying_is_one_line words in_line)) (ap (λ (s : State). s.refused) does.1)
 DoesTask-refused world state (JudgePath role neighbour path) text next rest in_line does =
     answered state next text (verdict_text does.0.verdict ++ 10 ∷ []) rest does.0.text_is (refusals_in-verdict does.0.verdict rest) (ap (λ (s : State). s.refused) does.1)
+DoesTask-refused world state (ExplainPath role neighbour path) text next rest in_line does =
+    let shown = does.0 in
+    let explained = explained_text shown.table (path_of false path) shown.verdict shown.witness in
+    answered state next text explained rest shown.text_is
+    (answers_counted explained rest (explanation_lines shown.table (path_of false path) shown.verdict shown.witness)) (ap (λ (s : State). s.refused) does.1)
+DoesTask-refused world state (ListSent role path) text next rest in_line does =
+    answered state next text (flat_map sent_row does.rows) rest does.text_is
+    (answers_counted (flat_map sent_row does.rows) rest (sent_lines does.rows)) (ap (λ (s : State). s.refused) does.left)
 DoesTask-refused world state (Load kind file) text next rest in_line does = Loads-refused (is_taken state kind) world state kind file text next rest in_line does
 DoesTask-refused world state (Open kind name file) text next rest in_line does = Opens-refused (state.sources name || is_stream state name) (world.named file) state kind name text next rest does
 DoesTask-refused world state (Take name count) text next rest in_line does = Takes-refused (state.dumps name) world state name count text next rest in_line does

@@ -1,5 +1,5 @@
 -- Laws of the definitions, each the contract of a public function of the module `laws`.
-use Rattle.std.specs.Prelude.{◌≡◌, ℕ, false, List, [], Some}
+use Rattle.std.specs.Prelude.{◌≡◌, ℕ, ◌≤◌, false, List, [], ◌∷◌, ◌++◌, length, codes, None, Some}
 use Rattle.std.specs.Io.KnownBytes.{append_known, prepend_known}
 use Rattle.std.specs.List.{All, Contains}
 use Rattle.std.specs.declared.option.Option.{Option}
@@ -7,8 +7,12 @@ use Rattle.std.specs.declared.result.Result.TheVariants.{Ok}
 use Rattle.script_lines.specs.declared.commands.Command.TheVariants.{Feed, Serve}
 use Rattle.script_lines.specs.Grammar.{IsReading}
 use Rattle.stream_lines.specs.Counts.{refusals_in}
+use Rattle.attestations.specs.CurrentTable.{IsCurrentRow, IsCurrentTable, Parts}
 use Rattle.av_base.specs.Files.{Files}
+use Rattle.av_base.specs.Told.{Rose}
 use Rattle.av_text.specs.Lines.{lines_in}
+use Rattle.av_text.specs.Number.{Is32Bit}
+use Rattle.path_model.specs.Authority.{Table}
 use Rattle.report_text.specs.declared.feed.FeedEnd.TheVariants.{Lost}
 use Rattle.rtr_client.specs.declared.telling.Telling.{Telling}
 use Rattle.rtr_client.specs.declared.telling.Telling.TheVariants.{End as FeedEnds}
@@ -22,10 +26,13 @@ use Rattle.rtr_client.specs.Lines.{State as FeedState}
 use Rattle.rtr_session.specs.State.{State as Router}
 use Rattle.rtr_cache.specs.Cache.{AreRowsOf, FitsPdus}
 use Rattle.rtr_cache.specs.Laws.{Exchanges, MayAsk}
+use Rattle.aspa_top.specs.declared.task.Question.TheVariants.{Attests}
+use Rattle.aspa_top.specs.Answers.{Answers}
+use Rattle.aspa_top.specs.Lines.{performed}
 use Rattle.aspa_top.specs.Serving.{ServesAll}
 use Rattle.aspa_top.specs.Tasks.{State, feeds_of, start}
 use Rattle.aspa_top.specs.Evaluation.{Evaluates}
-use Rattle.aspa_top.specs.Program.{AreTold, StopsAtRead, WentThrough, WritesFront}
+use Rattle.aspa_top.specs.Program.{AreTold, IsWhole, Ran, StopsAtRead, WentThrough, WritesFront}
 use Rattle.aspa_top.specs.World.{GoesOn, Links, Meets, World}
 
 -- In a world whose attempts are told no lines have two texts, or leave two states.
@@ -97,3 +104,38 @@ pub record LosesOnlyAtEnd (ends : Ends) (state : FeedState) : Type 0 where
 abbrev pub UnbrokenFeedsAreLostAtEnd : Type 0
 UnbrokenFeedsAreLostAtEnd = (files : Option Files) (before after : Links) (world : World) → Meets files before after world → AreTold world → GoesOn before after → NewAreUnbroken before.wire after.wire
     → (lines : List (List ℕ)) (text : List ℕ) (state : State) → Evaluates world (start world) lines text state → LosesOnlyAtEnd world.ends (feeds_of state)
+
+-- ---- the text of `attests`, as a script
+
+-- the current table of these parts is of ASes: each customer and each provider is a number of 32 bits
+abbrev pub HasAses : Parts → Type 0
+HasAses parts = (x : ℕ) (row : List ℕ) → IsCurrentRow parts x (Some row) → Is32Bit x × All Is32Bit row
+
+-- what lines have left that refused nothing, and have come to the current table of these parts
+pub record HasTableOf (parts : Parts) (end : State) : Type 0 where
+  pub none_refused : end.refused ≡ 0
+  pub same : (table : Table) → IsCurrentTable parts table → IsCurrentTable end.analysis.parts table
+
+-- In this world a script has this text and no other one, whatever the attempts, and leaves the table of these parts. A run of it that
+-- nothing ended early has the status 0, and has written that text.
+pub record WritesAlone (limit : ℕ) (world : World) (script text : List ℕ) (parts : Parts) : Type 0 where
+  pub some : HasText world (performed limit script)
+  pub only : (other : List ℕ) (end : State) → Evaluates world (start world) (performed limit script) other end → (other ≡ text) × HasTableOf parts end
+  pub ran : (left old new : Option (List ℕ)) (script_old script_new shelf_old shelf_new ticks_old ticks_new status : ℕ)
+      → Ran limit world script left (Rose script_old script_new) (Rose shelf_old shelf_new) old new ticks_old ticks_new status
+      → IsWhole status → (status ≡ 0) × (new ≡ append_known old text)
+
+-- What an `attests` line writes of a state is a script that in any world writes nothing, refuses nothing and comes to the same current
+-- table.
+abbrev pub AttestedTextRestoresTheTable : Type 0
+AttestedTextRestoresTheTable = (state : State) (text : List ℕ) → Answers state (Attests None) text → HasAses state.analysis.parts
+    → (limit : ℕ) → length text ≤ limit → (world : World) → WritesAlone limit world text [] state.analysis.parts
+
+-- the line `attests`, with its line feed
+abbrev pub attests_line : List ℕ
+attests_line = codes "attests" ++ 10 ∷ []
+
+-- With a line `attests` behind it that text is a script that writes it again.
+abbrev pub AttestedTextWritesItself : Type 0
+AttestedTextWritesItself = (state : State) (text : List ℕ) → Answers state (Attests None) text → HasAses state.analysis.parts
+    → (limit : ℕ) → length (text ++ attests_line) ≤ limit → (world : World) → WritesAlone limit world (text ++ attests_line) text state.analysis.parts

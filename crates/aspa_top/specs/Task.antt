@@ -1,10 +1,15 @@
 -- What a command asks for.
-use Rattle.std.specs.Prelude.{Bool, true, false}
+use Rattle.std.specs.Prelude.{ℕ, Bool, true, false}
+use Rattle.std.specs.declared.option.Option.{Option}
+use Rattle.path_model.specs.declared.addr.Addr.{Addr}
+use Rattle.path_model.specs.declared.key.Key.{Key}
+use Rattle.path_model.specs.Prefix.{Subnet}
+use Rattle.conditions.specs.Meets.{of_verdict}
 use Rattle.vap_table.specs.declared.change.TableChange.{TableChange}
 use Rattle.vap_table.specs.declared.change.TableChange.TheVariants.{At as SetMoment, Filter as FilterByHand, Unfilter as UnfilterByHand, Assert as AssertByHand, Unassert as UnassertByHand}
 use Rattle.analyser.specs.declared.event.Event.TheVariants.{Table as TableEvent, Role as RoleEvent, DefaultRole}
 use Rattle.script_lines.specs.declared.commands.Command.{Command}
-use Rattle.script_lines.specs.declared.commands.Command.TheVariants.{Idle, Aspa, Aspa64, Validated, Slurm, At, Filter, Unfilter, Assert, Unassert, Role as SetRole, RoleDefault, Open, Bmp, Take, Until, Feed, Ask, Sync, Serve, Judge, Clear, Changes, Details, Say, Why, Report, Origins, Leaks, Suspects, Peers, Summary}
+use Rattle.script_lines.specs.declared.commands.Command.TheVariants.{Idle, Aspa, Aspa64, Validated, Slurm, At, Filter, Unfilter, Assert, Unassert, Role as SetRole, RoleDefault, Open, Bmp, Take, Until, Feed, Ask, Sync, Serve, Judge, Clear, Changes, Details, Say, Why, Report, Origins, Leaks, Suspects, Peers, Sent, Explain, ExplainRoute, Attests, Neighbours, Routes, Silent, Summary}
 use Rattle.stream_lines.specs.declared.kind.DumpKind.{DumpKind}
 use Rattle.stream_lines.specs.declared.kind.DumpKind.TheVariants as kinds
 use Rattle.rtr_client.specs.declared.working.Work.TheVariants.{Ask as AskNow, Sync as SyncTo}
@@ -12,7 +17,7 @@ use Rattle.aspa_top.specs.declared.files.FileKind.TheVariants.{Source, Slurm as 
 use Rattle.aspa_top.specs.declared.files.Format.TheVariants.{Payloads, PayloadLines, Validated as ValidatedFile}
 use Rattle.aspa_top.specs.declared.task.Question.TheVariants as questions
 use Rattle.aspa_top.specs.declared.task.Task.{Task}
-use Rattle.aspa_top.specs.declared.task.Task.TheVariants.{Idle as Nothing, Happen, Clear as ClearAll, Judge as JudgePath, Say as SayWords, Load, Open as OpenDump, Take as TakeUnits, Until as TakeUntil, Connect, OnFeed, Serve as ServeRouters, Answer, Changes as ListChanges}
+use Rattle.aspa_top.specs.declared.task.Task.TheVariants.{Idle as Nothing, Happen, Clear as ClearAll, Judge as JudgePath, Explain as ExplainPath, Sent as ListSent, Say as SayWords, Load, Open as OpenDump, Take as TakeUnits, Until as TakeUntil, Connect, OnFeed, Serve as ServeRouters, Answer, Changes as ListChanges}
 
 -- the table changes
 abbrev pub table_event : TableChange → Task
@@ -22,6 +27,10 @@ table_event change = Happen (TableEvent change)
 abbrev pub bmp_kind : Bool → DumpKind
 bmp_kind true = kinds.BmpPost
 bmp_kind false = kinds.BmpPre
+
+-- the key of a route from the peer of this address and AS
+abbrev pub key_of : Addr → ℕ → Subnet → Option ℕ → Key
+key_of addr asn prefix path = record { peer = record { addr = addr; asn = asn }; prefix = prefix; path = path }
 
 -- what a command asks for
 abbrev pub task_of : Command → Task
@@ -46,11 +55,18 @@ task_of (Ask name) = OnFeed name AskNow
 task_of (Sync name count) = OnFeed name (SyncTo count)
 task_of (Serve place session count) = ServeRouters place session count
 task_of (Judge role neighbour path) = JudgePath role neighbour path
+task_of (Explain role neighbour path) = ExplainPath role neighbour path
+task_of (Sent role path) = ListSent role path
 task_of Clear = ClearAll
 task_of Changes = ListChanges
 task_of (Say words) = SayWords words
-task_of (Details verdict) = Answer (questions.Details verdict)
-task_of (Why addr asn prefix path) = Answer (questions.Why (record { peer = record { addr = addr; asn = asn }; prefix = prefix; path = path }))
+task_of (Details verdict) = Answer (questions.Routes (of_verdict verdict))
+task_of (Routes conditions) = Answer (questions.Routes conditions)
+task_of (Why addr asn prefix path) = Answer (questions.Why (key_of addr asn prefix path))
+task_of (ExplainRoute addr asn prefix path) = Answer (questions.Explain (key_of addr asn prefix path))
+task_of (Attests customer) = Answer (questions.Attests customer)
+task_of (Neighbours asn) = Answer (questions.Neighbours asn)
+task_of Silent = Answer questions.Silent
 task_of Report = Answer questions.Report
 task_of Origins = Answer questions.Origins
 task_of Leaks = Answer questions.Leaks

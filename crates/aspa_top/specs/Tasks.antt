@@ -5,6 +5,8 @@ use Rattle.std.specs.declared.option.Option.{Option}
 use Rattle.std.specs.declared.option.Option.TheVariants.{Some, None}
 use Rattle.path_model.specs.declared.role.Role.{Role}
 use Rattle.path_model.specs.declared.verdict.Verdict.{Verdict}
+use Rattle.path_model.specs.declared.witness.Witness.{Witness}
+use Rattle.path_model.specs.PrintedWitness.{IsPrinted}
 use Rattle.path_model.specs.Trail.{path_of}
 use Rattle.path_model.specs.RightVerdict.{IsRight}
 use Rattle.path_model.specs.Authority.{Table}
@@ -26,6 +28,9 @@ use Rattle.report_text.specs.declared.cause.Cause.TheVariants as causes
 use Rattle.report_text.specs.Refusals.{of_line, of_unit}
 use Rattle.report_text.specs.Sayings.{said_text}
 use Rattle.listings.specs.Changes.{change_row}
+use Rattle.listings.specs.Hops.{explained_text}
+use Rattle.listings.specs.Sent.{AreSent, IsSentPair, SentRow, sent_row}
+use Rattle.listings.specs.Tallies.{IsNumberOf}
 use Rattle.stream_lines.specs.Streams.{Dump, Taking}
 use Rattle.stream_lines.specs.Until.{TakesCount}
 use Rattle.origin_model.specs.Current.{Parts as Origins}
@@ -37,7 +42,7 @@ use Rattle.aspa_top.specs.declared.files.FileKind.TheVariants.{Source, Slurm as 
 use Rattle.aspa_top.specs.declared.files.Outcome.{Outcome}
 use Rattle.aspa_top.specs.declared.files.Outcome.TheVariants.{NoFile, Long as FileLong, Flawed, Good}
 use Rattle.aspa_top.specs.declared.task.Task.{Task}
-use Rattle.aspa_top.specs.declared.task.Task.TheVariants.{Idle, Happen, Clear, Judge, Say, Load, Open, Take, Until, Connect, OnFeed, Serve, Answer, Changes}
+use Rattle.aspa_top.specs.declared.task.Task.TheVariants.{Idle, Happen, Clear, Judge, Explain, Sent, Say, Load, Open, Take, Until, Connect, OnFeed, Serve, Answer, Changes}
 use Rattle.aspa_top.specs.Answers.{Replies}
 use Rattle.aspa_top.specs.Files.{ComesOf, unit_name}
 use Rattle.aspa_top.specs.Serving.{ServesTable, ServesTablePart}
@@ -186,6 +191,29 @@ pub record IsJudged (parts : Parts) (role : Role) (neighbour : ℕ) (path : List
   pub right : IsRight table role neighbour (path_of false path) verdict
   pub text_is : text ≡ verdict_text verdict ++ 10 ∷ []
 
+-- ---- `explain ROLE NEIGHBOUR AS..`
+
+-- the text is its right verdict with the printed witness, and what the table has of each of its hops
+pub record ExplainsPath (parts : Parts) (role : Role) (neighbour : ℕ) (path : List ℕ) (text : List ℕ) : Type 0 where
+  pub table : Table
+  pub current : IsCurrentTable parts table
+  pub verdict : Verdict
+  pub witness : Witness
+  pub printed : IsPrinted table role neighbour (path_of false path) verdict witness
+  pub text_is : text ≡ explained_text table (path_of false path) verdict witness
+
+-- ---- `sent ROLE AS..`
+
+-- the text has a line with the verdict of the path alone, and then one for each route that is sent upwards; each pair of a peer AS and a
+-- path among these is judged once
+pub record ListsSent (state : State) (role : Role) (path : List ℕ) (text : List ℕ) (next : State) : Type 0 where
+  pub rows : List SentRow
+  pub are : AreSent state.analysis role path rows
+  pub text_is : text ≡ flat_map sent_row rows
+  pub pairs : ℕ
+  pub judged : IsNumberOf (IsSentPair state.analysis) pairs
+  pub left : next ≡ record state { judgements = state.judgements + (1 + pairs) }
+
 -- ---- `changes`
 
 -- the text has one line for each key that stands otherwise than it was marked, in key order, and then all stand as they are marked
@@ -207,6 +235,9 @@ DoesTask world state Clear text next = Clears state text next
 DoesTask world state (Say words) text next = Says state words text next
 DoesTask world state (Judge role neighbour path) text next =
     IsJudged state.analysis.parts role neighbour path text × (next ≡ record state { judgements = state.judgements + 1 })
+DoesTask world state (Explain role neighbour path) text next =
+    ExplainsPath state.analysis.parts role neighbour path text × (next ≡ record state { judgements = state.judgements + 1 })
+DoesTask world state (Sent role path) text next = ListsSent state role path text next
 DoesTask world state (Load kind file) text next = Loads world state kind file text next
 DoesTask world state (Open kind name file) text next = Opens world state kind name file text next
 DoesTask world state (Take name count) text next = Takes world state name count text next

@@ -1,5 +1,5 @@
 //! Laws of the definitions: the contract of each function is the law, and its body does nothing.
-ghost use Rattle.aspa_top.specs.Laws.{EachScriptWithoutAttemptsHasAText, FeedsWereConnected, FailedScriptsWroteWhatHadCome, NoScriptHasTwoTexts, RefusalsAreCounted, RunsWriteFronts, ServedRoutersGetTheTable, SourcesHaveFeedsPayloads, UnbrokenFeedsAreLostAtEnd};
+ghost use Rattle.aspa_top.specs.Laws.{AttestedTextRestoresTheTable, AttestedTextWritesItself, EachScriptWithoutAttemptsHasAText, FeedsWereConnected, FailedScriptsWroteWhatHadCome, NoScriptHasTwoTexts, RefusalsAreCounted, RunsWriteFronts, ServedRoutersGetTheTable, SourcesHaveFeedsPayloads, UnbrokenFeedsAreLostAtEnd};
 
 /// In a world whose attempts are told no script has two texts.
 pub fn no_script_has_two_texts()
@@ -47,4 +47,15 @@ pub fn unbroken_feeds_are_lost_at_end()
 /// holds a version that the session's cache keeps.
 pub fn served_routers_get_the_table()
     ensures { ServedRoutersGetTheTable }
+{}
+
+/// What an `attests` line writes of a table whose numbers are of 32 bits is a script, where that isn't too long for one: it writes nothing,
+/// refuses nothing, and comes to the same current table. A run of it that nothing ends early has the status 0.
+pub fn attested_text_restores_the_table()
+    ensures { AttestedTextRestoresTheTable }
+{}
+
+/// With a line `attests` behind it that text is a script that writes the same text again.
+pub fn attested_text_writes_itself()
+    ensures { AttestedTextWritesItself }
 {}

@@ -32,6 +32,7 @@ mod effects;
 mod evaluation;
 mod feeds;
 mod files;
+mod judged;
 mod judgement;
 mod laws;
 mod line;
@@ -46,6 +47,7 @@ mod words;
 mod working;
 
 pub use laws::{
+    attested_text_restores_the_table, attested_text_writes_itself,
     each_script_without_attempts_has_a_text, failed_scripts_wrote_what_had_come,
     feeds_were_connected, no_script_has_two_texts, refusals_are_counted, runs_write_fronts,
     served_routers_get_the_table, sources_have_feeds_payloads, unbroken_feeds_are_lost_at_end,

@@ -13,6 +13,7 @@ use crate::changes::list_changes;
 use crate::dumps::{open, take, take_up_to};
 use crate::effects::refuse;
 use crate::feeds::{connect_feed, work_on};
+use crate::judged::{explain_path, list_sent};
 use crate::memory::{clear_routes, judge_path, let_happen, say};
 use crate::outside::Outside;
 use crate::routers::serve_routers;
@@ -112,6 +113,10 @@ fn perform_task<F: Shelf, K: Links, W: Sink, L: Ledger>(
         Task::Judge(role, neighbour, path) => {
             judge_path(alloc, working, role, neighbour, &path, outside)
         }
+        Task::Explain(role, neighbour, path) => {
+            explain_path(alloc, working, role, neighbour, &path, outside)
+        }
+        Task::Sent(role, path) => list_sent(alloc, working, role, &path, outside),
         Task::Say(saying) => say(working, &saying, outside),
         Task::Load(kind, file) => { load(alloc, working, kind, &file, outside) }
         Task::Open(kind, name, file) => { open(alloc, working, kind, name, &file, outside) }

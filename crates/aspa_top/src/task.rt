@@ -1,10 +1,11 @@
 //! What a command asks for.
 ghost use Rattle.std.specs.Prelude.{◌≡◌};
-ghost use Rattle.aspa_top.specs.Task.{bmp_kind, may_wait, table_event, task_of};
+ghost use Rattle.aspa_top.specs.Task.{bmp_kind, key_of, may_wait, table_event, task_of};
 
 use crate::files::{FileKind, Format};
 use analyser::Event;
-use path_model::{AsList, Key, Name, Peer, Role, Verdict};
+use conditions::Conditions;
+use path_model::{Addr, AsList, Key, Name, Peer, Prefix, Role};
 use rtr_client::Work;
 use script_lines::{Command, Saying, Word};
 use stream_lines::DumpKind;
@@ -21,6 +22,10 @@ pub(crate) enum Task {
     Clear,
     /// A written path is judged.
     Judge(Role, u32, AsList),
+    /// A written path is judged and explained.
+    Explain(Role, u32, AsList),
+    /// What is sent upwards is judged as an AS has it that gets it over these.
+    Sent(Role, AsList),
     /// Words are said.
     Say(Saying),
     /// It loads a file that changes the table.
@@ -50,6 +55,7 @@ impl Task {
     {
         match self {
             Task::Idle | Task::Happen(_) | Task::Clear | Task::Judge(_, _, _) => false,
+            Task::Explain(_, _, _) | Task::Sent(_, _) => false,
             Task::Say(_) | Task::Answer(_) | Task::Changes => false,
             Task::Load(_, _) | Task::Open(_, _, _) | Task::Take(_, _) | Task::Until(_, _) => true,
             Task::Connect(_, _) | Task::Serve(_, _, _) | Task::OnFeed(_, _) => true,
@@ -72,10 +78,18 @@ pub(crate) enum Question {
     Peers,
     /// How much there is of all.
     Summary,
-    /// Each route with what shows its verdict, or each with this verdict.
-    Details(Option<Verdict>),
+    /// Each route that meets the conditions, with what shows its verdict.
+    Routes(Conditions),
     /// Why the route of this key has its verdict.
     Why(Key),
+    /// The same, with what is attested of each hop of its path.
+    Explain(Key),
+    /// The current table, or where the row of this customer comes from.
+    Attests(Option<u32>),
+    /// The ASes that are beside this one on some path.
+    Neighbours(u32),
+    /// The ASes without a row about which routes of unknown verdict ask.
+    Silent,
 }
 
 /// What the command asks for.
@@ -112,14 +126,24 @@ pub(crate) fn task_of(command: Command) -> Task
         Command::Sync(name, count) => Task::OnFeed(name, Work::Sync(count)),
         Command::Serve(place, session, count) => Task::Serve(place, session, count),
         Command::Judge(role, neighbour, path) => { Task::Judge(role, neighbour, path) }
+        Command::Explain(role, neighbour, path) => Task::Explain(role, neighbour, path),
+        Command::Sent(role, path) => Task::Sent(role, path),
         Command::Clear => Task::Clear,
         Command::Changes => Task::Changes,
         Command::Say(saying) => Task::Say(saying),
-        Command::Details(verdict) => Task::Answer(Question::Details(verdict)),
-        Command::Why(addr, asn, prefix, path) => {
-            let peer = Peer { addr, asn };
-            Task::Answer(Question::Why(Key { peer, prefix, path }))
+        Command::Details(verdict) => {
+            Task::Answer(Question::Routes(Conditions::of_verdict(verdict)))
         }
+        Command::Routes(conditions) => Task::Answer(Question::Routes(conditions)),
+        Command::Why(addr, asn, prefix, path) => {
+            Task::Answer(Question::Why(key_of(addr, asn, prefix, path)))
+        }
+        Command::ExplainRoute(addr, asn, prefix, path) => {
+            Task::Answer(Question::Explain(key_of(addr, asn, prefix, path)))
+        }
+        Command::Attests(customer) => Task::Answer(Question::Attests(customer)),
+        Command::Neighbours(asn) => Task::Answer(Question::Neighbours(asn)),
+        Command::Silent => Task::Answer(Question::Silent),
         Command::Report => Task::Answer(Question::Report),
         Command::Origins => Task::Answer(Question::Origins),
         Command::Leaks => Task::Answer(Question::Leaks),
@@ -127,6 +151,14 @@ pub(crate) fn task_of(command: Command) -> Task
         Command::Peers => Task::Answer(Question::Peers),
         Command::Summary => Task::Answer(Question::Summary),
     }
+}
+
+// The key of a route from the peer of this address and AS.
+fn key_of(addr: Addr, asn: u32, prefix: Prefix, path: Option<u32>) -> Key
+    ensures { result ≡ key_of addr asn prefix path }
+{
+    let peer = Peer { addr, asn };
+    Key { peer, prefix, path }
 }
 
 // The kind of dump that a `bmp` line opens.

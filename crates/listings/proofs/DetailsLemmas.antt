@@ -30,6 +30,7 @@ use Rattle.rib_store.specs.Shown.{AreShown, IsExplained, IsRouteStanding, Standi
 use Rattle.rib_store.specs.State.{State}
 use Rattle.rib_store.proofs.KeyLemmas.{AllFound, all_found}
 use Rattle.av_base.specs.declared.stop.Stop.{Stop}
+use Rattle.conditions.specs.declared.asked.Conditions.{Conditions}
 use Rattle.listings.specs.Listing.{Listed, Lists, Pouring}
 use Rattle.listings.specs.Details.{AreDetails, asked_of, detail_row, is_asked}
 use Rattle.listings.specs.EachDetail.{piece_of}
@@ -116,14 +117,14 @@ module _ (state : State) (witness_of : (asn : ℕ) (path : Path) → HasOnePair 
       let rest : rows ≡ map stands es = only_rows es rows there.1 more (All-tail IsRow row rows each) in
       λ i. (key i, same i) ∷ rest i
 
-  pub details_by : (asked : Option Verdict) → HasOne (AreDetails state asked)
+  pub details_by : (asked : Conditions) → HasOne (AreDetails state asked)
   details_by asked = record {
     one = asked_of asked (map stands (fin.entries state.routes));
     is = record { all = map stands (fin.entries state.routes); are = shown_by; asked_for = refl };
     only = λ rows are. are.asked_for ∙ ap (asked_of asked) (only_rows (fin.entries state.routes) are.all found are.are.keys are.are.each);
   }
 
-pub one_list_of_details : (state : State) (asked : Option Verdict) → HasOne (AreDetails state asked)
+pub one_list_of_details : (state : State) (asked : Conditions) → HasOne (AreDetails state asked)
 one_list_of_details state asked = details_by state (λ asn path. one_printed (table_of state.parts) (role_of state.roles asn) asn path) asked
 
 -- ---- line by line
@@ -133,11 +134,11 @@ one_more : (asked : Bool) (row : Key × Standing) (rows : List (Key × Standing)
 one_more true row rows = refl
 one_more false row rows = refl
 
-pieces_are : (asked : Option Verdict) (rows : List (Key × Standing)) → concat (map (piece_of asked) rows) ≡ flat_map detail_row (asked_of asked rows)
+pieces_are : (asked : Conditions) (rows : List (Key × Standing)) → concat (map (piece_of asked) rows) ≡ flat_map detail_row (asked_of asked rows)
 pieces_are asked [] = refl
-pieces_are asked (row ∷ rows) = ap (λ (t : List ℕ). piece_of asked row ++ t) (pieces_are asked rows) ∙ one_more (is_asked asked row.1.verdict) row (asked_of asked rows)
+pieces_are asked (row ∷ rows) = ap (λ (t : List ℕ). piece_of asked row ++ t) (pieces_are asked rows) ∙ one_more (is_asked asked row) row (asked_of asked rows)
 
-pub details_listed : {T : Type 0} (state : State) (asked : Option Verdict) (all : List (Key × Standing)) (old new : Pouring) (result : Result T Stop) → AreShown state all
+pub details_listed : {T : Type 0} (state : State) (asked : Conditions) (all : List (Key × Standing)) (old new : Pouring) (result : Result T Stop) → AreShown state all
     → Listed (concat (map (piece_of asked) all)) old new result → Lists (AreDetails state asked) detail_row old new result
 details_listed {T} state asked all old new result are listed = record {
   rows = asked_of asked all;

@@ -1,13 +1,15 @@
--- The steps of a listing.
-use Rattle.std.proofs.Common.{◌≡◌, ℕ, List, [], ◌∷◌, ◌++◌, map, flat_map, refl, sym, subst, ◌∙◌, ap}
+-- The steps of a listing, and one that never began.
+use Rattle.std.proofs.Common.{◌≡◌, ℕ, List, [], ◌∷◌, ◌++◌, map, flat_map, Ok, Err, refl, sym, subst, ◌∙◌, ap, arith}
 use Rattle.std.specs.List.{concat}
 use Rattle.std.specs.Io.KnownBytes.{append_known}
 use Rattle.std.specs.declared.option.Option.{Option}
 use Rattle.av_base.specs.Told.{AppendsBefore}
-use Rattle.av_base.proofs.ToldLemmas.{append_known-append, AppendsBefore-more}
+use Rattle.av_base.proofs.PouringLemmas.{Grows-refl}
+use Rattle.av_base.proofs.ToldLemmas.{append_known-append, AppendsBefore-more, AppendsFront-start}
 use Rattle.std.specs.declared.result.Result.{Result}
 use Rattle.av_base.specs.declared.stop.Stop.{Stop}
-use Rattle.listings.specs.Listing.{Adds, Listed, Lists, Pouring}
+use Rattle.av_base.specs.declared.stop.Stop.TheVariants.{NoMemory}
+use Rattle.listings.specs.Listing.{Adds, Listed, Lists, Pouring, all_of}
 
 -- one step more was taken, and what is held was perhaps written
 pub one_more : {all_old : Option (List ℕ)} {text : List ℕ} (left more : List (List ℕ)) (written : Option (List ℕ)) (text_old text_new : List ℕ) (all_new : Option (List ℕ))
@@ -25,3 +27,23 @@ pub all_listed : {Row T : Type 0} (Are : List Row → Type 0) (line_of : Row →
     → Listed (concat (map line_of rows)) old new result → Lists Are line_of old new result
 all_listed Are line_of rows old new result are listed =
     record { rows = rows; are = are; listed = subst (λ (t : List ℕ). Listed t old new result) (pieces_are line_of rows) listed }
+
+-- memory ran out before anything was added,
+pub none_added : {T : Type 0} (text : List ℕ) (old : Pouring) (result : Result T Stop) → result ≡ Err NoMemory → Listed text old old result
+none_added {T} text old (Ok x) is = let no : ⊥ = cc in absurd no
+none_added {T} text old (Err stop) is =
+    let same : stop ≡ NoMemory = cc in
+    record {
+      whole = tt;
+      front = AppendsFront-start (all_of old) text;
+      held = λ sink. let no : ⊥ = cc in absurd no;
+      sink_cause = λ sink. let no : ⊥ = cc in absurd no;
+      sink_faults = omega arith;
+      grows = Grows-refl old.written;
+      no_shelf = λ shelf. cc;
+    }
+
+-- before the first line
+pub none_listed : {Row T : Type 0} (Are : List Row → Type 0) (line_of : Row → List ℕ) (rows : List Row) (old : Pouring) (result : Result T Stop) → Are rows
+    → result ≡ Err NoMemory → Lists Are line_of old old result
+none_listed Are line_of rows old result are is = record { rows = rows; are = are; listed = none_added (flat_map line_of rows) old result is }

@@ -1,5 +1,5 @@
 -- Peers that are listed line by line, that each state has one list of them, and that none reads as a refusal.
-use Rattle.std.proofs.Common.{◌≡◌, ◌≢◌, ℕ, nat_eq, Bool, true, false, cond, not, is_some, ◌&&◌, ◌||◌, List, [], ◌∷◌, ◌++◌, length, map, filter, flat_map, if◌then◌else◌, Some, Ok, Err, refl, sym, ap, subst, ◌∙◌, arith}
+use Rattle.std.proofs.Common.{◌≡◌, ◌≢◌, ℕ, nat_eq, Bool, true, false, cond, not, is_some, ◌&&◌, ◌||◌, List, [], ◌∷◌, ◌++◌, length, map, filter, flat_map, if◌then◌else◌, Some, Err, refl, sym, ap, subst, ◌∙◌, arith}
 use Rattle.std.specs.FinMap as fin
 use Rattle.std.specs.FinMap.Entries.{by_order}
 use Rattle.std.specs.Cmp.{IsTotalOrder, nat_cmp_total, nat_eq_equiv, tied_itself}
@@ -19,8 +19,6 @@ use Rattle.std.proofs.lemmas.Map.Views.{exact_unsigned_eq}
 use Rattle.av_base.specs.One.{HasOne}
 use Rattle.av_base.specs.declared.stop.Stop.{Stop}
 use Rattle.av_base.specs.declared.stop.Stop.TheVariants.{NoMemory}
-use Rattle.av_base.proofs.PouringLemmas.{Grows-refl}
-use Rattle.av_base.proofs.ToldLemmas.{AppendsFront-start}
 use Rattle.path_model.specs.declared.key.Key.{Key}
 use Rattle.path_model.specs.declared.nlri.Nlri.{Nlri}
 use Rattle.path_model.specs.declared.peer.Peer.{Peer}
@@ -41,8 +39,10 @@ use Rattle.rib_store.specs.Counts.{counted}
 use Rattle.rib_store.specs.Rows.{all_rows, rows_under}
 use Rattle.rib_store.specs.State.{State, AreRows}
 use Rattle.rib_store.proofs.ReportLemmas.{has_one_report}
+use Rattle.listings.proofs.EntriesLemmas.{Below, entries_whole, none_empty, put_first}
 use Rattle.listings.specs.EachPeer.{idle_piece, is_seen, piece_of, pieces, summary_under}
-use Rattle.listings.specs.Listing.{Listed, Lists, Pouring, all_of}
+use Rattle.listings.proofs.ListingLemmas as listing
+use Rattle.listings.specs.Listing.{Listed, Lists, Pouring}
 use Rattle.listings.specs.Peers.{ArePeers, has_routes, idle_ases, idle_summary, peer_row, peer_summary, peers_of, rows_by, summaries_of, summed}
 
 abbrev Rows : Type 0
@@ -55,21 +55,13 @@ ByPeer = List (Peer × List (Nlri × Verdict))
 abbrev HaveRoutes : ByPeer → Type 0
 HaveRoutes peers = AllByRecursion (λ p. p.1 ≢ []) peers
 
--- ---- the entries of a map that is made of some in order
-
--- a key is below all of these
-abbrev Below : {K : Type 0} → (K → K → Ordering) → K → List K → Type 0
-Below R k ks = AllByRecursion (λ y. R k y ≡ Less) ks
+-- ---- a map that is made of entries in order
 
 abbrev first_or : {K : Type 0} → K → List K → K
 first_or k [] = k
 first_or k (x ∷ xs) = x
 
 module _ {K X : Type 0} {R : K → K → Ordering} (total : IsTotalOrder R) where
-  put_first : (k : K) (v : X) (es : List (K × X)) → Below R k (keys_of es) → fin.put R k v es ≡ (k, v) ∷ es
-  put_first k v [] below = refl
-  put_first k v (e ∷ es) below = ap (λ (o : Ordering). by_order o ((k, v) ∷ e ∷ es) ((e.0, v) ∷ es) (e ∷ fin.put R k v es)) below.0
-
   -- the first key once more
   put_again : (k : K) (v : X) (ks : List K) (es : List (K × X)) → keys_of es ≡ k ∷ ks → keys_of (fin.put R k v es) ≡ k ∷ ks
   put_again k v ks [] is = absurd (omega (arith, ap length is))
@@ -77,19 +69,6 @@ module _ {K X : Type 0} {R : K → K → Ordering} (total : IsTotalOrder R) wher
       let first : e.0 ≡ k = ap (first_or k) is in
       let tied : R k e.0 ≡ Equal = subst (λ (x : K). R k x ≡ Equal) (sym first) (tied_itself total k) in
       ap (λ (o : Ordering). keys_of (by_order o ((k, v) ∷ e ∷ es) ((e.0, v) ∷ es) (e ∷ fin.put R k v es))) tied ∙ is
-
-  no_length : (es : List (K × X)) → length es ≡ 0 → es ≡ []
-  no_length [] e = refl
-  no_length (x ∷ es) e = absurd (omega (arith, e))
-
-  none_empty : fin.entries (fin.empty {X = X} {R = R}) ≡ []
-  none_empty = no_length (fin.entries (fin.empty {X = X} {R = R})) (sym (fin.len-entries (fin.empty {X = X} {R = R})) ∙ fin.len-empty R X)
-
-  entries_whole : (es : List (K × X)) → IsStrictlySortedBy R (keys_of es) → fin.entries (fin.from_entries {R = R} es) ≡ es
-  entries_whole [] sorted = none_empty
-  entries_whole (e ∷ es) sorted = fin.entries-insert total (fin.from_entries es) e.0 e.1
-      ∙ ap (fin.put R e.0 e.1) (entries_whole es (sorted_tail R e.0 (keys_of es) sorted))
-      ∙ put_first e.0 e.1 es (sorted_head R e.0 (keys_of es) sorted)
 
 -- ---- the peers of routes that stand peer by peer
 
@@ -320,23 +299,7 @@ one_list_of_peers state =
 
 -- memory ran out before the first line
 pub none_listed : {T : Type 0} (state : State) (old : Pouring) (result : Result T Stop) → result ≡ Err NoMemory → Lists (ArePeers state) peer_row old old result
-none_listed {T} state old (Ok x) is = let no : ⊥ = cc in absurd no
-none_listed {T} state old (Err stop) is =
-    let one = one_list_of_peers state in
-    let same : stop ≡ NoMemory = cc in
-    record {
-      rows = one.one;
-      are = one.is;
-      listed = record {
-        whole = tt;
-        front = AppendsFront-start (all_of old) (flat_map peer_row one.one);
-        held = λ sink. let no : ⊥ = cc in absurd no;
-        sink_cause = λ sink. let no : ⊥ = cc in absurd no;
-        sink_faults = omega arith;
-        grows = Grows-refl old.written;
-        no_shelf = λ shelf. cc;
-      };
-    }
+none_listed state old result = let one = one_list_of_peers state in listing.none_listed (ArePeers state) peer_row one.one old result one.is
 
 -- ---- lines
 

@@ -1,17 +1,19 @@
--- Each state has one summary.
-use Rattle.std.proofs.Common.{◌≡◌, ℕ, Bool, true, false, nat_eq, is_some, ◌&&◌, ◌||◌, List, [], ◌∷◌, ◌++◌, length, refl, sym, ap, ◌∙◌}
+-- Each state has one summary, and its current table is a finite map.
+use Rattle.std.proofs.Common.{◌≡◌, ℕ, Bool, true, false, nat_eq, is_some, ◌&&◌, ◌||◌, List, [], ◌∷◌, ◌++◌, length, cond, refl, sym, ap, ◌∙◌, subst}
 use Rattle.std.specs.Prelude.{filter}
 use Rattle.std.specs.declared.option.Option.{Option}
 use Rattle.std.specs.declared.option.Option.TheVariants.{Some, None}
 use Rattle.std.specs.FinMap as map
 use Rattle.std.specs.Ordering.{nat_cmp}
+use Rattle.std.specs.Cmp.{nat_cmp_total, eq_by_cmp_equiv, unsigned_tied}
 use Rattle.std.proofs.lemmas.List.Kept.{IsStrictlyIncreasing-filter}
 use Rattle.std.proofs.lemmas.Map.Keys.{IsStrictlyIncreasing-from_sorted, sorted_from_strictly_increasing}
 use Rattle.std.proofs.lemmas.Map.Views.{any-filter_same, exact_unsigned_eq}
 use Rattle.path_model.specs.Ascending.{ascending_of}
 use Rattle.path_model.specs.Authority.{Table, has}
 use Rattle.attestations.specs.ComputedTable.{onto, attested, unfiltered, sourced, given, row_made, table_of}
-use Rattle.attestations.specs.CurrentTable.{Parts}
+use Rattle.path_model.specs.Rows.{RowMap}
+use Rattle.attestations.specs.CurrentTable.{IsCurrentRow, IsCurrentTable, Parts}
 use Rattle.attestations.specs.Terms.{SetOfTerms, TermMap, alive_among, alive_of}
 use Rattle.path_model.proofs.AscendingLemmas.{ascending_sorted, has_ascending, same_members}
 use Rattle.path_model.proofs.MemberLemmas.{has-append}
@@ -112,6 +114,57 @@ some_number parts =
         counted = refl;
       },
     )
+
+-- ---- the current table as a finite map
+
+abbrev with_row : RowMap → ℕ → Option (List ℕ) → RowMap
+with_row rows x None = rows
+with_row rows x (Some row) = map.insert rows x row
+
+abbrev nothing : Option (List ℕ)
+nothing = None
+
+both_none : (b : Bool) → cond b nothing nothing ≡ nothing
+both_none true = refl
+both_none false = refl
+
+module _ (parts : Parts) where
+  abbrev rows_at : List ℕ → RowMap
+  rows_at [] = map.empty
+  rows_at (x ∷ xs) = with_row (rows_at xs) x (table_of parts x)
+
+  abbrev row_at : ℕ → Bool → Option (List ℕ)
+  row_at q here = cond here (table_of parts q) None
+
+  one_more : (rows : RowMap) (x q : ℕ) (row : Option (List ℕ)) (here there : Bool) → row ≡ table_of parts x → nat_eq x q ≡ here → map.get rows q ≡ row_at q there
+      → map.get (with_row rows x row) q ≡ row_at q (here || there)
+  one_more rows x q None true there is same so_far =
+      let none : table_of parts q ≡ None = ap (table_of parts) (sym (exact_unsigned_eq x q same)) ∙ sym is in
+      so_far ∙ ap (λ (o : Option (List ℕ)). cond there o None) none ∙ both_none there ∙ sym none
+  one_more rows x q None false there is same so_far = so_far
+  one_more rows x q (Some row) true there is same so_far =
+      map.get-insert nat_cmp_total rows x row q
+      ∙ ap (λ (b : Bool). cond b (Some row) (map.get rows q)) ((eq_by_cmp_equiv nat_cmp_total).symm q x ∙ unsigned_tied x q ∙ same)
+      ∙ is ∙ ap (table_of parts) (exact_unsigned_eq x q same)
+  one_more rows x q (Some row) false there is same so_far =
+      map.get-insert nat_cmp_total rows x row q
+      ∙ ap (λ (b : Bool). cond b (Some row) (map.get rows q)) ((eq_by_cmp_equiv nat_cmp_total).symm q x ∙ unsigned_tied x q ∙ same)
+      ∙ so_far
+
+  at_each : (xs : List ℕ) (q : ℕ) → map.get (rows_at xs) q ≡ row_at q (has xs q)
+  at_each [] q = map.get-empty nat_cmp q
+  at_each (x ∷ xs) q = one_more (rows_at xs) x q (table_of parts x) (nat_eq x q) (has xs q) refl refl (at_each xs q)
+
+  whole : (q : ℕ) (here : Bool) → has (named parts) q ≡ here → row_at q here ≡ table_of parts q
+  whole q true here = refl
+  whole q false none = sym (ap (λ (rows : List (List ℕ)). row_made rows) (none_given parts q none))
+
+  -- the current table has finitely many rows
+  pub finite_table : (table : RowMap) × IsCurrentTable parts (λ x. map.get table x)
+  finite_table = (
+    rows_at (named parts),
+    λ x. subst (IsCurrentRow parts x) (sym (at_each (named parts) x ∙ whole x (has (named parts) x) refl)) (table_is_current parts x),
+  )
 
 one_number : (one other : Table) (m n : ℕ) → ((x : ℕ) → one x ≡ other x) → IsNumberOfRows one m → IsNumberOfRows other n → m ≡ n
 one_number one other m n same a b = a.counted

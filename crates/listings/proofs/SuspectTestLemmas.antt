@@ -1,12 +1,9 @@
 -- Tests of valleys: of a chain, and of what a pair is noted for.
 use Rattle.std.proofs.Common.{◌≡◌, ◌↔◌, ℕ, zero, suc, ◌+◌, ◌-◌, ◌≤◌, inl, inr, Bool, true, false, List, [], ◌∷◌, ◌++◌, length, refl, ap, sym, ◌∙◌, subst, arith}
 use Rattle.std.specs.Prelude.{Contains}
-use Rattle.std.specs.Cmp.{Equal-is, tied_itself}
-use Rattle.std.specs.Ordering.{eq_by_cmp, is_eq}
 use Rattle.std.specs.declared.option.Option.{Option}
 use Rattle.std.specs.declared.option.Option.TheVariants.{None}
 use Rattle.std.proofs.lemmas.Bool.{cases_lt}
-use Rattle.std.proofs.lemmas.Map.Made.{Contains-tail}
 use Rattle.path_model.specs.declared.role.Direction.{Direction}
 use Rattle.path_model.specs.declared.witness.Witness.{Witness}
 use Rattle.path_model.specs.declared.witness.Witness.TheVariants.{Valid as ByLabelling, Empty, Set, Neighbour, Blocked, Unsettled}
@@ -15,49 +12,14 @@ use Rattle.path_model.specs.Labelling.{direction_of}
 use Rattle.path_model.proofs.Decide.{Decided}
 use Rattle.rib_store.specs.Pairs.{Paired}
 use Rattle.valleys.specs.declared.valley.Valley.{Valley}
-use Rattle.valleys.specs.Order.{valley_cmp, valley_total}
+use Rattle.valleys.specs.Order.{valley_total}
 use Rattle.valleys.specs.Valleys.{HasValley}
 use Rattle.valleys.specs.Walk.{IsPassed, climb_at, closed_by, descent_at, exported, opened_by, still_open}
 use Rattle.valleys.proofs.OrderLemmas.{valley_exact}
 use Rattle.valleys.proofs.WalkLemmas.{passed_more, passed_none, valleys_exported}
 use Rattle.listings.specs.SuspectSteps.{IsBlocked, IsNoted}
-use Rattle.listings.proofs.SuspectCountLemmas.{in_head, in_none, in_tail}
-
--- ---- tests of facts
-
--- whether a fact holds of which that can be found out
-abbrev pub holds : {P : Type 0} → Decided P → Bool
-holds (inl so) = true
-holds (inr never) = false
-
-pub holds_so : {P : Type 0} (d : Decided P) → holds d ≡ true → P
-holds_so (inl so) e = so
-holds_so (inr never) e = absurd cc
-
-pub so_holds : {P : Type 0} (d : Decided P) → P → holds d ≡ true
-so_holds (inl so) p = refl
-so_holds (inr never) p = absurd (never p)
-
--- ---- two valleys are one or aren't
-
-pub valley_itself : (v : Valley) → eq_by_cmp valley_cmp v v ≡ true
-valley_itself v = ap is_eq (tied_itself valley_total v)
-
-pub same_or_other : (a b : Valley) → Decided (a ≡ b)
-same_or_other a b = by (eq_by_cmp valley_cmp a b) refl where
-  by : (r : Bool) → eq_by_cmp valley_cmp a b ≡ r → Decided (a ≡ b)
-  by true e = inl (valley_exact a b ((Equal-is (valley_cmp a b)).0 e))
-  by false e = inr (λ same. let clash : true ≡ false = sym (valley_itself a) ∙ ap (eq_by_cmp valley_cmp a) same ∙ e in absurd cc)
-
-decided_contains : (vs : List Valley) (v : Valley) → Decided (Contains vs v)
-decided_contains [] v = inr (λ h. in_none v h)
-decided_contains (x ∷ xs) v = elim (same_or_other x v) [
-  | inl same ↦ inl (subst (λ (y : Valley). Contains (x ∷ xs) y) same (in_head x xs))
-  | inr other ↦ elim (decided_contains xs v) [
-    | inl there ↦ inl (in_tail x xs v there)
-    | inr none ↦ inr (λ h. none (Contains-tail x xs v other h))
-  ]
-]
+use Rattle.listings.proofs.TallyCountLemmas.{in_none}
+use Rattle.listings.proofs.TallyTestLemmas.{decided_in}
 
 -- ---- a chain has a valley or hasn't
 
@@ -89,7 +51,7 @@ valleys_listed table direction chain = elim (cases_lt 0 (length chain)) [
 decided_valley : (table : Table) (direction : Direction) (chain : List ℕ) (v : Valley) → Decided (HasValley table direction chain v)
 decided_valley table direction chain v =
     let all = valleys_listed table direction chain in
-    elim (decided_contains all.0 v) [
+    elim (decided_in valley_total valley_exact all.0 v) [
       | inl there ↦ inl ((all.1 v).0 there)
       | inr none ↦ inr (λ has. none ((all.1 v).1 has))
     ]

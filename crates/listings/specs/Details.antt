@@ -1,28 +1,25 @@
--- The text that lists the routes as they stand.
-use Rattle.std.specs.Prelude.{◌≡◌, ℕ, Bool, true, List, filter}
-use Rattle.std.specs.declared.option.Option.{Option}
-use Rattle.std.specs.declared.option.Option.TheVariants.{Some, None}
+-- The text that lists the routes that meet some conditions, as they stand.
+use Rattle.std.specs.Prelude.{◌≡◌, ℕ, Bool, List, filter}
 use Rattle.path_model.specs.declared.key.Key.{Key}
-use Rattle.path_model.specs.declared.verdict.Verdict.{Verdict}
+use Rattle.conditions.specs.declared.asked.Conditions.{Conditions}
+use Rattle.conditions.specs.Meets.{meets}
 use Rattle.report_text.specs.Details.{detail_text}
-use Rattle.shared_cases.specs.Cases.{same_verdict}
 use Rattle.rib_store.specs.Shown.{AreShown, Standing}
 use Rattle.rib_store.specs.State.{State}
 
--- whether routes with a verdict are asked for: those with the asked one, or else all
-abbrev pub is_asked : Option Verdict → Verdict → Bool
-is_asked None verdict = true
-is_asked (Some asked) verdict = same_verdict asked verdict
+-- a route meets all conditions as it stands
+abbrev pub is_asked : Conditions → Key × Standing → Bool
+is_asked conditions row = meets conditions row.0 row.1.verdict row.1.path
 
--- those of some routes that are asked for
-abbrev pub asked_of : Option Verdict → List (Key × Standing) → List (Key × Standing)
-asked_of asked routes = filter (λ row. is_asked asked row.1.verdict) routes
+-- those of some routes that do
+abbrev pub asked_of : Conditions → List (Key × Standing) → List (Key × Standing)
+asked_of conditions routes = filter (is_asked conditions) routes
 
--- each route that is asked for, in key order, as it stands
-pub record AreDetails (state : State) (asked : Option Verdict) (rows : List (Key × Standing)) : Type 0 where
+-- each route that does, in key order, as it stands
+pub record AreDetails (state : State) (conditions : Conditions) (rows : List (Key × Standing)) : Type 0 where
   pub all : List (Key × Standing)
   pub are : AreShown state all
-  pub asked_for : rows ≡ asked_of asked all
+  pub asked_for : rows ≡ asked_of conditions all
 
 -- the line of a route
 abbrev pub detail_row : Key × Standing → List ℕ

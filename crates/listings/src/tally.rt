@@ -1,8 +1,8 @@
-//! How many routes have a valley.
+//! How many routes have a key by which they are counted.
 ghost use Rattle.std.specs.Prelude.{◌≡◌};
-ghost use Rattle.listings.specs.SuspectSteps.{HasRoom, more};
+ghost use Rattle.listings.specs.TallySteps.{HasRoom, more};
 
-/// How many have a valley.
+/// How many have a key: a valley, or an AS.
 #[derive(Clone, Copy, Debug, PartialEq, Eq)]
 pub struct Tally {
     /// Routes: at least one.

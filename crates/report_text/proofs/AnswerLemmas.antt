@@ -34,7 +34,13 @@ use Rattle.report_text.specs.Change.{mark_text, marks_text, change_line, changed
 use Rattle.report_text.specs.Keys.{identifier_text, key_text}
 use Rattle.report_text.specs.Laws.{IsAnswerLine}
 use Rattle.report_text.specs.Leaks.{leak_line, shown_text}
+use Rattle.path_model.specs.declared.authority.Authority.{Authority}
+use Rattle.path_model.specs.declared.authority.Authority.TheVariants.{Silent, Refuses, Provides}
+use Rattle.report_text.specs.declared.neighbour.Neighbour.{Neighbour as Beside}
+use Rattle.report_text.specs.AuthorityText.{attested_part, authority_text}
+use Rattle.report_text.specs.Neighbours.{both_part, neighbour_line, went_part}
 use Rattle.report_text.specs.Origins.{origin_line, state_text}
+use Rattle.report_text.specs.Own.{own_line}
 use Rattle.report_text.specs.PeerSummaries.{address_text, owner_text, peer_summary_line, routes_part, who_part}
 use Rattle.report_text.specs.Rows.{row_line}
 use Rattle.report_text.specs.Served.{served_line}
@@ -42,6 +48,8 @@ use Rattle.report_text.specs.Summary.{verdicts_part, sources_part, summary_line}
 use Rattle.report_text.specs.Why.{hops_text, labelling_text, witness_text, why_line}
 use Rattle.report_text.specs.Details.{ases_text, detail_line, path_text, set_text}
 use Rattle.report_text.specs.Sayings.{said_line}
+use Rattle.report_text.specs.Silent.{silent_line}
+use Rattle.report_text.specs.declared.silent.SilentAs.{SilentAs}
 use Rattle.report_text.specs.declared.suspect.Suspect.{Suspect}
 use Rattle.report_text.specs.Suspects.{having_text, suspect_line, to_text, valley_text}
 use Rattle.path_model.specs.Trail.{Path}
@@ -273,7 +281,7 @@ set_in_line : (set : Bool) → IsInLine (set_text set)
 set_in_line false = clean [] refl
 set_in_line true = clean (codes " set") refl
 
-ases_in_line : (ases : List ℕ) → IsInLine (ases_text ases)
+pub ases_in_line : (ases : List ℕ) → IsInLine (ases_text ases)
 ases_in_line [] = clean [] refl
 ases_in_line (asn ∷ ases) = both (32 ∷ decimal asn) (ases_text ases) (behind_space asn) (ases_in_line ases)
 
@@ -325,6 +333,15 @@ suspect_is_one_line suspect =
       unmarked = begins_other line (subst StartsOther (sym is) (starts_at (decimal suspect.from) 32 after (decimal-lacks 33 suspect.from (omega arith)) (λ e. cc)));
     }
 
+pub silent_is_one_line : (silent : SilentAs) → IsAnswerLine (silent_line silent)
+silent_is_one_line silent =
+    let having = having_text silent.routes silent.paths in
+    let after = codes "routes " ++ decimal silent.routes ++ codes " paths " ++ decimal silent.paths in
+    record {
+      in_line = both (decimal silent.asn) having (number silent.asn) (having_in_line silent.routes silent.paths);
+      unmarked = begins_other (silent_line silent) (starts_at (decimal silent.asn) 32 after (decimal-lacks 33 silent.asn (omega arith)) (λ e. cc));
+    }
+
 -- ---- peers, with their roles and how many routes they have
 
 address_in_line : (addr : Option Addr) → IsInLine (address_text addr)
@@ -366,6 +383,49 @@ peer_summary_is_one_line peer =
     record {
       in_line = both (who_part peer) (routes_part peer) (who_in_line peer) (routes_in_line peer);
       unmarked = begins_other (peer_summary_line peer) (subst StartsOther (sym is) (address_start peer.addr (32 ∷ back)));
+    }
+
+-- ---- our own routes
+
+pub own_is_one_line : (verdict : Verdict) → IsAnswerLine (own_line verdict)
+own_is_one_line verdict = record { in_line = both (codes "own ") (verdict_text verdict) (clean (codes "own ") refl) (verdicts_in_line verdict); unmarked = refl }
+
+-- ---- neighbours
+
+authority_in_line : (authority : Authority) → IsInLine (authority_text authority)
+authority_in_line Provides = clean (codes "provides") refl
+authority_in_line Refuses = clean (codes "refuses") refl
+authority_in_line Silent = clean (codes "silent") refl
+
+both_in_line : (beside : Beside) → IsInLine (both_part beside)
+both_in_line beside = both (decimal beside.asn) (32 ∷ decimal beside.neighbour) (number beside.asn) (behind_space beside.neighbour)
+
+pub attested_in_line : (climb descend : Authority) → IsInLine (attested_part climb descend)
+attested_in_line climb descend =
+    let first = codes " climb " ++ authority_text climb in
+    both (first ++ codes " descend ") (authority_text descend)
+    (both first (codes " descend ")
+    (both (codes " climb ") (authority_text climb) (clean (codes " climb ") refl) (authority_in_line climb))
+    (clean (codes " descend ") refl)) (authority_in_line descend)
+
+went_in_line : (beside : Beside) → IsInLine (went_part beside)
+went_in_line beside =
+    counted (codes " to " ++ decimal beside.to) (codes " from ") beside.from
+    (worded (codes " to ") beside.to (clean (codes " to ") refl))
+    (clean (codes " from ") refl)
+
+beside_parts : (a b c d : List ℕ) → ((a ++ 32 ∷ b) ++ c) ++ d ≡ a ++ 32 ∷ (b ++ (c ++ d))
+beside_parts a b c d = simp append_assoc refl
+
+pub neighbour_is_one_line : (beside : Beside) → IsAnswerLine (neighbour_line beside)
+neighbour_is_one_line beside =
+    let back = decimal beside.neighbour ++ (attested_part beside.climb beside.descend ++ went_part beside) in
+    let is = beside_parts (decimal beside.asn) (decimal beside.neighbour) (attested_part beside.climb beside.descend) (went_part beside) in
+    record {
+      in_line = both (both_part beside ++ attested_part beside.climb beside.descend) (went_part beside)
+          (both (both_part beside) (attested_part beside.climb beside.descend) (both_in_line beside) (attested_in_line beside.climb beside.descend)) (went_in_line beside);
+      unmarked = begins_other (neighbour_line beside)
+          (subst StartsOther (sym is) (starts_at (decimal beside.asn) 32 back (decimal-lacks 33 beside.asn (omega arith)) (λ e. cc)));
     }
 
 -- ---- what is said

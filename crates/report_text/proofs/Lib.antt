@@ -1,4 +1,6 @@
 pub mod AnswerLemmas
+pub mod AsesLemmas
+pub mod AttestedLemmas
 mod CauseLemmas
 mod DigitLemmas
 mod FrontLemmas

@@ -1,29 +1,40 @@
 -- Laws of the definitions, each the contract of a public function of the module `laws`.
-use Rattle.std.specs.Prelude.{◌≡◌, ℕ, nat_eq, true, false, List, codes}
+use Rattle.std.specs.Prelude.{◌≡◌, ℕ, nat_eq, Bool, true, false, List, codes}
 use Rattle.std.specs.declared.option.Option.{Option}
 use Rattle.std.specs.List.{starts_with}
 use Rattle.path_model.specs.declared.key.Key.{Key}
 use Rattle.path_model.specs.declared.verdict.Verdict.{Verdict}
 use Rattle.path_model.specs.declared.witness.Witness.{Witness}
+use Rattle.path_model.specs.Name.{IsName}
 use Rattle.path_model.specs.Trail.{Path}
 use Rattle.origin_model.specs.declared.origin_state.OriginState.{OriginState}
 use Rattle.path_model.specs.declared.leak.Leak.{Leak}
 use Rattle.av_text.specs.Spellings.{IsInLine}
+use Rattle.report_text.specs.declared.attested.LocalPart.{LocalPart}
+use Rattle.report_text.specs.declared.hop.Hop.{Hop}
 use Rattle.report_text.specs.declared.peer_summary.PeerSummary.{PeerSummary}
 use Rattle.report_text.specs.declared.summary.Summary.{Summary}
 use Rattle.report_text.specs.declared.cause.Cause.{Cause}
+use Rattle.report_text.specs.Assertions.{assertion_line}
+use Rattle.report_text.specs.Attested.{asserted_line, current_line, filtered_line, source_line}
 use Rattle.report_text.specs.Change.{change_line, changed_line}
 use Rattle.report_text.specs.Details.{detail_line}
 use Rattle.report_text.specs.declared.feed.FeedEnd.{FeedEnd}
 use Rattle.report_text.specs.Feeds.{feed_line}
+use Rattle.report_text.specs.Hops.{hop_line}
 use Rattle.report_text.specs.Leaks.{leak_line}
+use Rattle.report_text.specs.declared.neighbour.Neighbour.{Neighbour}
+use Rattle.report_text.specs.Neighbours.{neighbour_line}
 use Rattle.report_text.specs.Origins.{origin_line}
+use Rattle.report_text.specs.Own.{own_line}
 use Rattle.report_text.specs.PeerSummaries.{peer_summary_line}
 use Rattle.report_text.specs.Refusals.{AnyPlace, of_line, of_unit, refusal_line}
 use Rattle.report_text.specs.Rows.{row_line}
 use Rattle.report_text.specs.Sayings.{said_line}
 use Rattle.report_text.specs.Served.{served_line}
+use Rattle.report_text.specs.Silent.{silent_line}
 use Rattle.report_text.specs.Summary.{summary_line}
+use Rattle.report_text.specs.declared.silent.SilentAs.{SilentAs}
 use Rattle.report_text.specs.declared.suspect.Suspect.{Suspect}
 use Rattle.report_text.specs.Suspects.{suspect_line}
 use Rattle.report_text.specs.Why.{why_line}
@@ -71,6 +82,12 @@ EachSummaryIsOneLine = (summary : Summary) → IsAnswerLine (summary_line summar
 abbrev pub EachPeerSummaryIsOneLine : Type 0
 EachPeerSummaryIsOneLine = (peer : PeerSummary) → IsAnswerLine (peer_summary_line peer)
 
+abbrev pub EachOwnIsOneLine : Type 0
+EachOwnIsOneLine = (verdict : Verdict) → IsAnswerLine (own_line verdict)
+
+abbrev pub EachNeighbourIsOneLine : Type 0
+EachNeighbourIsOneLine = (neighbour : Neighbour) → IsAnswerLine (neighbour_line neighbour)
+
 abbrev pub EachServedIsOneLine : Type 0
 EachServedIsOneLine = (accepted answers : ℕ) → IsAnswerLine (served_line accepted answers)
 
@@ -84,5 +101,28 @@ EachDetailIsOneLine =
 abbrev pub EachSuspectIsOneLine : Type 0
 EachSuspectIsOneLine = (suspect : Suspect) → IsAnswerLine (suspect_line suspect)
 
+abbrev pub EachSilentAsIsOneLine : Type 0
+EachSilentAsIsOneLine = (silent : SilentAs) → IsAnswerLine (silent_line silent)
+
 abbrev pub EachSayingIsOneLine : Type 0
 EachSayingIsOneLine = (text : List ℕ) → IsInLine text → IsAnswerLine (said_line text)
+
+abbrev pub EachHopIsOneLine : Type 0
+EachHopIsOneLine = (hop : Hop) → IsAnswerLine (hop_line hop)
+
+abbrev pub EachAssertionIsOneLine : Type 0
+EachAssertionIsOneLine = (customer : ℕ) (providers : List ℕ) → IsAnswerLine (assertion_line customer providers)
+
+-- of what a source attests whose name is one
+abbrev pub EachSourceIsOneLine : Type 0
+EachSourceIsOneLine =
+    (name : List ℕ) (until : Option ℕ) (providers : List ℕ) (ended : Bool) → IsName name → IsAnswerLine (source_line name until providers ended)
+
+abbrev pub EachAssertedIsOneLine : Type 0
+EachAssertedIsOneLine = (part : LocalPart) (providers : List ℕ) → IsAnswerLine (asserted_line part providers)
+
+abbrev pub EachFilteredIsOneLine : Type 0
+EachFilteredIsOneLine = (part : LocalPart) → IsAnswerLine (filtered_line part)
+
+abbrev pub EachCurrentRowIsOneLine : Type 0
+EachCurrentRowIsOneLine = (row : Option (List ℕ)) → IsAnswerLine (current_line row)

@@ -1,12 +1,18 @@
+pub mod Assertions
+pub mod Attested
+pub mod AuthorityText
 pub mod Causes
 pub mod Change
 pub mod Details
 pub mod Feeds
 pub mod Fronts
+pub mod Hops
 pub mod Keys
 pub mod Laws
 pub mod Leaks
+pub mod Neighbours
 pub mod Origins
+pub mod Own
 pub mod PeerSummaries
 pub mod Places
 pub mod Refusals
@@ -14,6 +20,7 @@ pub mod Reported
 pub mod Rows
 pub mod Sayings
 pub mod Served
+pub mod Silent
 pub mod Summary
 pub mod Suspects
 pub mod Why

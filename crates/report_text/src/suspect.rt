@@ -86,8 +86,8 @@ fn push_to(out: &mut Vec<u8>, to: Option<u32>) -> Result<(), NoMemory>
     }
 }
 
-// Appends how many routes and paths have it, or a front of that where it fails.
-fn push_having(out: &mut Vec<u8>, routes: u64, paths: u64) -> Result<(), NoMemory>
+/// Appends how many routes and paths have it, or a front of that where it fails.
+pub(crate) fn push_having(out: &mut Vec<u8>, routes: u64, paths: u64) -> Result<(), NoMemory>
     ensures ok { OnOk result (out.new.items ≡ out.old.items ++ having_text routes paths) }
     ensures grown { IsGrown out.old.items out.new.items }
 {

@@ -13,6 +13,7 @@ pub mod MarksLemmas
 pub mod MergeLemmas
 pub mod NotedLemmas
 pub mod NumberLemmas
+pub mod NumberedLemmas
 pub mod OfPeerLemmas
 pub mod PairLemmas
 pub mod PartLemmas

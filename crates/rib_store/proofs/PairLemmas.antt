@@ -97,7 +97,7 @@ module _ (parts : Parts) (relations : Relations) (routes : Numbered) (cases : Sl
     abbrev state_here : State
     state_here = record { parts = parts; roles = relations; routes = routes_by cases routes; marked = marked }
 
-    users_counted : (n : ℕ) (c : StoredCase) → at cases n ≡ Some c → c.users ≡ routes_with (routes_by cases routes) c.asn c.trail
+    pub users_counted : (n : ℕ) (c : StoredCase) → at cases n ≡ Some c → c.users ≡ routes_with (routes_by cases routes) c.asn c.trail
     users_counted n c here =
         (subst (λ (o : Option StoredCase). IsCounted o (users_of routes n)) here (stored.counted n)).0
         ∙ sym (pairs_counted n c here routes (all_found routes (sorted_entries routes sorted)))

@@ -22,7 +22,7 @@ use Rattle.rib_store.proofs.RouteLemmas.{state_by}
 use Rattle.rib_store.proofs.TouchedLemmas.{has_key, stored_as, stored_path, stored_used}
 
 -- a case that some key has is of its peer's AS and of its path
-stored_at : (c : Option StoredCase) (users asn : ℕ) (path : Path) → IsCounted c users → 0 < users → IsOfAs c asn → Some (path_or c) ≡ Some path → IsStoredAs c asn path
+pub stored_at : (c : Option StoredCase) (users asn : ℕ) (path : Path) → IsCounted c users → 0 < users → IsOfAs c asn → Some (path_or c) ≡ Some path → IsStoredAs c asn path
 stored_at None users asn path counted used of_as same = absurd (omega (arith, counted, used))
 stored_at (Some c) users asn path counted used of_as same = let e : path_or (Some c) ≡ path = cc in (of_as, e)
 

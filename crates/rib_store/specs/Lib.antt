@@ -9,6 +9,7 @@ pub mod Held
 pub mod Laws
 pub mod Marks
 pub mod Merge
+pub mod Numbered
 pub mod OfPeer
 pub mod Pairs
 pub mod Routing

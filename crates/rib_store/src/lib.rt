@@ -7,7 +7,8 @@
 //! Each route has the number of a case that it shares with all routes of the same peer AS and path (the crate `shared_cases`);
 //! `specs/Cased.antt` says how the routes and the marked verdicts are read through the cases, and what holds of them. `routing` changes one
 //! route, `marks` notes what was marked of the keys whose route changed since or whose case got another verdict (`specs/Marks.antt`), `rib`
-//! lists the routes with their verdicts, `trails` with their paths and `shown_rows` as they stand, `pairs` lists the distinct pairs of a peer
+//! lists the routes with their verdicts, `trails` with their paths, `numbered` with the numbers of their cases and `shown_rows` as they
+//! stand, `pairs` lists the distinct pairs of a peer
 //! AS and a path (`specs/Pairs.antt`), and `journal` what changed since verdicts were marked, from the notes. How many routes have which
 //! verdict (`counts`) the cases keep; `grounds` lends what they rest on, and `ahead` gets what changes need ahead of its use.
 //!
@@ -29,6 +30,7 @@ mod journal;
 mod laws;
 mod marks;
 mod merged;
+mod numbered;
 mod pairs;
 mod rib;
 mod routing;
@@ -42,6 +44,7 @@ pub use laws::{
     each_change_touches_one_number, each_state_has_one_list_of_changes, each_state_has_one_marking,
     each_state_has_one_report,
 };
+pub use numbered::NumberedRoutes;
 pub use pairs::{Pair, Pairs};
 pub use rib::{PeerRows, Rib, RibPeers, Shown};
 pub use shown_rows::ShownRows;

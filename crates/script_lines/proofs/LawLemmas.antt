@@ -16,7 +16,8 @@ use Rattle.script_lines.specs.Grammar.{IsComment, IsRead, IsPrintable, IsNamed, 
 use Rattle.av_base.specs.One.{HasOne}
 use Rattle.script_lines.proofs.NameLemmas.{name_text_injective, decided_name}
 use Rattle.script_lines.proofs.FormLemmas.{spelled-fits}
-use Rattle.script_lines.proofs.SpellingLemmas.{decided_le, decided_all, decided_fits, spelled_or_lacks, one_command, lacks_none}
+use Rattle.script_lines.proofs.ValueLemmas.{decided_le, decided_all}
+use Rattle.script_lines.proofs.SpellingLemmas.{decided_fits, spelled_or_lacks, one_command, lacks_none}
 
 -- a test that holds, and what follows then, or one that fails, and what follows otherwise
 data Tested (P A B : Type 0) : Type 0 where

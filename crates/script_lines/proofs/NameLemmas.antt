@@ -3,7 +3,7 @@ use Rattle.std.proofs.Common.{◌≡◌, ℕ, List, [], ◌∷◌, refl}
 use Rattle.path_model.proofs.Decide.{Decided}
 use Rattle.av_text.proofs.SpellingLemmas.{value_among, found_injective, found_or_none}
 use Rattle.script_lines.specs.declared.commands.CommandName.{CommandName}
-use Rattle.script_lines.specs.declared.commands.CommandName.TheVariants.{Aspa as AspaName, Aspa64 as Aspa64Name, Validated as ValidatedName, Slurm as SlurmName, Filter as FilterName, Unfilter as UnfilterName, Assert as AssertName, Unassert as UnassertName, At as AtName, Role as RoleName, Open as OpenName, Bmp as BmpName, Take as TakeName, Until as UntilName, Feed as FeedName, Ask as AskName, Sync as SyncName, Serve as ServeName, Judge as JudgeName, Clear as ClearName, Changes as ChangesName, Why as WhyName, Details as DetailsName, Say as SayName, Report as ReportName, Origins as OriginsName, Leaks as LeaksName, Suspects as SuspectsName, Peers as PeersName, Summary as SummaryName}
+use Rattle.script_lines.specs.declared.commands.CommandName.TheVariants.{Aspa as AspaName, Aspa64 as Aspa64Name, Validated as ValidatedName, Slurm as SlurmName, Filter as FilterName, Unfilter as UnfilterName, Assert as AssertName, Unassert as UnassertName, At as AtName, Role as RoleName, Open as OpenName, Bmp as BmpName, Take as TakeName, Until as UntilName, Feed as FeedName, Ask as AskName, Sync as SyncName, Serve as ServeName, Judge as JudgeName, Clear as ClearName, Changes as ChangesName, Why as WhyName, Details as DetailsName, Say as SayName, Report as ReportName, Origins as OriginsName, Leaks as LeaksName, Suspects as SuspectsName, Peers as PeersName, Sent as SentName, Explain as ExplainName, Attests as AttestsName, Neighbours as NeighboursName, Routes as RoutesName, Silent as SilentName, Summary as SummaryName}
 use Rattle.script_lines.specs.Commands.{name_text}
 use Rattle.script_lines.specs.Commands.{IsCommandName}
 
@@ -13,7 +13,7 @@ name_of = value_among name_text JudgeName
     (AspaName ∷ Aspa64Name ∷ ValidatedName ∷ SlurmName ∷ FilterName ∷ UnfilterName ∷ AssertName ∷ UnassertName
     ∷ AtName ∷ RoleName ∷ OpenName ∷ BmpName ∷ TakeName ∷ UntilName ∷ FeedName ∷ AskName ∷ SyncName ∷ ServeName ∷ ClearName ∷ ChangesName ∷ WhyName
     ∷ DetailsName ∷ SayName
-    ∷ ReportName ∷ OriginsName ∷ LeaksName ∷ SuspectsName ∷ PeersName ∷ SummaryName ∷ [])
+    ∷ ReportName ∷ OriginsName ∷ LeaksName ∷ SuspectsName ∷ PeersName ∷ SentName ∷ ExplainName ∷ AttestsName ∷ NeighboursName ∷ RoutesName ∷ SilentName ∷ SummaryName ∷ [])
 
 name_of-name_text : (name : CommandName) → name_of (name_text name) ≡ name
 unfolding name_of value_among
@@ -46,6 +46,12 @@ name_of-name_text OriginsName = refl
 name_of-name_text LeaksName = refl
 name_of-name_text SuspectsName = refl
 name_of-name_text PeersName = refl
+name_of-name_text SentName = refl
+name_of-name_text ExplainName = refl
+name_of-name_text AttestsName = refl
+name_of-name_text NeighboursName = refl
+name_of-name_text RoutesName = refl
+name_of-name_text SilentName = refl
 name_of-name_text SummaryName = refl
 
 -- two commands with one name are one

@@ -1,4 +1,4 @@
--- Words spell values or don't, each at most one, kind by kind and form by form.
+-- Words spell commands or don't, each at most one, form by form.
 use Rattle.std.proofs.Common.{◌≡◌, ◌⊎◌, inl, inr, ℕ, zero, suc, ◌<◌, ◌≤◌, ◌^◌, Bool, true, false, List, [], ◌∷◌, ◌++◌, length, map, codes, decimal, slice_get, Option, Some, None, lit<, lit≤, refl, sym, ap, ◌∙◌, arith, subst}
 use Rattle.std.specs.Bool.{IsTrue}
 use Rattle.std.specs.List.{All}
@@ -10,7 +10,7 @@ use Rattle.path_model.specs.declared.verdict.Verdict.{Verdict}
 use Rattle.path_model.specs.declared.verdict.Verdict.TheVariants.{Valid, Unknown, Invalid}
 use Rattle.path_model.specs.Name.{IsName, is_name_byte}
 use Rattle.path_model.specs.Prefix.{IsAddr, IsSubnet}
-use Rattle.path_model.proofs.Decide.{Decided, decided_both, decided_true}
+use Rattle.path_model.proofs.Decide.{Decided, decided_both, decided_either}
 use Rattle.av_text.specs.AddressText.{addr_text, IsAddrText}
 use Rattle.av_text.specs.Number.{Is32Bit, IsNoNumber}
 use Rattle.av_text.specs.PrefixText.{prefix_text}
@@ -22,165 +22,12 @@ use Rattle.av_text.proofs.SpellingLemmas.{value_among, found_injective, found_or
 use Rattle.script_lines.specs.declared.commands.Command.{Command}
 use Rattle.script_lines.specs.Word.{IsVisible}
 use Rattle.script_lines.specs.Kinds.{view_text, WordKind, NAME, TEXT, ROLE, VIEW, VERDICT, ADDRESS, PREFIX, NUMBER, WHOM, ValueOf, Spells, HasForm, LacksNumber}
-use Rattle.script_lines.specs.Forms.{Form, end, ases, texts, optional, ◌then◌, sentence, Builds, IsSpelled, Fits, SomeNoAs, SomeNoNumber}
+use Rattle.script_lines.specs.Forms.{Form, end, ases, texts, optional, ◌then◌, ◌or◌, conditions, sentence, Builds, IsSpelled, Fits, SomeNoAs, SomeNoNumber}
 use Rattle.script_lines.proofs.AsLemmas.{no_as_first, no_as_later}
-use Rattle.script_lines.proofs.FormLemmas.{ases-spelled}
+use Rattle.script_lines.proofs.FormLemmas.{ases-spelled, spelled-fits}
+use Rattle.script_lines.proofs.ValueLemmas.{decided_le, decided_all, decided_kind, value_or_lacks, one_value, no_lack}
+use Rattle.script_lines.proofs.ConditionLemmas.{decided_fit, condition_values, one_conditions, conditions_lack_none}
 use Rattle.script_lines.proofs.KindLemmas.{one_number, lacks-none, lacks-outside, lacks-whom}
-
--- whether one number is at most another
-pub decided_le : (m n : ℕ) → Decided (m ≤ n)
-decided_le m n = elim (cases_lt n m) [ inl less ↦ inr (λ most. omega arith) | inr most ↦ inl most ]
-
--- whether each of some is so
-pub decided_all : {A : Type 0} (P : A → Type 0) → ((a : A) → Decided (P a)) → (xs : List A) → Decided (All P xs)
-decided_all P decide [] = inl (All-nil P)
-decided_all P decide (a ∷ xs) =
-    elim (decide a) [
-      | inl here ↦ elim (decided_all P decide xs) [
-        | inl rest ↦ inl (All-cons P a xs here rest)
-        | inr not_rest ↦ inr (λ all. not_rest (All-tail P a xs all))
-      ]
-      | inr not_here ↦ inr (λ all. not_here (All-head P a xs all))
-    ]
-
-decided_name_byte : (byte : ℕ) → Decided (IsTrue (is_name_byte byte))
-decided_name_byte byte = decided_true (is_name_byte byte)
-
--- whether a word is a name
-decided_is_name : (word : List ℕ) → Decided (IsName word)
-decided_is_name word =
-    elim (decided_both (decided_both (decided_le 1 (length word)) (decided_le (length word) 64))
-    (decided_all (λ byte. IsTrue (is_name_byte byte)) decided_name_byte word)) [
-      | inl is ↦ inl (record { some = is.0.0; short = is.0.1; bytes = is.1 })
-      | inr not ↦ inr (λ name. not ((name.some, name.short), name.bytes))
-    ]
-
-decided_visible : (byte : ℕ) → Decided (IsVisible byte)
-decided_visible byte = decided_both (decided_le 33 byte) (decided_le byte 126)
-
--- the view that a word could name
-view_of : List ℕ → Bool
-view_of = value_among view_text true (false ∷ [])
-
-view_of-view_text : (post : Bool) → view_of (view_text post) ≡ post
-unfolding view_of value_among
-view_of-view_text false = refl
-view_of-view_text true = refl
-
--- two views with one word are equal
-view_text_injective : (one other : Bool) → view_text one ≡ view_text other → one ≡ other
-view_text_injective = found_injective view_text view_of view_of-view_text
-
--- whether a word names a view
-decided_view : (word : List ℕ) → Decided ((post : Bool) × (word ≡ view_text post))
-decided_view = found_or_none view_text view_of view_of-view_text
-
--- the verdict that a word could name
-verdict_of : List ℕ → Verdict
-verdict_of = value_among verdict_text Invalid (Valid ∷ Unknown ∷ [])
-
-verdict_of-verdict_text : (verdict : Verdict) → verdict_of (verdict_text verdict) ≡ verdict
-unfolding verdict_of value_among
-verdict_of-verdict_text Valid = refl
-verdict_of-verdict_text Unknown = refl
-verdict_of-verdict_text Invalid = refl
-
--- two verdicts with one word are equal
-verdict_text_injective : (one other : Verdict) → verdict_text one ≡ verdict_text other → one ≡ other
-verdict_text_injective = found_injective verdict_text verdict_of verdict_of-verdict_text
-
--- whether a word names a verdict
-decided_verdict : (word : List ℕ) → Decided ((verdict : Verdict) × (word ≡ verdict_text verdict))
-decided_verdict = found_or_none verdict_text verdict_of verdict_of-verdict_text
-
--- a word that is so is the text of itself
-decided_itself : (P : Type 0) (word : List ℕ) → Decided P → Decided ((text : List ℕ) × (P × (text ≡ word)))
-decided_itself P word (inl is) = inl (word, (is, refl))
-decided_itself P word (inr not) = inr (λ some. not some.1.0)
-
--- a word that spells a value or none
-decided_spelling : {A : Type 0} (IsValue : A → Type 0) (spell : A → List ℕ) (word : List ℕ) → SpellsOne A IsValue spell word → Decided ((value : A) × (IsValue value × (word ≡ spell value)))
-decided_spelling IsValue spell word (inl is) = inl (is.0, (is.1, is.2))
-decided_spelling IsValue spell word (inr none) = inr (λ some. none some.0 some.1.0 some.1.1)
-
--- whether a word may stand there
-decided_kind : (kind : WordKind) (word : List ℕ) → Decided (HasForm kind word)
-decided_kind NAME word = decided_itself (IsName word) word (decided_is_name word)
-decided_kind TEXT word = decided_itself (All IsVisible word) word (decided_all IsVisible decided_visible word)
-decided_kind ROLE word = decided_role word
-decided_kind VIEW word = decided_view word
-decided_kind VERDICT word = decided_verdict word
-decided_kind ADDRESS word = decided_spelling IsAddr addr_text word (addr_or_none word)
-decided_kind PREFIX word = decided_spelling IsSubnet prefix_text word (prefix_or_none word)
-decided_kind (NUMBER least most) word = inl tt
-decided_kind WHOM word = inl tt
-
--- a word that may stand there spells a value, or lacks a number
-value_or_lacks : (kind : WordKind) (word : List ℕ) → HasForm kind word → LacksNumber kind word ⊎ ((value : ValueOf kind) × Spells kind word value)
-value_or_lacks NAME word form = inr form
-value_or_lacks TEXT word form = inr form
-value_or_lacks ROLE word form = inr form
-value_or_lacks VIEW word form = inr form
-value_or_lacks VERDICT word form = inr form
-value_or_lacks ADDRESS word form = inr form
-value_or_lacks PREFIX word form = inr form
-value_or_lacks (NUMBER least most) word form =
-    elim (number_or_none word) [
-      | inl none ↦ inl (lacks-none least most word none)
-      | inr n ↦ elim (decided_both (decided_le least n.0) (decided_le n.0 most)) [
-        | inl inside ↦ inr (n.0, ((n.1, n.2), inside.0, inside.1))
-        | inr outside ↦ inl (lacks-outside least most n.0 word (n.1, n.2) (λ low high. outside (low, high)))
-      ]
-    ]
-value_or_lacks WHOM word form =
-    elim (decided_text word (codes "default")) [
-      | inl same ↦ inr (None, same)
-      | inr other ↦ elim (number_or_none word) [
-        | inl none ↦ inl (lacks-whom word other none)
-        | inr n ↦ inr (Some n.0, (n.1, n.2))
-      ]
-    ]
-
--- `default` is no number
-default_no_number : (n : ℕ) → n < 2 ^ 32 → codes "default" ≡ decimal n → ⊥
-default_no_number = no_number-other (codes "default") 0 (lit< tt) (lit≤ tt)
-
--- a word is that of one AS alone, or `default`
-one_whom : (word : List ℕ) (one other : Option ℕ) → Spells WHOM word one → Spells WHOM word other → one ≡ other
-one_whom word None None a b = refl
-one_whom word None (Some n) a b = absurd (default_no_number n b.0 (sym a ∙ b.1))
-one_whom word (Some m) None a b = absurd (default_no_number m a.0 (sym b ∙ a.1))
-one_whom word (Some m) (Some n) a b = ap Some (one_number word m n a b)
-
--- a word spells one address: with the same AS behind it, that of one peer
-one_addr : (word : List ℕ) (one other : Addr) → IsAddrText word one → IsAddrText word other → one ≡ other
-one_addr word one other a b = ap (λ (p : Peer). p.addr)
-    (peer_text_injective (record { addr = one; asn = 0 }) (record { addr = other; asn = 0 }) (a.0, omega arith) (b.0, omega arith)
-    (ap (λ (text : List ℕ). text ++ 32 ∷ decimal 0) (sym a.1 ∙ b.1)))
-
--- a word spells one value,
-one_value : (kind : WordKind) (word : List ℕ) (one other : ValueOf kind) → Spells kind word one → Spells kind word other → one ≡ other
-one_value NAME word one other a b = a.1 ∙ sym b.1
-one_value TEXT word one other a b = a.1 ∙ sym b.1
-one_value ROLE word one other a b = role_text_injective one other (sym a ∙ b)
-one_value VIEW word one other a b = view_text_injective one other (sym a ∙ b)
-one_value VERDICT word one other a b = verdict_text_injective one other (sym a ∙ b)
-one_value ADDRESS word one other a b = one_addr word one other a b
-one_value PREFIX word one other a b = prefix_text_injective one other a.0 b.0 (sym a.1 ∙ b.1)
-one_value (NUMBER least most) word one other a b = one_number word one other a.0 b.0
-one_value WHOM word one other a b = one_whom word one other a b
-
--- and then it lacks none
-no_lack : (kind : WordKind) (word : List ℕ) (value : ValueOf kind) → Spells kind word value → LacksNumber kind word → ⊥
-no_lack NAME word value is lacks = lacks
-no_lack TEXT word value is lacks = lacks
-no_lack ROLE word value is lacks = lacks
-no_lack VIEW word value is lacks = lacks
-no_lack VERDICT word value is lacks = lacks
-no_lack ADDRESS word value is lacks = lacks
-no_lack PREFIX word value is lacks = lacks
-no_lack (NUMBER least most) word value is lacks = lacks value is
-no_lack WHOM word value is lacks = lacks value is
 
 -- some of the words isn't an AS, or they are these ASes
 numbers_or_none : (words : List (List ℕ)) → SomeNoAs words ⊎ ((ns : List ℕ) × All Is32Bit ns × (words ≡ map decimal ns))
@@ -215,6 +62,13 @@ decided_fits (optional kind) [] = inl tt
 decided_fits (optional kind) (word ∷ words) = decided_both (decided_kind kind word) (decided_none words)
 decided_fits (kind then form) [] = inr (λ no. no)
 decided_fits (kind then form) (word ∷ words) = decided_both (decided_kind kind word) (decided_fits form words)
+decided_fits (form or other) words = decided_either (decided_fits form words) (decided_fits other words)
+decided_fits (conditions given) words = decided_fit given words
+
+-- of two one holds, and not the first
+the_other : {P Q : Type 0} → (P → ⊥) → P ⊎ Q → Q
+the_other not (inl p) = absurd (not p)
+the_other not (inr q) = q
 
 -- words that fit spell a command, or lack a number
 pub spelled_or_lacks : (form : Form) (build : Builds form) (words : List (List ℕ)) → Fits form words → SomeNoNumber form words ⊎ ((command : Command) × IsSpelled form build words command)
@@ -240,6 +94,22 @@ spelled_or_lacks (kind then form) build (word ∷ words) fits =
         | inr command ↦ inr (command.0, (v.0, v.1, command.1))
       ]
     ]
+spelled_or_lacks (form or other) build words fits =
+    elim (decided_fits form words) [
+      | inl here ↦ elim (spelled_or_lacks form build.0 words here) [
+        | inl lacks ↦ inl (inl (here, lacks))
+        | inr command ↦ inr (command.0, inl command.1)
+      ]
+      | inr not ↦ elim (spelled_or_lacks other build.1 words (the_other not fits)) [
+        | inl lacks ↦ inl (inr (not, lacks))
+        | inr command ↦ inr (command.0, inr (not, command.1))
+      ]
+    ]
+spelled_or_lacks (conditions given) build words fits =
+    elim (condition_values given words fits) [
+      | inl lacks ↦ inl lacks
+      | inr asked ↦ inr (build asked.0, (asked.0, asked.1, refl))
+    ]
 
 -- words spell one command
 pub one_command : (form : Form) (build : Builds form) (words : List (List ℕ)) (one other : Command) → IsSpelled form build words one → IsSpelled form build words other → one ≡ other
@@ -254,6 +124,11 @@ one_command (kind then form) build (word ∷ words) one other a b =
     let same : a.0 ≡ b.0 = one_value kind word a.0 b.0 a.1 b.1 in
     let P : ValueOf kind → Type 0 = λ v. IsSpelled form (build v) words other in
     one_command form (build a.0) words one other a.2 (subst P (sym same) b.2)
+one_command (form or next) build words one other (inl a) (inl b) = one_command form build.0 words one other a b
+one_command (form or next) build words one other (inl a) (inr b) = absurd (b.0 (spelled-fits form build.0 words one a))
+one_command (form or next) build words one other (inr a) (inl b) = absurd (a.0 (spelled-fits form build.0 words other b))
+one_command (form or next) build words one other (inr a) (inr b) = one_command next build.1 words one other a.1 b.1
+one_command (conditions given) build words one other a b = a.2 ∙ ap build (one_conditions given words a.0 b.0 a.1 b.1) ∙ sym b.2
 
 -- words that spell a command lack no number
 pub lacks_none : (form : Form) (build : Builds form) (words : List (List ℕ)) (command : Command) → IsSpelled form build words command → SomeNoNumber form words → ⊥
@@ -265,3 +140,8 @@ lacks_none (optional kind) build (word ∷ words) command is lacks = no_lack kin
 lacks_none (kind then form) build [] command is lacks = lacks
 lacks_none (kind then form) build (word ∷ words) command is (inl here) = no_lack kind word is.0 is.1 here
 lacks_none (kind then form) build (word ∷ words) command is (inr later) = lacks_none form (build is.0) words command is.2 later
+lacks_none (form or other) build words command (inl is) (inl lacks) = lacks_none form build.0 words command is lacks.1
+lacks_none (form or other) build words command (inl is) (inr lacks) = lacks.0 (spelled-fits form build.0 words command is)
+lacks_none (form or other) build words command (inr is) (inl lacks) = is.0 lacks.0
+lacks_none (form or other) build words command (inr is) (inr lacks) = lacks_none other build.1 words command is.1 lacks.1
+lacks_none (conditions given) build words command is lacks = conditions_lack_none given words is.0 is.1 lacks

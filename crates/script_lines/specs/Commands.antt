@@ -4,27 +4,12 @@ use Rattle.std.specs.declared.option.Option.{Option}
 use Rattle.std.specs.declared.option.Option.TheVariants.{Some, None}
 use Rattle.path_model.specs.declared.role.Role.{Role as RoleOf}
 use Rattle.script_lines.specs.declared.commands.Command.{Command}
-use Rattle.script_lines.specs.declared.commands.Command.TheVariants.{Aspa, Aspa64, Validated, Slurm, Filter, Unfilter, Assert, Unassert, At, Role, RoleDefault, Open, Bmp, Take, Until, Feed, Ask, Sync, Serve, Judge, Clear, Changes, Why, Details, Say, Report, Origins, Leaks, Suspects, Peers, Summary}
+use Rattle.script_lines.specs.declared.commands.Command.TheVariants.{Aspa, Aspa64, Validated, Slurm, Filter, Unfilter, Assert, Unassert, At, Role, RoleDefault, Open, Bmp, Take, Until, Feed, Ask, Sync, Serve, Judge, Clear, Changes, Why, Details, Say, Report, Origins, Leaks, Suspects, Peers, Sent, Explain, ExplainRoute, Attests, Neighbours, Routes, Silent, Summary}
 use Rattle.script_lines.specs.declared.commands.CommandName.{CommandName}
-use Rattle.script_lines.specs.declared.commands.CommandName.TheVariants.{Aspa as AspaName, Aspa64 as Aspa64Name, Validated as ValidatedName, Slurm as SlurmName, Filter as FilterName, Unfilter as UnfilterName, Assert as AssertName, Unassert as UnassertName, At as AtName, Role as RoleName, Open as OpenName, Bmp as BmpName, Take as TakeName, Until as UntilName, Feed as FeedName, Ask as AskName, Sync as SyncName, Serve as ServeName, Judge as JudgeName, Clear as ClearName, Changes as ChangesName, Why as WhyName, Details as DetailsName, Say as SayName, Report as ReportName, Origins as OriginsName, Leaks as LeaksName, Suspects as SuspectsName, Peers as PeersName, Summary as SummaryName}
-use Rattle.script_lines.specs.Kinds.{WordKind, NAME, TEXT, ROLE, VIEW, VERDICT, ADDRESS, PREFIX, NUMBER, WHOM}
-use Rattle.script_lines.specs.Forms.{Form, end, ases, texts, optional, ◌then◌, Builds, IsSpelled}
-
--- an AS, a moment, a path identifier, how many units of a stream or routers, and a session of a cache (RFC 8210, section 5.1)
-abbrev pub AS : WordKind
-AS = NUMBER 0 4294967295
-
-abbrev pub MOMENT : WordKind
-MOMENT = NUMBER 0 4294967295
-
-abbrev pub IDENTIFIER : WordKind
-IDENTIFIER = NUMBER 0 4294967295
-
-abbrev pub COUNT : WordKind
-COUNT = NUMBER 1 100000000
-
-abbrev pub SESSION : WordKind
-SESSION = NUMBER 0 65535
+use Rattle.script_lines.specs.declared.commands.CommandName.TheVariants.{Aspa as AspaName, Aspa64 as Aspa64Name, Validated as ValidatedName, Slurm as SlurmName, Filter as FilterName, Unfilter as UnfilterName, Assert as AssertName, Unassert as UnassertName, At as AtName, Role as RoleName, Open as OpenName, Bmp as BmpName, Take as TakeName, Until as UntilName, Feed as FeedName, Ask as AskName, Sync as SyncName, Serve as ServeName, Judge as JudgeName, Clear as ClearName, Changes as ChangesName, Why as WhyName, Details as DetailsName, Say as SayName, Report as ReportName, Origins as OriginsName, Leaks as LeaksName, Suspects as SuspectsName, Peers as PeersName, Sent as SentName, Explain as ExplainName, Attests as AttestsName, Neighbours as NeighboursName, Routes as RoutesName, Silent as SilentName, Summary as SummaryName}
+use Rattle.script_lines.specs.Kinds.{NAME, TEXT, ROLE, VIEW, VERDICT, ADDRESS, PREFIX, WHOM, AS, MOMENT, IDENTIFIER, COUNT, SESSION}
+use Rattle.script_lines.specs.Conditions.{none_given}
+use Rattle.script_lines.specs.Forms.{Form, end, ases, texts, optional, ◌then◌, ◌or◌, conditions, Builds, IsSpelled}
 
 -- a role is that of one AS, or of all ASes without one of their own
 abbrev pub sets_role : Option ℕ → RoleOf → Command
@@ -68,6 +53,16 @@ row OriginsName = record { word = codes "origins"; form = end; made = Origins }
 row LeaksName = record { word = codes "leaks"; form = end; made = Leaks }
 row SuspectsName = record { word = codes "suspects"; form = end; made = Suspects }
 row PeersName = record { word = codes "peers"; form = end; made = Peers }
+row SentName = record { word = codes "sent"; form = ROLE then ases 1; made = λ role path. Sent role path }
+row ExplainName = record {
+  word = codes "explain";
+  form = (ROLE then AS then ases 0) or (ADDRESS then AS then PREFIX then optional IDENTIFIER);
+  made = (λ role neighbour path. Explain role neighbour path, λ addr asn prefix path. ExplainRoute addr asn prefix path);
+}
+row AttestsName = record { word = codes "attests"; form = optional AS; made = λ customer. Attests customer }
+row NeighboursName = record { word = codes "neighbours"; form = AS then end; made = λ asn. Neighbours asn }
+row RoutesName = record { word = codes "routes"; form = conditions none_given; made = λ asked. Routes asked }
+row SilentName = record { word = codes "silent"; form = end; made = Silent }
 row SummaryName = record { word = codes "summary"; form = end; made = Summary }
 
 -- the first word of a command's lines,

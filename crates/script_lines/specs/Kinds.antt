@@ -31,6 +31,22 @@ pub data WordKind : Type 0 where
   NUMBER : ℕ → ℕ → WordKind
   WHOM : WordKind
 
+-- an AS, a moment, a path identifier, how many units of a stream or routers, and a session of a cache (RFC 8210, section 5.1)
+abbrev pub AS : WordKind
+AS = NUMBER 0 4294967295
+
+abbrev pub MOMENT : WordKind
+MOMENT = NUMBER 0 4294967295
+
+abbrev pub IDENTIFIER : WordKind
+IDENTIFIER = NUMBER 0 4294967295
+
+abbrev pub COUNT : WordKind
+COUNT = NUMBER 1 100000000
+
+abbrev pub SESSION : WordKind
+SESSION = NUMBER 0 65535
+
 -- what such a word stands for
 abbrev pub ValueOf : WordKind → Type 0
 ValueOf NAME = List ℕ

@@ -1,4 +1,5 @@
 pub mod Commands
+pub mod Conditions
 pub mod Fields
 pub mod Forms
 pub mod Grammar

@@ -1,11 +1,12 @@
 //! The commands of a script: what each asks for, its word, and the words behind it.
 ghost use Rattle.std.specs.Prelude.{◌≡◌, IfOk, IfErr, IfSome, IfNone};
 ghost use Rattle.av_text.specs.Words.{words_left};
-ghost use Rattle.script_lines.specs.Fields.{RefusesWords};
+ghost use Rattle.script_lines.specs.Fields.{RefusesWords, explains};
 ghost use Rattle.script_lines.specs.Commands.{IsCommandName, name_text, form_of, sets_role, SpellsCommand};
 
+use crate::condition_words::ConditionWords;
 use crate::fault::LineFault;
-use crate::fields::{Ases, End, Fields, Optional, Texts, Then};
+use crate::fields::{Ases, End, Fields, OneOf, Optional, Or, Texts, Then};
 use crate::kinds::{
     AddressWord, AsWord, CountWord, IdentifierWord, MomentWord, NameWord, PrefixWord, RoleWord,
     SessionWord, TextWord, VerdictWord, ViewWord, WhomWord,
@@ -13,6 +14,7 @@ use crate::kinds::{
 use crate::saying::Saying;
 use crate::word::Word;
 use av_text::Words;
+use conditions::Conditions;
 use path_model::{Addr, AsList, Name, Prefix, Role, Verdict};
 use std::alloc::Global;
 
@@ -82,6 +84,21 @@ pub enum Command {
     Suspects,
     /// `peers`: each peer that has routes, with its role and how many they are, and each AS with a role of its own and no routes.
     Peers,
+    /// `sent ROLE AS..`: our own ASes, seen over these ASes, neighbour first, and each route that is sent upwards, with the verdicts that an AS
+    /// has of them that learns them from that neighbour in this role.
+    Sent(Role, AsList),
+    /// `explain ROLE NEIGHBOUR AS..`: the verdict of the path, written neighbour first, what shows it, and what is attested of each hop.
+    Explain(Role, u32, AsList),
+    /// `explain ADDRESS AS PREFIX` or `explain ADDRESS AS PREFIX ID`: the same of a route of the table.
+    ExplainRoute(Addr, u32, Prefix, Option<u32>),
+    /// `attests` or `attests AS`: the current table as lines of a script, or where the row of one customer comes from.
+    Attests(Option<u32>),
+    /// `neighbours AS`: each AS beside it on the table's paths, with what the two attest of each other and how many routes go which way.
+    Neighbours(u32),
+    /// `routes WORD VALUE ..`: each route of the table that meets all of the conditions, with what shows its verdict and its path.
+    Routes(Conditions),
+    /// `silent`: each AS that attests nothing and about which some route of unknown verdict asks, with how many routes and paths ask.
+    Silent,
     /// `summary`: how many routes and customers there are, and how many units were passed over and lines refused.
     Summary,
     /// `why ADDRESS AS PREFIX` or `why ADDRESS AS PREFIX ID`: the verdict of the route of that peer and prefix, without a path identifier
@@ -121,6 +138,12 @@ pub(crate) enum CommandName {
     Leaks,
     Suspects,
     Peers,
+    Sent,
+    Explain,
+    Attests,
+    Neighbours,
+    Routes,
+    Silent,
     Summary,
 }
 
@@ -159,6 +182,12 @@ pub(crate) fn command_name(word: &[u8]) -> Option<CommandName>
         b"leaks" => Some(CommandName::Leaks),
         b"suspects" => Some(CommandName::Suspects),
         b"peers" => Some(CommandName::Peers),
+        b"sent" => Some(CommandName::Sent),
+        b"explain" => Some(CommandName::Explain),
+        b"attests" => Some(CommandName::Attests),
+        b"neighbours" => Some(CommandName::Neighbours),
+        b"routes" => Some(CommandName::Routes),
+        b"silent" => Some(CommandName::Silent),
         b"summary" => Some(CommandName::Summary),
         _ => None,
     }
@@ -303,6 +332,33 @@ pub(crate) fn read_fields(
             End::read(alloc, words)?;
             Ok(Command::Peers)
         }
+        CommandName::Sent => {
+            let (role, path) = <Then<RoleWord, Ases<1>>>::read(alloc, words)?;
+            Ok(Command::Sent(role, path))
+        }
+        CommandName::Explain => {
+            let explained = <Or<
+                Then<RoleWord, Then<AsWord, Ases<0>>>,
+                Then<AddressWord, Then<AsWord, Then<PrefixWord, Optional<IdentifierWord>>>>,
+            >>::read(alloc, words)?;
+            Ok(explain_command(explained))
+        }
+        CommandName::Attests => {
+            let customer = <Optional<AsWord>>::read(alloc, words)?;
+            Ok(Command::Attests(customer))
+        }
+        CommandName::Neighbours => {
+            let (asn, ()) = <Then<AsWord, End>>::read(alloc, words)?;
+            Ok(Command::Neighbours(asn))
+        }
+        CommandName::Routes => {
+            let asked = ConditionWords::read(alloc, words)?;
+            Ok(Command::Routes(asked))
+        }
+        CommandName::Silent => {
+            End::read(alloc, words)?;
+            Ok(Command::Silent)
+        }
         CommandName::Summary => {
             End::read(alloc, words)?;
             Ok(Command::Summary)
@@ -317,5 +373,22 @@ fn role_command(whom: Option<u32>, role: Role) -> Command
     match whom {
         Some(asn) => Command::Role(asn, role),
         None => Command::RoleDefault(role),
+    }
+}
+
+// A path that is typed, neighbour first, and a route of the table.
+type TypedPath = (Role, (u32, AsList));
+
+type HeldRoute = (Addr, (u32, (Prefix, Option<u32>)));
+
+// The command that explains a path that is typed, or a route.
+fn explain_command(explained: OneOf<TypedPath, HeldRoute>) -> Command
+    ensures { result ≡ explains explained }
+{
+    match explained {
+        OneOf::One((role, (neighbour, path))) => Command::Explain(role, neighbour, path),
+        OneOf::Other((addr, (asn, (prefix, path)))) => {
+            Command::ExplainRoute(addr, asn, prefix, path)
+        }
     }
 }

@@ -74,7 +74,7 @@ impl<K: Kind, F: Fields> Fields for Then<K, F> {
 }
 
 // Both values, or the fault that comes first: a word that isn't spelled right before one that is no number in its range.
-fn both<A: Drop, B: Drop>(
+pub(crate) fn both<A: Drop, B: Drop>(
     one: Result<A, LineFault>,
     other: Result<B, LineFault>,
 ) -> Result<(A, B), LineFault>
@@ -85,6 +85,38 @@ fn both<A: Drop, B: Drop>(
         (Err(LineFault::Number), Err(fault)) => Err(fault),
         (Err(fault), _) => Err(fault),
         (_, Err(fault)) => Err(fault),
+    }
+}
+
+/// Words of one form, or of another one where they don't fit that.
+pub(crate) struct Or<F, G> {
+    one: PhantomData<F>,
+    other: PhantomData<G>,
+}
+
+/// The values of the form that the words have.
+#[derive(Drop)]
+pub(crate) enum OneOf<A, B> {
+    One(A),
+    Other(B),
+}
+
+impl<F: Fields, G: Fields> Fields for Or<F, G> {
+    ghost use Rattle.script_lines.specs.Fields.{either};
+    ghost use Rattle.script_lines.specs.Forms.{◌or◌};
+
+    type Values = OneOf<F::Values, G::Values>;
+
+    ghost form = { F.form or G.form };
+
+    ghost build = { λ vs b. either (λ one. F.build one b.0) (λ other. G.build other b.1) vs };
+
+    fn read(alloc: Global, words: Words<'_>) -> Result<OneOf<F::Values, G::Values>, LineFault> {
+        match F::read(alloc, words) {
+            Ok(values) => Ok(OneOf::One(values)),
+            Err(LineFault::Words) => Ok(OneOf::Other(G::read(alloc, words)?)),
+            Err(fault) => Err(fault),
+        }
     }
 }
 

@@ -2,8 +2,7 @@
 ghost use Rattle.std.specs.Prelude.{◌≡◌, ◌≢◌, ◌↔◌, Bool, codes, IfOk, IfErr, IfSome, IfNone, IsTrue};
 ghost use Rattle.path_model.specs.declared.verdict.Verdict.{Verdict as AnyVerdict};
 ghost use Rattle.av_text.specs.VerdictText.{verdict_text};
-ghost use Rattle.script_lines.specs.Commands.{SESSION};
-ghost use Rattle.script_lines.specs.Kinds.{ADDRESS, NAME, NUMBER, PREFIX, ROLE, TEXT, VERDICT, VIEW, WHOM, view_text};
+ghost use Rattle.script_lines.specs.Kinds.{ADDRESS, NAME, NUMBER, PREFIX, ROLE, SESSION, TEXT, VERDICT, VIEW, WHOM, view_text};
 
 use crate::fault::LineFault;
 use crate::word::Word;

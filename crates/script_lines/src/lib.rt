@@ -3,11 +3,12 @@
 //! The layer above uses one contract, that of [`read`]: what it answers is the line's reading, unless there was no memory. What a
 //! line is says `specs/Grammar.antt`, by a table with one row a command (`specs/Commands.antt`): its word, the form of the words after
 //! it, and what their values make. Begin reading with that table, of which `commands` is the code. The kinds of words stand in
-//! `specs/Kinds.antt`, and how they follow one another in `specs/Forms.antt`. The module `laws` says that each line has exactly one
+//! `specs/Kinds.antt`, how they follow one another in `specs/Forms.antt`, and the conditions of `routes` in `specs/Conditions.antt`. The module `laws` says that each line has exactly one
 //! reading; a proof above takes it from `proofs/LawLemmas.antt`.
 #![tactic(auto)]
 
 mod commands;
+mod condition_words;
 mod fault;
 mod fields;
 mod grammar;

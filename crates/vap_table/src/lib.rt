@@ -12,7 +12,7 @@
 //! (`shown`). So other sources are looked at only for another moment, and for a customer with an attestation that has an end. `current`
 //! keeps the rows that the first source doesn't have as they are, and `refreshing` does so customer by customer. All current rows stand once
 //! more in one list (`quick_rows`), for the look-ups of judgements, and a filter tells most customers without one (`filter`). [`Vaps::entries`]
-//! lends the current rows one after another (`entries`).
+//! lends the current rows one after another (`entries`), and what each part has of a customer is lent too (`asked`).
 //!
 //! How that is proved: a customer that a change doesn't name has the same row in both tables (`NamingLemmas`, `ComparingLemmas` of `proofs/`).
 //! Between two moments an attestation begins or ends to be alive only at a last moment between them (`LastsLemmas`). Rows more or less make
@@ -21,6 +21,7 @@
 //! `MovesLemmas` of `attestations`).
 #![tactic(auto)]
 
+mod asked;
 mod change;
 mod comparing;
 mod current;

@@ -38,7 +38,7 @@ use std::marker::Model;
 /// The table of validated ASPA payloads (draft-ietf-sidrops-aspa-verification) with all its parts: named sources, the filters and
 /// assertions of a SLURM file (in the manner of RFC 8416), and those by hand. As a [`Table`] it is the current table of these parts.
 pub struct Vaps {
-    parts: HeldParts,
+    pub(crate) parts: HeldParts,
     // the current rows, made from the parts
     current: Current,
     // the tally of each customer of which something has a row, made from the parts

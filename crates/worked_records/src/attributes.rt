@@ -168,11 +168,17 @@ fn paths_of_300_ases(rt: HostRuntime) -> Result<(), NoMemory> {
 // AS_PATH, AS4_PATH and the items of the result; both paths are spelled with ASes of four bytes here.
 type Merge = (&'static str, &'static str, &'static [Item]);
 
-const MERGES: [Merge; 3] = [
+const MERGES: [Merge; 4] = [
     (
         "40 02 0C 02 01 0000FBF5 01 01 0000FBF4",
         "40 02 0C 02 01 00010000 01 01 00010001",
         &[Item::As(65536), Item::Set],
+    ),
+    // AS4_PATH has no segment: AS_PATH stands as it is, with its 23456.
+    (
+        "40 02 0E 02 03 0000FBF5 00005BA0 0000FBF4",
+        "40 02 00",
+        &[Item::As(64501), Item::As(23456), Item::As(64500)],
     ),
     // A set is one item, however many ASes it has; a confederation's segment is none.
     (

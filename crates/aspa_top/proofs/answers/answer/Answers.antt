@@ -1,9 +1,8 @@
 use Rattle.std.proofs.Common.{refl, ap, arith}
 use Rattle.std.specs.Io.KnownBytes.{append_known}
-use Rattle.report_text.specs.declared.cause.Cause.TheVariants as causes
 use Rattle.av_base.specs.declared.stop.Stop.TheVariants as stops
-use Rattle.aspa_top.specs.declared.task.Question.TheVariants.{Report, Origins, Leaks, Suspects, Peers, Summary, Details, Why}
-use Rattle.aspa_top.proofs.AnswerLemmas.{all_listed, answered, details_answer, leaks_answer, not_answered, origins_answer, peers_answer, report_answers, some_listed, summary_answers, suspects_answer, why_answers, why_refused}
+use Rattle.aspa_top.specs.declared.task.Question.TheVariants.{Report, Origins, Leaks, Suspects, Peers, Summary, Routes, Neighbours, Silent}
+use Rattle.aspa_top.proofs.AnswerLemmas.{all_listed, answered, attested_done, attested_err, attested_grows, details_answer, leaks_answer, neighbours_answer, origins_answer, peers_answer, report_answers, silent_answer, some_listed, summary_answers, suspects_answer}
 use Rattle.aspa_top.proofs.DidLemmas.{did_err, nothing}
 use Rattle.aspa_top.proofs.KeepLemmas.{keeps_all, keeps_sink}
 use Rattle.aspa_top.proofs.StandsLemmas.{added_text}
@@ -84,19 +83,19 @@ returns-in_err-put_peers-in-Peers g c =
       did = rw c.in-Peers.is (some_listed c.args.working Peers _ _ c.requires.begun (peers_answer c.args.working _ c.store-store.ensures) _ c.in_err-put_peers-in-Peers.ensures c.from_residual-in_err-put_peers-in-Peers.result c.from_residual-in_err-put_peers-in-Peers.ensures.1);
     }
 
--- `details`
-pub returns-in_ok-put_details-in-Details : goal.returns-in_ok-put_details-in-Details
-returns-in_ok-put_details-in-Details g c =
+-- `details` and `routes`
+pub returns-in_ok-put_details-in-Routes : goal.returns-in_ok-put_details-in-Routes
+returns-in_ok-put_details-in-Routes g c =
     record {
       keeps = record { lent = refl; keeps = keeps_sink _ _ _ _ _ c.put_details.ensures.listed.grows c.put_details.ensures.listed.sink_faults };
-      did = rw c.in-Details.is (all_listed c.args.working (Details c.in-Details.verdict) _ _ c.requires.begun (details_answer c.args.working _ c.store-store.ensures c.in-Details.verdict) _ c.in_ok-put_details-in-Details.ensures _ refl);
+      did = rw c.in-Routes.is (all_listed c.args.working (Routes c.in-Routes.conditions) _ _ c.requires.begun (details_answer c.args.working _ c.store-store.ensures c.in-Routes.conditions) _ c.in_ok-put_details-in-Routes.ensures _ refl);
     }
 
-pub returns-in_err-put_details-in-Details : goal.returns-in_err-put_details-in-Details
-returns-in_err-put_details-in-Details g c =
+pub returns-in_err-put_details-in-Routes : goal.returns-in_err-put_details-in-Routes
+returns-in_err-put_details-in-Routes g c =
     record {
       keeps = record { lent = refl; keeps = keeps_sink _ _ _ _ _ c.put_details.ensures.listed.grows c.put_details.ensures.listed.sink_faults };
-      did = rw c.in-Details.is (some_listed c.args.working (Details c.in-Details.verdict) _ _ c.requires.begun (details_answer c.args.working _ c.store-store.ensures c.in-Details.verdict) _ c.in_err-put_details-in-Details.ensures c.from_residual-in_err-put_details-in-Details.result c.from_residual-in_err-put_details-in-Details.ensures.1);
+      did = rw c.in-Routes.is (some_listed c.args.working (Routes c.in-Routes.conditions) _ _ c.requires.begun (details_answer c.args.working _ c.store-store.ensures c.in-Routes.conditions) _ c.in_err-put_details-in-Routes.ensures c.from_residual-in_err-put_details-in-Routes.result c.from_residual-in_err-put_details-in-Routes.ensures.1);
     }
 
 -- `summary`
@@ -115,33 +114,56 @@ returns-in_err-put_summary-in-Summary g c = record {
       (nothing c.args.working _ _ _ refl (ap (append_known (g.W.Sink.written c.args.outside.now.out.now)) c.in_err-put_summary-in-Summary.ensures.err) refl (omega arith));
 }
 
--- `why`
-pub returns-in_ok-put_why-in-Why : goal.returns-in_ok-put_why-in-Why
-returns-in_ok-put_why-in-Why g c =
-    let shown = c.in-Some.ensures.some in
+-- `why` and `explain` of a route
+pub returns-in-Why-clause-did : goal.returns-in-Why-clause-did
+returns-in-Why-clause-did g c = rw c.in-Why.is c.show_reason.ensures.did
+
+pub returns-in-Explain-clause-did : goal.returns-in-Explain-clause-did
+returns-in-Explain-clause-did g c = rw c.in-Explain.is c.explain_route.ensures.did
+
+-- `silent`
+pub returns-in_ok-put_silent-in-Silent : goal.returns-in_ok-put_silent-in-Silent
+returns-in_ok-put_silent-in-Silent g c =
     record {
-      keeps = record { lent = refl; keeps = keeps_all _ _ _ };
-      did = rw c.in-Why.is (answered c.args.working (Why c.in-Why.key) _ _ _ _ _ c.requires.begun
-          (why_answers c.args.working _ c.store-store.ensures c.in-Why.key _ c.in-Some.shown.verdict c.in-Some.shown.witness shown.route shown.explained) (added_text _ _ _ _ c.in_ok-put_why-in-Why.ensures.ok));
+      keeps = record { lent = refl; keeps = keeps_sink _ _ _ _ _ c.put_silent.ensures.listed.grows c.put_silent.ensures.listed.sink_faults };
+      did = rw c.in-Silent.is (all_listed c.args.working Silent _ _ c.requires.begun (silent_answer c.args.working _ c.store-store.ensures) _ c.in_ok-put_silent-in-Silent.ensures _ refl);
     }
 
-pub returns-in_err-put_why-in-Why : goal.returns-in_err-put_why-in-Why
-returns-in_err-put_why-in-Why g c = record {
-  keeps = record { lent = refl; keeps = keeps_all _ _ _ };
-  did = did_err c.args.working _ _ _ c.from_residual-in_err-put_why-in-Why.result stops.NoMemory c.from_residual-in_err-put_why-in-Why.ensures.1
-      (nothing c.args.working _ _ _ refl (ap (append_known (g.W.Sink.written c.args.outside.now.out.now)) c.in_err-put_why-in-Why.ensures.err) refl (omega arith));
-}
+pub returns-in_err-put_silent-in-Silent : goal.returns-in_err-put_silent-in-Silent
+returns-in_err-put_silent-in-Silent g c =
+    record {
+      keeps = record { lent = refl; keeps = keeps_sink _ _ _ _ _ c.put_silent.ensures.listed.grows c.put_silent.ensures.listed.sink_faults };
+      did = rw c.in-Silent.is (some_listed c.args.working Silent _ _ c.requires.begun (silent_answer c.args.working _ c.store-store.ensures) _ c.in_err-put_silent-in-Silent.ensures c.from_residual-in_err-put_silent-in-Silent.result c.from_residual-in_err-put_silent-in-Silent.ensures.1);
+    }
 
-pub returns-in_default : goal.returns-in_default
-returns-in_default g c = record {
-  keeps = record { lent = refl; keeps = keeps_all _ _ _ };
-  did = rw c.in-Why.is (not_answered c.args.working _ (Why c.in-Why.key) causes.NoRoute _ _ c.requires.begun (why_refused c.args.working _ c.store-store.ensures c.in-Why.key c.in_default.ensures.none)
-      c.in_ok-refuse-in-Why.ensures.text c.in_ok-refuse-in-Why.ensures.next);
-}
+-- `neighbours`
+pub returns-in_ok-list_neighbours-in-Neighbours : goal.returns-in_ok-list_neighbours-in-Neighbours
+returns-in_ok-list_neighbours-in-Neighbours g c =
+    record {
+      keeps = record { lent = refl; keeps = keeps_sink _ _ _ _ _ c.list_neighbours.ensures.lists.listed.grows c.list_neighbours.ensures.lists.listed.sink_faults };
+      did = rw c.in-Neighbours.is (all_listed c.args.working (Neighbours c.in-Neighbours.asn) _ _ c.requires.begun (neighbours_answer c.args.working _ refl c.in-Neighbours.asn) _ c.in_ok-list_neighbours-in-Neighbours.ensures.lists _ (λ i. record c.args.working { progress = c.in_ok-list_neighbours-in-Neighbours.ensures.same i }));
+    }
 
-pub returns-in_err-refuse-in-Why : goal.returns-in_err-refuse-in-Why
-returns-in_err-refuse-in-Why g c = record {
-  keeps = record { lent = refl; keeps = keeps_all _ _ _ };
-  did = did_err c.args.working _ _ _ c.from_residual-in_err-refuse-in-Why.result stops.NoMemory c.from_residual-in_err-refuse-in-Why.ensures.1
-      (nothing c.args.working _ _ _ refl (ap (append_known (g.W.Sink.written c.args.outside.now.out.now)) c.in_err-refuse-in-Why.ensures.err) refl (omega arith));
-}
+pub returns-in_err-list_neighbours-in-Neighbours : goal.returns-in_err-list_neighbours-in-Neighbours
+returns-in_err-list_neighbours-in-Neighbours g c =
+    record {
+      keeps = record { lent = refl; keeps = keeps_sink _ _ _ _ _ c.list_neighbours.ensures.lists.listed.grows c.list_neighbours.ensures.lists.listed.sink_faults };
+      did = rw c.in-Neighbours.is (some_listed c.args.working (Neighbours c.in-Neighbours.asn) _ _ c.requires.begun (neighbours_answer c.args.working _ refl c.in-Neighbours.asn) _ c.in_err-list_neighbours-in-Neighbours.ensures.lists c.from_residual-in_err-list_neighbours-in-Neighbours.result c.from_residual-in_err-list_neighbours-in-Neighbours.ensures.1);
+    }
+
+-- `attests`
+pub returns-in_ok-list_attested-in-Attests : goal.returns-in_ok-list_attested-in-Attests
+returns-in_ok-list_attested-in-Attests g c =
+    let grown = attested_grows c.table.result.now c.in-Attests.customer _ _ c.list_attested.result c.list_attested.ensures in
+    record {
+      keeps = record { lent = refl; keeps = keeps_sink _ _ _ _ _ grown.0 grown.1 };
+      did = rw c.in-Attests.is (attested_done c.args.working _ c.store-store.ensures c.table.result.now c.table.ensures c.in-Attests.customer _ _ c.requires.begun _ c.in_ok-list_attested-in-Attests.ensures _ refl);
+    }
+
+pub returns-in_err-list_attested-in-Attests : goal.returns-in_err-list_attested-in-Attests
+returns-in_err-list_attested-in-Attests g c =
+    let grown = attested_grows c.table.result.now c.in-Attests.customer _ _ c.list_attested.result c.list_attested.ensures in
+    record {
+      keeps = record { lent = refl; keeps = keeps_sink _ _ _ _ _ grown.0 grown.1 };
+      did = rw c.in-Attests.is (attested_err _ c.args.working _ c.store-store.ensures c.table.result.now c.table.ensures c.in-Attests.customer _ _ c.requires.begun _ c.in_err-list_attested-in-Attests.ensures c.from_residual-in_err-list_attested-in-Attests.result c.from_residual-in_err-list_attested-in-Attests.ensures.1);
+    }

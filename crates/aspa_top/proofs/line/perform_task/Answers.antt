@@ -6,6 +6,9 @@ use Rattle.aspa_top.proofs.line.perform_task.Goals as goal
 pub judge_path-requires-clause-within : goal.judge_path-requires-clause-within
 judge_path-requires-clause-within g c = rw c.in-Judge.is at c.requires.within
 
+pub explain_path-requires-clause-within : goal.explain_path-requires-clause-within
+explain_path-requires-clause-within g c = rw c.in-Explain.is at c.requires.within
+
 pub take-requires-clause-few : goal.take-requires-clause-few
 take-requires-clause-few g c = rw c.in-Take.is at c.requires.within
 
@@ -23,6 +26,12 @@ returns-in-Clear-clause-did g c = rw c.in-Clear.is c.clear_routes.ensures.did
 
 pub returns-in-Judge-clause-did : goal.returns-in-Judge-clause-did
 returns-in-Judge-clause-did g c = rw c.in-Judge.is c.judge_path.ensures.did
+
+pub returns-in-Explain-clause-did : goal.returns-in-Explain-clause-did
+returns-in-Explain-clause-did g c = rw c.in-Explain.is c.explain_path.ensures.did
+
+pub returns-in-Sent-clause-did : goal.returns-in-Sent-clause-did
+returns-in-Sent-clause-did g c = rw c.in-Sent.is c.list_sent.ensures.did
 
 pub returns-in-Say-clause-did : goal.returns-in-Say-clause-did
 returns-in-Say-clause-did g c = rw c.in-Say.is c.say.ensures.did

@@ -2,9 +2,10 @@ use Rattle.std.proofs.Common.{ℕ, Option, subst}
 use Rattle.std.proofs.lemmas.Iterator.Adapters.{option_map_id}
 use Rattle.path_model.specs.declared.verdict.Verdict.{Verdict}
 use Rattle.av_text.specs.Words.{words_left}
-use Rattle.script_lines.specs.declared.commands.Command.TheVariants.{Details, Why}
-use Rattle.script_lines.specs.declared.commands.CommandName.TheVariants.{Aspa as AspaName, Aspa64 as Aspa64Name, Validated as ValidatedName, Slurm as SlurmName, Filter as FilterName, Unfilter as UnfilterName, Assert as AssertName, Unassert as UnassertName, At as AtName, Role as RoleName, Open as OpenName, Bmp as BmpName, Take as TakeName, Until as UntilName, Feed as FeedName, Ask as AskName, Sync as SyncName, Serve as ServeName, Judge as JudgeName, Clear as ClearName, Changes as ChangesName, Why as WhyName, Details as DetailsName, Say as SayName, Report as ReportName, Origins as OriginsName, Leaks as LeaksName, Suspects as SuspectsName, Peers as PeersName, Summary as SummaryName}
+use Rattle.script_lines.specs.declared.commands.Command.TheVariants.{Attests, Details, Why}
+use Rattle.script_lines.specs.declared.commands.CommandName.TheVariants.{Aspa as AspaName, Aspa64 as Aspa64Name, Validated as ValidatedName, Slurm as SlurmName, Filter as FilterName, Unfilter as UnfilterName, Assert as AssertName, Unassert as UnassertName, At as AtName, Role as RoleName, Open as OpenName, Bmp as BmpName, Take as TakeName, Until as UntilName, Feed as FeedName, Ask as AskName, Sync as SyncName, Serve as ServeName, Judge as JudgeName, Clear as ClearName, Changes as ChangesName, Why as WhyName, Details as DetailsName, Say as SayName, Report as ReportName, Origins as OriginsName, Leaks as LeaksName, Suspects as SuspectsName, Peers as PeersName, Sent as SentName, Explain as ExplainName, Attests as AttestsName, Neighbours as NeighboursName, Routes as RoutesName, Silent as SilentName, Summary as SummaryName}
 use Rattle.script_lines.specs.Commands.{made_by, SpellsCommand}
+use Rattle.script_lines.proofs.ExplainLemmas.{explained_spelled}
 use Rattle.script_lines.proofs.commands.read_fields.Goals as goal
 
 pub returns-in_ok-name-in-Aspa-clause-spelled : goal.returns-in_ok-name-in-Aspa-clause-spelled
@@ -102,3 +103,25 @@ returns-in_ok-read-in-Peers-clause-spelled c = rw c.in-Peers.is (c.in_ok-read-in
 
 pub returns-in_ok-read-in-Summary-clause-spelled : goal.returns-in_ok-read-in-Summary-clause-spelled
 returns-in_ok-read-in-Summary-clause-spelled c = rw c.in-Summary.is (c.in_ok-read-in-Summary.ensures.spelled (made_by SummaryName))
+
+pub returns-in_ok-role-in-Sent-clause-spelled : goal.returns-in_ok-role-in-Sent-clause-spelled
+returns-in_ok-role-in-Sent-clause-spelled c = rw c.in-Sent.is (c.in_ok-role-in-Sent.ensures.spelled (made_by SentName))
+
+pub returns-in_ok-customer-in-Attests-clause-spelled : goal.returns-in_ok-customer-in-Attests-clause-spelled
+returns-in_ok-customer-in-Attests-clause-spelled c =
+    let found = c.in_ok-customer-in-Attests in
+    let P : Option ℕ → Type 0 = λ customer. SpellsCommand AttestsName (words_left c.args.words) (Attests customer) in
+    rw c.in-Attests.is (subst P (option_map_id found.customer) (found.ensures.spelled (made_by AttestsName)))
+
+pub returns-in_ok-asn-in-Neighbours-clause-spelled : goal.returns-in_ok-asn-in-Neighbours-clause-spelled
+returns-in_ok-asn-in-Neighbours-clause-spelled c = rw c.in-Neighbours.is (c.in_ok-asn-in-Neighbours.ensures.spelled (made_by NeighboursName))
+
+pub returns-in_ok-asked-in-Routes-clause-spelled : goal.returns-in_ok-asked-in-Routes-clause-spelled
+returns-in_ok-asked-in-Routes-clause-spelled c = rw c.in-Routes.is (c.in_ok-asked-in-Routes.ensures.spelled (made_by RoutesName))
+
+pub returns-in_ok-read-in-Silent-clause-spelled : goal.returns-in_ok-read-in-Silent-clause-spelled
+returns-in_ok-read-in-Silent-clause-spelled c = rw c.in-Silent.is (c.in_ok-read-in-Silent.ensures.spelled (made_by SilentName))
+
+pub returns-in_ok-explained-in-Explain-clause-spelled : goal.returns-in_ok-explained-in-Explain-clause-spelled
+returns-in_ok-explained-in-Explain-clause-spelled c =
+    rw (c.in-Explain.is, c.explain_command.ensures) (explained_spelled (words_left c.args.words) c.in_ok-explained-in-Explain.explained (c.in_ok-explained-in-Explain.ensures.spelled (made_by ExplainName)))

@@ -1,0 +1,5 @@
+use Rattle.aspa_top.proofs.AttestedTextLemmas as lemmas
+use Rattle.aspa_top.proofs.laws.attested_text_restores_the_table.Goals as goal
+
+pub returns : goal.returns
+returns c = lemmas.attested_text_restores
