@@ -1,0 +1,11 @@
+pub mod ChangeLemmas
+pub mod HeadlineLemmas
+pub mod JudgedLemmas
+pub mod MarkLawLemmas
+pub mod MarkLemmas
+pub mod MessageLemmas
+pub mod OriginLemmas
+pub mod PieceLemmas
+pub mod RefusedLemmas
+pub mod ServedLemmas
+pub mod TalkLemmas
