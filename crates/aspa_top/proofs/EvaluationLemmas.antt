@@ -17,14 +17,13 @@ use Rattle.script_lines.specs.Grammar.{IsReading}
 use Rattle.script_lines.proofs.LawLemmas.{IsReading-unique, some_reading}
 use Rattle.stream_lines.specs.declared.kind.DumpKind.{DumpKind}
 use Rattle.stream_lines.specs.Streams.{Dump}
-use Rattle.stream_lines.specs.Units.{is_of_records}
 use Rattle.aspa_top.specs.declared.files.FileKind.{FileKind}
 use Rattle.aspa_top.specs.declared.files.Outcome.{Outcome}
 use Rattle.aspa_top.specs.declared.files.Outcome.TheVariants.{NoFile, Long as FileLong, Flawed, Good}
 use Rattle.aspa_top.specs.declared.task.Question.{Question}
 use Rattle.aspa_top.specs.declared.task.Task.{Task}
 use Rattle.aspa_top.specs.declared.task.Task.TheVariants.{Idle as Nothing, Happen, Clear, Judge, Explain, Sent, Say, Load, Open, Take, Until, Connect, OnFeed, Serve, Answer, Changes}
-use Rattle.aspa_top.specs.Tasks.{State, Moves, TakesFile, LoadsUnless, OpensNamed, TakesOpen, TakesNamed, TakesRecordsUnless, TakesUntilNamed, Works, DoesTask, feeds_of, is_stream, is_taken}
+use Rattle.aspa_top.specs.Tasks.{State, Moves, TakesFile, LoadsUnless, OpensNamed, TakesOpen, TakesNamed, TakesEarlierUnless, TakesUntilNamed, Works, DoesTask, feeds_of, is_stream, is_taken}
 use Rattle.aspa_top.specs.Answers.{AnswersUnless, Replies, refused_for}
 use Rattle.aspa_top.specs.Evaluation.{Asked, Begins, Does, DoesAsked, asked_of, counted, Performs, Evaluates}
 use Rattle.aspa_top.specs.Task.{task_of}
@@ -75,16 +74,15 @@ work_keeps world state name work text next none works =
     let done = subst (λ (held : Option (Option Feed)). WorksBy world.ends (feeds_of state) name work held works.does.tells works.does.after) none works.does.done in
     ap (λ (s : State). s.feeds) works.left ∙ ap (λ (s : FeedState). s.feeds) works.does.left ∙ ap (λ (s : FeedState). s.feeds) done.1
 
-records_keep : (kind over : Bool) (state : State) (name : List ℕ) (moment : ℕ) (dump : Dump) (text : List ℕ) (next : State)
-    → TakesRecordsUnless kind over state name moment dump text next → next.feeds ≡ state.feeds
-records_keep false over state name moment dump text next takes = ap (λ (s : State). s.feeds) takes.1
-records_keep true true state name moment dump text next takes = ap (λ (s : State). s.feeds) takes.1
-records_keep true false state name moment dump text next takes = ap (λ (s : State). s.feeds) takes.next_is
+earlier_keeps : (over : Bool) (state : State) (name : List ℕ) (moment : ℕ) (dump : Dump) (text : List ℕ) (next : State)
+    → TakesEarlierUnless over state name moment dump text next → next.feeds ≡ state.feeds
+earlier_keeps true state name moment dump text next takes = ap (λ (s : State). s.feeds) takes.1
+earlier_keeps false state name moment dump text next takes = ap (λ (s : State). s.feeds) takes.next_is
 
 until_keeps : (dump : Option Dump) (state : State) (name : List ℕ) (moment : ℕ) (text : List ℕ) (next : State) → TakesUntilNamed dump state name moment text next
     → next.feeds ≡ state.feeds
 until_keeps None state name moment text next takes = ap (λ (s : State). s.feeds) takes.1
-until_keeps (Some dump) state name moment text next takes = records_keep (is_of_records dump.known) dump.over state name moment dump text next takes
+until_keeps (Some dump) state name moment text next takes = earlier_keeps dump.over state name moment dump text next takes
 
 take_keeps : (dump : Option Dump) (world : World) (state : State) (name : List ℕ) (count : ℕ) (text : List ℕ) (next : State) → state.feeds name ≡ None
     → TakesNamed dump world state name count text next → next.feeds ≡ state.feeds

@@ -11,7 +11,6 @@ use Rattle.rtr_client.specs.declared.working.Work.TheVariants.{Take as TakePdus}
 use Rattle.rtr_client.proofs.SourceLemmas.{source_other}
 use Rattle.stream_lines.specs.declared.kind.DumpKind.{DumpKind}
 use Rattle.stream_lines.specs.Streams.{Dump}
-use Rattle.stream_lines.specs.Units.{is_of_records}
 use Rattle.aspa_top.specs.declared.files.Amendment.{Amendment}
 use Rattle.aspa_top.specs.declared.files.Amendment.TheVariants as amendments
 use Rattle.aspa_top.specs.declared.files.FileKind.{FileKind}
@@ -27,7 +26,7 @@ use Rattle.aspa_top.specs.Answers.{AnswersUnless, Replies, refused_for}
 use Rattle.aspa_top.specs.Evaluation.{Asked, DoesAsked, Evaluates, asked_of, counted}
 use Rattle.aspa_top.specs.Files.{ComesOf, Makes}
 use Rattle.aspa_top.specs.Serving.{ServesTable}
-use Rattle.aspa_top.specs.Tasks.{ConnectsUnless, DoesTask, LoadsUnless, OpensNamed, State, TakesFile, TakesNamed, TakesOpen, TakesRecordsUnless, TakesUntilNamed, Works, amended, is_stream, is_taken, same_name}
+use Rattle.aspa_top.specs.Tasks.{ConnectsUnless, DoesTask, LoadsUnless, OpensNamed, State, TakesFile, TakesNamed, TakesOpen, TakesEarlierUnless, TakesUntilNamed, Works, amended, is_stream, is_taken, same_name}
 use Rattle.aspa_top.specs.World.{World}
 use Rattle.aspa_top.proofs.StandsLemmas.{is_same}
 
@@ -96,15 +95,14 @@ TakesOpen-keeps : (over : Bool) (state : State) (name : List ℕ) (count : ℕ) 
 TakesOpen-keeps true state name count dump text next takes = kept state next _ refl refl refl takes.1
 TakesOpen-keeps false state name count dump text next takes = kept state next _ refl refl refl takes.next_is
 
-TakesRecords-keeps : (kind over : Bool) (state : State) (name : List ℕ) (moment : ℕ) (dump : Dump) (text : List ℕ) (next : State)
-    → TakesRecordsUnless kind over state name moment dump text next → KeepsFeeds state next
-TakesRecords-keeps false over state name moment dump text next takes = kept state next _ refl refl refl takes.1
-TakesRecords-keeps true true state name moment dump text next takes = kept state next _ refl refl refl takes.1
-TakesRecords-keeps true false state name moment dump text next takes = kept state next _ refl refl refl takes.next_is
+TakesEarlier-keeps : (over : Bool) (state : State) (name : List ℕ) (moment : ℕ) (dump : Dump) (text : List ℕ) (next : State)
+    → TakesEarlierUnless over state name moment dump text next → KeepsFeeds state next
+TakesEarlier-keeps true state name moment dump text next takes = kept state next _ refl refl refl takes.1
+TakesEarlier-keeps false state name moment dump text next takes = kept state next _ refl refl refl takes.next_is
 
 TakesUntil-keeps : (dump : Option Dump) (state : State) (name : List ℕ) (moment : ℕ) (text : List ℕ) (next : State) → TakesUntilNamed dump state name moment text next → KeepsFeeds state next
 TakesUntil-keeps None state name moment text next takes = kept state next _ refl refl refl takes.1
-TakesUntil-keeps (Some dump) state name moment text next takes = TakesRecords-keeps (is_of_records dump.known) dump.over state name moment dump text next takes
+TakesUntil-keeps (Some dump) state name moment text next takes = TakesEarlier-keeps dump.over state name moment dump text next takes
 
 Replies-keeps : (state : State) (question : Question) (text : List ℕ) (next : State) → Replies state question text next → KeepsFeeds state next
 Replies-keeps state question text next replies = by_cause (refused_for state question) replies where

@@ -15,7 +15,6 @@ use Rattle.stream_lines.specs.Streams.{Asking}
 use Rattle.stream_lines.specs.Extent.{TicksWithinTaken, Took, TookSomeOf}
 use Rattle.stream_lines.specs.Taking.{GrewBy}
 use Rattle.stream_lines.specs.TakingUntil.{TicksWithinUpTo, TookSomeUpTo, TookUpTo}
-use Rattle.stream_lines.specs.Units.{is_of_records}
 use Rattle.aspa_top.specs.declared.working.Working.{Working}
 use Rattle.aspa_top.specs.Outside.{Outside, all_of}
 use Rattle.aspa_top.specs.Performing.{Done, EndedEarly}
@@ -49,7 +48,7 @@ module _ (working : Working) (name : List ℕ) (before after : HeldDump) (asking
       (ap (λ (d : HeldDump). d.over) (one_dump may.1.dump may.1.here) ∙ may.1.yet) asks ticks quiet next last took dumps is same file grew
   open_done (Some moment) count may ticks next last took dumps is same file grew =
       until_done working name moment before after asking old files opened shelf_faults written sink_faults held now begun here leaves
-      (ap (λ (d : HeldDump). d.over) (one_dump may.1.dump may.1.here) ∙ may.1.yet) (ap (λ (d : HeldDump). is_of_records d.known) (one_dump may.1.dump may.1.here) ∙ may.1.records) asks
+      (ap (λ (d : HeldDump). d.over) (one_dump may.1.dump may.1.here) ∙ may.1.yet) asks
       (subst (λ (n : ℕ). TicksWithinUpTo asking (Some moment) n before working.progress old.files old.ticks now) may.0 ticks) quiet next last
       (subst (λ (n : ℕ). TookUpTo asking (Some moment) n before after working.progress old.files files (all_of old) (append_known written held) last) may.0 took) dumps is same file
       (subst (λ (n : ℕ). GrewBy n before after working.progress last) may.0 grew)
@@ -64,6 +63,6 @@ module _ (working : Working) (name : List ℕ) (before after : HeldDump) (asking
       (ap (λ (d : HeldDump). d.over) (one_dump may.1.dump may.1.here) ∙ may.1.yet) asks ticks quiet stop some shelf sink
   open_stopped (Some moment) count may ticks stop some shelf sink =
       until_stopped working name moment before after asking old files opened shelf_faults written sink_faults held now begun here leaves
-      (ap (λ (d : HeldDump). d.over) (one_dump may.1.dump may.1.here) ∙ may.1.yet) (ap (λ (d : HeldDump). is_of_records d.known) (one_dump may.1.dump may.1.here) ∙ may.1.records) asks
+      (ap (λ (d : HeldDump). d.over) (one_dump may.1.dump may.1.here) ∙ may.1.yet) asks
       (subst (λ (n : ℕ). TicksWithinUpTo asking (Some moment) n before working.progress old.files old.ticks now) may.0 ticks) quiet stop
       (subst (λ (n : ℕ). TookSomeUpTo asking (Some moment) n before working.progress old.files (all_of old) (append_known written held) old.ticks now) may.0 some) shelf sink

@@ -26,7 +26,6 @@ use Rattle.analyser.proofs.EventLemmas.{one_outcome_of}
 use Rattle.stream_lines.specs.declared.kind.DumpKind.{DumpKind}
 use Rattle.listings.specs.Changes.{change_row}
 use Rattle.stream_lines.specs.Streams.{Dump}
-use Rattle.stream_lines.specs.Units.{is_of_records}
 use Rattle.stream_lines.proofs.LawLemmas.{outcome_and_cost, some_units, units_unique}
 use Rattle.stream_lines.proofs.UntilLemmas.{one_until}
 use Rattle.aspa_top.specs.declared.files.FileKind.{FileKind}
@@ -35,7 +34,7 @@ use Rattle.aspa_top.specs.declared.files.Outcome.{Outcome}
 use Rattle.aspa_top.specs.declared.files.Outcome.TheVariants.{NoFile, Long as FileLong, Flawed, Good}
 use Rattle.aspa_top.specs.declared.task.Task.{Task}
 use Rattle.aspa_top.specs.declared.task.Task.TheVariants.{Idle, Happen, Clear, Judge, Explain, Sent, Say, Load, Open, Take, Until, Connect, OnFeed, Serve, Answer, Changes}
-use Rattle.aspa_top.specs.Tasks.{State, MakesHappen, Holds, TakesFile, LoadsUnless, OpensNamed, TakesOpen, TakesNamed, TakesRecordsUnless, TakesUntilNamed, Works, ConnectsUnless, ShowsChanges, DoesTask, amended, is_stream, is_taken, with_name, asking_of, asking_on, feeds_of, with_feeds, taking_of, after_taking, most_records}
+use Rattle.aspa_top.specs.Tasks.{State, MakesHappen, Holds, TakesFile, LoadsUnless, OpensNamed, TakesOpen, TakesNamed, TakesEarlierUnless, TakesUntilNamed, Works, ConnectsUnless, ShowsChanges, DoesTask, amended, is_stream, is_taken, with_name, asking_of, asking_on, feeds_of, with_feeds, taking_of, after_taking, most_units}
 use Rattle.aspa_top.specs.World.{World}
 use Rattle.aspa_top.proofs.JudgedLemmas.{ExplainsPath-unique, IsJudged-unique, ListsSent-unique, some_explanation, some_sent}
 use Rattle.aspa_top.proofs.OutcomeLemmas.{some_outcome, outcome_unique}
@@ -90,16 +89,15 @@ some_units_of false state name count dump =
     let units = some_units (asking_of state name) count (taking_of state dump) in
     (units.0, after_taking state name units.1, record { end = units.1; takes = units.2; next_is = refl })
 
-some_records_of : (kind over : Bool) (state : State) (name : List ℕ) (moment : ℕ) (dump : Dump) → Some_that (TakesRecordsUnless kind over state name moment dump)
-some_records_of false over state name moment dump = (_, _, (refl, refl))
-some_records_of true true state name moment dump = (_, _, (refl, refl))
-some_records_of true false state name moment dump =
-    let one = one_until (asking_of state name) (Some moment) most_records (taking_of state dump) in
+some_earlier_of : (over : Bool) (state : State) (name : List ℕ) (moment : ℕ) (dump : Dump) → Some_that (TakesEarlierUnless over state name moment dump)
+some_earlier_of true state name moment dump = (_, _, (refl, refl))
+some_earlier_of false state name moment dump =
+    let one = one_until (asking_of state name) (Some moment) most_units (taking_of state dump) in
     (one.one, after_taking state name one.its, record { end = one.its; takes = one.is; next_is = refl })
 
 some_until_of : (dump : Option Dump) (state : State) (name : List ℕ) (moment : ℕ) → Some_that (TakesUntilNamed dump state name moment)
 some_until_of None state name moment = (_, _, (refl, refl))
-some_until_of (Some dump) state name moment = some_records_of (is_of_records dump.known) dump.over state name moment dump
+some_until_of (Some dump) state name moment = some_earlier_of dump.over state name moment dump
 
 -- the name is no feed's
 some_work : (world : World) (state : State) (name : List ℕ) (work : Work) → state.feeds name ≡ None → Some_that (Works world state name work)
@@ -214,12 +212,11 @@ TakesOpen-unique false state name count dump one other end last a b =
     let units = units_unique (asking_of state name) count (taking_of state dump) one other a.end b.end a.takes b.takes in
     (units.0, a.next_is ∙ ap (after_taking state name) units.1 ∙ sym b.next_is)
 
-TakesRecords-unique : (kind over : Bool) (state : State) (name : List ℕ) (moment : ℕ) (dump : Dump) (one other : List ℕ) (end last : State)
-    → TakesRecordsUnless kind over state name moment dump one end → TakesRecordsUnless kind over state name moment dump other last → (one ≡ other) × (end ≡ last)
-TakesRecords-unique false over state name moment dump one other end last a b = both one other _ end last _ a b
-TakesRecords-unique true true state name moment dump one other end last a b = both one other _ end last _ a b
-TakesRecords-unique true false state name moment dump one other end last a b =
-    let the = one_until (asking_of state name) (Some moment) most_records (taking_of state dump) in
+TakesEarlier-unique : (over : Bool) (state : State) (name : List ℕ) (moment : ℕ) (dump : Dump) (one other : List ℕ) (end last : State)
+    → TakesEarlierUnless over state name moment dump one end → TakesEarlierUnless over state name moment dump other last → (one ≡ other) × (end ≡ last)
+TakesEarlier-unique true state name moment dump one other end last a b = both one other _ end last _ a b
+TakesEarlier-unique false state name moment dump one other end last a b =
+    let the = one_until (asking_of state name) (Some moment) most_units (taking_of state dump) in
     let a_is = the.only one a.end a.takes in
     let b_is = the.only other b.end b.takes in
     (a_is.0 ∙ sym b_is.0, a.next_is ∙ ap (after_taking state name) (a_is.1 ∙ sym b_is.1) ∙ sym b.next_is)
@@ -228,7 +225,7 @@ TakesUntil-unique : (dump : Option Dump) (state : State) (name : List ℕ) (mome
     → TakesUntilNamed dump state name moment one end → TakesUntilNamed dump state name moment other last → (one ≡ other) × (end ≡ last)
 TakesUntil-unique None state name moment one other end last a b = both one other _ end last _ a b
 TakesUntil-unique (Some dump) state name moment one other end last a b =
-    TakesRecords-unique (is_of_records dump.known) dump.over state name moment dump one other end last a b
+    TakesEarlier-unique dump.over state name moment dump one other end last a b
 
 -- a line on feeds has no two outcomes, where the attempts are told
 Works-unique : (world : World) (attempts : List Attempt) → world.ends.attempts ≡ Some attempts → (state : State) (name : List ℕ) (work : Work) (one other : List ℕ) (end last : State)

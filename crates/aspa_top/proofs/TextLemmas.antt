@@ -30,7 +30,6 @@ use Rattle.stream_lines.specs.declared.kind.DumpKind.{DumpKind}
 use Rattle.listings.specs.Changes.{change_row}
 use Rattle.stream_lines.specs.Counts.{refusals_in}
 use Rattle.stream_lines.specs.Streams.{Dump}
-use Rattle.stream_lines.specs.Units.{is_of_records}
 use Rattle.stream_lines.proofs.RefusalLemmas.{begins, lacks, refusals_in-line, silent, refused, units_counted}
 use Rattle.rtr_server.specs.declared.outcome.Outcome.{Outcome as RouterOutcome}
 use Rattle.rtr_server.specs.declared.outcome.Refusal.{Refusal}
@@ -49,7 +48,7 @@ use Rattle.aspa_top.specs.declared.task.Question.{Question}
 use Rattle.aspa_top.specs.declared.task.Task.{Task}
 use Rattle.aspa_top.specs.declared.task.Task.TheVariants.{Idle as Nothing, Happen, Clear, Judge as JudgePath, Explain as ExplainPath, Sent as ListSent, Say, Load, Open, Take, Until, Connect, OnFeed, Serve, Answer, Changes}
 use Rattle.aspa_top.specs.Files.{unit_name}
-use Rattle.aspa_top.specs.Tasks.{State, MakesHappen, Refuses, TakesFile, LoadsUnless, OpensNamed, TakesOpen, TakesNamed, TakesRecordsUnless, TakesUntilNamed, Works, ConnectsUnless, DoesTask, is_stream, is_taken, asking_of, asking_on, feeds_of, with_feeds, taking_of}
+use Rattle.aspa_top.specs.Tasks.{State, MakesHappen, Refuses, TakesFile, LoadsUnless, OpensNamed, TakesOpen, TakesNamed, TakesEarlierUnless, TakesUntilNamed, Works, ConnectsUnless, DoesTask, is_stream, is_taken, asking_of, asking_on, feeds_of, with_feeds, taking_of}
 use Rattle.aspa_top.specs.Answers.{AnswersUnless, Replies, refused_for}
 use Rattle.aspa_top.specs.Evaluation.{Asked, DoesAsked, asked_of, counted, Evaluates}
 use Rattle.aspa_top.specs.World.{World}
@@ -113,11 +112,10 @@ TakesOpen-refused false state name count dump text next rest in_line takes =
     ap (λ (s : State). s.refused + refusals_in rest) takes.next_is
     ∙ units_counted (asking_of state name) count (taking_of state dump) takes.end text rest in_line takes.takes
 
-TakesRecords-refused : (kind over : Bool) (state : State) (name : List ℕ) (moment : ℕ) (dump : Dump) (text : List ℕ) (next : State) (rest : List ℕ) → IsInLine name
-    → TakesRecordsUnless kind over state name moment dump text next → next.refused + refusals_in rest ≡ state.refused + refusals_in (text ++ rest)
-TakesRecords-refused false over state name moment dump text next rest in_line takes = Refuses-refused state of_line causes.NoName text next rest tt takes
-TakesRecords-refused true true state name moment dump text next rest in_line takes = Refuses-refused state of_line causes.StreamOver text next rest tt takes
-TakesRecords-refused true false state name moment dump text next rest in_line takes =
+TakesEarlier-refused : (over : Bool) (state : State) (name : List ℕ) (moment : ℕ) (dump : Dump) (text : List ℕ) (next : State) (rest : List ℕ) → IsInLine name
+    → TakesEarlierUnless over state name moment dump text next → next.refused + refusals_in rest ≡ state.refused + refusals_in (text ++ rest)
+TakesEarlier-refused true state name moment dump text next rest in_line takes = Refuses-refused state of_line causes.StreamOver text next rest tt takes
+TakesEarlier-refused false state name moment dump text next rest in_line takes =
     ap (λ (s : State). s.refused + refusals_in rest) takes.next_is
     ∙ units_counted (asking_of state name) takes.takes.count (taking_of state dump) takes.end text rest in_line takes.takes.counted.takes
 
@@ -125,7 +123,7 @@ TakesUntil-refused : (dump : Option Dump) (state : State) (name : List ℕ) (mom
     → TakesUntilNamed dump state name moment text next → next.refused + refusals_in rest ≡ state.refused + refusals_in (text ++ rest)
 TakesUntil-refused None state name moment text next rest in_line takes = Refuses-refused state of_line causes.NoName text next rest tt takes
 TakesUntil-refused (Some dump) state name moment text next rest in_line takes =
-    TakesRecords-refused (is_of_records dump.known) dump.over state name moment dump text next rest in_line takes
+    TakesEarlier-refused dump.over state name moment dump text next rest in_line takes
 
 -- a line that begins with `! ` counts
 refused_line : (line rest : List ℕ) → IsRefusalLine line → refusals_in ((line ++ 10 ∷ []) ++ rest) ≡ 1 + refusals_in rest

@@ -1,4 +1,4 @@
--- What lines on dumps come to: one opens, and one takes units of it, or its records up to a moment.
+-- What lines on dumps come to: one opens, and one takes units of it, so many or up to a moment.
 use Rattle.std.specs.Prelude.{◌≡◌, ℕ, Bool, true, false, ◌||◌, cond, List, []}
 use Rattle.std.specs.declared.option.Option.{Option}
 use Rattle.std.specs.declared.option.Option.TheVariants.{Some, None}
@@ -6,7 +6,7 @@ use Rattle.report_text.specs.declared.cause.Cause.TheVariants as causes
 use Rattle.report_text.specs.Refusals.{of_line}
 use Rattle.stream_lines.specs.declared.kind.DumpKind.{DumpKind}
 use Rattle.stream_lines.specs.Streams.{Dump, Taking, Asking, TakesUnits}
-use Rattle.stream_lines.specs.Units.{first_known, is_of_records}
+use Rattle.stream_lines.specs.Units.{first_known}
 use Rattle.stream_lines.specs.Until.{TakesUntil}
 use Rattle.aspa_top.specs.State.{State, same_name, is_stream, Refuses}
 use Rattle.aspa_top.specs.World.{World}
@@ -69,28 +69,27 @@ TakesOpen false state name count dump text next = TakesAll state name count dump
 
 -- ---- `until NAME SECONDS`
 
--- the most records that a line takes
-abbrev pub most_records : ℕ
-most_records = 500000000
+-- the most units that a line takes
+abbrev pub most_units : ℕ
+most_units = 500000000
 
--- The records of the dump are taken up to the first whose time isn't below the moment, or all that come until the dump is over, but no more
+-- The units of the dump are taken up to the first whose time isn't below the moment, or all that come until the dump is over, but no more
 -- than a line takes.
-pub record TakesRecords (state : State) (name : List ℕ) (moment : ℕ) (dump : Dump) (text : List ℕ) (next : State) : Type 0 where
+pub record TakesEarlier (state : State) (name : List ℕ) (moment : ℕ) (dump : Dump) (text : List ℕ) (next : State) : Type 0 where
   pub end : Taking
-  pub takes : TakesUntil (asking_of state name) moment most_records (taking_of state dump) text end
+  pub takes : TakesUntil (asking_of state name) moment most_units (taking_of state dump) text end
   pub next_is : next ≡ after_taking state name end
 
--- whether its units are records, and whether it is over
-abbrev pub TakesRecordsUnless : Bool → Bool → State → List ℕ → ℕ → Dump → List ℕ → State → Type 0
-TakesRecordsUnless false over state name moment dump text next = Refuses state of_line causes.NoName text next
-TakesRecordsUnless true true state name moment dump text next = Refuses state of_line causes.StreamOver text next
-TakesRecordsUnless true false state name moment dump text next = TakesRecords state name moment dump text next
+-- unless it is over
+abbrev pub TakesEarlierUnless : Bool → State → List ℕ → ℕ → Dump → List ℕ → State → Type 0
+TakesEarlierUnless true state name moment dump text next = Refuses state of_line causes.StreamOver text next
+TakesEarlierUnless false state name moment dump text next = TakesEarlier state name moment dump text next
 
--- from the dump of that name; a feed, and a dump of messages, has no times
+-- from the dump of that name; a feed has no times
 abbrev pub TakesUntilNamed : Option Dump → State → List ℕ → ℕ → List ℕ → State → Type 0
 TakesUntilNamed None state name moment text next = Refuses state of_line causes.NoName text next
 TakesUntilNamed (Some dump) state name moment text next =
-    TakesRecordsUnless (is_of_records dump.known) dump.over state name moment dump text next
+    TakesEarlierUnless dump.over state name moment dump text next
 
 abbrev pub TakesUpTo : State → List ℕ → ℕ → List ℕ → State → Type 0
 TakesUpTo state name moment text next = TakesUntilNamed (state.dumps name) state name moment text next

@@ -46,7 +46,7 @@ use Rattle.aspa_top.specs.declared.task.Task.TheVariants.{Idle, Happen, Clear, J
 use Rattle.aspa_top.specs.Answers.{Replies}
 use Rattle.aspa_top.specs.Files.{ComesOf, unit_name}
 use Rattle.aspa_top.specs.Serving.{ServesTable, ServesTablePart}
-pub use Rattle.aspa_top.specs.Dumps.{new_dump, with_dump, OpensNamed, Opens, asking_of, taking_of, after_taking, TakesAll, TakesOpen, TakesRecords, TakesRecordsUnless, TakesUntilNamed, TakesUpTo, most_records}
+pub use Rattle.aspa_top.specs.Dumps.{new_dump, with_dump, OpensNamed, Opens, asking_of, taking_of, after_taking, TakesAll, TakesOpen, TakesEarlier, TakesEarlierUnless, TakesUntilNamed, TakesUpTo, most_units}
 pub use Rattle.aspa_top.specs.State.{State, start, same_name, is_stream, Refuses}
 use Rattle.aspa_top.specs.World.{World}
 
@@ -287,12 +287,12 @@ pub record CameTo (world : World) (state : State) (name : List ℕ) (count : ℕ
   pub comes : DoesTask world state (Take name reached) text next
   pub judged : ticks ≤ next.judgements - state.judgements
 
--- The same of an `until` on a dump: it is so many of the records that the line takes.
+-- The same of an `until` on a dump: it is so many of the units that the line takes.
 pub record CameToUntil (world : World) (state : State) (name : List ℕ) (moment : ℕ) (dump : Dump) (part : List ℕ) (ticks : ℕ) : Type 0 where
   pub count : ℕ
   pub text : List ℕ
   pub end : Taking
-  pub counted : TakesCount (asking_of state name) (Some moment) most_records count (taking_of state dump) text end
+  pub counted : TakesCount (asking_of state name) (Some moment) most_units count (taking_of state dump) text end
   pub came : CameTo world state name count part ticks
 
 -- A task that wrote this part of its text ticked no more often than what it came to may; that is less than all of it where it takes from a

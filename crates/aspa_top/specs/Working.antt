@@ -18,7 +18,6 @@ use Rattle.report_text.specs.declared.cause.Cause.TheVariants as causes
 use Rattle.report_text.specs.Refusals.{AnyPlace, of_line, of_unit, refusal_text}
 use Rattle.rtr_cache.specs.Cache.{Versions}
 use Rattle.stream_lines.specs.Held.{HeldDump}
-use Rattle.stream_lines.specs.Units.{is_of_records}
 use Rattle.aspa_top.specs.declared.files.Amendment.{Amendment}
 use Rattle.aspa_top.specs.declared.files.FileKind.{FileKind}
 use Rattle.aspa_top.specs.declared.files.Made.{Made}
@@ -30,7 +29,7 @@ use Rattle.aspa_top.specs.declared.task.Task.TheVariants.{Take, Until}
 use Rattle.aspa_top.specs.declared.working.Working.{Working}
 use Rattle.aspa_top.specs.Bounds.{most}
 use Rattle.aspa_top.specs.Files.{unit_name}
-use Rattle.aspa_top.specs.Tasks.{amended, most_records, same_name}
+use Rattle.aspa_top.specs.Tasks.{amended, most_units, same_name}
 
 -- the dump that is open under a name
 abbrev pub dump_in : Working → List ℕ → Option HeldDump
@@ -120,14 +119,7 @@ pub record IsOpenIn (working : Working) (name : List ℕ) : Type 0 where
   pub here : dump_in working name ≡ Some dump
   pub yet : dump.over ≡ false
 
--- a dump of records is, and not over
-pub record HasRecordsIn (working : Working) (name : List ℕ) : Type 0 where
-  pub dump : HeldDump
-  pub here : dump_in working name ≡ Some dump
-  pub records : is_of_records dump.known ≡ true
-  pub yet : dump.over ≡ false
-
--- the task that takes of a dump: so many units, or its records up to a moment
+-- the task that takes of a dump: so many units, or those up to a moment
 abbrev pub taking_task : List ℕ → Option ℕ → ℕ → Task
 taking_task name None count = Take name count
 taking_task name (Some moment) count = Until name moment
@@ -135,7 +127,7 @@ taking_task name (Some moment) count = Until name moment
 -- the dump is one of which it may take, and the line takes no more than it may
 abbrev pub MayTake : Option ℕ → ℕ → Working → List ℕ → Type 0
 MayTake None count working name = (count ≤ most) × IsOpenIn working name
-MayTake (Some moment) count working name = (count ≡ most_records) × HasRecordsIn working name
+MayTake (Some moment) count working name = (count ≡ most_units) × IsOpenIn working name
 
 -- the line is counted
 abbrev pub counted_in : Working → Working

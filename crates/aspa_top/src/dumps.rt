@@ -20,7 +20,7 @@ use std::alloc::Global;
 use std::sync::ledger::Ledger;
 use stream_lines::{Asked, DumpKind, OpenDump, take as take_of_dump};
 
-// The most records that an `until` takes.
+// The most units that an `until` takes.
 const MOST: u32 = 500_000_000;
 
 /// Opens a dump of this kind under a new name.
@@ -85,7 +85,7 @@ pub(crate) fn take<F: Shelf, K: Links, W: Sink, L: Ledger>(
     take_open(alloc, working, name, None, count, outside)
 }
 
-/// Takes the records of the dump of this name up to the first whose time isn't below the moment, which stays.
+/// Takes the units of the dump of this name up to the first whose time isn't below the moment, which stays.
 #[inline(never)]
 pub(crate) fn take_up_to<F: Shelf, K: Links, W: Sink, L: Ledger>(
     alloc: Global,
@@ -103,9 +103,6 @@ pub(crate) fn take_up_to<F: Shelf, K: Links, W: Sink, L: Ledger>(
     let Some(dump) = working.dumps.get(name) else {
         return Ok(refuse(working, Place::Line, Cause::NoName, outside.text)?);
     };
-    if !dump.is_of_records() {
-        return Ok(refuse(working, Place::Line, Cause::NoName, outside.text)?);
-    }
     if dump.is_over() {
         return Ok(refuse(working, Place::Line, Cause::StreamOver, outside.text)?);
     }

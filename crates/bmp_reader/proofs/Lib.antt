@@ -8,5 +8,6 @@ pub mod OpenLemmas
 pub mod PeerLemmas
 pub mod ReadingLemmas
 pub mod SeenLemmas
+pub mod TimeLemmas
 pub mod UnitLemmas
 pub mod WalkLemmas

@@ -12,3 +12,4 @@ pub mod Messages
 pub mod Opens
 pub mod Readers
 pub mod Seen
+pub mod Times

@@ -10,6 +10,7 @@ use Rattle.bmp_reader.specs.declared.header.PeerHeader.{PeerHeader}
 use Rattle.bmp_reader.specs.Forms.{Up}
 use Rattle.bmp_reader.specs.Headers.{is_six, unread_size}
 use Rattle.bmp_reader.specs.Opens.{Open, Triple}
+use Rattle.bmp_reader.specs.Times.{is_of_peer}
 
 -- ---- per-peer headers
 
@@ -34,6 +35,20 @@ down_at body = do
   header ← header_at body
   reason ← byte_at header.1
   Some header.0
+
+-- the time in the header, where it isn't 0
+abbrev pub known_time : ℕ → Option ℕ
+known_time time = if time == 0 then None else Some time
+
+unfoldable pub time_at : List ℕ → Option ℕ
+time_at body = do
+  before ← cut 34 body
+  time ← four_at before.1
+  known_time time.0
+
+-- the time of a message of this type
+abbrev pub time_in : ℕ → List ℕ → Option ℕ
+time_in kind body = if is_of_peer kind then time_at body else None
 
 -- ---- OPENs
 

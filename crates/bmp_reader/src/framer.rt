@@ -5,6 +5,7 @@ ghost use Rattle.std.specs.Io.BufRead.{Rests};
 
 use crate::fault::BmpFrameFault;
 use crate::heading::{HEADER, whole_head};
+use crate::time::time_of;
 use av_base::NoMemory;
 use held_bytes::HeldBytes;
 use std::alloc::Global;
@@ -38,6 +39,7 @@ impl Model for Framer {
 
 impl Framer {
     ghost use Rattle.bmp_reader.specs.Coming.{Answers, IsPartial};
+    ghost use Rattle.bmp_reader.specs.Times.{IsNextTime};
     ghost use Rattle.bmp_reader.specs.contracts.framer.Framer.{the_row};
 
     /// Nothing is held. It takes no memory.
@@ -101,6 +103,23 @@ impl Framer {
         match whole_head(self.held.front()) {
             Ok(head) => head.is_some(),
             Err(_) => true,
+        }
+    }
+
+    /// The time of the message that `next` would take, in seconds since 1970-01-01 00:00 UTC, by its per-peer header (RFC 7854, section
+    /// 4.2). `None` comes where `next` would take none, and where that message has no such header, or a time of 0.
+    pub fn time(&self) -> Option<u32>
+        ensures { IsNextTime self.now result }
+    {
+        let held = self.held.front();
+        match whole_head(held) {
+            Ok(Some(head)) => {
+                let (_, behind) = held.split_at(HEADER);
+                let (body, _) = behind.split_at(head.size);
+                time_of(head.kind, body)
+            }
+            Ok(None) => None,
+            Err(_) => None,
         }
     }
 

@@ -1,7 +1,7 @@
 //! BMP streams: messages cut out of a recorded stream (RFC 7854), and what the body of each says.
 //!
 //! The layer above uses three contracts. [`Framer`] holds what is left of a stream; its `next` takes the first message off and lends its
-//! body, or says why there is none (`specs/Coming.antt`: `Answers`). [`read_message`] answers what a message says in a view, by the
+//! body, or says why there is none (`specs/Coming.antt`: `Answers`), and its `time` tells when that was (`specs/Times.antt`: `IsNextTime`). [`read_message`] answers what a message says in a view, by the
 //! peers whose prefixes have path identifiers (`specs/Bodies.antt`: `IsReading`), or want of memory. [`PathPeers`] is the set of these
 //! peers. By the laws in `laws` no message begins another one, in a stream exactly one thing comes next, a stream has exactly one list of
 //! messages, and each message has exactly one reading, in which each announcement has its note of Only-to-Customer; the proofs above take
@@ -23,6 +23,7 @@ mod opening;
 mod peers;
 mod reading;
 mod seen;
+mod time;
 mod up;
 mod view;
 

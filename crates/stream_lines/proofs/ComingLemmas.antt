@@ -25,7 +25,7 @@ use Rattle.bmp_reader.specs.Messages.{Sent}
 use Rattle.bmp_reader.proofs.LawLemmas as message_laws
 use Rattle.bmp_reader.proofs.ReadingLemmas as message_readings
 use Rattle.report_text.specs.declared.cause.Cause.{Cause}
-use Rattle.stream_lines.specs.Units.{Known, Mrt, Bmp, Coming, is_of_records, IsRefused, record_cause, message_cause, RecordSays, RecordComes, MessageSays, MessageComes, IsComing}
+use Rattle.stream_lines.specs.Units.{Known, Mrt, Bmp, Coming, IsRefused, record_cause, message_cause, RecordSays, RecordComes, MessageSays, MessageComes, IsComing}
 
 -- ---- one at most
 
@@ -73,45 +73,6 @@ coming_same (Mrt peers) left one other a b =
 coming_same (Bmp view peers) left one other a b =
     let same = message_laws.coming_same left b.0 a.0 b.1 a.1 in
     message_unique view peers left a.0 one other a.2 (subst (λ c. MessageComes view peers left c other) same b.2)
-
--- ---- of records or of messages
-
-refused_kind : (cause : Option Cause) (known : Known) (rest : List ℕ) (coming : Coming) → IsRefused cause known rest coming → is_of_records coming.known ≡ is_of_records known
-refused_kind None known rest coming is = absurd is
-refused_kind (Some cause) known rest coming is = ap (λ (c : Coming). is_of_records c.known) is
-
-record_says_kind : (peers : Option (List Peer)) (reading : Result RecordBody BodyFault) (rest : List ℕ) (coming : Coming)
-    → RecordSays peers reading rest coming → is_of_records coming.known ≡ true
-record_says_kind peers (Ok (bodies.Peers table)) rest coming is = ap (λ (c : Coming). is_of_records c.known) is
-record_says_kind peers (Ok (bodies.Routes noted)) rest coming is = ap (λ (c : Coming). is_of_records c.known) is
-record_says_kind peers (Ok bodies.Passed) rest coming is = ap (λ (c : Coming). is_of_records c.known) is
-record_says_kind peers (Err fault) rest coming is = refused_kind (record_cause fault) (Mrt peers) rest coming is
-
-record_kind : (peers : Option (List Peer)) (left : List ℕ) (it : records.Coming) (coming : Coming) → RecordComes peers left it coming → is_of_records coming.known ≡ true
-record_kind peers left (records.Whole it rest) coming is = record_says_kind peers is.0 rest coming is.2
-record_kind peers left records.TooLong coming is = ap (λ (c : Coming). is_of_records c.known) is
-record_kind peers left records.CutShort coming is = ap (λ (c : Coming). is_of_records c.known) is
-record_kind peers left records.End coming is = ap (λ (c : Coming). is_of_records c.known) is
-
-message_says_kind : (view : View) (peers : bmp.Identifying) (reading : Result MessageBody BmpFault) (rest : List ℕ) (coming : Coming)
-    → MessageSays view peers reading rest coming → is_of_records coming.known ≡ false
-message_says_kind view peers (Ok (sayings.Routes noted)) rest coming is = ap (λ (c : Coming). is_of_records c.known) is
-message_says_kind view peers (Ok (sayings.Up peer role paths)) rest coming is = ap (λ (c : Coming). is_of_records c.known) is
-message_says_kind view peers (Ok sayings.Passed) rest coming is = ap (λ (c : Coming). is_of_records c.known) is
-message_says_kind view peers (Err fault) rest coming is = refused_kind (message_cause fault) (Bmp view peers) rest coming is
-
-message_kind : (view : View) (peers : bmp.Identifying) (left : List ℕ) (it : messages.Coming) (coming : Coming)
-    → MessageComes view peers left it coming → is_of_records coming.known ≡ false
-message_kind view peers left (messages.Whole it rest) coming is = message_says_kind view peers is.0 rest coming is.2
-message_kind view peers left messages.OtherVersion coming is = ap (λ (c : Coming). is_of_records c.known) is
-message_kind view peers left messages.BadLength coming is = ap (λ (c : Coming). is_of_records c.known) is
-message_kind view peers left messages.CutShort coming is = ap (λ (c : Coming). is_of_records c.known) is
-message_kind view peers left messages.End coming is = ap (λ (c : Coming). is_of_records c.known) is
-
--- what comes next leaves it what it is
-pub coming_kind : (known : Known) (left : List ℕ) (coming : Coming) → IsComing known left coming → is_of_records coming.known ≡ is_of_records known
-coming_kind (Mrt peers) left coming is = record_kind peers left is.0 coming is.2
-coming_kind (Bmp view peers) left coming is = message_kind view peers left is.0 coming is.2
 
 -- ---- one at least
 

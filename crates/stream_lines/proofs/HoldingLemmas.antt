@@ -7,7 +7,7 @@ use Rattle.std.specs.declared.option.Option.{Option}
 use Rattle.av_base.specs.Files.{Files, closes, left_of}
 use Rattle.av_base.proofs.PlacesLemmas.{get-change_at}
 use Rattle.stream_lines.specs.Held.{HeldDump, fresh_of}
-use Rattle.stream_lines.specs.Units.{Known, Mrt, Bmp, is_of_records}
+use Rattle.stream_lines.specs.Units.{Known, Mrt, Bmp}
 use Rattle.stream_lines.specs.Holding.{HoldsDump, IsLetGo, LetsGo}
 use Rattle.analyser.specs.declared.progress.Progress.{Progress}
 use Rattle.stream_lines.specs.Streams.{Dump, Taking}
@@ -19,7 +19,6 @@ pub HoldsDump-leaves : (old new : Option Files) (kept : HeldDump) (dump : Dump) 
 HoldsDump-leaves old new kept dump same holds = record {
   over = holds.over;
   taken = holds.taken;
-  kind = holds.kind;
   left = λ open_yet. ap (prepend_known kept.held) same ∙ holds.left open_yet;
   known = holds.known;
 }
@@ -30,7 +29,6 @@ pub HoldsDump-moved : (old new : Option Files) (before after : HeldDump) (dump :
 HoldsDump-moved old new before after dump is same holds = rw is (record {
   over = holds.over;
   taken = holds.taken;
-  kind = holds.kind;
   left = λ open_yet. same ∙ holds.left open_yet;
   known = holds.known;
 })
@@ -44,11 +42,6 @@ StandsAt-moved old new before after progress state is same stands = record {
   passed = stands.passed;
   refused = stands.refused;
 }
-
--- of a dump that is over it is known whether it was of records
-pub fresh_kind : (known : Known) → is_of_records (fresh_of known) ≡ is_of_records known
-fresh_kind (Mrt peers) = refl
-fresh_kind (Bmp view peers) = refl
 
 -- ---- at the end
 

@@ -8,7 +8,7 @@ pub mod NextLemmas
 pub mod PieceLemmas
 pub mod RefusalLemmas
 pub mod ReportedLemmas
-pub mod StampLemmas
+pub mod TimeLemmas
 pub mod TakingLemmas
 pub mod TakingUntilLemmas
 pub mod UnitsLemmas

@@ -21,9 +21,7 @@ use Rattle.stream_lines.specs.Held.{HeldDump, fresh_of}
 use Rattle.stream_lines.specs.Streams.{Asking, Dump, Taking, after_unit, ended, unit_refused, LetsHappen, Does, TakesComing, TakesUnless, TakesUnit, TakesNext}
 use Rattle.stream_lines.specs.Taking.{StandsAt}
 use Rattle.stream_lines.specs.TakingSteps.{TookUnit, LetHappen, Did}
-use Rattle.stream_lines.specs.Units.{Known, comes, is_of_records}
-use Rattle.stream_lines.proofs.ComingLemmas.{coming_kind}
-use Rattle.stream_lines.proofs.HoldingLemmas.{fresh_kind}
+use Rattle.stream_lines.specs.Units.{Known, comes}
 
 -- a dump that isn't over
 takes_next : (asking : Asking) (old : Taking) (text : List ℕ) (new : Taking) → old.dump.over ≡ false → TakesNext asking old text new → TakesUnit asking old text new
@@ -106,10 +104,6 @@ module _ (asking : Asking) (dump : HeldDump) (progress : Progress) (files_old fi
       subst (λ (k : Known). IsNextOf k old.dump.left known (prepend_known held (left_of files_new dump.file)) next) (stands.holds.known open_yet)
       (is_next old.dump.left (stands.holds.left open_yet))
 
-  -- which is a dump of records as before, or of messages
-  kept : (old : Taking) → IsNextOf old.dump.known old.dump.left known (prepend_known held (left_of files_new dump.file)) next → is_of_records known ≡ is_of_records old.dump.known
-  kept old it = coming_kind old.dump.known old.dump.left (comes next known it.rest) it.coming
-
   -- a unit that does so
   pub took_effect : (effect : Effect) (mid new : HeldDump) (after : Progress) (text_old text_new : List ℕ) → next ≡ AUnit (Ok effect)
       → mid ≡ record dump { held = held; known = known } → Did effect progress after → new ≡ record mid { taken = mid.taken + 1 } → text_new ≡ text_old
@@ -121,7 +115,7 @@ module _ (asking : Asking) (dump : HeldDump) (progress : Progress) (files_old fi
       let all = done effect progress after old (after_unit old.dump coming) stands.state stands.marks stands.passed stands.refused did in (
         all.new,
         record {
-          holds = rw (now, all.dump) (record { left = λ _. it.told; taken = ap (λ (n : ℕ). n + 1) stands.holds.taken; kind = refl; known = λ _. refl; over = stands.holds.over });
+          holds = rw (now, all.dump) (record { left = λ _. it.told; taken = ap (λ (n : ℕ). n + 1) stands.holds.taken; known = λ _. refl; over = stands.holds.over });
           state = all.state;
           marks = all.marks;
           passed = all.passed;
@@ -150,7 +144,7 @@ module _ (asking : Asking) (dump : HeldDump) (progress : Progress) (files_old fi
       let now : new ≡ record dump { held = held; known = known; taken = dump.taken + 1 } = passed ∙ ap (λ (d : HeldDump). record d { taken = d.taken + 1 }) before in
       let unit : taken + 1 ≡ old.dump.taken + 1 = ap (λ (n : ℕ). n + 1) (at ∙ ap (λ (d : HeldDump). d.taken) before ∙ stands.holds.taken) in (
         end,
-        rw (now, counted) (record { holds = record { left = λ _. it.told; taken = ap (λ (n : ℕ). n + 1) stands.holds.taken; kind = refl; known = λ _. refl; over = stands.holds.over }; state = stands.state; marks = stands.marks; passed = stands.passed; refused = ap (λ (n : ℕ). n + 1) stands.refused }),
+        rw (now, counted) (record { holds = record { left = λ _. it.told; taken = ap (λ (n : ℕ). n + 1) stands.holds.taken; known = λ _. refl; over = stands.holds.over }; state = stands.state; marks = stands.marks; passed = stands.passed; refused = ap (λ (n : ℕ). n + 1) stands.refused }),
         record {
           text = unit_refused asking old.dump cause;
           takes = takes_next _ _ _ _ (sym stands.holds.over ∙ open_yet) (record {
@@ -174,7 +168,7 @@ module _ (asking : Asking) (dump : HeldDump) (progress : Progress) (files_old fi
       let now : new ≡ record dump { held = []; known = fresh_of known; over = true } = over ∙ ap (λ (d : HeldDump). record d { held = []; known = fresh_of d.known; over = true }) before in
       let unit : taken + 1 ≡ old.dump.taken + 1 = ap (λ (n : ℕ). n + 1) (at ∙ ap (λ (d : HeldDump). d.taken) before ∙ stands.holds.taken) in (
         end,
-        rw (now, counted) (record { holds = record { left = λ e. no_more e; taken = stands.holds.taken; kind = fresh_kind known ∙ kept old it; known = λ e. no_more e; over = refl }; state = stands.state; marks = stands.marks; passed = stands.passed; refused = ap (λ (n : ℕ). n + 1) stands.refused }),
+        rw (now, counted) (record { holds = record { left = λ e. no_more e; taken = stands.holds.taken; known = λ e. no_more e; over = refl }; state = stands.state; marks = stands.marks; passed = stands.passed; refused = ap (λ (n : ℕ). n + 1) stands.refused }),
         record {
           text = unit_refused asking old.dump cause;
           takes = takes_next _ _ _ _ (sym stands.holds.over ∙ open_yet) (record {
@@ -195,7 +189,7 @@ module _ (asking : Asking) (dump : HeldDump) (progress : Progress) (files_old fi
       let end : Taking = record old { dump = ended old.dump } in
       let now : new ≡ record dump { held = []; known = fresh_of known; over = true } = over ∙ ap (λ (d : HeldDump). record d { held = []; known = fresh_of d.known; over = true }) before in (
         end,
-        rw now (record { holds = record { left = λ e. no_more e; taken = stands.holds.taken; kind = fresh_kind known ∙ kept old it; known = λ e. no_more e; over = refl }; state = stands.state; marks = stands.marks; passed = stands.passed; refused = stands.refused }),
+        rw now (record { holds = record { left = λ e. no_more e; taken = stands.holds.taken; known = λ e. no_more e; over = refl }; state = stands.state; marks = stands.marks; passed = stands.passed; refused = stands.refused }),
         record {
           text = [];
           takes = takes_next _ _ _ _ (sym stands.holds.over ∙ open_yet) (record {

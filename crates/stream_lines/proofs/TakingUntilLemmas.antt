@@ -15,7 +15,7 @@ use Rattle.stream_lines.specs.Until.{GoesOn}
 use Rattle.stream_lines.proofs.HoldingLemmas.{StandsAt-moved}
 use Rattle.stream_lines.proofs.JudgementLemmas.{ticks_more}
 use Rattle.stream_lines.proofs.LawLemmas.{units_unique}
-use Rattle.stream_lines.proofs.StampLemmas.{over_stops}
+use Rattle.stream_lines.proofs.TimeLemmas.{over_stops}
 use Rattle.stream_lines.proofs.UntilLemmas.{reached_within, some_until}
 use Rattle.stream_lines.proofs.UnitsLemmas.{TookUnits-some}
 

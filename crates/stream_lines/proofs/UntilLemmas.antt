@@ -6,7 +6,7 @@ use Rattle.av_base.specs.One.{HasOnePair}
 use Rattle.stream_lines.specs.Streams.{Asking, Taking, TakesUnit, TakesUnits}
 use Rattle.stream_lines.specs.Until.{GoesOn, TakesCount, TakesUpTo}
 use Rattle.stream_lines.proofs.LawLemmas.{some_unless, some_units, unless_unique, units_unique}
-use Rattle.stream_lines.proofs.StampLemmas.{goes_on_or_not}
+use Rattle.stream_lines.proofs.TimeLemmas.{goes_on_or_not}
 use Rattle.stream_lines.proofs.UnitsLemmas.{TakesUnits-join}
 
 -- ---- one at least

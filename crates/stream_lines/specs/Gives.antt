@@ -59,11 +59,6 @@ IsLast held End = held ≡ []
 abbrev pub TellsPast : Option ℕ → Known → Option (List ℕ) → Bool → Type 0
 TellsPast until known left answer = (dump : Dump) → dump.known ≡ known → left ≡ Some dump.left → IsTrue answer ↔ IsPast until dump
 
--- what the stamp that comes next tells: it is that of a record that is held, and without one none is held, of a dump of messages never
-abbrev pub HasStamp : Known → List ℕ → Option ℕ → Type 0
-HasStamp (Mrt peers) held stamp = records.IsNextStamp held stamp
-HasStamp (Bmp view peers) held stamp = stamp ≡ Absent
-
 -- What came next in a dump, where it is told what was left.
 pub record IsNextOf (known : Known) (left : List ℕ) (known_new : Known) (new : Option (List ℕ)) (next : Next) : Type 0 where
   pub rest : List ℕ

@@ -5,14 +5,12 @@ use Rattle.std.specs.declared.option.Option.{Option}
 use Rattle.av_base.specs.Files.{Files, left_of}
 use Rattle.stream_lines.specs.Held.{HeldDump, fresh_of}
 use Rattle.stream_lines.specs.Streams.{Dump}
-use Rattle.stream_lines.specs.Units.{is_of_records}
 
--- Both are over or none is, as many units were taken, and both are of records or none is. Where it isn't over, what is held of it, and then what is left of its file, is
--- what is left of the dump, and what is known is the dump's.
+-- Both are over or none is, and as many units were taken. Where it isn't over, what is held of it, and then what is left of its file, is what
+-- is left of the dump, and what is known is the dump's.
 pub record HoldsDump (files : Option Files) (dump : HeldDump) (state : Dump) : Type 0 where
   pub over : dump.over ≡ state.over
   pub taken : dump.taken ≡ state.taken
-  pub kind : is_of_records dump.known ≡ is_of_records state.known
   pub left : dump.over ≡ false → prepend_known dump.held (left_of files dump.file) ≡ Some state.left
   pub known : dump.over ≡ false → dump.known ≡ state.known
 

@@ -1,5 +1,5 @@
 -- What comes next in a dump: in one of MRT records, or of BMP messages. Begin reading at `IsComing`, at the end.
-use Rattle.std.specs.Prelude.{◌≡◌, ℕ, List, if◌then◌else◌, Bool, true, false}
+use Rattle.std.specs.Prelude.{◌≡◌, ℕ, List, if◌then◌else◌, Bool}
 use Rattle.std.specs.FinSet as set
 use Rattle.std.specs.declared.option.Option.{Option}
 use Rattle.std.specs.declared.option.Option.TheVariants.{Some, None}
@@ -44,11 +44,6 @@ abbrev pub first_known : DumpKind → Known
 first_known kinds.Mrt = Mrt None
 first_known kinds.BmpPre = Bmp Pre set.empty
 first_known kinds.BmpPost = Bmp Post set.empty
-
--- whether the dump is one of records; only these have stamps
-abbrev pub is_of_records : Known → Bool
-is_of_records (Mrt peers) = true
-is_of_records (Bmp view peers) = false
 
 -- the peers that identify paths, after a Peer Up of one that says whether it does
 abbrev pub noted : bmp.Identifying → Peer → Bool → bmp.Identifying

@@ -1,17 +1,23 @@
--- The records that a line takes up to a moment, in seconds since 1970-01-01 00:00 UTC. Only a whole record has a stamp.
-use Rattle.std.specs.Prelude.{◌≡◌, ℕ, ◌<◌, ◌≤◌, true, false, List}
+-- The units that a line takes up to a moment, in seconds since 1970-01-01 00:00 UTC.
+use Rattle.std.specs.Prelude.{◌≡◌, ℕ, ◌<◌, ◌≤◌, false, List}
 use Rattle.std.specs.declared.option.Option.{Option}
 use Rattle.std.specs.declared.option.Option.TheVariants.{Some, None}
 use Rattle.mrt_reader.specs.Coming.{IsNextStamp}
+use Rattle.bmp_reader.specs.Times.{IsNextTime}
 use Rattle.stream_lines.specs.Streams.{Asking, Dump, Taking, TakesUnits}
-use Rattle.stream_lines.specs.Units.{is_of_records}
+use Rattle.stream_lines.specs.Units.{Known, Mrt, Bmp}
 
--- a dump of records, in which a whole one comes next whose stamp isn't below the moment
+-- The time of the unit that comes next: the stamp of a whole record, or the time of a whole message's per-peer header. A message without such
+-- a header has none, and one with the time 0 hasn't either: it goes with the one before it.
+abbrev pub IsTimed : Known → List ℕ → Option ℕ → Type 0
+IsTimed (Mrt peers) left time = IsNextStamp left time
+IsTimed (Bmp view peers) left time = IsNextTime left time
+
+-- a unit comes next whose time isn't below the moment
 pub record IsFrom (moment : ℕ) (dump : Dump) : Type 0 where
-  pub of_records : is_of_records dump.known ≡ true
-  pub stamp : ℕ
-  pub next : IsNextStamp dump.left (Some stamp)
-  pub late : moment ≤ stamp
+  pub time : ℕ
+  pub next : IsTimed dump.known dump.left (Some time)
+  pub late : moment ≤ time
 
 -- where the line has a moment, what comes next is from it on
 abbrev pub IsPast : Option ℕ → Dump → Type 0
@@ -34,6 +40,6 @@ pub record TakesUpTo (asking : Asking) (until : Option ℕ) (limit : ℕ) (old :
   pub count : ℕ
   pub counted : TakesCount asking until limit count old text new
 
--- the records up to the moment are taken, or all that come until the dump is over, and no more than `limit`
+-- the units up to the moment are taken, or all that come until the dump is over, and no more than `limit`
 abbrev pub TakesUntil : Asking → ℕ → ℕ → Taking → List ℕ → Taking → Type 0
 TakesUntil asking moment limit old text new = TakesUpTo asking (Some moment) limit old text new

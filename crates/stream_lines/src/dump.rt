@@ -7,7 +7,7 @@ ghost use Rattle.av_base.specs.Told.{HasCause, Rose, Took};
 ghost use Rattle.stream_lines.specs.Frames.{Leaves};
 ghost use Rattle.stream_lines.specs.Gives.{IsNext, IsPartial, TellsPast};
 ghost use Rattle.stream_lines.specs.Held.{fresh_of, held_of, known_of};
-ghost use Rattle.stream_lines.specs.Units.{first_known, is_of_records};
+ghost use Rattle.stream_lines.specs.Units.{first_known};
 
 use crate::kind::DumpKind;
 use crate::next::Next;
@@ -69,13 +69,6 @@ impl OpenDump {
         self.over
     }
 
-    /// Whether it is a dump of records; only these have stamps.
-    pub fn is_of_records(&self) -> bool
-        ensures { result ≡ is_of_records self.now.known }
-    {
-        self.reader.is_of_records()
-    }
-
     /// Whether what comes next is held already, so that no read is waited for.
     pub(crate) fn is_ready(&self) -> bool {
         self.reader.is_ready()
@@ -114,7 +107,7 @@ impl OpenDump {
         shelf.close_file(self.file);
     }
 
-    /// Whether what comes next, where the dump isn't over, is a record whose stamp isn't below this moment, in seconds since 1970; without a
+    /// Whether what comes next, where the dump isn't over, is a unit whose time isn't below this moment, in seconds since 1970; without a
     /// moment it never is. It reads while that can't be told, and takes nothing off.
     pub(crate) fn is_past<F: Shelf>(
         &mut self,
@@ -141,8 +134,8 @@ impl OpenDump {
             return Ok(false);
         };
         fill(alloc, &mut self.reader, self.file, shelf)?;
-        match self.reader.stamp() {
-            Some(stamp) => Ok(moment <= stamp),
+        match self.reader.time() {
+            Some(time) => Ok(moment <= time),
             None => Ok(false),
         }
     }

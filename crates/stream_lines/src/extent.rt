@@ -17,9 +17,9 @@ use std::alloc::Global;
 use std::sync::ledger::Ledger;
 
 /// Takes the next units of a dump, or all that come until it is over; then its file is let go at once. Where the line has a moment, it
-/// takes the records up to the first one whose stamp isn't below it, which stays in the dump. Stamps are in seconds since 1970-01-01
-/// 00:00 UTC (RFC 6396, section 2). Only a whole record has one: what can't be cut out is taken as without a moment, and a dump of BMP has
-/// none. A refused unit is reported by a line. The text is held, and written in pieces. Each judgement is a step. Where it ends early
+/// takes the units up to the first one whose time isn't below it, which stays in the dump. Times are in seconds since 1970-01-01 00:00 UTC:
+/// that of a record (RFC 6396, section 2), or of a message's per-peer header (RFC 7854, section 4.2), where 0 is none. Only a whole unit has
+/// one: what can't be cut out, and a message without a time, is taken as without a moment. A refused unit is reported by a line. The text is held, and written in pieces. Each judgement is a step. Where it ends early
 /// nothing is promised of the progress.
 pub fn take<F: Shelf, W: Sink, L: Ledger>(
     alloc: Global,

@@ -1,8 +1,9 @@
 //! The reader of a dump: of its records, or of its messages.
 ghost use Rattle.std.specs.Prelude.{◌≡◌, ◌↔◌, ◌<◌, ◌≤◌, [], length, take, IfOk, IsTrue};
-ghost use Rattle.stream_lines.specs.Gives.{Gives, HasStamp, IsLast, IsPartial};
+ghost use Rattle.stream_lines.specs.Gives.{Gives, IsLast, IsPartial};
 ghost use Rattle.stream_lines.specs.Held.{fresh_of, held_of, known_of};
-ghost use Rattle.stream_lines.specs.Units.{first_known, is_of_records};
+ghost use Rattle.stream_lines.specs.Units.{first_known};
+ghost use Rattle.stream_lines.specs.Until.{IsTimed};
 
 use crate::kind::DumpKind;
 use crate::messages::Messages;
@@ -34,16 +35,6 @@ impl Reader {
         }
     }
 
-    /// Whether it is a dump of records.
-    pub(crate) fn is_of_records(&self) -> bool
-        ensures { result ≡ is_of_records (known_of self.now) }
-    {
-        match self {
-            Reader::Mrt(_) => true,
-            Reader::Bmp(_) => false,
-        }
-    }
-
     /// Whether what comes next is held already, so that no read is waited for.
     pub(crate) fn is_ready(&self) -> bool
         ensures { IsTrue result ↔ ¬ IsPartial (known_of self.now) (held_of self.now) }
@@ -54,13 +45,13 @@ impl Reader {
         }
     }
 
-    /// The stamp of the record that comes next, where a whole one is held.
-    pub(crate) fn stamp(&self) -> Option<u32>
-        ensures { HasStamp (known_of self.now) (held_of self.now) result }
+    /// The time of the unit that comes next, where a whole one is held and has one.
+    pub(crate) fn time(&self) -> Option<u32>
+        ensures { IsTimed (known_of self.now) (held_of self.now) result }
     {
         match self {
             Reader::Mrt(records) => records.framer.stamp(),
-            Reader::Bmp(_) => None,
+            Reader::Bmp(messages) => messages.framer.time(),
         }
     }
 

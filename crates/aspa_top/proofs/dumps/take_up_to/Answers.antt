@@ -3,7 +3,7 @@ use Rattle.std.specs.Io.KnownBytes.{append_known}
 use Rattle.av_base.specs.declared.stop.Stop.TheVariants as stops
 use Rattle.aspa_top.proofs.DidLemmas.{did_err, nothing}
 use Rattle.aspa_top.proofs.KeepLemmas.{keeps_all}
-use Rattle.aspa_top.proofs.UntilLemmas.{until_missing, until_other, until_over}
+use Rattle.aspa_top.proofs.UntilLemmas.{until_missing, until_over}
 use Rattle.aspa_top.proofs.dumps.take_up_to.Goals as goal
 
 pub take_open-requires-clause-may : goal.take_open-requires-clause-may
@@ -12,7 +12,6 @@ take_open-requires-clause-may g c = (
   record {
     dump = c.in-Some.dump.now;
     here = sym c.in-Some.ensures.value;
-    records = sym c.is_of_records.ensures ∙ c.if-not-is_of_records.false;
     yet = sym c.is_over.ensures ∙ c.if-is_over.false;
   },
 )
@@ -24,20 +23,12 @@ returns-in_default g c = record {
   did = until_missing c.args.working _ c.args.name.now c.args.moment _ _ c.requires.begun c.in_ok-refuse.ensures.next (sym c.in_default.ensures.value) c.in_ok-refuse.ensures.text;
 }
 
--- it is a dump of messages
-pub returns-then-not-is_of_records : goal.returns-then-not-is_of_records
-returns-then-not-is_of_records g c = record {
-  keeps = record { lent = refl; keeps = keeps_all _ _ _ };
-  did = until_other c.args.working _ c.args.name.now c.args.moment _ _ c.requires.begun c.in_ok-refuse-2.ensures.next c.in-Some.dump.now (sym c.in-Some.ensures.value)
-      (sym c.is_of_records.ensures ∙ c.if-not-is_of_records.true) c.in_ok-refuse-2.ensures.text;
-}
-
 -- it is over
 pub returns-then-is_over : goal.returns-then-is_over
 returns-then-is_over g c = record {
   keeps = record { lent = refl; keeps = keeps_all _ _ _ };
-  did = until_over c.args.working _ c.args.name.now c.args.moment _ _ c.requires.begun c.in_ok-refuse-3.ensures.next c.in-Some.dump.now (sym c.in-Some.ensures.value)
-      (sym c.is_of_records.ensures ∙ c.if-not-is_of_records.false) (sym c.is_over.ensures ∙ c.if-is_over.true) c.in_ok-refuse-3.ensures.text;
+  did = until_over c.args.working _ c.args.name.now c.args.moment _ _ c.requires.begun c.in_ok-refuse-2.ensures.next c.in-Some.dump.now (sym c.in-Some.ensures.value)
+      (sym c.is_over.ensures ∙ c.if-is_over.true) c.in_ok-refuse-2.ensures.text;
 }
 
 pub returns-in_err-refuse : goal.returns-in_err-refuse
@@ -52,11 +43,4 @@ returns-in_err-refuse-2 g c = record {
   keeps = record { lent = refl; keeps = keeps_all _ _ _ };
   did = did_err c.args.working _ _ _ c.from_residual-in_err-refuse-2.result stops.NoMemory c.from_residual-in_err-refuse-2.ensures.1
       (nothing c.args.working _ _ _ refl (ap (append_known (g.W.Sink.written c.args.outside.now.out.now)) c.in_err-refuse-2.ensures.err) refl (omega arith));
-}
-
-pub returns-in_err-refuse-3 : goal.returns-in_err-refuse-3
-returns-in_err-refuse-3 g c = record {
-  keeps = record { lent = refl; keeps = keeps_all _ _ _ };
-  did = did_err c.args.working _ _ _ c.from_residual-in_err-refuse-3.result stops.NoMemory c.from_residual-in_err-refuse-3.ensures.1
-      (nothing c.args.working _ _ _ refl (ap (append_known (g.W.Sink.written c.args.outside.now.out.now)) c.in_err-refuse-3.ensures.err) refl (omega arith));
 }
