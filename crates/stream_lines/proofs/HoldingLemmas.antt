@@ -47,7 +47,7 @@ StandsAt-moved old new before after progress state is same stands = record {
 
 -- of a dump that is over it is known whether it was of records
 pub fresh_kind : (known : Known) → is_of_records (fresh_of known) ≡ is_of_records known
-fresh_kind (Mrt peers) = refl
+fresh_kind (Mrt before) = refl
 fresh_kind (Bmp view peers) = refl
 
 -- ---- at the end
@@ -61,7 +61,7 @@ nothing_left None file = tt
 nothing_left (Some told) file = subst (λ (o : Option (List ℕ)). IfSome o (λ left. left ≡ [])) (sym (get-change_at (λ _. []) file told.left)) (none_left (slice_get told.left file))
 
 fresh_twice : (known : Known) → fresh_of known ≡ fresh_of (fresh_of known)
-fresh_twice (Mrt peers) = refl
+fresh_twice (Mrt before) = refl
 fresh_twice (Bmp view peers) = refl
 
 -- the dump ended, and its file was let go

@@ -35,8 +35,8 @@ none_more held more (inr long) at_end = λ it rest begins. record_laws.not_too_l
 
 pub tells_stamp : (moment : ℕ) (known : Known) (held : List ℕ) (left : Option (List ℕ)) (stamp : ℕ) (answer : Bool) → HasStamp known held (Some stamp)
     → IsTrue answer ↔ (moment ≤ stamp) → TellsPast (Some moment) known (prepend_known held left) answer
-tells_stamp moment (Mrt peers) held None stamp answer has tests = λ dump same told. absurd (let no : ⊥ = cc in no)
-tells_stamp moment (Mrt peers) held (Some left) stamp answer has tests = λ dump same told.
+tells_stamp moment (Mrt before) held None stamp answer has tests = λ dump same told. absurd (let no : ⊥ = cc in no)
+tells_stamp moment (Mrt before) held (Some left) stamp answer has tests = λ dump same told.
     let whole : held ++ left ≡ dump.left = cc in
     let next : records.IsNextStamp dump.left (Some stamp) = subst (λ (t : List ℕ). records.IsNextStamp t (Some stamp)) whole (stamp_more held left stamp has) in (
       λ on. record { of_records = ap is_of_records same; stamp = stamp; next = next; late = tests.0 on },
@@ -46,8 +46,8 @@ tells_stamp moment (Bmp view peers) held left stamp answer has tests = absurd (l
 
 pub tells_none : (moment : ℕ) (known : Known) (held : List ℕ) (left : Option (List ℕ)) → HasStamp known held None → (IsPartial known held → IsAtEnd left)
     → TellsPast (Some moment) known (prepend_known held left) false
-tells_none moment (Mrt peers) held None has at_end = λ dump same told. absurd (let no : ⊥ = cc in no)
-tells_none moment (Mrt peers) held (Some left) has at_end = λ dump same told.
+tells_none moment (Mrt before) held None has at_end = λ dump same told. absurd (let no : ⊥ = cc in no)
+tells_none moment (Mrt before) held (Some left) has at_end = λ dump same told.
     let whole : held ++ left ≡ dump.left = cc in
     let none : BeginsWithNone IsRecord dump.left = subst (λ (t : List ℕ). BeginsWithNone IsRecord t) whole (none_more held left has at_end) in (
       λ on. absurd (let no : ⊥ = cc in no),

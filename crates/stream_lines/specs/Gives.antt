@@ -18,7 +18,7 @@ use Rattle.stream_lines.specs.Until.{IsPast}
 
 -- no whole unit, and nothing with which none can begin
 abbrev pub IsPartial : Known → List ℕ → Type 0
-IsPartial (Mrt peers) held = records.IsPartial held
+IsPartial (Mrt before) held = records.IsPartial held
 IsPartial (Bmp view peers) held = messages.IsPartial held
 
 -- More bytes than this begin with a whole unit, or with nothing that begins one: those of the longest record with its header. The longest
@@ -61,7 +61,7 @@ TellsPast until known left answer = (dump : Dump) → dump.known ≡ known → l
 
 -- what the stamp that comes next tells: it is that of a record that is held, and without one none is held, of a dump of messages never
 abbrev pub HasStamp : Known → List ℕ → Option ℕ → Type 0
-HasStamp (Mrt peers) held stamp = records.IsNextStamp held stamp
+HasStamp (Mrt before) held stamp = records.IsNextStamp held stamp
 HasStamp (Bmp view peers) held stamp = stamp ≡ Absent
 
 -- What came next in a dump, where it is told what was left.
