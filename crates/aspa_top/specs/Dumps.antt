@@ -11,7 +11,7 @@ use Rattle.stream_lines.specs.Until.{TakesUntil}
 use Rattle.aspa_top.specs.State.{State, same_name, is_stream, Refuses}
 use Rattle.aspa_top.specs.World.{World}
 
--- ---- `open NAME FILE`, `bmp NAME FILE VIEW`
+-- ---- `open NAME FILE WRITER`, `bmp NAME FILE VIEW`
 
 -- a dump that was just opened
 abbrev pub new_dump : DumpKind → List ℕ → Dump

@@ -117,7 +117,7 @@ pub(crate) fn task_of(command: Command) -> Task
         Command::Unassert(customer) => table_event(TableChange::Unassert(customer)),
         Command::Role(asn, role) => Task::Happen(Event::Role(asn, role)),
         Command::RoleDefault(role) => Task::Happen(Event::DefaultRole(role)),
-        Command::Open(name, file) => Task::Open(DumpKind::Mrt, name, file),
+        Command::Open(name, file, writer) => Task::Open(DumpKind::Mrt(writer), name, file),
         Command::Bmp(name, file, post) => Task::Open(bmp_kind(post), name, file),
         Command::Take(name, count) => Task::Take(name, count),
         Command::Until(name, moment) => Task::Until(name, moment),

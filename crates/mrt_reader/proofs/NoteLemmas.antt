@@ -1,7 +1,7 @@
 -- Each announcement of a record has its note.
-use Rattle.std.proofs.Common.{◌≡◌, ℕ, ◌==◌, inl, inr, Bool, true, false, if◌then◌else◌, List, [], ◌∷◌, length, Ok, Err, refl, sym, subst, arith}
-use Rattle.std.specs.declared.option.Option.{Option}
+use Rattle.std.proofs.Common.{◌≡◌, ℕ, ◌==◌, ◌&&◌, not, inl, inr, Bool, true, false, if◌then◌else◌, List, [], ◌∷◌, length, Ok, Err, refl, sym, subst, arith}
 use Rattle.std.specs.declared.result.Result.{Result}
+use Rattle.path_model.specs.declared.addr.Addr.{Addr}
 use Rattle.path_model.specs.declared.change.Change.{Change}
 use Rattle.path_model.specs.declared.change.Change.TheVariants.{RemovePeer}
 use Rattle.path_model.specs.declared.noted.Noted.{Noted}
@@ -12,25 +12,32 @@ use Rattle.path_model.specs.Prefix.{Subnet}
 use Rattle.bgp_update.specs.declared.fault.UpdateFault.{UpdateFault}
 use Rattle.bgp_update.specs.Updates as updates
 use Rattle.bgp_update.proofs.NoteLemmas as messages
+use Rattle.dialects.specs.declared.writer.Rule.TheVariants.{EstablishedAlone, UnnamedPeer}
+use Rattle.dialects.specs.declared.writer.Writer.{Writer}
+use Rattle.dialects.specs.Dialect.{has}
+use Rattle.mrt_reader.specs.declared.body.Beside.{Beside}
+use Rattle.mrt_reader.specs.declared.body.Beside.TheVariants as besides
 use Rattle.mrt_reader.specs.declared.body.Body.{Body}
 use Rattle.mrt_reader.specs.declared.body.Body.TheVariants as bodies
 use Rattle.mrt_reader.specs.declared.fault.BodyFault.{BodyFault}
 use Rattle.mrt_reader.specs.declared.layout.Layout.{Layout}
 use Rattle.mrt_reader.specs.declared.layout.Layout.TheVariants as layouts
-use Rattle.mrt_reader.specs.Bodies.{ByForm, TableSays, raised, MessageSays, changes_at, StateSays, LayoutSays, IsReading}
-use Rattle.mrt_reader.specs.Dumps.{IsTableDump}
+use Rattle.mrt_reader.specs.Before.{Known}
+use Rattle.mrt_reader.specs.Bodies.{ByForm, TableSays, raised, MessageSays, StateSays, LayoutSays, IsReading}
+use Rattle.mrt_reader.specs.Dumps.{Dumped, IsTableDump}
 use Rattle.mrt_reader.specs.Layouts.{layout_of}
 use Rattle.mrt_reader.specs.Peers.{IsPeerTable}
 use Rattle.mrt_reader.specs.Records.{Recorded}
 use Rattle.mrt_reader.specs.Ribs.{Entry}
-use Rattle.mrt_reader.specs.Routes.{with_first, IsRoute, AreRoutes, DumpSays}
-use Rattle.mrt_reader.specs.Sessions.{IsRecordedMessage, IsStateChange}
+use Rattle.mrt_reader.specs.Routes.{with_first, IsRoute, AreRoutes, AreSomeRoutes, EntriesSay, DumpSays}
+use Rattle.mrt_reader.specs.Sessions.{Session, StateChange, IsRecordedMessage, IsStateChange}
+use Rattle.mrt_reader.specs.States as states
 
 -- a body that is in form has what its value says
-by_form : {A : Type 0} (HasForm : A → Type 0) (Says : A → Result Body BodyFault → Type 0) (noted : Noted) → ((value : A) → Says value (Ok (bodies.Routes noted)) → HasNotes noted)
-    → ByForm HasForm Says (Ok (bodies.Routes noted)) → HasNotes noted
-by_form HasForm Says noted has (inl out) = (let e = out.1 in absurd cc)
-by_form HasForm Says noted has (inr is) = has is.0 is.2
+by_form : {A : Type 0} (HasForm : A → Type 0) (Says : A → Result Body BodyFault → Type 0) (noted : Noted) (beside : Beside) → ((value : A) → Says value (Ok (bodies.Routes noted beside)) → HasNotes noted)
+    → ByForm HasForm Says (Ok (bodies.Routes noted beside)) → HasNotes noted
+by_form HasForm Says noted beside has (inl out) = (let e = out.1 in absurd cc)
+by_form HasForm Says noted beside has (inr is) = has is.0 is.2
 
 route_has : (peers : List Peer) (prefix : Subnet) (entry : Entry) (change : Change) (otc : Otc) (others : Noted) → IsRoute peers prefix entry change otc → HasNotes others → HasNotes (with_first change otc others)
 route_has peers prefix entry change otc others is has =
@@ -42,28 +49,59 @@ routes_have peers prefix [] noted are = subst HasNotes (sym are) refl
 routes_have peers prefix (entry ∷ entries) noted are =
     subst HasNotes (sym are.3) (route_has peers prefix entry are.0 are.1 are.2 are.4 (routes_have peers prefix entries are.2 are.5))
 
+some_have : (peers : List Peer) (prefix : Subnet) (entries : List Entry) (noted : Noted) → AreSomeRoutes peers prefix entries noted → HasNotes noted
+some_have peers prefix [] noted are = subst HasNotes (sym are) refl
+some_have peers prefix (entry ∷ entries) noted (inl lacks) = some_have peers prefix entries noted lacks.1
+some_have peers prefix (entry ∷ entries) noted (inr are) =
+    subst HasNotes (sym are.3) (route_has peers prefix entry are.0 are.1 are.2 are.4 (some_have peers prefix entries are.2 are.5))
+
+entries_have : (writer : Writer) (peers : List Peer) (prefix : Subnet) (entries : List Entry) (noted : Noted) (beside : Beside) → EntriesSay writer peers prefix entries (Ok (bodies.Routes noted beside)) → HasNotes noted
+entries_have writer peers prefix entries noted besides.Nothing are = routes_have peers prefix entries noted are
+entries_have writer peers prefix entries noted besides.Passed are = some_have peers prefix entries noted are.3
+entries_have writer peers prefix entries noted (besides.Own addr) are = absurd are
+
+dump_has : (dumped : Dumped) (noted : Noted) (beside : Beside) → DumpSays dumped (Ok (bodies.Routes noted beside)) → HasNotes noted
+dump_has dumped noted besides.Nothing e = subst HasNotes (sym e.3) refl
+dump_has dumped noted besides.Passed e = absurd e
+dump_has dumped noted (besides.Own addr) e = absurd e
+
 -- the end of a session announces nothing
-state_has : (peer : Peer) (state : ℕ) → HasNotes (updates.without_notes (changes_at peer state))
-state_has peer state = by_test (state == 6)
+announces_none : (noted : Noted) (beside : Beside) (changes : List Change) → announced_of changes ≡ 0 → Ok (bodies.Routes noted beside) ≡ Ok (bodies.Routes (updates.without_notes changes) besides.Nothing) → HasNotes noted
+announces_none noted beside changes none e = let same : noted ≡ updates.without_notes changes = cc in subst HasNotes (sym same) (sym none)
+
+state_has : (before : Known) (change : StateChange) (noted : Noted) (beside : Beside) → StateSays before change (Ok (bodies.Routes noted beside)) → HasNotes noted
+state_has before change noted beside says = by_rule (has before.writer EstablishedAlone && not (states.touches_session change)) says
   where
-    by_test : (up : Bool) → HasNotes (updates.without_notes (if up then [] else RemovePeer peer ∷ []))
-    by_test true = refl
-    by_test false = refl
+    peer : Peer
+    peer = states.peer_in before change
 
-raised_has : (wide add_path : Bool) (peer : Peer) (message : List ℕ) (noted : Noted) (inner : Result Noted UpdateFault) → updates.IsMessageReading wide add_path peer message inner → Ok (bodies.Routes noted) ≡ raised inner → HasNotes noted
-raised_has wide add_path peer message noted (Ok others) reads is =
+    by_name : (named : Bool) → Ok (bodies.Routes noted beside) ≡ Ok (if named then bodies.Left peer.asn else bodies.Routes (updates.without_notes (RemovePeer peer ∷ [])) besides.Nothing) → HasNotes noted
+    by_name true e = absurd cc
+    by_name false e = announces_none noted beside (RemovePeer peer ∷ []) refl e
+
+    by_state : (up : Bool) → Ok (bodies.Routes noted beside) ≡ Ok (if up then bodies.Routes (updates.without_notes []) besides.Nothing else states.ended before peer) → HasNotes noted
+    by_state true e = announces_none noted beside [] refl e
+    by_state false e = by_name (has before.writer UnnamedPeer && states.is_unspecified peer.addr) e
+
+    by_rule : (passed : Bool) → Ok (bodies.Routes noted beside) ≡ Ok (if passed then bodies.Passed else (if change.new == 6 then bodies.Routes (updates.without_notes []) besides.Nothing else states.ended before peer)) → HasNotes noted
+    by_rule true e = absurd cc
+    by_rule false e = by_state (change.new == 6) e
+
+raised_has : (wide add_path : Bool) (peer : Peer) (local : Addr) (message : List ℕ) (noted : Noted) (beside : Beside) (inner : Result Noted UpdateFault) → updates.IsMessageReading wide add_path peer message inner
+    → Ok (bodies.Routes noted beside) ≡ raised local inner → HasNotes noted
+raised_has wide add_path peer local message noted beside (Ok others) reads is =
     let same : noted ≡ others = cc in subst HasNotes (sym same) (messages.each_has_note wide add_path peer message others reads)
-raised_has wide add_path peer message noted (Err fault) reads is = absurd cc
+raised_has wide add_path peer local message noted beside (Err fault) reads is = absurd cc
 
-layout_has : (layout : Layout) (peers : Option (List Peer)) (body : List ℕ) (noted : Noted) → LayoutSays layout peers body (Ok (bodies.Routes noted)) → HasNotes noted
-layout_has layouts.PeerIndex peers body noted says = by_form (IsPeerTable body) TableSays noted (λ table e. absurd cc) says
-layout_has (layouts.Rib six add_path) peers body noted says = routes_have says.1 says.0.prefix says.0.entries noted says.4
-layout_has (layouts.Dump six) peers body noted says = by_form (IsTableDump six body) DumpSays noted (λ dumped e. subst HasNotes (sym e.3) refl) says
-layout_has (layouts.Message timed wide add_path) peers body noted says =
-    by_form (λ (it : Peer × List ℕ). IsRecordedMessage timed wide body it.0 it.1) (MessageSays wide add_path) noted (λ it e. raised_has wide add_path it.0 it.1 noted e.0 e.1 e.2) says
-layout_has (layouts.State timed wide) peers body noted says =
-    by_form (λ (it : Peer × ℕ). IsStateChange timed wide body it.0 it.1) StateSays noted (λ it e. (let same : noted ≡ updates.without_notes (changes_at it.0 it.1) = cc in subst HasNotes (sym same) (state_has it.0 it.1))) says
-layout_has layouts.Other peers body noted says = absurd cc
+layout_has : (layout : Layout) (before : Known) (body : List ℕ) (noted : Noted) (beside : Beside) → LayoutSays layout before body (Ok (bodies.Routes noted beside)) → HasNotes noted
+layout_has layouts.PeerIndex before body noted beside says = by_form (IsPeerTable body) TableSays noted beside (λ table e. absurd cc) says
+layout_has (layouts.Rib six add_path) before body noted beside says = entries_have before.writer says.1 says.0.prefix says.0.entries noted beside says.4
+layout_has (layouts.Dump six) before body noted beside says = by_form (IsTableDump six body) DumpSays noted beside (λ dumped e. dump_has dumped noted beside e) says
+layout_has (layouts.Message timed wide add_path) before body noted beside says =
+    by_form (λ (it : Session × List ℕ). IsRecordedMessage timed wide body it.0 it.1) (MessageSays wide add_path) noted beside (λ it e. raised_has wide add_path it.0.peer it.0.local.addr it.1 noted beside e.0 e.1 e.2) says
+layout_has (layouts.State timed wide) before body noted beside says =
+    by_form (IsStateChange timed wide body) (StateSays before) noted beside (λ change e. state_has before change noted beside e) says
+layout_has layouts.Other before body noted beside says = absurd cc
 
-pub each_has_note : (it : Recorded) (peers : Option (List Peer)) (noted : Noted) → IsReading it peers (Ok (bodies.Routes noted)) → HasNotes noted
-each_has_note it peers noted reads = layout_has (layout_of it.kind it.subkind) peers it.body noted reads
+pub each_has_note : (it : Recorded) (before : Known) (noted : Noted) (beside : Beside) → IsReading it before (Ok (bodies.Routes noted beside)) → HasNotes noted
+each_has_note it before noted beside reads = layout_has (layout_of it.kind it.subkind) before it.body noted beside reads

@@ -23,19 +23,25 @@ use Rattle.bgp_attrs.proofs.DecideLemmas.{SomeOrNone, joined_decided, reading_de
 use Rattle.bgp_attrs.proofs.JoinedLemmas.{joined_same}
 use Rattle.bgp_update.specs.Updates.{without_notes}
 use Rattle.bgp_update.proofs.MessageLemmas as messages
+use Rattle.dialects.specs.declared.writer.Rule.TheVariants.{PathlessEntry}
+use Rattle.dialects.specs.declared.writer.Writer.{Writer}
+use Rattle.dialects.specs.Dialect.{has}
+use Rattle.mrt_reader.specs.declared.body.Beside.TheVariants as besides
 use Rattle.mrt_reader.specs.declared.body.Body.TheVariants as bodies
 use Rattle.mrt_reader.specs.declared.fault.BodyFault.TheVariants as faults
 use Rattle.mrt_reader.specs.declared.layout.Layout.{Layout}
 use Rattle.mrt_reader.specs.declared.layout.Layout.TheVariants as layouts
-use Rattle.mrt_reader.specs.Bodies.{TableSays, RibSays, raised, MessageSays, StateSays, changes_at, LayoutSays, IsReading}
+use Rattle.mrt_reader.specs.Before.{Known}
+use Rattle.mrt_reader.specs.Bodies.{TableSays, RibSays, raised, MessageSays, StateSays, LayoutSays, IsReading}
 use Rattle.mrt_reader.specs.Dumps.{Dumped, IsTableDump}
 use Rattle.mrt_reader.specs.Layouts.{layout_of}
 use Rattle.mrt_reader.specs.Peers.{IsPeerTable}
 use Rattle.mrt_reader.specs.Readers.{dump_at, message_at, state_at, table_at}
 use Rattle.mrt_reader.specs.Records.{Recorded}
 use Rattle.mrt_reader.specs.Ribs.{Entry, IsEntry, IsCounted, IsRib}
-use Rattle.mrt_reader.specs.Routes.{AnyOf, LacksPath, GivesRoute, with_first, IsWithin, IsBeyond, EntryReadable, EntryUnreadable, EntryLacksPath, nlri_in, AreRoutes, EntriesSay, dumped_nlri, DumpSays}
-use Rattle.mrt_reader.specs.Sessions.{IsRecordedMessage, IsStateChange}
+use Rattle.mrt_reader.specs.Routes.{AnyOf, LacksPath, GivesRoute, with_first, IsWithin, IsBeyond, EntryReadable, EntryUnreadable, EntryLacksPath, nlri_in, AreRoutes, AreSomeRoutes, EntriesSay, dumped_nlri, DumpSays}
+use Rattle.mrt_reader.specs.Sessions.{Session, StateChange, IsRecordedMessage, IsStateChange}
+use Rattle.mrt_reader.specs.States as states
 use Rattle.mrt_reader.proofs.DumpLemmas.{dump_reads}
 use Rattle.mrt_reader.proofs.EntryLemmas.{entry_reader}
 use Rattle.mrt_reader.proofs.FormLemmas.{Says, form_some}
@@ -129,52 +135,68 @@ routes_some peers prefix (entry ∷ entries) within give =
     let change = Announce (key_of peer.0 (nlri_in prefix entry)) give.0.0 in
     (with_first change give.0.1 others.0, (change, give.0.1, others.0, refl, record { peer = peer.0; trail = give.0.0; is_peer = peer.1; gives = give.0.2; is_change = refl }, others.1))
 
-entries_by : (peers : List Peer) (prefix : Subnet) (entries : List Entry) → AllByRecursion (IsWithin peers) entries → AllByRecursion EntryReadable entries ⊎ AnyOf EntryUnreadable entries → Says (EntriesSay peers prefix entries)
-entries_by peers prefix entries within (inr any) = (Err faults.Attributes, (within, any))
-entries_by peers prefix entries within (inl read) = with_paths (paths_or_none entries read)
+some_some : (peers : List Peer) (prefix : Subnet) (entries : List Entry) → AllByRecursion (IsWithin peers) entries → AllByRecursion EntryReadable entries → (noted : Noted) × AreSomeRoutes peers prefix entries noted
+some_some peers prefix [] within read = (without_notes [], refl)
+some_some peers prefix (entry ∷ entries) within read =
+    with_entry (path_or_none true entry.attributes read.0.0 read.0.1 read.0.0.path refl) (some_some peers prefix entries within.1 read.1)
   where
-    with_paths : AllByRecursion EntryGivesRoute entries ⊎ AnyOf EntryLacksPath entries → Says (EntriesSay peers prefix entries)
-    with_paths (inl give) = (let routes = routes_some peers prefix entries within give in (Ok (bodies.Routes routes.0), routes.1))
-    with_paths (inr any) = (Err faults.NoPath, (within, read, any))
+    with_entry : EntryGivesRoute entry ⊎ EntryLacksPath entry → (noted : Noted) × AreSomeRoutes peers prefix entries noted → (noted : Noted) × AreSomeRoutes peers prefix (entry ∷ entries) noted
+    with_entry (inl give) others =
+        let peer = get_some peers entry.index within.0 in
+        let change = Announce (key_of peer.0 (nlri_in prefix entry)) give.0 in
+        (with_first change give.1 others.0, inr (change, give.1, others.0, refl, record { peer = peer.0; trail = give.0; is_peer = peer.1; gives = give.2; is_change = refl }, others.1))
+    with_entry (inr lacks) others = (others.0, inl (lacks, others.1))
 
-entries_some : (peers : List Peer) (prefix : Subnet) (entries : List Entry) → AllByRecursion (IsWithin peers) entries ⊎ AnyOf (IsBeyond peers) entries → Says (EntriesSay peers prefix entries)
-entries_some peers prefix entries (inr any) = (Err faults.PeerIndex, any)
-entries_some peers prefix entries (inl within) = entries_by peers prefix entries within (all_or_any EntryReadable EntryUnreadable (λ entry. reading_decided true Table false entry.attributes) entries)
+entries_by : (writer : Writer) (peers : List Peer) (prefix : Subnet) (entries : List Entry) → AllByRecursion (IsWithin peers) entries → AllByRecursion EntryReadable entries ⊎ AnyOf EntryUnreadable entries → Says (EntriesSay writer peers prefix entries)
+entries_by writer peers prefix entries within (inr any) = (Err faults.Attributes, (within, any))
+entries_by writer peers prefix entries within (inl read) = with_paths (paths_or_none entries read)
+  where
+    by_rule : AnyOf EntryLacksPath entries → (holds : Bool) → has writer PathlessEntry ≡ holds → Says (EntriesSay writer peers prefix entries)
+    by_rule any true rule = (let some = some_some peers prefix entries within read in (Ok (bodies.Routes some.0 besides.Passed), (rule, within, any, some.1)))
+    by_rule any false rule = (Err faults.NoPath, (rule, within, read, any))
+
+    with_paths : AllByRecursion EntryGivesRoute entries ⊎ AnyOf EntryLacksPath entries → Says (EntriesSay writer peers prefix entries)
+    with_paths (inl give) = (let routes = routes_some peers prefix entries within give in (Ok (bodies.Routes routes.0 besides.Nothing), routes.1))
+    with_paths (inr any) = by_rule any (has writer PathlessEntry) refl
+
+entries_some : (writer : Writer) (peers : List Peer) (prefix : Subnet) (entries : List Entry) → AllByRecursion (IsWithin peers) entries ⊎ AnyOf (IsBeyond peers) entries → Says (EntriesSay writer peers prefix entries)
+entries_some writer peers prefix entries (inr any) = (Err faults.PeerIndex, any)
+entries_some writer peers prefix entries (inl within) = entries_by writer peers prefix entries within (all_or_any EntryReadable EntryUnreadable (λ entry. reading_decided true Table false entry.attributes) entries)
 
 -- ---- all layouts
 
-rib_some : (add_path six : Bool) (peers : Option (List Peer)) (body : List ℕ) → SomeOrNone (IsRib add_path six body) → Says (RibSays add_path six peers body)
-rib_some add_path six peers body (inr none) = (Err faults.Body, none)
-rib_some add_path six None body (inl rib) = (Err faults.NoPeerTable, (rib.0, rib.1, refl))
-rib_some add_path six (Some table) body (inl rib) =
-    let say = entries_some table rib.0.prefix rib.0.entries (all_or_any (IsWithin table) (IsBeyond table) (within_or_beyond table) rib.0.entries) in
-    (say.0, rib_from add_path six (Some table) body table rib.0 say.0 rib.1 refl say.1)
+rib_some : (writer : Writer) (add_path six : Bool) (peers : Option (List Peer)) (body : List ℕ) → SomeOrNone (IsRib add_path six body) → Says (RibSays writer add_path six peers body)
+rib_some writer add_path six peers body (inr none) = (Err faults.Body, none)
+rib_some writer add_path six None body (inl rib) = (Err faults.NoPeerTable, (rib.0, rib.1, refl))
+rib_some writer add_path six (Some table) body (inl rib) =
+    let say = entries_some writer table rib.0.prefix rib.0.entries (all_or_any (IsWithin table) (IsBeyond table) (within_or_beyond table) rib.0.entries) in
+    (say.0, rib_from writer add_path six (Some table) body table rib.0 say.0 rib.1 refl say.1)
 
 dump_by : (dumped : Dumped) → SomeOrNone (IsRead false Table false dumped.attributes) → Says (DumpSays dumped)
 dump_by dumped (inr none) = (Err faults.Attributes, none)
 dump_by dumped (inl x) = with_path (path_or_none false dumped.attributes x.0 x.1 x.0.path refl)
   where
     with_path : ((trail : Path) × (otc : Otc) × GivesRoute false dumped.attributes trail otc) ⊎ LacksPath false dumped.attributes → Says (DumpSays dumped)
-    with_path (inl give) = (Ok (bodies.Routes (with_first (Announce (key_of dumped.peer (dumped_nlri dumped)) give.0) give.1 (without_notes []))), (give.0, give.1, give.2, refl))
+    with_path (inl give) = (Ok (bodies.Routes (with_first (Announce (key_of dumped.peer (dumped_nlri dumped)) give.0) give.1 (without_notes [])) besides.Nothing), (give.0, give.1, give.2, refl))
     with_path (inr lacks) = (Err faults.NoPath, lacks)
 
-message_some : (wide add_path : Bool) (it : Peer × List ℕ) → Says (MessageSays wide add_path it)
-message_some wide add_path (peer, message) = let inner = messages.reading_some wide add_path peer message in (raised inner.0, (inner.0, inner.1, refl))
+message_some : (wide add_path : Bool) (it : Session × List ℕ) → Says (MessageSays wide add_path it)
+message_some wide add_path (session, message) = let inner = messages.reading_some wide add_path session.peer message in (raised session.local.addr inner.0, (inner.0, inner.1, refl))
 
-state_some : (it : Peer × ℕ) → Says (StateSays it)
-state_some (peer, state) = (Ok (bodies.Routes (without_notes (changes_at peer state))), refl)
+state_some : (before : Known) (change : StateChange) → Says (StateSays before change)
+state_some before change = (Ok (states.says before change), refl)
 
-layout_some : (layout : Layout) (peers : Option (List Peer)) (body : List ℕ) → Says (LayoutSays layout peers body)
-layout_some layouts.PeerIndex peers body = form_some (IsPeerTable body) TableSays (table_at body) (table_reads body) (λ table. (Ok (bodies.Peers table), refl))
-layout_some (layouts.Rib six add_path) peers body = rib_some add_path six peers body (rib_decided add_path six body)
-layout_some (layouts.Dump six) peers body = form_some (IsTableDump six body) DumpSays (dump_at six body) (dump_reads six body) (λ dumped. dump_by dumped (reading_decided false Table false dumped.attributes))
-layout_some (layouts.Message timed wide add_path) peers body =
-    form_some (λ (it : Peer × List ℕ). IsRecordedMessage timed wide body it.0 it.1) (MessageSays wide add_path) (message_at timed wide body) (message_reads timed wide body) (message_some wide add_path)
-layout_some (layouts.State timed wide) peers body =
-    form_some (λ (it : Peer × ℕ). IsStateChange timed wide body it.0 it.1) StateSays (state_at timed wide body) (state_reads timed wide body) state_some
-layout_some layouts.Other peers body = (Ok bodies.Passed, refl)
+layout_some : (layout : Layout) (before : Known) (body : List ℕ) → Says (LayoutSays layout before body)
+layout_some layouts.PeerIndex before body = form_some (IsPeerTable body) TableSays (table_at body) (table_reads body) (λ table. (Ok (bodies.Peers table), refl))
+layout_some (layouts.Rib six add_path) before body = rib_some before.writer add_path six before.peers body (rib_decided add_path six body)
+layout_some (layouts.Dump six) before body = form_some (IsTableDump six body) DumpSays (dump_at six body) (dump_reads six body) (λ dumped. dump_by dumped (reading_decided false Table false dumped.attributes))
+layout_some (layouts.Message timed wide add_path) before body =
+    form_some (λ (it : Session × List ℕ). IsRecordedMessage timed wide body it.0 it.1) (MessageSays wide add_path) (message_at timed wide body) (message_reads timed wide body) (message_some wide add_path)
+layout_some (layouts.State timed wide) before body =
+    form_some (IsStateChange timed wide body) (StateSays before) (state_at timed wide body) (state_reads timed wide body) (state_some before)
+layout_some layouts.Other before body = (Ok bodies.Passed, refl)
 
-pub one_reading : (it : Recorded) (peers : Option (List Peer)) → HasOne (IsReading it peers)
-one_reading it peers =
-    let some = layout_some (layout_of it.kind it.subkind) peers it.body in
-    record { one = some.0; is = some.1; only = λ other is. reading_same it peers other some.0 is some.1 }
+pub one_reading : (it : Recorded) (before : Known) → HasOne (IsReading it before)
+one_reading it before =
+    let some = layout_some (layout_of it.kind it.subkind) before it.body in
+    record { one = some.0; is = some.1; only = λ other is. reading_same it before other some.0 is some.1 }

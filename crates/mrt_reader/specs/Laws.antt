@@ -1,13 +1,13 @@
 -- Laws of records, each the contract of a public function of the module `laws`.
 use Rattle.std.specs.Prelude.{ℕ, List, ◌++◌, Ok}
-use Rattle.std.specs.declared.option.Option.{Option}
 use Rattle.av_base.specs.One.{HasOne, HasOnePair}
 use Rattle.path_model.specs.declared.noted.Noted.{Noted}
-use Rattle.path_model.specs.declared.peer.Peer.{Peer}
 use Rattle.path_model.specs.Notes.{HasNotes}
 use Rattle.held_bytes.specs.Divided.{NoneBeginsAnother}
 use Rattle.held_bytes.specs.Units.{AreUnits}
+use Rattle.mrt_reader.specs.declared.body.Beside.{Beside}
 use Rattle.mrt_reader.specs.declared.body.Body.TheVariants.{Routes}
+use Rattle.mrt_reader.specs.Before.{Known}
 use Rattle.mrt_reader.specs.Bodies.{IsReading}
 use Rattle.mrt_reader.specs.Coming.{IsComing, IsTooLong}
 use Rattle.mrt_reader.specs.Records.{Recorded, IsRecord}
@@ -28,10 +28,10 @@ EachStreamHasItsUnits = (stream : List ℕ) → HasOnePair (AreUnits IsRecord st
 abbrev pub TooLongStays : Type 0
 TooLongStays = (bytes more : List ℕ) → IsTooLong bytes → IsTooLong (bytes ++ more)
 
--- each record has exactly one reading, by whatever table is before it
+-- each record has exactly one reading, by whatever is known before it
 abbrev pub EachRecordHasOneReading : Type 0
-EachRecordHasOneReading = (it : Recorded) (peers : Option (List Peer)) → HasOne (IsReading it peers)
+EachRecordHasOneReading = (it : Recorded) (before : Known) → HasOne (IsReading it before)
 
 -- each announcement of a record has its note
 abbrev pub EachAnnouncementHasItsNote : Type 0
-EachAnnouncementHasItsNote = (it : Recorded) (peers : Option (List Peer)) (noted : Noted) → IsReading it peers (Ok (Routes noted)) → HasNotes noted
+EachAnnouncementHasItsNote = (it : Recorded) (before : Known) (noted : Noted) (beside : Beside) → IsReading it before (Ok (Routes noted beside)) → HasNotes noted

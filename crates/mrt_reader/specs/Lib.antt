@@ -1,4 +1,6 @@
+pub mod Before
 pub mod Bodies
+pub mod Codes
 pub mod Coming
 pub mod Dumps
 pub mod Gathering
@@ -13,3 +15,4 @@ pub mod Ribs
 pub mod Routes
 pub mod Routing
 pub mod Sessions
+pub mod States

@@ -11,6 +11,7 @@ use Rattle.bgp_attrs.specs.Fixed.{◌>>=◌, cut, byte_at, two_at, asn_at, path_
 use Rattle.mrt_reader.specs.Dumps.{Dumped}
 use Rattle.mrt_reader.specs.Peers.{is_six, is_wide}
 use Rattle.mrt_reader.specs.Ribs.{Entry}
+use Rattle.mrt_reader.specs.Sessions.{Session, StateChange}
 
 -- the value, where nothing is behind it
 abbrev pub ends : {A : Type 0} → A → List ℕ → Option A
@@ -98,7 +99,7 @@ behind_time true body = do
   Some time.1
 
 -- the peer's AS and the local AS, interface, family, the peer's address and the local address
-unfoldable pub session_at : Bool → List ℕ → Option (Peer × List ℕ)
+unfoldable pub session_at : Bool → List ℕ → Option (Session × List ℕ)
 session_at wide bytes = do
   asn ← asn_at wide bytes
   local ← asn_at wide asn.1
@@ -107,18 +108,18 @@ session_at wide bytes = do
   six ← six_of afi.0
   addr ← addr_at six afi.1
   other ← addr_at six addr.1
-  Some (record { addr = addr.0; asn = asn.0 }, other.1)
+  Some (record { peer = record { addr = addr.0; asn = asn.0 }; local = record { addr = other.0; asn = local.0 } }, other.1)
 
--- a recorded message: its peer and the message, which is all the rest
-unfoldable pub message_at : Bool → Bool → List ℕ → Option (Peer × List ℕ)
+-- a recorded message: its session and the message, which is all the rest
+unfoldable pub message_at : Bool → Bool → List ℕ → Option (Session × List ℕ)
 message_at timed wide body = do
   fields ← behind_time timed body
   session_at wide fields
 
--- a state change: its peer and the new state, behind the old one
-unfoldable pub state_at : Bool → Bool → List ℕ → Option (Peer × ℕ)
+-- a state change: its session, the old state and the new one
+unfoldable pub state_at : Bool → Bool → List ℕ → Option StateChange
 state_at timed wide body = do
   session ← message_at timed wide body
   old ← two_at session.1
   new ← two_at old.1
-  ends (session.0, new.0) new.1
+  ends (record { session = session.0; old = old.0; new = new.0 }) new.1

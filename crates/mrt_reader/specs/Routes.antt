@@ -15,6 +15,10 @@ use Rattle.bgp_attrs.specs.declared.form.Form.TheVariants.{Table}
 use Rattle.bgp_attrs.specs.Merging.{trail_in}
 use Rattle.bgp_attrs.specs.Reading.{Reading, IsRead, IsUnreadable}
 use Rattle.bgp_update.specs.Updates.{without_notes}
+use Rattle.dialects.specs.declared.writer.Rule.TheVariants.{PathlessEntry}
+use Rattle.dialects.specs.declared.writer.Writer.{Writer}
+use Rattle.dialects.specs.Dialect.{has}
+use Rattle.mrt_reader.specs.declared.body.Beside.TheVariants as besides
 use Rattle.mrt_reader.specs.declared.body.Body.{Body}
 use Rattle.mrt_reader.specs.declared.body.Body.TheVariants as bodies
 use Rattle.mrt_reader.specs.declared.fault.BodyFault.{BodyFault}
@@ -81,19 +85,31 @@ AreRoutes peers prefix [] noted = noted ≡ without_notes []
 AreRoutes peers prefix (entry ∷ entries) noted =
     (change : Change) × (otc : Otc) × (others : Noted) × (noted ≡ with_first change otc others) × IsRoute peers prefix entry change otc × AreRoutes peers prefix entries others
 
+-- one announcement for each entry with a path, in order, with its note; the others are passed over
+abbrev pub AreSomeRoutes : List Peer → Subnet → List Entry → Noted → Type 0
+AreSomeRoutes peers prefix [] noted = noted ≡ without_notes []
+AreSomeRoutes peers prefix (entry ∷ entries) noted =
+    (EntryLacksPath entry × AreSomeRoutes peers prefix entries noted)
+    ⊎ ((change : Change) × (otc : Otc) × (others : Noted) × (noted ≡ with_first change otc others) × IsRoute peers prefix entry change otc × AreSomeRoutes peers prefix entries others)
+
 -- What the entries say: all their routes; or an index is beyond the table; or none is, and some attributes have no reading; or all
--- have one, and some have no path.
-abbrev pub EntriesSay : List Peer → Subnet → List Entry → Result Body BodyFault → Type 0
-EntriesSay peers prefix entries (Ok (bodies.Routes noted)) = AreRoutes peers prefix entries noted
-EntriesSay peers prefix entries (Ok (bodies.Peers table)) = ⊥
-EntriesSay peers prefix entries (Ok bodies.Passed) = ⊥
-EntriesSay peers prefix entries (Err faults.Body) = ⊥
-EntriesSay peers prefix entries (Err faults.NoPeerTable) = ⊥
-EntriesSay peers prefix entries (Err faults.PeerIndex) = AnyOf (IsBeyond peers) entries
-EntriesSay peers prefix entries (Err faults.Message) = ⊥
-EntriesSay peers prefix entries (Err faults.Attributes) = AllByRecursion (IsWithin peers) entries × AnyOf EntryUnreadable entries
-EntriesSay peers prefix entries (Err faults.NoPath) = AllByRecursion (IsWithin peers) entries × AllByRecursion EntryReadable entries × AnyOf EntryLacksPath entries
-EntriesSay peers prefix entries (Err faults.NoMemory) = ⊥
+-- have one, and some have no path, which refuses the record, or by the rule for its writer passes these over.
+abbrev pub EntriesSay : Writer → List Peer → Subnet → List Entry → Result Body BodyFault → Type 0
+EntriesSay writer peers prefix entries (Ok (bodies.Routes noted besides.Nothing)) = AreRoutes peers prefix entries noted
+EntriesSay writer peers prefix entries (Ok (bodies.Routes noted besides.Passed)) =
+    (has writer PathlessEntry ≡ true) × AllByRecursion (IsWithin peers) entries × AnyOf EntryLacksPath entries × AreSomeRoutes peers prefix entries noted
+EntriesSay writer peers prefix entries (Ok (bodies.Routes noted (besides.Own addr))) = ⊥
+EntriesSay writer peers prefix entries (Ok (bodies.Peers table)) = ⊥
+EntriesSay writer peers prefix entries (Ok (bodies.Left asn)) = ⊥
+EntriesSay writer peers prefix entries (Ok bodies.Passed) = ⊥
+EntriesSay writer peers prefix entries (Err faults.Body) = ⊥
+EntriesSay writer peers prefix entries (Err faults.NoPeerTable) = ⊥
+EntriesSay writer peers prefix entries (Err faults.PeerIndex) = AnyOf (IsBeyond peers) entries
+EntriesSay writer peers prefix entries (Err faults.Message) = ⊥
+EntriesSay writer peers prefix entries (Err faults.Attributes) = AllByRecursion (IsWithin peers) entries × AnyOf EntryUnreadable entries
+EntriesSay writer peers prefix entries (Err faults.NoPath) =
+    (has writer PathlessEntry ≡ false) × AllByRecursion (IsWithin peers) entries × AllByRecursion EntryReadable entries × AnyOf EntryLacksPath entries
+EntriesSay writer peers prefix entries (Err faults.NoMemory) = ⊥
 
 -- ---- the route of a TABLE_DUMP record, with ASes of two bytes
 
@@ -103,9 +119,12 @@ dumped_nlri dumped = record { prefix = dumped.prefix; path = None }
 
 -- What it says: its announcement, with its note; or its attributes have no reading; or they have one without a path.
 abbrev pub DumpSays : Dumped → Result Body BodyFault → Type 0
-DumpSays dumped (Ok (bodies.Routes noted)) =
+DumpSays dumped (Ok (bodies.Routes noted besides.Nothing)) =
     (trail : Path) × (otc : Otc) × GivesRoute false dumped.attributes trail otc × (noted ≡ with_first (Announce (key_of dumped.peer (dumped_nlri dumped)) trail) otc (without_notes []))
+DumpSays dumped (Ok (bodies.Routes noted (besides.Own addr))) = ⊥
+DumpSays dumped (Ok (bodies.Routes noted besides.Passed)) = ⊥
 DumpSays dumped (Ok (bodies.Peers table)) = ⊥
+DumpSays dumped (Ok (bodies.Left asn)) = ⊥
 DumpSays dumped (Ok bodies.Passed) = ⊥
 DumpSays dumped (Err faults.Body) = ⊥
 DumpSays dumped (Err faults.NoPeerTable) = ⊥

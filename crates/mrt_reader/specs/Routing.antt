@@ -15,7 +15,7 @@ use Rattle.bgp_attrs.specs.Reading.{IsUnreadable}
 use Rattle.mrt_reader.specs.declared.fault.BodyFault.{BodyFault}
 use Rattle.mrt_reader.specs.declared.fault.BodyFault.TheVariants as faults
 use Rattle.mrt_reader.specs.Ribs.{Entry}
-use Rattle.mrt_reader.specs.Routes.{AnyOf, LacksPath, GivesRoute, EntryReadable, EntryLacksPath, AreRoutes}
+use Rattle.mrt_reader.specs.Routes.{AnyOf, LacksPath, GivesRoute, EntryReadable, EntryLacksPath, AreRoutes, AreSomeRoutes}
 
 -- an announcement and its note, behind others
 abbrev pub with_last : Noted → Change → Otc → Noted
@@ -39,6 +39,7 @@ pub record Going (peers : List Peer) (prefix : Subnet) (all left : List Entry) (
   pub whole : all ≡ front ++ left
   pub readable : AllByRecursion EntryReadable front
   pub routes : no_path ≡ false → AreRoutes peers prefix front noted
+  pub some : AreSomeRoutes peers prefix front noted
   pub none : no_path ≡ true → AnyOf EntryLacksPath front
 
 -- what holds of what is left holds of all

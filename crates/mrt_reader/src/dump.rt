@@ -6,7 +6,7 @@ ghost use Rattle.mrt_reader.specs.Left.{dumped_of};
 ghost use Rattle.mrt_reader.specs.Readers.{dump_at, route_at, last_block as block_in};
 ghost use Rattle.mrt_reader.specs.Routes.{DumpSays};
 
-use crate::body::Body;
+use crate::body::{Beside, Body};
 use crate::fault::BodyFault;
 use crate::parts::DumpParts;
 use crate::routing::{no_changes, put_route};
@@ -76,7 +76,7 @@ fn route_of(alloc: Global, parts: DumpParts<'_>) -> Result<Body, BodyFault>
         path: None,
     };
     match put_route(alloc, &mut noted, key, parts.attributes, false) {
-        Ok(true) => Ok(Body::Routes(noted)),
+        Ok(true) => Ok(Body::Routes(noted, Beside::Nothing)),
         Ok(false) => Err(BodyFault::NoPath),
         Err(fault) => Err(fault),
     }

@@ -21,7 +21,7 @@ pub fn too_long_stays()
     ensures { TooLongStays }
 {}
 
-/// Each record has exactly one reading, by whatever table is before it.
+/// Each record has exactly one reading, by whatever is known before it.
 pub fn each_record_has_one_reading()
     ensures { EachRecordHasOneReading }
 {}

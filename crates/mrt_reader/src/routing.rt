@@ -7,12 +7,13 @@ ghost use Rattle.mrt_reader.specs.Left.{entries_left};
 ghost use Rattle.mrt_reader.specs.Routes.{EntriesSay, AnyOf, IsWithin, IsBeyond};
 ghost use Rattle.mrt_reader.specs.Routing.{IsPut};
 
-use crate::body::Body;
+use crate::body::{Beside, Body};
 use crate::entries::Entries;
 use crate::fault::BodyFault;
 use crate::peers::PeerTable;
 use av_base::NoMemory;
 use bgp_attrs::Form;
+use dialects::{Rule, Writer};
 use path_model::{Changes, Key, Noted, Notes, Prefix};
 use std::alloc::Global;
 
@@ -20,15 +21,16 @@ use std::alloc::Global;
 const MOST_AHEAD: usize = 1024;
 
 // The routes of all entries, of which there are so many, with their notes. First the indexes are tested, then each entry is read; an entry
-// without a path is reported at the end, since attributes out of form behind it come first.
+// without a path is reported at the end, since attributes out of form behind it come first, or passed over, where the writer's rules say so.
 pub(crate) fn routes_of_entries(
     alloc: Global,
     peers: &PeerTable,
     prefix: &Prefix,
     entries: Entries<'_>,
     count: usize,
+    writer: Writer,
 ) -> Result<Body, BodyFault>
-    ensures { OrNoMemory (EntriesSay peers.now prefix.now (entries_left entries.entry)) result }
+    ensures { OrNoMemory (EntriesSay writer peers.now prefix.now (entries_left entries.entry)) result }
 {
     if !are_within(peers, entries) {
         return Err(BodyFault::PeerIndex);
@@ -50,10 +52,13 @@ pub(crate) fn routes_of_entries(
             None => return Err(BodyFault::PeerIndex),
         }
     }
-    if no_path {
-        return Err(BodyFault::NoPath);
+    if !no_path {
+        return Ok(Body::Routes(noted, Beside::Nothing));
     }
-    Ok(Body::Routes(noted))
+    if writer.has(Rule::PathlessEntry) {
+        return Ok(Body::Routes(noted, Beside::Passed));
+    }
+    Err(BodyFault::NoPath)
 }
 
 // No changes, and so no notes.

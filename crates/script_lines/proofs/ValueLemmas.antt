@@ -4,6 +4,8 @@ use Rattle.std.specs.Bool.{IsTrue}
 use Rattle.std.specs.List.{All}
 use Rattle.std.proofs.lemmas.Bool.{cases_lt}
 use Rattle.std.proofs.lemmas.List.Elements.{All-head, All-tail, All-cons, All-nil}
+use Rattle.dialects.specs.declared.writer.Writer.{Writer}
+use Rattle.dialects.specs.declared.writer.Writer.TheVariants.{Plain, Any, Bird, Frr, OpenBgpd, GoBgp}
 use Rattle.path_model.specs.declared.addr.Addr.{Addr}
 use Rattle.path_model.specs.declared.peer.Peer.{Peer}
 use Rattle.path_model.specs.declared.verdict.Verdict.{Verdict}
@@ -19,7 +21,7 @@ use Rattle.av_text.proofs.AnySpellingLemmas.{addr_or_none, prefix_or_none, prefi
 use Rattle.av_text.proofs.NumberLemmas.{number_or_none, no_number-other}
 use Rattle.av_text.proofs.SpellingLemmas.{value_among, found_injective, found_or_none, decided_text, role_text_injective, decided_role}
 use Rattle.script_lines.specs.Word.{IsVisible}
-use Rattle.script_lines.specs.Kinds.{view_text, WordKind, NAME, TEXT, ROLE, VIEW, VERDICT, ADDRESS, PREFIX, NUMBER, WHOM, ValueOf, Spells, HasForm, LacksNumber}
+use Rattle.script_lines.specs.Kinds.{view_text, writer_text, WordKind, NAME, TEXT, ROLE, VIEW, WRITER, VERDICT, ADDRESS, PREFIX, NUMBER, WHOM, ValueOf, Spells, HasForm, LacksNumber}
 use Rattle.script_lines.proofs.KindLemmas.{one_number, lacks-none, lacks-outside, lacks-whom}
 
 -- a spelling has the form
@@ -28,6 +30,7 @@ spelled-form NAME word value is = (value, is)
 spelled-form TEXT word value is = (value, is)
 spelled-form ROLE word value is = (value, is)
 spelled-form VIEW word value is = (value, is)
+spelled-form WRITER word value is = (value, is)
 spelled-form VERDICT word value is = (value, is)
 spelled-form ADDRESS word value is = (value, is)
 spelled-form PREFIX word value is = (value, is)
@@ -82,6 +85,27 @@ view_text_injective = found_injective view_text view_of view_of-view_text
 decided_view : (word : List ℕ) → Decided ((post : Bool) × (word ≡ view_text post))
 decided_view = found_or_none view_text view_of view_of-view_text
 
+-- the writer that a word could name
+writer_of : List ℕ → Writer
+writer_of = value_among writer_text GoBgp (Plain ∷ Any ∷ Bird ∷ Frr ∷ OpenBgpd ∷ [])
+
+writer_of-writer_text : (writer : Writer) → writer_of (writer_text writer) ≡ writer
+unfolding writer_of value_among
+writer_of-writer_text Plain = refl
+writer_of-writer_text Any = refl
+writer_of-writer_text Bird = refl
+writer_of-writer_text Frr = refl
+writer_of-writer_text OpenBgpd = refl
+writer_of-writer_text GoBgp = refl
+
+-- two writers with one word are equal
+writer_text_injective : (one other : Writer) → writer_text one ≡ writer_text other → one ≡ other
+writer_text_injective = found_injective writer_text writer_of writer_of-writer_text
+
+-- whether a word names a writer
+decided_writer : (word : List ℕ) → Decided ((writer : Writer) × (word ≡ writer_text writer))
+decided_writer = found_or_none writer_text writer_of writer_of-writer_text
+
 -- the verdict that a word could name
 verdict_of : List ℕ → Verdict
 verdict_of = value_among verdict_text Invalid (Valid ∷ Unknown ∷ [])
@@ -116,6 +140,7 @@ decided_kind NAME word = decided_itself (IsName word) word (decided_is_name word
 decided_kind TEXT word = decided_itself (All IsVisible word) word (decided_all IsVisible decided_visible word)
 decided_kind ROLE word = decided_role word
 decided_kind VIEW word = decided_view word
+decided_kind WRITER word = decided_writer word
 decided_kind VERDICT word = decided_verdict word
 decided_kind ADDRESS word = decided_spelling IsAddr addr_text word (addr_or_none word)
 decided_kind PREFIX word = decided_spelling IsSubnet prefix_text word (prefix_or_none word)
@@ -128,6 +153,7 @@ value_or_lacks NAME word form = inr form
 value_or_lacks TEXT word form = inr form
 value_or_lacks ROLE word form = inr form
 value_or_lacks VIEW word form = inr form
+value_or_lacks WRITER word form = inr form
 value_or_lacks VERDICT word form = inr form
 value_or_lacks ADDRESS word form = inr form
 value_or_lacks PREFIX word form = inr form
@@ -171,6 +197,7 @@ one_value NAME word one other a b = a.1 ∙ sym b.1
 one_value TEXT word one other a b = a.1 ∙ sym b.1
 one_value ROLE word one other a b = role_text_injective one other (sym a ∙ b)
 one_value VIEW word one other a b = view_text_injective one other (sym a ∙ b)
+one_value WRITER word one other a b = writer_text_injective one other (sym a ∙ b)
 one_value VERDICT word one other a b = verdict_text_injective one other (sym a ∙ b)
 one_value ADDRESS word one other a b = one_addr word one other a b
 one_value PREFIX word one other a b = prefix_text_injective one other a.0 b.0 (sym a.1 ∙ b.1)
@@ -183,6 +210,7 @@ no_lack NAME word value is lacks = lacks
 no_lack TEXT word value is lacks = lacks
 no_lack ROLE word value is lacks = lacks
 no_lack VIEW word value is lacks = lacks
+no_lack WRITER word value is lacks = lacks
 no_lack VERDICT word value is lacks = lacks
 no_lack ADDRESS word value is lacks = lacks
 no_lack PREFIX word value is lacks = lacks

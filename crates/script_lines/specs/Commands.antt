@@ -1,13 +1,14 @@
 -- The table of the commands of a script: one row each.
-use Rattle.std.specs.Prelude.{◌≡◌, ℕ, List, codes}
+use Rattle.std.specs.Prelude.{◌≡◌, ℕ, List, codes, unwrap_or}
 use Rattle.std.specs.declared.option.Option.{Option}
 use Rattle.std.specs.declared.option.Option.TheVariants.{Some, None}
+use Rattle.dialects.specs.declared.writer.Writer.TheVariants.{Plain}
 use Rattle.path_model.specs.declared.role.Role.{Role as RoleOf}
 use Rattle.script_lines.specs.declared.commands.Command.{Command}
 use Rattle.script_lines.specs.declared.commands.Command.TheVariants.{Aspa, Aspa64, Validated, Slurm, Filter, Unfilter, Assert, Unassert, At, Role, RoleDefault, Open, Bmp, Take, Until, Feed, Ask, Sync, Serve, Judge, Clear, Changes, Why, Details, Say, Report, Origins, Leaks, Suspects, Peers, Sent, Explain, ExplainRoute, Attests, Neighbours, Routes, Silent, Summary}
 use Rattle.script_lines.specs.declared.commands.CommandName.{CommandName}
 use Rattle.script_lines.specs.declared.commands.CommandName.TheVariants.{Aspa as AspaName, Aspa64 as Aspa64Name, Validated as ValidatedName, Slurm as SlurmName, Filter as FilterName, Unfilter as UnfilterName, Assert as AssertName, Unassert as UnassertName, At as AtName, Role as RoleName, Open as OpenName, Bmp as BmpName, Take as TakeName, Until as UntilName, Feed as FeedName, Ask as AskName, Sync as SyncName, Serve as ServeName, Judge as JudgeName, Clear as ClearName, Changes as ChangesName, Why as WhyName, Details as DetailsName, Say as SayName, Report as ReportName, Origins as OriginsName, Leaks as LeaksName, Suspects as SuspectsName, Peers as PeersName, Sent as SentName, Explain as ExplainName, Attests as AttestsName, Neighbours as NeighboursName, Routes as RoutesName, Silent as SilentName, Summary as SummaryName}
-use Rattle.script_lines.specs.Kinds.{NAME, TEXT, ROLE, VIEW, VERDICT, ADDRESS, PREFIX, WHOM, AS, MOMENT, IDENTIFIER, COUNT, SESSION}
+use Rattle.script_lines.specs.Kinds.{NAME, TEXT, ROLE, VIEW, WRITER, VERDICT, ADDRESS, PREFIX, WHOM, AS, MOMENT, IDENTIFIER, COUNT, SESSION}
 use Rattle.script_lines.specs.Conditions.{none_given}
 use Rattle.script_lines.specs.Forms.{Form, end, ases, texts, optional, ◌then◌, ◌or◌, conditions, Builds, IsSpelled}
 
@@ -34,7 +35,7 @@ row AssertName = record { word = codes "assert"; form = AS then ases 1; made = �
 row UnassertName = record { word = codes "unassert"; form = AS then end; made = λ customer. Unassert customer }
 row AtName = record { word = codes "at"; form = MOMENT then end; made = λ moment. At moment }
 row RoleName = record { word = codes "role"; form = WHOM then ROLE then end; made = λ whom role. sets_role whom role }
-row OpenName = record { word = codes "open"; form = NAME then TEXT then end; made = λ name file. Open name file }
+row OpenName = record { word = codes "open"; form = NAME then TEXT then optional WRITER; made = λ name file writer. Open name file (unwrap_or writer Plain) }
 row BmpName = record { word = codes "bmp"; form = NAME then TEXT then VIEW then end; made = λ name file post. Bmp name file post }
 row TakeName = record { word = codes "take"; form = NAME then COUNT then end; made = λ name count. Take name count }
 row UntilName = record { word = codes "until"; form = NAME then MOMENT then end; made = λ name seconds. Until name seconds }

@@ -2,6 +2,8 @@
 use Rattle.std.specs.Prelude.{◌≡◌, ℕ, Bool, true, false, ◌≤◌, List, codes, All}
 use Rattle.std.specs.declared.option.Option.{Option}
 use Rattle.std.specs.declared.option.Option.TheVariants.{Some, None}
+use Rattle.dialects.specs.declared.writer.Writer.{Writer}
+use Rattle.dialects.specs.declared.writer.Writer.TheVariants.{Plain, Any, Bird, Frr, OpenBgpd, GoBgp}
 use Rattle.path_model.specs.declared.addr.Addr.{Addr}
 use Rattle.path_model.specs.declared.role.Role.{Role}
 use Rattle.path_model.specs.declared.verdict.Verdict.{Verdict}
@@ -19,12 +21,22 @@ abbrev pub view_text : Bool → List ℕ
 view_text false = codes "pre"
 view_text true = codes "post"
 
--- NAME, a text such as FILE or PLACE, ROLE, VIEW, VERDICT, ADDRESS, PREFIX, a number from a least one to a most, and whom a role is given: an AS or all others
+-- the one spelling of who wrote a dump
+abbrev pub writer_text : Writer → List ℕ
+writer_text Plain = codes "plain"
+writer_text Any = codes "any"
+writer_text Bird = codes "bird"
+writer_text Frr = codes "frr"
+writer_text OpenBgpd = codes "openbgpd"
+writer_text GoBgp = codes "gobgp"
+
+-- NAME, a text such as FILE or PLACE, ROLE, VIEW, WRITER, VERDICT, ADDRESS, PREFIX, a number from a least one to a most, and whom a role is given: an AS or all others
 pub data WordKind : Type 0 where
   NAME : WordKind
   TEXT : WordKind
   ROLE : WordKind
   VIEW : WordKind
+  WRITER : WordKind
   VERDICT : WordKind
   ADDRESS : WordKind
   PREFIX : WordKind
@@ -53,6 +65,7 @@ ValueOf NAME = List ℕ
 ValueOf TEXT = List ℕ
 ValueOf ROLE = Role
 ValueOf VIEW = Bool
+ValueOf WRITER = Writer
 ValueOf VERDICT = Verdict
 ValueOf ADDRESS = Addr
 ValueOf PREFIX = Subnet
@@ -70,6 +83,7 @@ Spells NAME word name = IsName word × (name ≡ word)
 Spells TEXT word text = All IsVisible word × (text ≡ word)
 Spells ROLE word role = word ≡ role_text role
 Spells VIEW word post = word ≡ view_text post
+Spells WRITER word writer = word ≡ writer_text writer
 Spells VERDICT word verdict = word ≡ verdict_text verdict
 Spells ADDRESS word addr = IsAddrText word addr
 Spells PREFIX word prefix = IsPrefixText word prefix
@@ -82,6 +96,7 @@ HasForm NAME word = (name : List ℕ) × Spells NAME word name
 HasForm TEXT word = (text : List ℕ) × Spells TEXT word text
 HasForm ROLE word = (role : Role) × Spells ROLE word role
 HasForm VIEW word = (post : Bool) × Spells VIEW word post
+HasForm WRITER word = (writer : Writer) × Spells WRITER word writer
 HasForm VERDICT word = (verdict : Verdict) × Spells VERDICT word verdict
 HasForm ADDRESS word = (addr : Addr) × Spells ADDRESS word addr
 HasForm PREFIX word = (prefix : Subnet) × Spells PREFIX word prefix
@@ -94,6 +109,7 @@ LacksNumber NAME word = ⊥
 LacksNumber TEXT word = ⊥
 LacksNumber ROLE word = ⊥
 LacksNumber VIEW word = ⊥
+LacksNumber WRITER word = ⊥
 LacksNumber VERDICT word = ⊥
 LacksNumber ADDRESS word = ⊥
 LacksNumber PREFIX word = ⊥

@@ -9,12 +9,13 @@ use crate::fault::LineFault;
 use crate::fields::{Ases, End, Fields, OneOf, Optional, Or, Texts, Then};
 use crate::kinds::{
     AddressWord, AsWord, CountWord, IdentifierWord, MomentWord, NameWord, PrefixWord, RoleWord,
-    SessionWord, TextWord, VerdictWord, ViewWord, WhomWord,
+    SessionWord, TextWord, VerdictWord, ViewWord, WhomWord, WriterWord,
 };
 use crate::saying::Saying;
 use crate::word::Word;
 use av_text::Words;
 use conditions::Conditions;
+use dialects::Writer;
 use path_model::{Addr, AsList, Name, Prefix, Role, Verdict};
 use std::alloc::Global;
 
@@ -45,8 +46,9 @@ pub enum Command {
     Role(u32, Role),
     /// `role default ROLE`: so are those of peers in any AS without a role of its own.
     RoleDefault(Role),
-    /// `open NAME FILE`: the file's records of MRT (RFC 6396) are a dump of that name.
-    Open(Name, Word),
+    /// `open NAME FILE` or `open NAME FILE WRITER`: the file's records of MRT (RFC 6396) are a dump of that name, read by the rules for this
+    /// writer; without the word by the letter of the format.
+    Open(Name, Word, Writer),
     /// `bmp NAME FILE VIEW`: the file's messages of BMP (RFC 7854) are a dump of that name; true for the view `post`, of routes behind the
     /// router's inbound policy.
     Bmp(Name, Word, bool),
@@ -244,8 +246,11 @@ pub(crate) fn read_fields(
             Ok(role_command(whom, role))
         }
         CommandName::Open => {
-            let (name, (file, ())) = <Then<NameWord, Then<TextWord, End>>>::read(alloc, words)?;
-            Ok(Command::Open(name, file))
+            let (name, (file, writer)) = <Then<
+                NameWord,
+                Then<TextWord, Optional<WriterWord>>,
+            >>::read(alloc, words)?;
+            Ok(Command::Open(name, file, writer.unwrap_or(Writer::Plain)))
         }
         CommandName::Bmp => {
             let (name, (file, (post, ()))) = <Then<

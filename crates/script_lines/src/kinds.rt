@@ -1,12 +1,14 @@
 //! The kinds of words that a command's line may hold, each read as its value.
 ghost use Rattle.std.specs.Prelude.{◌≡◌, ◌≢◌, ◌↔◌, Bool, codes, IfOk, IfErr, IfSome, IfNone, IsTrue};
+ghost use Rattle.dialects.specs.declared.writer.Writer.{Writer as AnyWriter};
 ghost use Rattle.path_model.specs.declared.verdict.Verdict.{Verdict as AnyVerdict};
 ghost use Rattle.av_text.specs.VerdictText.{verdict_text};
-ghost use Rattle.script_lines.specs.Kinds.{ADDRESS, NAME, NUMBER, PREFIX, ROLE, SESSION, TEXT, VERDICT, VIEW, WHOM, view_text};
+ghost use Rattle.script_lines.specs.Kinds.{ADDRESS, NAME, NUMBER, PREFIX, ROLE, SESSION, TEXT, VERDICT, VIEW, WHOM, WRITER, view_text, writer_text};
 
 use crate::fault::LineFault;
 use crate::word::Word;
 use av_text::{read_addr, read_name, read_prefix, read_role, read_u32};
+use dialects::Writer;
 use path_model::{Addr, Name, Prefix, Role, Verdict};
 use std::alloc::Global;
 
@@ -107,6 +109,40 @@ fn read_view(word: &[u8]) -> Option<bool>
     match word {
         b"pre" => Some(false),
         b"post" => Some(true),
+        _ => None,
+    }
+}
+
+/// A WRITER.
+pub(crate) struct WriterWord;
+
+impl Kind for WriterWord {
+    type Value = Writer;
+
+    ghost kind = { WRITER };
+
+    ghost value = { λ writer. writer };
+
+    fn read(_alloc: Global, word: &[u8]) -> Result<Writer, LineFault> {
+        match read_writer(word) {
+            Some(writer) => Ok(writer),
+            None => Err(LineFault::Words),
+        }
+    }
+}
+
+// Reads a word as the name of who wrote a dump.
+fn read_writer(word: &[u8]) -> Option<Writer>
+    ensures spelled { IfSome result (λ writer. word.now ≡ writer_text writer) }
+    ensures none { IfNone result ((writer : AnyWriter) → word.now ≢ writer_text writer) }
+{
+    match word {
+        b"plain" => Some(Writer::Plain),
+        b"any" => Some(Writer::Any),
+        b"bird" => Some(Writer::Bird),
+        b"frr" => Some(Writer::Frr),
+        b"openbgpd" => Some(Writer::OpenBgpd),
+        b"gobgp" => Some(Writer::GoBgp),
         _ => None,
     }
 }

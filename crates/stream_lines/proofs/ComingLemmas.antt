@@ -2,11 +2,11 @@
 use Rattle.std.proofs.Common.{◌≡◌, ◌≢◌, ℕ, true, false, List, Option, Some, None, Ok, Err, refl, sym, ap, ◌∙◌, subst}
 use Rattle.std.specs.declared.result.Result.{Result}
 use Rattle.av_base.specs.One.{HasOne}
-use Rattle.path_model.specs.declared.peer.Peer.{Peer}
 use Rattle.mrt_reader.specs.declared.body.Body.{Body as RecordBody}
 use Rattle.mrt_reader.specs.declared.body.Body.TheVariants as bodies
 use Rattle.mrt_reader.specs.declared.fault.BodyFault.{BodyFault}
 use Rattle.mrt_reader.specs.declared.fault.BodyFault.TheVariants as faults
+use Rattle.mrt_reader.specs.Before.{Known as BeforeRecord}
 use Rattle.mrt_reader.specs.Bodies as mrt
 use Rattle.mrt_reader.specs.Coming as records
 use Rattle.mrt_reader.specs.Records.{Recorded}
@@ -33,21 +33,22 @@ refused_unique : (cause : Option Cause) (known : Known) (rest : List ℕ) (one o
 refused_unique None known rest one other a b = absurd a
 refused_unique (Some cause) known rest one other a b = a ∙ sym b
 
-record_says_unique : (peers : Option (List Peer)) (reading : Result RecordBody BodyFault) (rest : List ℕ) (one other : Coming)
-    → RecordSays peers reading rest one → RecordSays peers reading rest other → one ≡ other
-record_says_unique peers (Ok (bodies.Peers table)) rest one other a b = a ∙ sym b
-record_says_unique peers (Ok (bodies.Routes noted)) rest one other a b = a ∙ sym b
-record_says_unique peers (Ok bodies.Passed) rest one other a b = a ∙ sym b
-record_says_unique peers (Err fault) rest one other a b = refused_unique (record_cause fault) (Mrt peers) rest one other a b
+record_says_unique : (before : BeforeRecord) (reading : Result RecordBody BodyFault) (rest : List ℕ) (one other : Coming)
+    → RecordSays before reading rest one → RecordSays before reading rest other → one ≡ other
+record_says_unique before (Ok (bodies.Peers table)) rest one other a b = a ∙ sym b
+record_says_unique before (Ok (bodies.Routes noted beside)) rest one other a b = a ∙ sym b
+record_says_unique before (Ok (bodies.Left asn)) rest one other a b = a ∙ sym b
+record_says_unique before (Ok bodies.Passed) rest one other a b = a ∙ sym b
+record_says_unique before (Err fault) rest one other a b = refused_unique (record_cause fault) (Mrt before) rest one other a b
 
-record_unique : (peers : Option (List Peer)) (left : List ℕ) (it : records.Coming) (one other : Coming)
-    → RecordComes peers left it one → RecordComes peers left it other → one ≡ other
-record_unique peers left (records.Whole it rest) one other a b =
-    let same = record_same.reading_same it peers b.0 a.0 b.1 a.1 in
-    record_says_unique peers a.0 rest one other a.2 (subst (λ r. RecordSays peers r rest other) same b.2)
-record_unique peers left records.TooLong one other a b = a ∙ sym b
-record_unique peers left records.CutShort one other a b = a ∙ sym b
-record_unique peers left records.End one other a b = a ∙ sym b
+record_unique : (before : BeforeRecord) (left : List ℕ) (it : records.Coming) (one other : Coming)
+    → RecordComes before left it one → RecordComes before left it other → one ≡ other
+record_unique before left (records.Whole it rest) one other a b =
+    let same = record_same.reading_same it before b.0 a.0 b.1 a.1 in
+    record_says_unique before a.0 rest one other a.2 (subst (λ r. RecordSays before r rest other) same b.2)
+record_unique before left records.TooLong one other a b = a ∙ sym b
+record_unique before left records.CutShort one other a b = a ∙ sym b
+record_unique before left records.End one other a b = a ∙ sym b
 
 message_says_unique : (view : View) (peers : bmp.Identifying) (reading : Result MessageBody BmpFault) (rest : List ℕ) (one other : Coming)
     → MessageSays view peers reading rest one → MessageSays view peers reading rest other → one ≡ other
@@ -67,9 +68,9 @@ message_unique view peers left messages.CutShort one other a b = a ∙ sym b
 message_unique view peers left messages.End one other a b = a ∙ sym b
 
 pub coming_same : (known : Known) (left : List ℕ) (one other : Coming) → IsComing known left one → IsComing known left other → one ≡ other
-coming_same (Mrt peers) left one other a b =
+coming_same (Mrt before) left one other a b =
     let same = record_laws.coming_same left b.0 a.0 b.1 a.1 in
-    record_unique peers left a.0 one other a.2 (subst (λ c. RecordComes peers left c other) same b.2)
+    record_unique before left a.0 one other a.2 (subst (λ c. RecordComes before left c other) same b.2)
 coming_same (Bmp view peers) left one other a b =
     let same = message_laws.coming_same left b.0 a.0 b.1 a.1 in
     message_unique view peers left a.0 one other a.2 (subst (λ c. MessageComes view peers left c other) same b.2)
@@ -81,30 +82,31 @@ some_refused None known rest some = absurd (some refl)
 some_refused (Some cause) known rest some = (_, refl)
 
 -- what is refused is so for a cause
-record_has_cause : (it : Recorded) (peers : Option (List Peer)) (fault : BodyFault) → mrt.IsReading it peers (Err fault) → record_cause fault ≢ None
-record_has_cause it peers faults.Attributes reads = λ none. cc
-record_has_cause it peers faults.Message reads = λ none. cc
-record_has_cause it peers faults.NoPath reads = λ none. cc
-record_has_cause it peers faults.Body reads = λ none. cc
-record_has_cause it peers faults.NoPeerTable reads = λ none. cc
-record_has_cause it peers faults.PeerIndex reads = λ none. cc
-record_has_cause it peers faults.NoMemory reads = absurd (record_memory.no_want_of_memory it peers reads)
+record_has_cause : (it : Recorded) (before : BeforeRecord) (fault : BodyFault) → mrt.IsReading it before (Err fault) → record_cause fault ≢ None
+record_has_cause it before faults.Attributes reads = λ none. cc
+record_has_cause it before faults.Message reads = λ none. cc
+record_has_cause it before faults.NoPath reads = λ none. cc
+record_has_cause it before faults.Body reads = λ none. cc
+record_has_cause it before faults.NoPeerTable reads = λ none. cc
+record_has_cause it before faults.PeerIndex reads = λ none. cc
+record_has_cause it before faults.NoMemory reads = absurd (record_memory.no_want_of_memory it before reads)
 
-some_record_says : (it : Recorded) (peers : Option (List Peer)) (reading : Result RecordBody BodyFault) (rest : List ℕ) → mrt.IsReading it peers reading
-    → (coming : Coming) × RecordSays peers reading rest coming
-some_record_says it peers (Ok (bodies.Peers table)) rest reads = (_, refl)
-some_record_says it peers (Ok (bodies.Routes noted)) rest reads = (_, refl)
-some_record_says it peers (Ok bodies.Passed) rest reads = (_, refl)
-some_record_says it peers (Err fault) rest reads = some_refused (record_cause fault) (Mrt peers) rest (record_has_cause it peers fault reads)
+some_record_says : (it : Recorded) (before : BeforeRecord) (reading : Result RecordBody BodyFault) (rest : List ℕ) → mrt.IsReading it before reading
+    → (coming : Coming) × RecordSays before reading rest coming
+some_record_says it before (Ok (bodies.Peers table)) rest reads = (_, refl)
+some_record_says it before (Ok (bodies.Routes noted beside)) rest reads = (_, refl)
+some_record_says it before (Ok (bodies.Left asn)) rest reads = (_, refl)
+some_record_says it before (Ok bodies.Passed) rest reads = (_, refl)
+some_record_says it before (Err fault) rest reads = some_refused (record_cause fault) (Mrt before) rest (record_has_cause it before fault reads)
 
-some_record : (peers : Option (List Peer)) (left : List ℕ) (it : records.Coming) → (coming : Coming) × RecordComes peers left it coming
-some_record peers left (records.Whole it rest) =
-    let reading = record_some.one_reading it peers in
-    let says = some_record_says it peers reading.one rest reading.is in
+some_record : (before : BeforeRecord) (left : List ℕ) (it : records.Coming) → (coming : Coming) × RecordComes before left it coming
+some_record before left (records.Whole it rest) =
+    let reading = record_some.one_reading it before in
+    let says = some_record_says it before reading.one rest reading.is in
     (says.0, (reading.one, reading.is, says.1))
-some_record peers left records.TooLong = (_, refl)
-some_record peers left records.CutShort = (_, refl)
-some_record peers left records.End = (_, refl)
+some_record before left records.TooLong = (_, refl)
+some_record before left records.CutShort = (_, refl)
+some_record before left records.End = (_, refl)
 
 message_has_cause : (it : Sent) (view : View) (peers : bmp.Identifying) (fault : BmpFault) → bmp.IsReading it view peers (Err fault) → message_cause fault ≢ None
 message_has_cause it view peers bmp_faults.Body reads = λ none. cc
@@ -131,9 +133,9 @@ some_message view peers left messages.CutShort = (_, refl)
 some_message view peers left messages.End = (_, refl)
 
 some_coming : (known : Known) (left : List ℕ) → (coming : Coming) × IsComing known left coming
-some_coming (Mrt peers) left =
+some_coming (Mrt before) left =
     let it = record_laws.one_thing_comes left in
-    let done = some_record peers left it.one in
+    let done = some_record before left it.one in
     (done.0, (it.one, it.is, done.1))
 some_coming (Bmp view peers) left =
     let it = message_laws.one_thing_comes left in

@@ -54,7 +54,7 @@ nothing_left None file = tt
 nothing_left (Some told) file = subst (λ (o : Option (List ℕ)). IfSome o (λ left. left ≡ [])) (sym (get-change_at (λ _. []) file told.left)) (none_left (slice_get told.left file))
 
 fresh_twice : (known : Known) → fresh_of known ≡ fresh_of (fresh_of known)
-fresh_twice (Mrt peers) = refl
+fresh_twice (Mrt before) = refl
 fresh_twice (Bmp view peers) = refl
 
 -- the dump ended, and its file was let go

@@ -5,7 +5,7 @@ use Rattle.std.specs.declared.option.Option.{Option}
 use Rattle.av_base.specs.Files.{Files, left_of}
 use Rattle.rib_store.specs.State.{State}
 use Rattle.stream_lines.specs.declared.next.Effect.{Effect}
-use Rattle.stream_lines.specs.declared.next.Effect.TheVariants.{Routes, Learn, Note, Pass}
+use Rattle.stream_lines.specs.declared.next.Effect.TheVariants.{Routes, Part, Leave, Learn, Note, Pass}
 use Rattle.stream_lines.specs.declared.next.Next.{Next}
 use Rattle.stream_lines.specs.declared.next.Next.TheVariants.{Unit as AUnit, Broken, End}
 use Rattle.analyser.specs.declared.progress.Progress.{Progress}
@@ -53,6 +53,8 @@ no_fewer old new same = omega (arith, same)
 
 effect_grows : (old : Taking) (dump : Dump) (effect : Effect) (new : Taking) → Does old dump effect new → old.judgements ≤ new.judgements
 effect_grows old dump (Routes noted) new does = at_least old.judgements new.judgements does.cost (ap (λ (t : Taking). t.judgements) does.new_is)
+effect_grows old dump (Part noted) new does = at_least old.judgements new.judgements does.cost (ap (λ (t : Taking). t.judgements) does.new_is)
+effect_grows old dump (Leave asn) new does = at_least old.judgements new.judgements does.cost (ap (λ (t : Taking). t.judgements) does.new_is)
 effect_grows old dump (Learn asn role) new does = at_least old.judgements new.judgements does.cost (ap (λ (t : Taking). t.judgements) does.new_is)
 effect_grows old dump Note new does = no_fewer old new (kept old new _ does refl)
 effect_grows old dump Pass new does = no_fewer old new (kept old new _ does refl)
@@ -78,6 +80,12 @@ effect_ticks : (state : State) (old : Taking) (dump : Dump) (effect : Effect) (n
     → Does old dump effect new → after + old.judgements ≤ before + new.judgements
 effect_ticks state old dump (Routes noted) new before after same few does =
     let within = subst (λ (s : State). TicksWithinEffect s (Routes noted) before after) same few in
+    more_steps before after old.judgements new.judgements does.cost (within does.state does.cost does.happens does.costs) (ap (λ (t : Taking). t.judgements) does.new_is)
+effect_ticks state old dump (Part noted) new before after same few does =
+    let within = subst (λ (s : State). TicksWithinEffect s (Part noted) before after) same few in
+    more_steps before after old.judgements new.judgements does.cost (within does.state does.cost does.happens does.costs) (ap (λ (t : Taking). t.judgements) does.new_is)
+effect_ticks state old dump (Leave asn) new before after same few does =
+    let within = subst (λ (s : State). TicksWithinEffect s (Leave asn) before after) same few in
     more_steps before after old.judgements new.judgements does.cost (within does.state does.cost does.happens does.costs) (ap (λ (t : Taking). t.judgements) does.new_is)
 effect_ticks state old dump (Learn asn role) new before after same few does =
     let within = subst (λ (s : State). TicksWithinEffect s (Learn asn role) before after) same few in

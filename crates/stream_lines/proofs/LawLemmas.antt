@@ -10,10 +10,11 @@ use Rattle.analyser.specs.Touched.{Costs}
 use Rattle.analyser.proofs.CostLemmas.{some_cost, Costs-unique}
 use Rattle.analyser.proofs.EventLemmas.{one_outcome_of}
 use Rattle.stream_lines.specs.declared.next.Effect.{Effect}
-use Rattle.stream_lines.specs.declared.next.Effect.TheVariants.{Routes, Learn, Note, Pass}
+use Rattle.stream_lines.specs.declared.next.Effect.TheVariants.{Routes, Part, Leave, Learn, Note, Pass}
 use Rattle.stream_lines.specs.declared.next.Next.{Next}
 use Rattle.stream_lines.specs.declared.next.Next.TheVariants.{Unit as AUnit, Broken, End}
 use Rattle.stream_lines.specs.Streams.{Asking, Dump, Taking, after_unit, LetsHappen, Does, TakesComing, TakesUnless, TakesUnits}
+use Rattle.stream_lines.specs.Leaving.{departures}
 use Rattle.stream_lines.specs.Units.{Coming}
 use Rattle.stream_lines.proofs.ComingLemmas.{coming_same, one_thing_comes}
 
@@ -39,6 +40,8 @@ happening_unique old dump event marks end last a b =
 
 effect_unique : (old : Taking) (dump : Dump) (effect : Effect) (end last : Taking) → Does old dump effect end → Does old dump effect last → end ≡ last
 effect_unique old dump (Routes noted) end last a b = happening_unique old dump (events.Routes noted.changes) _ end last a b
+effect_unique old dump (Part noted) end last a b = happening_unique (record old { passed = old.passed + 1 }) dump (events.Routes noted.changes) _ end last a b
+effect_unique old dump (Leave asn) end last a b = happening_unique old dump (events.Routes (departures asn old.state.routes)) _ end last a b
 effect_unique old dump (Learn asn role) end last a b = happening_unique old dump (events.Role asn role) old.marks end last a b
 effect_unique old dump Note end last a b = a ∙ sym b
 effect_unique old dump Pass end last a b = a ∙ sym b
@@ -79,6 +82,8 @@ some_happening old dump event marks =
 
 some_effect : (old : Taking) (dump : Dump) (effect : Effect) → (new : Taking) × Does old dump effect new
 some_effect old dump (Routes noted) = some_happening old dump (events.Routes noted.changes) (noted_by noted.changes noted.notes old.marks)
+some_effect old dump (Part noted) = some_happening (record old { passed = old.passed + 1 }) dump (events.Routes noted.changes) (noted_by noted.changes noted.notes old.marks)
+some_effect old dump (Leave asn) = some_happening old dump (events.Routes (departures asn old.state.routes)) (noted_by (departures asn old.state.routes) [] old.marks)
 some_effect old dump (Learn asn role) = some_happening old dump (events.Role asn role) old.marks
 some_effect old dump Note = (_, refl)
 some_effect old dump Pass = (_, refl)

@@ -4,6 +4,7 @@ pub mod FrameLemmas
 pub mod HoldingLemmas
 pub mod JudgementLemmas
 pub mod LawLemmas
+pub mod LeavingLemmas
 pub mod NextLemmas
 pub mod PieceLemmas
 pub mod RefusalLemmas

@@ -3,11 +3,11 @@ use Rattle.std.proofs.Common.{◌≡◌, ℕ, List, [], ◌++◌, None, Some, Ok
 use Rattle.std.specs.Io.KnownBytes.{prepend_known, IsAtEnd}
 use Rattle.std.specs.declared.option.Option.{Option}
 use Rattle.std.specs.declared.result.Result.{Result}
-use Rattle.path_model.specs.declared.peer.Peer.{Peer}
 use Rattle.held_bytes.specs.Units.{Begins}
 use Rattle.mrt_reader.specs.declared.body.Body.{Body as RecordBody}
 use Rattle.mrt_reader.specs.declared.fault.BodyFault.{BodyFault}
 use Rattle.mrt_reader.specs.declared.fault.BodyFault.TheVariants as faults
+use Rattle.mrt_reader.specs.Before.{Known as BeforeRecord}
 use Rattle.mrt_reader.specs.Bodies as mrt
 use Rattle.mrt_reader.specs.Coming as records
 use Rattle.mrt_reader.specs.Records.{Recorded, IsRecord}
@@ -41,24 +41,24 @@ begins_more IsUnit held rest more it begins = record {
 -- ---- records
 
 -- an answer that says something is no want of memory
-record_reads : (it : Recorded) (peers : Option (List Peer)) (reading : Result RecordBody BodyFault) (known : Known) (effect : Result Effect Cause)
-    → Says (RecordSays peers reading) known effect → mrt.IsOutcome it peers reading → mrt.IsReading it peers reading
-record_reads it peers (Ok body) known effect says reads = reads
-record_reads it peers (Err faults.Body) known effect says reads = reads
-record_reads it peers (Err faults.NoPeerTable) known effect says reads = reads
-record_reads it peers (Err faults.PeerIndex) known effect says reads = reads
-record_reads it peers (Err faults.Message) known effect says reads = reads
-record_reads it peers (Err faults.Attributes) known effect says reads = reads
-record_reads it peers (Err faults.NoPath) known effect says reads = reads
-record_reads it peers (Err faults.NoMemory) known effect says reads = absurd (says [])
+record_reads : (it : Recorded) (before : BeforeRecord) (reading : Result RecordBody BodyFault) (known : Known) (effect : Result Effect Cause)
+    → Says (RecordSays before reading) known effect → mrt.IsOutcome it before reading → mrt.IsReading it before reading
+record_reads it before (Ok body) known effect says reads = reads
+record_reads it before (Err faults.Body) known effect says reads = reads
+record_reads it before (Err faults.NoPeerTable) known effect says reads = reads
+record_reads it before (Err faults.PeerIndex) known effect says reads = reads
+record_reads it before (Err faults.Message) known effect says reads = reads
+record_reads it before (Err faults.Attributes) known effect says reads = reads
+record_reads it before (Err faults.NoPath) known effect says reads = reads
+record_reads it before (Err faults.NoMemory) known effect says reads = absurd (says [])
 
-pub gives_record : (peers : Option (List Peer)) (held rest : List ℕ) (it : Recorded) (reading : Result RecordBody BodyFault) (known : Known) (effect : Result Effect Cause)
-    → Begins IsRecord held it rest → mrt.IsOutcome it peers reading → Says (RecordSays peers reading) known effect → Gives (Mrt peers) held known rest (Some (AUnit effect))
-gives_record peers held rest it reading known effect begins reads says = λ more.
-    (records.Whole it (rest ++ more), begins_more IsRecord held rest more it begins, (reading, record_reads it peers reading known effect says reads, says (rest ++ more)))
+pub gives_record : (before : BeforeRecord) (held rest : List ℕ) (it : Recorded) (reading : Result RecordBody BodyFault) (known : Known) (effect : Result Effect Cause)
+    → Begins IsRecord held it rest → mrt.IsOutcome it before reading → Says (RecordSays before reading) known effect → Gives (Mrt before) held known rest (Some (AUnit effect))
+gives_record before held rest it reading known effect begins reads says = λ more.
+    (records.Whole it (rest ++ more), begins_more IsRecord held rest more it begins, (reading, record_reads it before reading known effect says reads, says (rest ++ more)))
 
-pub gives_too_long : (peers : Option (List Peer)) (held : List ℕ) → records.IsTooLong held → Gives (Mrt peers) held (Mrt peers) held (Some (Broken causes.TooLong))
-gives_too_long peers held long = λ more. (records.TooLong, too_long_stays held more long, refl)
+pub gives_too_long : (before : BeforeRecord) (held : List ℕ) → records.IsTooLong held → Gives (Mrt before) held (Mrt before) held (Some (Broken causes.TooLong))
+gives_too_long before held long = λ more. (records.TooLong, too_long_stays held more long, refl)
 
 -- ---- messages
 
@@ -89,9 +89,9 @@ gives_break view peers held held_new frames.CutShort cause answers is = absurd a
 -- the end, where no whole unit is held
 last_comes : (known : Known) (held : List ℕ) (next : Next) → IsPartial known held → IsLast held next → IsComing known held (comes next known held)
 last_comes known held (AUnit effect) partial last = absurd last
-last_comes (Mrt peers) held (Broken cause) partial last = (records.CutShort, (partial, last.0), ap (λ (c : Cause). comes (Broken c) (Mrt peers) held) last.1)
+last_comes (Mrt before) held (Broken cause) partial last = (records.CutShort, (partial, last.0), ap (λ (c : Cause). comes (Broken c) (Mrt before) held) last.1)
 last_comes (Bmp view peers) held (Broken cause) partial last = (messages.CutShort, (partial, last.0), ap (λ (c : Cause). comes (Broken c) (Bmp view peers) held) last.1)
-last_comes (Mrt peers) held End partial last = (records.End, last, refl)
+last_comes (Mrt before) held End partial last = (records.End, last, refl)
 last_comes (Bmp view peers) held End partial last = (messages.End, last, refl)
 
 -- `held` is held, `left` is left of the file, and `old` was left before anything was read

@@ -11,8 +11,8 @@ use Rattle.stream_lines.specs.Held.{held_of, known_of}
 -- what a reader holds and knows is all of it
 pub same_reader : (a b : Reader) → held_of a ≡ held_of b → known_of a ≡ known_of b → a ≡ b
 same_reader (Mrt a) (Mrt b) held known =
-    let peers : a.peers ≡ b.peers = cc in
-    (λ i. Mrt (record { framer = held i; peers = peers i }))
+    let before : a.before ≡ b.before = cc in
+    (λ i. Mrt (record { framer = held i; before = before i }))
 same_reader (Mrt a) (Bmp b) held known = absurd cc
 same_reader (Bmp a) (Mrt b) held known = absurd cc
 same_reader (Bmp a) (Bmp b) held known =

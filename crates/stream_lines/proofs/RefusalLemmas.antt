@@ -14,7 +14,7 @@ use Rattle.report_text.proofs.RefusalLemmas.{refusal_is_one_line}
 pub use Rattle.report_text.proofs.ReportedLemmas.{lacks_lf, lacks}
 use Rattle.report_text.specs.declared.cause.Cause.{Cause}
 use Rattle.stream_lines.specs.declared.next.Effect.{Effect}
-use Rattle.stream_lines.specs.declared.next.Effect.TheVariants.{Routes, Learn, Note, Pass}
+use Rattle.stream_lines.specs.declared.next.Effect.TheVariants.{Routes, Part, Leave, Learn, Note, Pass}
 use Rattle.stream_lines.specs.declared.next.Next.{Next}
 use Rattle.stream_lines.specs.declared.next.Next.TheVariants.{Unit as AUnit, Broken, End}
 use Rattle.stream_lines.specs.Counts.{refusals_in}
@@ -75,6 +75,8 @@ module _ (asking : Asking) (in_line : IsInLine asking.name) where
 
   effect_refuses : (old : Taking) (dump : Dump) (effect : Effect) (new : Taking) → Does old dump effect new → new.refused ≡ old.refused
   effect_refuses old dump (Routes noted) new does = ap (λ (t : Taking). t.refused) does.new_is
+  effect_refuses old dump (Part noted) new does = ap (λ (t : Taking). t.refused) does.new_is
+  effect_refuses old dump (Leave asn) new does = ap (λ (t : Taking). t.refused) does.new_is
   effect_refuses old dump (Learn asn role) new does = ap (λ (t : Taking). t.refused) does.new_is
   effect_refuses old dump Note new does = ap (λ (t : Taking). t.refused) does
   effect_refuses old dump Pass new does = ap (λ (t : Taking). t.refused) does

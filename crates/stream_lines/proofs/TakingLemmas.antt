@@ -12,7 +12,7 @@ use Rattle.analyser.specs.Events.{Happens}
 use Rattle.otc_check.specs.Marks.{Marked, noted_by}
 use Rattle.analyser.proofs.CostLemmas.{some_cost}
 use Rattle.stream_lines.specs.declared.next.Effect.{Effect}
-use Rattle.stream_lines.specs.declared.next.Effect.TheVariants.{Routes, Learn, Note, Pass}
+use Rattle.stream_lines.specs.declared.next.Effect.TheVariants.{Routes, Part, Leave, Learn, Note, Pass}
 use Rattle.stream_lines.specs.declared.next.Next.{Next}
 use Rattle.stream_lines.specs.declared.next.Next.TheVariants.{Unit as AUnit, Broken, End}
 use Rattle.analyser.specs.declared.progress.Progress.{Progress}
@@ -20,7 +20,9 @@ use Rattle.stream_lines.specs.Gives.{IsNext, IsNextOf}
 use Rattle.stream_lines.specs.Held.{HeldDump, fresh_of}
 use Rattle.stream_lines.specs.Streams.{Asking, Dump, Taking, after_unit, ended, unit_refused, LetsHappen, Does, TakesComing, TakesUnless, TakesUnit, TakesNext}
 use Rattle.stream_lines.specs.Taking.{StandsAt}
-use Rattle.stream_lines.specs.TakingSteps.{TookUnit, LetHappen, Did}
+use Rattle.bgp_update.specs.Updates.{without_notes}
+use Rattle.stream_lines.specs.Leaving.{departures}
+use Rattle.stream_lines.specs.TakingSteps.{TookUnit, LetHappen, Changed, Did}
 use Rattle.stream_lines.specs.Units.{Known, comes}
 
 -- a dump that isn't over
@@ -68,6 +70,16 @@ happened event marks held progress after old behind state same passed refused di
 
 done : (effect : Effect) (progress after : Progress) (old : Taking) (behind : Dump) → progress.analyser ≡ old.state → progress.marks ≡ old.marks
     → progress.passed ≡ old.passed → progress.refused ≡ old.refused → Did effect progress after → Done old behind effect after
+done (Part noted) progress after old behind state marks passed refused did =
+    let more : progress.passed + 1 ≡ old.passed + 1 = ap (λ (n : ℕ). n + 1) passed in
+    let all = happened (events.Routes noted.changes) (noted_by noted.changes noted.notes old.marks) (noted_by noted.changes noted.notes progress.marks) (record progress { passed = progress.passed + 1 }) after
+    (record old { passed = old.passed + 1 }) behind state (ap (noted_by noted.changes noted.notes) marks) more refused did in
+    record { new = all.new; does = all.does; dump = all.dump; state = all.state; marks = all.marks_are; passed = all.passed; refused = all.refused }
+done (Leave asn) progress after old behind state marks passed refused did =
+    let here : Changed (without_notes (departures asn old.state.routes)) progress after = subst (λ (s : State). Changed (without_notes (departures asn s.routes)) progress after) state did in
+    let all = happened (events.Routes (departures asn old.state.routes)) (noted_by (departures asn old.state.routes) [] old.marks) (noted_by (departures asn old.state.routes) [] progress.marks) progress after old behind state
+    (ap (noted_by (departures asn old.state.routes) []) marks) passed refused here in
+    record { new = all.new; does = all.does; dump = all.dump; state = all.state; marks = all.marks_are; passed = all.passed; refused = all.refused }
 done (Routes noted) progress after old behind state marks passed refused did =
     let all = happened (events.Routes noted.changes) (noted_by noted.changes noted.notes old.marks) (noted_by noted.changes noted.notes progress.marks) progress after old behind state
     (ap (noted_by noted.changes noted.notes) marks) passed refused did in

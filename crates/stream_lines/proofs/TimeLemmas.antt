@@ -63,17 +63,17 @@ untimed_more held more messages.End is none at_end =
 
 -- what comes next has one time at most,
 timed_same : (known : Known) (left : List ℕ) (one other : ℕ) → IsTimed known left (Some one) → IsTimed known left (Some other) → one ≡ other
-timed_same (Mrt peers) left one other a b = stamps_same left one other a b
+timed_same (Mrt before) left one other a b = stamps_same left one other a b
 timed_same (Bmp view peers) left one other a b = times_same left one other a b
 
 -- and the same whatever comes behind it
 timed_more : (known : Known) (held more : List ℕ) (time : ℕ) → IsTimed known held (Some time) → IsTimed known (held ++ more) (Some time)
-timed_more (Mrt peers) held more time is = (is.0, is.1 ++ more, begins_more IsRecord held is.1 more is.0 is.2, is.3)
+timed_more (Mrt before) held more time is = (is.0, is.1 ++ more, begins_more IsRecord held is.1 more is.0 is.2, is.3)
 timed_more (Bmp view peers) held more time is = (is.0, is.1 ++ more, begins_more IsMessage held is.1 more is.0 is.2, is.3)
 
 -- without one, where all is held that comes until it is whole, none comes
 untimed : (known : Known) (held more : List ℕ) → IsTimed known held None → (IsPartial known held → more ≡ []) → (time : ℕ) → IsTimed known (held ++ more) (Some time) → ⊥
-untimed (Mrt peers) held more none at_end time is = none_more held more none at_end is.0 is.1 is.2
+untimed (Mrt before) held more none at_end time is = none_more held more none at_end is.0 is.1 is.2
 untimed (Bmp view peers) held more none at_end time is =
     let next = message_laws.one_thing_comes held in
     untimed_more held more next.one next.is none at_end is.0 is.1 time is.2 is.3
@@ -110,11 +110,11 @@ tells_never known left = λ dump same told. (λ on. absurd (let no : ⊥ = cc in
 TimedOrNot : Known → List ℕ → Type 0
 TimedOrNot known left = ((time : ℕ) × IsTimed known left (Some time)) ⊎ ((time : ℕ) → IsTimed known left (Some time) → ⊥)
 
-record_timed : (peers : _) (left : List ℕ) (it : records.Coming) → records.IsComing left it → TimedOrNot (Mrt peers) left
-record_timed peers left (records.Whole it rest) is = inl (it.stamp, (it, rest, is, refl))
-record_timed peers left records.TooLong is = inr (λ time next. record_laws.not_too_long left next.0 next.1 next.2 is)
-record_timed peers left records.CutShort is = inr (λ time next. is.0.no_record next.0 next.1 next.2)
-record_timed peers left records.End is = inr (λ time next. record_laws.not_empty left next.0 next.1 next.2 is)
+record_timed : (before : _) (left : List ℕ) (it : records.Coming) → records.IsComing left it → TimedOrNot (Mrt before) left
+record_timed before left (records.Whole it rest) is = inl (it.stamp, (it, rest, is, refl))
+record_timed before left records.TooLong is = inr (λ time next. record_laws.not_too_long left next.0 next.1 next.2 is)
+record_timed before left records.CutShort is = inr (λ time next. is.0.no_record next.0 next.1 next.2)
+record_timed before left records.End is = inr (λ time next. record_laws.not_empty left next.0 next.1 next.2 is)
 
 message_timed : (view : View) (peers : Identifying) (left : List ℕ) (it : messages.Coming) → messages.IsComing left it → TimedOrNot (Bmp view peers) left
 message_timed view peers left (messages.Whole it rest) is = elim (message_times.timed_or_not it) [
@@ -127,7 +127,7 @@ message_timed view peers left messages.CutShort is = inr (λ time next. is.0.no_
 message_timed view peers left messages.End is = inr (λ time next. message_laws.not_empty left next.0 next.1 next.2 is)
 
 timed_or_not : (known : Known) (left : List ℕ) → TimedOrNot known left
-timed_or_not (Mrt peers) left = let next = record_laws.one_thing_comes left in record_timed peers left next.one next.is
+timed_or_not (Mrt before) left = let next = record_laws.one_thing_comes left in record_timed before left next.one next.is
 timed_or_not (Bmp view peers) left = let next = message_laws.one_thing_comes left in message_timed view peers left next.one next.is
 
 -- ---- it is from the moment on, or not

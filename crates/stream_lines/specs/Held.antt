@@ -1,7 +1,7 @@
 -- What is held of a dump that was opened.
 use Rattle.std.specs.Prelude.{ℕ, Bool, List}
-use Rattle.std.specs.declared.option.Option.TheVariants.{None}
 use Rattle.std.specs.FinSet as set
+use Rattle.mrt_reader.specs.Before.{fresh}
 use Rattle.stream_lines.specs.declared.reader.Reader.{Reader}
 use Rattle.stream_lines.specs.declared.reader.Reader.TheVariants as readers
 use Rattle.stream_lines.specs.Units.{Known, Mrt, Bmp}
@@ -21,10 +21,10 @@ held_of (readers.Mrt records) = records.framer
 held_of (readers.Bmp messages) = messages.framer
 
 abbrev pub known_of : Reader → Known
-known_of (readers.Mrt records) = Mrt records.peers
+known_of (readers.Mrt records) = Mrt records.before
 known_of (readers.Bmp messages) = Bmp messages.view messages.peers
 
--- of a dump that is over nothing is known but the view
+-- of a dump that is over nothing is known but who wrote it, or the view
 abbrev pub fresh_of : Known → Known
-fresh_of (Mrt peers) = Mrt None
+fresh_of (Mrt before) = Mrt (fresh before.writer)
 fresh_of (Bmp view peers) = Bmp view set.empty

@@ -6,6 +6,7 @@ pub mod Gives
 pub mod Held
 pub mod Holding
 pub mod Laws
+pub mod Leaving
 pub mod Streams
 pub mod Taking
 pub mod TakingSteps

@@ -1,6 +1,8 @@
 -- The units that a line takes from a dump.
 use Rattle.std.specs.Prelude.{◌≡◌, ℕ, zero, suc, ◌+◌, Bool, true, false, List, [], ◌++◌}
 use Rattle.std.specs.declared.result.Result.TheVariants.{Ok, Err}
+use Rattle.path_model.specs.declared.noted.Noted.{Noted}
+use Rattle.bgp_update.specs.Updates.{without_notes}
 use Rattle.report_text.specs.declared.cause.Cause.{Cause}
 use Rattle.report_text.specs.Refusals.{of_unit, refusal_text}
 use Rattle.rib_store.specs.State.{State}
@@ -10,9 +12,10 @@ use Rattle.otc_check.specs.Marks.{Marked, noted_by}
 use Rattle.analyser.specs.Events.{Happens}
 use Rattle.analyser.specs.Touched.{Costs}
 use Rattle.stream_lines.specs.declared.next.Effect.{Effect}
-use Rattle.stream_lines.specs.declared.next.Effect.TheVariants.{Routes, Learn, Note, Pass}
+use Rattle.stream_lines.specs.declared.next.Effect.TheVariants.{Routes, Part, Leave, Learn, Note, Pass}
 use Rattle.stream_lines.specs.declared.next.Next.{Next}
 use Rattle.stream_lines.specs.declared.next.Next.TheVariants.{Unit as AUnit, Broken, End}
+use Rattle.stream_lines.specs.Leaving.{departures}
 use Rattle.stream_lines.specs.Units.{Known, Coming, IsComing}
 
 -- A dump: what of its file's bytes comes after the units taken, how many those were, what they told of those to come, and whether it is over.
@@ -58,9 +61,15 @@ pub record LetsHappen (old : Taking) (dump : Dump) (event : AnEvent) (marks : Ma
   pub costs : Costs old.state event state cost
   pub new_is : new ≡ record old { dump = dump; state = state; marks = marks; judgements = old.judgements + cost }
 
+-- routes change, and have the notes of these changes
+abbrev pub Changes : Taking → Dump → Noted → Taking → Type 0
+Changes old dump noted new = LetsHappen old dump (events.Routes noted.changes) (noted_by noted.changes noted.notes old.marks) new
+
 -- what an accepted unit does, behind which the dump stands there
 abbrev pub Does : Taking → Dump → Effect → Taking → Type 0
-Does old dump (Routes noted) new = LetsHappen old dump (events.Routes noted.changes) (noted_by noted.changes noted.notes old.marks) new
+Does old dump (Routes noted) new = Changes old dump noted new
+Does old dump (Part noted) new = Changes (record old { passed = old.passed + 1 }) dump noted new
+Does old dump (Leave asn) new = Changes old dump (without_notes (departures asn old.state.routes)) new
 Does old dump (Learn asn role) new = LetsHappen old dump (events.Role asn role) old.marks new
 Does old dump Note new = new ≡ record old { dump = dump }
 Does old dump Pass new = new ≡ record old { dump = dump; passed = old.passed + 1 }

@@ -2,6 +2,8 @@
 use Rattle.std.specs.Prelude.{◌≡◌, ◌≤◌, ℕ, ◌+◌, false, List, ◌++◌}
 use Rattle.std.specs.declared.option.Option.{Option}
 use Rattle.av_base.specs.Files.{Files}
+use Rattle.path_model.specs.declared.noted.Noted.{Noted}
+use Rattle.bgp_update.specs.Updates.{without_notes}
 use Rattle.rib_store.specs.State.{State}
 use Rattle.analyser.specs.declared.event.Event.{Event as AnEvent}
 use Rattle.analyser.specs.declared.event.Event.TheVariants as events
@@ -9,9 +11,10 @@ use Rattle.analyser.specs.Events.{Happens}
 use Rattle.otc_check.specs.Marks.{Marked, noted_by}
 use Rattle.analyser.specs.Touched.{TicksWithin}
 use Rattle.stream_lines.specs.declared.next.Effect.{Effect}
-use Rattle.stream_lines.specs.declared.next.Effect.TheVariants.{Routes, Learn, Note, Pass}
+use Rattle.stream_lines.specs.declared.next.Effect.TheVariants.{Routes, Part, Leave, Learn, Note, Pass}
 use Rattle.analyser.specs.declared.progress.Progress.{Progress}
 use Rattle.stream_lines.specs.Held.{HeldDump}
+use Rattle.stream_lines.specs.Leaving.{departures}
 use Rattle.stream_lines.specs.Streams.{Asking, Taking, TakesUnit}
 use Rattle.stream_lines.specs.Taking.{StandsAt}
 
@@ -36,9 +39,15 @@ pub record TicksWithinUnit (asking : Asking) (dump : HeldDump) (progress : Progr
 abbrev pub LetHappen : AnEvent → Marked → Progress → Progress → Type 0
 LetHappen event marks progress next = (state : State) × Happens progress.analyser event state × (next ≡ record progress { analyser = state; marks = marks })
 
+-- routes change, and have the notes of these changes
+abbrev pub Changed : Noted → Progress → Progress → Type 0
+Changed noted progress next = LetHappen (events.Routes noted.changes) (noted_by noted.changes noted.notes progress.marks) progress next
+
 -- what an accepted unit makes of the analyser, the marks and the counts
 abbrev pub Did : Effect → Progress → Progress → Type 0
-Did (Routes noted) progress next = LetHappen (events.Routes noted.changes) (noted_by noted.changes noted.notes progress.marks) progress next
+Did (Routes noted) progress next = Changed noted progress next
+Did (Part noted) progress next = Changed noted (record progress { passed = progress.passed + 1 }) next
+Did (Leave asn) progress next = Changed (without_notes (departures asn progress.analyser.routes)) progress next
 Did (Learn asn role) progress next = LetHappen (events.Role asn role) progress.marks progress next
 Did Note progress next = next ≡ progress
 Did Pass progress next = next ≡ record progress { passed = progress.passed + 1 }
@@ -46,6 +55,8 @@ Did Pass progress next = next ≡ record progress { passed = progress.passed + 1
 -- no more steps were taken than the unit may cost
 abbrev pub TicksWithinEffect : State → Effect → ℕ → ℕ → Type 0
 TicksWithinEffect state (Routes noted) before after = TicksWithin state (events.Routes noted.changes) before after
+TicksWithinEffect state (Part noted) before after = TicksWithin state (events.Routes noted.changes) before after
+TicksWithinEffect state (Leave asn) before after = TicksWithin state (events.Routes (departures asn state.routes)) before after
 TicksWithinEffect state (Learn asn role) before after = TicksWithin state (events.Role asn role) before after
 TicksWithinEffect state Note before after = after ≤ before
 TicksWithinEffect state Pass before after = after ≤ before

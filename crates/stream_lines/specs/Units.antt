@@ -7,10 +7,14 @@ use Rattle.std.specs.declared.result.Result.{Result}
 use Rattle.std.specs.declared.result.Result.TheVariants.{Ok, Err}
 use Rattle.path_model.specs.declared.peer.Peer.{Peer}
 use Rattle.path_model.specs.declared.role.Role.{Role}
+use Rattle.path_model.specs.declared.noted.Noted.{Noted}
+use Rattle.mrt_reader.specs.declared.body.Beside.{Beside}
+use Rattle.mrt_reader.specs.declared.body.Beside.TheVariants as besides
 use Rattle.mrt_reader.specs.declared.body.Body.{Body as RecordBody}
 use Rattle.mrt_reader.specs.declared.body.Body.TheVariants as bodies
 use Rattle.mrt_reader.specs.declared.fault.BodyFault.{BodyFault}
 use Rattle.mrt_reader.specs.declared.fault.BodyFault.TheVariants as faults
+use Rattle.mrt_reader.specs.Before.{Known as BeforeRecord, fresh, with_own, with_table}
 use Rattle.mrt_reader.specs.Bodies as mrt
 use Rattle.mrt_reader.specs.Coming as records
 use Rattle.bmp_reader.specs.declared.body.Body.{Body as MessageBody}
@@ -26,22 +30,23 @@ use Rattle.report_text.specs.declared.cause.Cause.TheVariants as causes
 use Rattle.stream_lines.specs.declared.kind.DumpKind.{DumpKind}
 use Rattle.stream_lines.specs.declared.kind.DumpKind.TheVariants as kinds
 use Rattle.stream_lines.specs.declared.next.Effect.{Effect}
-use Rattle.stream_lines.specs.declared.next.Effect.TheVariants.{Routes, Learn, Note, Pass}
+use Rattle.stream_lines.specs.declared.next.Effect.TheVariants.{Routes, Part, Leave, Learn, Note, Pass}
 use Rattle.stream_lines.specs.declared.next.Next.{Next}
 use Rattle.stream_lines.specs.declared.next.Next.TheVariants.{Unit as AUnit, Broken, End}
 
 -- ---- what the units before have told
 
--- In a dump of MRT records it is the last accepted peer table. In one of BMP messages, which is read in a view, it is the peers whose
+-- In a dump of MRT records it is what is known before the next one: who wrote it, the last accepted peer table, and the writer's own
+-- addresses. In one of BMP messages, which is read in a view, it is the peers whose
 -- prefixes have path identifiers: those whose last accepted Peer Up, of peer type 0, had the capability ADD-PATH (RFC 7911, section 4) in
 -- both OPENs. A Peer Down leaves that as it is.
 pub data Known : Type 0 where
-  Mrt : (peers : Option (List Peer)) → Known
+  Mrt : (before : BeforeRecord) → Known
   Bmp : (view : View) (peers : bmp.Identifying) → Known
 
 -- before the first unit nothing was told
 abbrev pub first_known : DumpKind → Known
-first_known kinds.Mrt = Mrt None
+first_known (kinds.Mrt writer) = Mrt (fresh writer)
 first_known kinds.BmpPre = Bmp Pre set.empty
 first_known kinds.BmpPost = Bmp Post set.empty
 
@@ -77,21 +82,34 @@ record_cause faults.NoPeerTable = Some causes.NoPeerTable
 record_cause faults.PeerIndex = Some causes.PeerIndex
 record_cause faults.NoMemory = None
 
--- A record that reads so: its changes happen, with their notes; its peer table is that of the records behind it; or it is passed over. A
--- refused one changes nothing.
-abbrev pub RecordSays : Option (List Peer) → Result RecordBody BodyFault → List ℕ → Coming → Type 0
-RecordSays peers (Ok (bodies.Peers table)) rest coming = coming ≡ comes (AUnit (Ok Note)) (Mrt (Some table)) rest
-RecordSays peers (Ok (bodies.Routes noted)) rest coming = coming ≡ comes (AUnit (Ok (Routes noted))) (Mrt peers) rest
-RecordSays peers (Ok bodies.Passed) rest coming = coming ≡ comes (AUnit (Ok Pass)) (Mrt peers) rest
-RecordSays peers (Err fault) rest coming = IsRefused (record_cause fault) (Mrt peers) rest coming
+-- what changes do, by what the record tells beside them
+abbrev pub effect_of : Noted → Beside → Effect
+effect_of noted besides.Nothing = Routes noted
+effect_of noted (besides.Own addr) = Routes noted
+effect_of noted besides.Passed = Part noted
 
--- a record is what it says by the last accepted peer table; a length over the limit, or the end within a record, ends the dump
-abbrev pub RecordComes : Option (List Peer) → List ℕ → records.Coming → Coming → Type 0
-RecordComes peers left (records.Whole it rest) coming =
-    (reading : Result RecordBody BodyFault) × mrt.IsReading it peers reading × RecordSays peers reading rest coming
-RecordComes peers left records.TooLong coming = coming ≡ comes (Broken causes.TooLong) (Mrt peers) left
-RecordComes peers left records.CutShort coming = coming ≡ comes (Broken causes.CutShort) (Mrt peers) left
-RecordComes peers left records.End coming = coming ≡ comes End (Mrt peers) left
+-- what is known behind such a record
+abbrev pub told_by : BeforeRecord → Beside → BeforeRecord
+told_by before besides.Nothing = before
+told_by before (besides.Own addr) = with_own before addr
+told_by before besides.Passed = before
+
+-- A record that reads so: its changes happen, with their notes; its peer table is that of the records behind it; all peers in an AS leave; or
+-- it is passed over. A refused one changes nothing.
+abbrev pub RecordSays : BeforeRecord → Result RecordBody BodyFault → List ℕ → Coming → Type 0
+RecordSays before (Ok (bodies.Peers table)) rest coming = coming ≡ comes (AUnit (Ok Note)) (Mrt (with_table before table)) rest
+RecordSays before (Ok (bodies.Routes noted beside)) rest coming = coming ≡ comes (AUnit (Ok (effect_of noted beside))) (Mrt (told_by before beside)) rest
+RecordSays before (Ok (bodies.Left asn)) rest coming = coming ≡ comes (AUnit (Ok (Leave asn))) (Mrt before) rest
+RecordSays before (Ok bodies.Passed) rest coming = coming ≡ comes (AUnit (Ok Pass)) (Mrt before) rest
+RecordSays before (Err fault) rest coming = IsRefused (record_cause fault) (Mrt before) rest coming
+
+-- a record is what it says by what is known before it; a length over the limit, or the end within a record, ends the dump
+abbrev pub RecordComes : BeforeRecord → List ℕ → records.Coming → Coming → Type 0
+RecordComes before left (records.Whole it rest) coming =
+    (reading : Result RecordBody BodyFault) × mrt.IsReading it before reading × RecordSays before reading rest coming
+RecordComes before left records.TooLong coming = coming ≡ comes (Broken causes.TooLong) (Mrt before) left
+RecordComes before left records.CutShort coming = coming ≡ comes (Broken causes.CutShort) (Mrt before) left
+RecordComes before left records.End coming = coming ≡ comes End (Mrt before) left
 
 -- ---- messages
 
@@ -129,5 +147,5 @@ MessageComes view peers left messages.End coming = coming ≡ comes End (Bmp vie
 
 -- what comes next of these bytes, by what the units before have told
 abbrev pub IsComing : Known → List ℕ → Coming → Type 0
-IsComing (Mrt peers) left coming = (it : records.Coming) × records.IsComing left it × RecordComes peers left it coming
+IsComing (Mrt before) left coming = (it : records.Coming) × records.IsComing left it × RecordComes before left it coming
 IsComing (Bmp view peers) left coming = (it : messages.Coming) × messages.IsComing left it × MessageComes view peers left it coming

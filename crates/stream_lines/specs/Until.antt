@@ -10,7 +10,7 @@ use Rattle.stream_lines.specs.Units.{Known, Mrt, Bmp}
 -- The time of the unit that comes next: the stamp of a whole record, or the time of a whole message's per-peer header. A message without such
 -- a header has none, and one with the time 0 hasn't either: it goes with the one before it.
 abbrev pub IsTimed : Known → List ℕ → Option ℕ → Type 0
-IsTimed (Mrt peers) left time = IsNextStamp left time
+IsTimed (Mrt before) left time = IsNextStamp left time
 IsTimed (Bmp view peers) left time = IsNextTime left time
 
 -- a unit comes next whose time isn't below the moment

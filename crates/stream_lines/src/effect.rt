@@ -1,13 +1,16 @@
 //! What an accepted unit makes of the analysis and of the counts.
 ghost use Rattle.std.specs.Prelude.{◌≡◌, ◌<◌, ◌≤◌, ◌+◌, ◌^◌, OnOk};
 ghost use Rattle.otc_check.specs.Marks.{noted_by};
-ghost use Rattle.stream_lines.specs.TakingSteps.{Did, TicksWithinEffect};
+ghost use Rattle.analyser.specs.declared.event.Event.TheVariants.{Routes};
+ghost use Rattle.analyser.specs.Touched.{TicksWithin};
+ghost use Rattle.stream_lines.specs.TakingSteps.{Changed, Did, TicksWithinEffect};
 
+use crate::leaving::departures;
 use crate::next::Effect;
 use analyser::{Event, Progress};
 use av_base::{NoMemory, Steps};
 use otc_check::Marks;
-use path_model::Noted;
+use path_model::{Noted, Notes};
 use std::alloc::Global;
 use std::mem;
 use std::sync::ledger::Ledger;
@@ -27,9 +30,17 @@ pub(crate) fn take_effect<L: Ledger>(
     ensures ticks { TicksWithinEffect progress.old.analyser effect steps.old steps.new }
 {
     match effect {
-        Effect::Routes(noted) => {
-            note(alloc, &mut progress.marks, &noted)?;
-            progress.analyser.apply(Event::Routes(noted.changes), steps)
+        Effect::Routes(noted) => perform(alloc, noted, progress, steps),
+        Effect::Part(noted) => {
+            progress.passed += 1;
+            perform(alloc, noted, progress, steps)
+        }
+        Effect::Leave(asn) => {
+            let noted = Noted {
+                changes: departures(alloc, progress.analyser.store(), asn)?,
+                notes: Notes::new(alloc),
+            };
+            perform(alloc, noted, progress, steps)
         }
         Effect::Learn(asn, role) => progress.analyser.apply(Event::Role(asn, role), steps),
         Effect::Note => Ok(()),
@@ -38,6 +49,20 @@ pub(crate) fn take_effect<L: Ledger>(
             Ok(())
         }
     }
+}
+
+// The routes change, and what the changes say of Only-to-Customer is marked.
+fn perform<L: Ledger>(
+    alloc: Global,
+    noted: Noted,
+    progress: &mut Progress,
+    steps: &mut Steps<L>,
+) -> Result<(), NoMemory>
+    ensures did { OnOk result (Changed noted progress.old progress.new) }
+    ensures ticks { TicksWithin progress.old.analyser (Routes noted.changes) steps.old steps.new }
+{
+    note(alloc, &mut progress.marks, &noted)?;
+    progress.analyser.apply(Event::Routes(noted.changes), steps)
 }
 
 // What the changes say of Only-to-Customer is marked.

@@ -14,7 +14,7 @@
 //!
 //! `dump` reads the file piece by piece and takes off what comes next, by its `reader`: `records` has that of MRT and `messages` that of
 //! BMP, `kind` says which it is, and `next` has what both give. `extent` has the loop over units, `taking` performs one, and `effect` does
-//! what an accepted unit does.
+//! what an accepted unit does; `leaving` finds the peers of an AS that all leave.
 //!
 //! Lemmas for the proofs above are in `proofs/`: `FrameLemmas` for the files that a call leaves as they were, `LawLemmas` and `UnitsLemmas`
 //! for units, `UntilLemmas` for those up to a moment, `ExtentLemmas` for both, `JudgementLemmas` for what units may cost, and `RefusalLemmas` for the refusals in a
@@ -26,6 +26,7 @@ mod effect;
 mod extent;
 mod kind;
 mod laws;
+mod leaving;
 mod messages;
 mod next;
 mod reader;

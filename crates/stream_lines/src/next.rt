@@ -7,6 +7,10 @@ use report_text::Cause;
 pub(crate) enum Effect {
     /// Routes are announced and withdrawn, and peers go.
     Routes(Noted),
+    /// The same, of some entries of it; the others are passed over.
+    Part(Noted),
+    /// The sessions of all peers in this AS end.
+    Leave(u32),
     /// It is learnt that this AS has this role.
     Learn(u32, Role),
     /// It says how units behind it are read, and nothing happens.

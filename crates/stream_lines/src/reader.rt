@@ -29,7 +29,7 @@ impl Reader {
         ensures known { known_of result ≡ first_known kind }
     {
         match kind {
-            DumpKind::Mrt => Reader::Mrt(Records::new(alloc)),
+            DumpKind::Mrt(writer) => Reader::Mrt(Records::new(alloc, writer)),
             DumpKind::BmpPre => Reader::Bmp(Messages::new(alloc, View::Pre)),
             DumpKind::BmpPost => Reader::Bmp(Messages::new(alloc, View::Post)),
         }
@@ -112,7 +112,7 @@ impl Reader {
         ensures known { known_of self.new ≡ fresh_of (known_of self.old) }
     {
         let fresh = match self {
-            Reader::Mrt(_) => Reader::Mrt(Records::new(alloc)),
+            Reader::Mrt(records) => Reader::Mrt(Records::new(alloc, records.before.writer())),
             Reader::Bmp(messages) => Reader::Bmp(Messages::new(alloc, messages.view)),
         };
         *self = fresh;

@@ -1,12 +1,15 @@
 //! The records of a dump of MRT.
-ghost use Rattle.std.specs.Prelude.{◌≡◌, ◌<◌, ◌≤◌, [], length, take, None, Some, IfOk};
+ghost use Rattle.std.specs.Prelude.{◌≡◌, ◌<◌, ◌≤◌, [], length, take, Some, IfOk};
+ghost use Rattle.mrt_reader.specs.Before.{fresh};
 ghost use Rattle.stream_lines.specs.Gives.{Gives, Says};
-ghost use Rattle.stream_lines.specs.Units.{Mrt, RecordSays, record_cause as cause_of_fault};
+ghost use Rattle.stream_lines.specs.Units.{Mrt, RecordSays, effect_of, told_by, record_cause as cause_of_fault};
 
 use crate::next::{Effect, Next};
 use av_base::{NoMemory, PIECE};
+use dialects::Writer;
 use held_bytes::{HeldBytes, Room};
-use mrt_reader::{Body, BodyFault, Framer, PeerTable, read_body};
+use mrt_reader::{Before, Beside, Body, BodyFault, Framer, read_body};
+use path_model::Noted;
 use report_text::Cause;
 use std::alloc::Global;
 use std::mem;
@@ -16,28 +19,28 @@ use std::mem;
 pub(crate) struct Records {
     // what was read of the file and belongs to no record yet
     pub(crate) framer: Framer,
-    // the last accepted peer table
-    pub(crate) peers: Option<PeerTable>,
+    // what is known before the next record
+    pub(crate) before: Before,
 }
 
 impl Records {
     /// Nothing was read.
-    pub(crate) fn new(alloc: Global) -> Records
-        ensures { result ≡ record { framer = []; peers = None } }
+    pub(crate) fn new(alloc: Global, writer: Writer) -> Records
+        ensures { result ≡ record { framer = []; before = fresh writer } }
     {
         Records {
             framer: Framer::new(alloc),
-            peers: None,
+            before: Before::new(alloc, writer),
         }
     }
 
     /// Takes the first record off and reads it. None comes where no whole one is held.
     pub(crate) fn next(&mut self, alloc: Global) -> Result<Option<Next>, NoMemory>
-        ensures { IfOk result (Gives (Mrt self.old.peers) self.old.framer
-            (Mrt self.new.peers) self.new.framer) }
+        ensures { IfOk result (Gives (Mrt self.old.before) self.old.framer
+            (Mrt self.new.before) self.new.framer) }
     {
         let reading = match self.framer.next() {
-            Ok(Some(record)) => read_body(alloc, &record, self.peers.as_ref()),
+            Ok(Some(record)) => read_body(alloc, &record, &self.before),
             Ok(None) => return Ok(None),
             Err(_) => return Ok(Some(Next::Broken(Cause::TooLong))),
         };
@@ -48,15 +51,19 @@ impl Records {
     // What a record does that reads so.
     fn take(&mut self, reading: Result<Body, BodyFault>) -> Result<Result<Effect, Cause>, NoMemory>
         ensures framer { self.new.framer ≡ self.old.framer }
-        ensures says { IfOk result (Says (RecordSays self.old.peers reading)
-            (Mrt self.new.peers)) }
+        ensures says { IfOk result (Says (RecordSays self.old.before reading)
+            (Mrt self.new.before)) }
     {
         match reading {
             Ok(Body::Peers(table)) => {
-                self.peers = Some(table);
+                self.before.set_table(table);
                 Ok(Ok(Effect::Note))
             }
-            Ok(Body::Routes(noted)) => Ok(Ok(Effect::Routes(noted))),
+            Ok(Body::Routes(noted, beside)) => {
+                let effect = self.take_routes(noted, beside)?;
+                Ok(Ok(effect))
+            }
+            Ok(Body::Left(asn)) => Ok(Ok(Effect::Leave(asn))),
             Ok(Body::Passed) => Ok(Ok(Effect::Pass)),
             Err(fault) => {
                 let cause = record_cause(fault)?;
@@ -65,12 +72,28 @@ impl Records {
         }
     }
 
+    // What changes do, with what the record tells beside them.
+    fn take_routes(&mut self, noted: Noted, beside: Beside) -> Result<Effect, NoMemory>
+        ensures framer { self.new.framer ≡ self.old.framer }
+        ensures effect { IfOk result (λ effect. effect ≡ effect_of noted beside) }
+        ensures before { IfOk result (λ _. self.new.before ≡ told_by self.old.before beside) }
+    {
+        match beside {
+            Beside::Nothing => Ok(Effect::Routes(noted)),
+            Beside::Own(addr) => {
+                self.before.note_own(addr)?;
+                Ok(Effect::Routes(noted))
+            }
+            Beside::Passed => Ok(Effect::Part(noted)),
+        }
+    }
+
     /// Gives the buffer out, with room for a piece of the file. Nothing is held until it is back.
     pub(crate) fn lend(&mut self, alloc: Global) -> Result<Room, NoMemory>
         ensures held { IfOk result (λ room.
             take room.held room.bytes.items ≡ self.old.framer) }
         ensures room { IfOk result (λ room. room.held < length room.bytes.items) }
-        ensures peers { self.new.peers ≡ self.old.peers }
+        ensures before { self.new.before ≡ self.old.before }
     {
         let framer = mem::replace(&mut self.framer, Framer::new(alloc));
         framer.into_held().into_room(PIECE)

@@ -5,6 +5,8 @@ use Otc::{Absent, As, Malformed};
 use av_base::NoMemory;
 use bgp_attrs::{Attributes, Form, read};
 use bmp_reader::{Body, Framer, PathPeers, View, read_message};
+use dialects::Writer;
+use mrt_reader::Before;
 use path_model::{Notes, Otc};
 use std::alloc::Global;
 
@@ -99,9 +101,12 @@ fn are_notes(notes: &Notes, wants: &[Otc]) -> bool {
 
 // How many records have the notes that they should, up to the first that hasn't.
 fn count_records(alloc: Global, rows: &[(&str, &[Otc])]) -> Result<usize, NoMemory> {
-    let peers = table(alloc, &hex(alloc, TABLE)?)?;
+    let mut before = Before::new(alloc, Writer::Plain);
+    if let Some(table) = table(alloc, &hex(alloc, TABLE)?)? {
+        before.set_table(table);
+    }
     for (place, (text, wants)) in rows.iter().enumerate() {
-        let found = noted(alloc, text, peers.as_ref())?;
+        let found = noted(alloc, text, &before)?;
         if !found.is_some_and(|noted| are_notes(&noted.notes, wants)) {
             return Ok(place);
         }

@@ -4,7 +4,8 @@ use crate::daemons;
 use crate::hex::put_hex;
 use Wanted::{Announce, Remove, RemovePeer};
 use av_base::NoMemory;
-use mrt_reader::{Body, Framer, PeerTable, read_body};
+use dialects::Writer;
+use mrt_reader::{Before, Body, Framer, PeerTable, read_body};
 use path_model::{Addr, Noted, Peer};
 use std::alloc::Global;
 use std::slice::Iter;
@@ -102,18 +103,18 @@ pub(crate) fn joined(alloc: Global, records: &[&str]) -> Result<Vec<u8>, NoMemor
 fn is_next(
     alloc: Global,
     framer: &mut Framer,
-    peers: &mut Option<PeerTable>,
+    before: &mut Before,
     wants: &mut Iter<'_, Wanted>,
 ) -> bool {
     match framer.next() {
-        Ok(Some(record)) => match read_body(alloc, &record, peers.as_ref()) {
+        Ok(Some(record)) => match read_body(alloc, &record, before) {
             Ok(Body::Peers(table)) => {
-                *peers = Some(table);
+                before.set_table(table);
                 true
             }
-            Ok(Body::Routes(noted)) => are_next(&noted, wants),
+            Ok(Body::Routes(noted, _)) => are_next(&noted, wants),
             Ok(Body::Passed) => true,
-            Err(_) => false,
+            Ok(Body::Left(_)) | Err(_) => false,
         },
         _ => false,
     }
@@ -127,10 +128,10 @@ pub(crate) fn is_read(
     wants: &[Wanted],
 ) -> Result<bool, NoMemory> {
     let mut framer = Framer::new(alloc).feed(stream)?;
-    let mut peers = None;
+    let mut before = Before::new(alloc, Writer::Plain);
     let mut wants = wants.iter();
     for _ in 0..records {
-        if !is_next(alloc, &mut framer, &mut peers, &mut wants) {
+        if !is_next(alloc, &mut framer, &mut before, &mut wants) {
             return Ok(false);
         }
     }
@@ -158,7 +159,7 @@ fn records_say_what_they_should(rt: HostRuntime) -> Result<(), NoMemory> {
 pub(crate) fn table(alloc: Global, stream: &[u8]) -> Result<Option<PeerTable>, NoMemory> {
     let mut framer = Framer::new(alloc).feed(stream)?;
     match framer.next() {
-        Ok(Some(record)) => match read_body(alloc, &record, None) {
+        Ok(Some(record)) => match read_body(alloc, &record, &Before::new(alloc, Writer::Plain)) {
             Ok(Body::Peers(table)) => Ok(Some(table.copy()?)),
             _ => Ok(None),
         },
@@ -166,16 +167,16 @@ pub(crate) fn table(alloc: Global, stream: &[u8]) -> Result<Option<PeerTable>, N
     }
 }
 
-/// The changes of one record, behind a peer table.
+/// The changes of one record, by what is known before it.
 pub(crate) fn noted(
     alloc: Global,
     text: &str,
-    peers: Option<&PeerTable>,
+    before: &Before,
 ) -> Result<Option<Noted>, NoMemory> {
     let mut framer = Framer::new(alloc).feed(&joined(alloc, &[text])?)?;
     match framer.next() {
-        Ok(Some(record)) => match read_body(alloc, &record, peers) {
-            Ok(Body::Routes(noted)) => Ok(Some(noted)),
+        Ok(Some(record)) => match read_body(alloc, &record, before) {
+            Ok(Body::Routes(noted, _)) => Ok(Some(noted)),
             _ => Ok(None),
         },
         _ => Ok(None),
@@ -223,9 +224,9 @@ fn fed(alloc: Global, stream: &[u8], size: usize) -> Result<Framer, NoMemory> {
 
 // How many records there are up to the first that makes another change than a table or the route.
 fn count(alloc: Global, mut framer: Framer, most: usize) -> usize {
-    let mut peers = None;
+    let mut before = Before::new(alloc, Writer::Plain);
     for place in 0..most {
-        if !is_next(alloc, &mut framer, &mut peers, &mut [ROUTE].iter()) {
+        if !is_next(alloc, &mut framer, &mut before, &mut [ROUTE].iter()) {
             return place;
         }
     }

@@ -1,5 +1,6 @@
 //! Lines by themselves, and what each is read as: of each command some that are right, and some wrong in the number of words, in a spelling
 //! and in a number.
+use dialects::Writer;
 use path_model::{Role, Verdict};
 use script_lines::LineFault;
 
@@ -18,7 +19,7 @@ pub(crate) enum Reading {
     At(u32),
     Role(u32, Role),
     RoleDefault(Role),
-    Open(&'static str, &'static str),
+    Open(&'static str, &'static str, Writer),
     // of the view `post`, or `pre`
     Bmp(&'static str, &'static str, bool),
     Take(&'static str, u32),
@@ -132,7 +133,22 @@ pub(crate) const DUMPS: [Row; 22] = [
     (b"role default", Reading::Refused(LineFault::Words)),
     (b"role x nobody", Reading::Refused(LineFault::Words)),
     (b"role x customer", Reading::Refused(LineFault::Number)),
-    (b"open d updates.mrt", Reading::Open("d", "updates.mrt")),
+    (
+        b"open d updates.mrt",
+        Reading::Open("d", "updates.mrt", Writer::Plain),
+    ),
+    (
+        b"open d updates.mrt any",
+        Reading::Open("d", "updates.mrt", Writer::Any),
+    ),
+    (
+        b"open d updates.mrt openbgpd",
+        Reading::Open("d", "updates.mrt", Writer::OpenBgpd),
+    ),
+    (
+        b"open d updates.mrt quagga",
+        Reading::Refused(LineFault::Words),
+    ),
     (b"open d", Reading::Refused(LineFault::Words)),
     (b"bmp b f pre", Reading::Bmp("b", "f", false)),
     (b"bmp b f post", Reading::Bmp("b", "f", true)),

@@ -34,8 +34,8 @@ fn is_read_so(read: &Result<Command, LineFault>, reading: Reading) -> bool {
             *asn == wanted && *role == of
         }
         (Ok(Command::RoleDefault(role)), Reading::RoleDefault(of)) => *role == of,
-        (Ok(Command::Open(name, file)), Reading::Open(called, of)) => {
-            name.text() == called && file.text() == of
+        (Ok(Command::Open(name, file, writer)), Reading::Open(called, of, by)) => {
+            name.text() == called && file.text() == of && *writer == by
         }
         (Ok(Command::Bmp(name, file, post)), Reading::Bmp(called, of, wanted)) => {
             name.text() == called && file.text() == of && *post == wanted

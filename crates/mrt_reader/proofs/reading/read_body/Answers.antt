@@ -1,6 +1,4 @@
 use Rattle.std.proofs.Common.{◌≡◌, List, ℕ, sym, ◌∙◌, subst}
-use Rattle.std.specs.Option.{option_copied}
-use Rattle.path_model.specs.declared.peer.Peer.{Peer}
 use Rattle.mrt_reader.specs.declared.layout.Layout.{Layout}
 use Rattle.mrt_reader.specs.declared.layout.Layout.TheVariants.{PeerIndex, Dump, Message, State}
 use Rattle.mrt_reader.specs.Bodies.{LayoutSays, MessageSays, OrNoMemory, StateSays, TableSays}
@@ -9,7 +7,7 @@ use Rattle.mrt_reader.specs.Layouts.{layout_of}
 use Rattle.mrt_reader.specs.Peers.{IsPeerTable}
 use Rattle.mrt_reader.specs.Readers.{dump_at, message_at, state_at, table_at}
 use Rattle.mrt_reader.specs.Routes.{DumpSays}
-use Rattle.mrt_reader.specs.Sessions.{IsRecordedMessage, IsStateChange}
+use Rattle.mrt_reader.specs.Sessions.{Session, IsRecordedMessage, IsStateChange}
 use Rattle.mrt_reader.proofs.DumpLemmas.{dump_reads}
 use Rattle.mrt_reader.proofs.FormLemmas.{or_by_form}
 use Rattle.mrt_reader.proofs.SessionLemmas.{message_reads, state_reads}
@@ -20,26 +18,26 @@ pub returns-in-PeerIndex : goal.returns-in-PeerIndex
 returns-in-PeerIndex c =
     let body = c.args.unit.now.body.now in
     let is : layout_of c.args.unit.now.kind c.args.unit.now.subkind ≡ PeerIndex = sym c.layout_of.ensures ∙ c.in-PeerIndex.is in
-    subst (λ (layout : Layout). OrNoMemory (λ r. LayoutSays layout (option_copied c.args.peers) body r) c.read_table.result) (sym is)
+    subst (λ (layout : Layout). OrNoMemory (λ r. LayoutSays layout c.args.before.now body r) c.read_table.result) (sym is)
     (or_by_form (IsPeerTable body) TableSays (table_at body) c.read_table.result (table_reads body) c.read_table.ensures)
 
 pub returns-in-Dump : goal.returns-in-Dump
 returns-in-Dump c =
     let body = c.args.unit.now.body.now in
     let is : layout_of c.args.unit.now.kind c.args.unit.now.subkind ≡ Dump c.in-Dump.six = sym c.layout_of.ensures ∙ c.in-Dump.is in
-    subst (λ (layout : Layout). OrNoMemory (λ r. LayoutSays layout (option_copied c.args.peers) body r) c.read_dump.result) (sym is)
+    subst (λ (layout : Layout). OrNoMemory (λ r. LayoutSays layout c.args.before.now body r) c.read_dump.result) (sym is)
     (or_by_form (IsTableDump c.in-Dump.six body) DumpSays (dump_at c.in-Dump.six body) c.read_dump.result (dump_reads c.in-Dump.six body) c.read_dump.ensures)
 
 pub returns-in-Message : goal.returns-in-Message
 returns-in-Message c =
     let body = c.args.unit.now.body.now in
     let is : layout_of c.args.unit.now.kind c.args.unit.now.subkind ≡ Message c.in-Message.timed c.in-Message.wide c.in-Message.add_path = sym c.layout_of.ensures ∙ c.in-Message.is in
-    subst (λ (layout : Layout). OrNoMemory (λ r. LayoutSays layout (option_copied c.args.peers) body r) c.read_message.result) (sym is)
-    (or_by_form (λ (it : Peer × List ℕ). IsRecordedMessage c.in-Message.timed c.in-Message.wide body it.0 it.1) (MessageSays c.in-Message.wide c.in-Message.add_path) (message_at c.in-Message.timed c.in-Message.wide body) c.read_message.result (message_reads c.in-Message.timed c.in-Message.wide body) c.read_message.ensures)
+    subst (λ (layout : Layout). OrNoMemory (λ r. LayoutSays layout c.args.before.now body r) c.read_message.result) (sym is)
+    (or_by_form (λ (it : Session × List ℕ). IsRecordedMessage c.in-Message.timed c.in-Message.wide body it.0 it.1) (MessageSays c.in-Message.wide c.in-Message.add_path) (message_at c.in-Message.timed c.in-Message.wide body) c.read_message.result (message_reads c.in-Message.timed c.in-Message.wide body) c.read_message.ensures)
 
 pub returns-in-State : goal.returns-in-State
 returns-in-State c =
     let body = c.args.unit.now.body.now in
     let is : layout_of c.args.unit.now.kind c.args.unit.now.subkind ≡ State c.in-State.timed c.in-State.wide = sym c.layout_of.ensures ∙ c.in-State.is in
-    subst (λ (layout : Layout). OrNoMemory (λ r. LayoutSays layout (option_copied c.args.peers) body r) c.read_state.result) (sym is)
-    (or_by_form (λ (it : Peer × ℕ). IsStateChange c.in-State.timed c.in-State.wide body it.0 it.1) StateSays (state_at c.in-State.timed c.in-State.wide body) c.read_state.result (state_reads c.in-State.timed c.in-State.wide body) c.read_state.ensures)
+    subst (λ (layout : Layout). OrNoMemory (λ r. LayoutSays layout c.args.before.now body r) c.read_state.result) (sym is)
+    (or_by_form (IsStateChange c.in-State.timed c.in-State.wide body) (StateSays c.args.before.now) (state_at c.in-State.timed c.in-State.wide body) c.read_state.result (state_reads c.in-State.timed c.in-State.wide body) c.read_state.ensures)

@@ -11,7 +11,7 @@ use Rattle.mrt_reader.proofs.routing.routes_of_entries.Goals as goal
 pub returns-in_err-put_route-in-Some-get : goal.returns-in_err-put_route-in-Some-get
 returns-in_err-put_route-in-Some-get c =
     let p = err_from_is_err_and c.from_residual-in_err-put_route-in-Some-get.result c.from_residual-in_err-put_route-in-Some-get.ensures.1 in
-    rw (p.1, p.2) (stops c.args.peers.now c.args.prefix.now (entries_left c.args.entries) (entries_left c.loop-entry.entry-iterator) (entries_left c.next.new.self) (entry_of c.in-Some.entry) c.loop-entry.noted c.put_route.new.noted c.loop-entry.no_path
+    rw (p.1, p.2) (stops c.args.writer c.args.peers.now c.args.prefix.now (entries_left c.args.entries) (entries_left c.loop-entry.entry-iterator) (entries_left c.next.new.self) (entry_of c.in-Some.entry) c.loop-entry.noted c.put_route.new.noted c.loop-entry.no_path
     (key_of c.in-Some-get.peer (nlri_in c.args.prefix.now (entry_of c.in-Some.entry))) c.in_err-put_route-in-Some-get.field-0.0 c.loop-entry.invariant c.in-Some.ensures.steps c.if-not-are_within.ensures c.in_err-put_route-in-Some-get.ensures)
 
 pub loop-entry-preserved-then-not-branch : goal.loop-entry-preserved-then-not-branch

@@ -1,8 +1,11 @@
 use Rattle.std.proofs.Common.{ℕ, Option, subst}
+use Rattle.std.specs.Prelude.{unwrap_or}
 use Rattle.std.proofs.lemmas.Iterator.Adapters.{option_map_id}
+use Rattle.dialects.specs.declared.writer.Writer.{Writer}
+use Rattle.dialects.specs.declared.writer.Writer.TheVariants.{Plain}
 use Rattle.path_model.specs.declared.verdict.Verdict.{Verdict}
 use Rattle.av_text.specs.Words.{words_left}
-use Rattle.script_lines.specs.declared.commands.Command.TheVariants.{Attests, Details, Why}
+use Rattle.script_lines.specs.declared.commands.Command.TheVariants.{Attests, Details, Open, Why}
 use Rattle.script_lines.specs.declared.commands.CommandName.TheVariants.{Aspa as AspaName, Aspa64 as Aspa64Name, Validated as ValidatedName, Slurm as SlurmName, Filter as FilterName, Unfilter as UnfilterName, Assert as AssertName, Unassert as UnassertName, At as AtName, Role as RoleName, Open as OpenName, Bmp as BmpName, Take as TakeName, Until as UntilName, Feed as FeedName, Ask as AskName, Sync as SyncName, Serve as ServeName, Judge as JudgeName, Clear as ClearName, Changes as ChangesName, Why as WhyName, Details as DetailsName, Say as SayName, Report as ReportName, Origins as OriginsName, Leaks as LeaksName, Suspects as SuspectsName, Peers as PeersName, Sent as SentName, Explain as ExplainName, Attests as AttestsName, Neighbours as NeighboursName, Routes as RoutesName, Silent as SilentName, Summary as SummaryName}
 use Rattle.script_lines.specs.Commands.{made_by, SpellsCommand}
 use Rattle.script_lines.proofs.ExplainLemmas.{explained_spelled}
@@ -39,7 +42,10 @@ pub returns-in_ok-whom-in-Role-clause-spelled : goal.returns-in_ok-whom-in-Role-
 returns-in_ok-whom-in-Role-clause-spelled c = rw (c.in-Role.is, c.role_command.ensures) (c.in_ok-whom-in-Role.ensures.spelled (made_by RoleName))
 
 pub returns-in_ok-name-in-Open-clause-spelled : goal.returns-in_ok-name-in-Open-clause-spelled
-returns-in_ok-name-in-Open-clause-spelled c = rw c.in-Open.is (c.in_ok-name-in-Open.ensures.spelled (made_by OpenName))
+returns-in_ok-name-in-Open-clause-spelled c =
+    let found = c.in_ok-name-in-Open in
+    let P : Option Writer → Type 0 = λ writer. SpellsCommand OpenName (words_left c.args.words) (Open found.name found.file (unwrap_or writer Plain)) in
+    rw c.in-Open.is (subst P (option_map_id found.writer) (found.ensures.spelled (made_by OpenName)))
 
 pub returns-in_ok-name-in-Bmp-clause-spelled : goal.returns-in_ok-name-in-Bmp-clause-spelled
 returns-in_ok-name-in-Bmp-clause-spelled c = rw c.in-Bmp.is (c.in_ok-name-in-Bmp.ensures.spelled (made_by BmpName))

@@ -1,11 +1,9 @@
 use Rattle.std.proofs.Common.{◌≡◌, ℕ, List, Ok, Some, ap, subst, sym, ◌∙◌}
 use Rattle.std.specs.declared.option.Option.{Option}
 use Rattle.std.specs.declared.result.Result.{Result}
-use Rattle.path_model.specs.declared.peer.Peer.{Peer}
 use Rattle.held_bytes.specs.Units.{Begins}
 use Rattle.mrt_reader.specs.declared.fault.FrameFault.{FrameFault}
 use Rattle.mrt_reader.specs.declared.framer.Record.{Record}
-use Rattle.mrt_reader.specs.Bodies.{IsOutcome}
 use Rattle.mrt_reader.specs.Coming.{Answers, recorded}
 use Rattle.mrt_reader.specs.Records.{IsRecord}
 use Rattle.stream_lines.specs.Units.{Mrt}
@@ -16,6 +14,6 @@ pub returns : goal.returns
 returns c =
     let is : c.next.result ≡ Ok (Some c.in-Ok-Some.record) = c.in-Ok-Some.is ∙ ap (λ (o : Option Record). Ok o) c.in-Ok-Some.field-0-is in
     let begins = subst (λ (r : Result (Option Record) FrameFault). Answers c.args.self.now.framer c.next.follows.lender-at-none r) is c.next.follows.holds-at-none in
-    gives_record c.args.self.now.peers c.args.self.now.framer c.take.new.self.framer (recorded c.in-Ok-Some.record) c.read_body-reading.result (Mrt c.take.new.self.peers) c.in_ok-effect.effect
+    gives_record c.args.self.now.before c.args.self.now.framer c.take.new.self.framer (recorded c.in-Ok-Some.record) c.read_body-reading.result (Mrt c.take.new.self.before) c.in_ok-effect.effect
     (subst (λ (t : List ℕ). Begins IsRecord c.args.self.now.framer (recorded c.in-Ok-Some.record) t) (sym c.in_ok-effect.ensures.framer) begins)
-    (subst (λ (p : Option (List Peer)). IsOutcome (recorded c.in-Ok-Some.record) p c.read_body-reading.result) c.as_ref.ensures.value c.read_body-reading.ensures) c.in_ok-effect.ensures.says
+    c.read_body-reading.ensures c.in_ok-effect.ensures.says

@@ -1,0 +1,10 @@
+//! Who wrote a dump, and the rules of reading that follow from it.
+//!
+//! The formats of dumps (RFC 6396, RFC 7854) leave open what daemons write differently, and daemons depart from them. The layers above use
+//! one contract, that of [`Writer::has`]: whether a rule holds for what a writer wrote. The table stands in `specs/Dialect.antt`; begin
+//! reading there.
+#![tactic(auto)]
+
+mod writer;
+
+pub use writer::{Rule, Writer};

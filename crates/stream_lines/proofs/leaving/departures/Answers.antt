@@ -1,0 +1,1 @@
+use Rattle.stream_lines.proofs.leaving.departures.Goals as goal
