@@ -9,6 +9,8 @@ use Rattle.path_model.specs.declared.nlri.Nlri.{Nlri}
 use Rattle.bgp_attrs.specs.Prefixes.{IsNlri}
 use Rattle.bgp_attrs.proofs.NlriLemmas.{nlri_reader}
 use Rattle.bgp_attrs.specs.declared.form.Form.{Form}
+use Rattle.bgp_attrs.specs.declared.identified.Identified.{Identified}
+use Rattle.bgp_attrs.specs.Identified.{identifies}
 use Rattle.bgp_attrs.specs.declared.form.Form.TheVariants.{Table, Message}
 use Rattle.bgp_attrs.specs.Attributes.{contents_of, first_of}
 use Rattle.bgp_attrs.specs.Reading.{Reading, Reads, Allows, IsPath, IsPath4, aggregator_of, has_length, otc_of, family_of, IsReachOf, IsReach, IsUnreachOf, IsUnreach, IsOnly, IsRead}
@@ -39,30 +41,30 @@ path4_same : (wide : Bool) (content : Option (List ℕ)) (x y : Option (List (�
 path4_same true content x y p q = p ∙ sym q
 path4_same false content x y p q = allows_same (IsPath true) (path_same true) content x y p q
 
-reach_of_same : (add_path : Bool) (family : Option Bool) (rest : List ℕ) (x y : Option (List Nlri)) → IsReachOf add_path family rest x → IsReachOf add_path family rest y → x ≡ y
-reach_of_same add_path None rest x y p q = p ∙ sym q
-reach_of_same add_path (Some six) [] x y p q = absurd p
-reach_of_same add_path (Some six) (count ∷ rest) None y p q = absurd p
-reach_of_same add_path (Some six) (count ∷ rest) (Some x) None p q = absurd q
-reach_of_same add_path (Some six) (count ∷ rest) (Some x) (Some y) p q = ap Some (joined_same (nlri_reader add_path six) _ x y p.1 q.1)
+reach_of_same : (ids : Identified) (family : Option Bool) (rest : List ℕ) (x y : Option (List Nlri)) → IsReachOf ids family rest x → IsReachOf ids family rest y → x ≡ y
+reach_of_same ids None rest x y p q = p ∙ sym q
+reach_of_same ids (Some six) [] x y p q = absurd p
+reach_of_same ids (Some six) (count ∷ rest) None y p q = absurd p
+reach_of_same ids (Some six) (count ∷ rest) (Some x) None p q = absurd q
+reach_of_same ids (Some six) (count ∷ rest) (Some x) (Some y) p q = ap Some (joined_same (nlri_reader (identifies ids six) six) _ x y p.1 q.1)
 
-reach_same : (add_path : Bool) (content : List ℕ) (x y : Option (List Nlri)) → IsReach add_path content x → IsReach add_path content y → x ≡ y
-reach_same add_path [] x y p q = absurd p
-reach_same add_path (a ∷ []) x y p q = absurd p
-reach_same add_path (a ∷ b ∷ []) x y p q = absurd p
-reach_same add_path (a ∷ b ∷ safi ∷ rest) x y p q = reach_of_same add_path (family_of (from_be_bytes w16 (a ∷ b ∷ [])) safi) rest x y p q
+reach_same : (ids : Identified) (content : List ℕ) (x y : Option (List Nlri)) → IsReach ids content x → IsReach ids content y → x ≡ y
+reach_same ids [] x y p q = absurd p
+reach_same ids (a ∷ []) x y p q = absurd p
+reach_same ids (a ∷ b ∷ []) x y p q = absurd p
+reach_same ids (a ∷ b ∷ safi ∷ rest) x y p q = reach_of_same ids (family_of (from_be_bytes w16 (a ∷ b ∷ [])) safi) rest x y p q
 
-unreach_of_same : (add_path : Bool) (family : Option Bool) (rest : List ℕ) (x y : Option (List Nlri)) → IsUnreachOf add_path family rest x → IsUnreachOf add_path family rest y → x ≡ y
-unreach_of_same add_path None rest x y p q = p ∙ sym q
-unreach_of_same add_path (Some six) rest None y p q = absurd p
-unreach_of_same add_path (Some six) rest (Some x) None p q = absurd q
-unreach_of_same add_path (Some six) rest (Some x) (Some y) p q = ap Some (joined_same (nlri_reader add_path six) rest x y p q)
+unreach_of_same : (ids : Identified) (family : Option Bool) (rest : List ℕ) (x y : Option (List Nlri)) → IsUnreachOf ids family rest x → IsUnreachOf ids family rest y → x ≡ y
+unreach_of_same ids None rest x y p q = p ∙ sym q
+unreach_of_same ids (Some six) rest None y p q = absurd p
+unreach_of_same ids (Some six) rest (Some x) None p q = absurd q
+unreach_of_same ids (Some six) rest (Some x) (Some y) p q = ap Some (joined_same (nlri_reader (identifies ids six) six) rest x y p q)
 
-unreach_same : (add_path : Bool) (content : List ℕ) (x y : Option (List Nlri)) → IsUnreach add_path content x → IsUnreach add_path content y → x ≡ y
-unreach_same add_path [] x y p q = absurd p
-unreach_same add_path (a ∷ []) x y p q = absurd p
-unreach_same add_path (a ∷ b ∷ []) x y p q = absurd p
-unreach_same add_path (a ∷ b ∷ safi ∷ rest) x y p q = unreach_of_same add_path (family_of (from_be_bytes w16 (a ∷ b ∷ [])) safi) rest x y p q
+unreach_same : (ids : Identified) (content : List ℕ) (x y : Option (List Nlri)) → IsUnreach ids content x → IsUnreach ids content y → x ≡ y
+unreach_same ids [] x y p q = absurd p
+unreach_same ids (a ∷ []) x y p q = absurd p
+unreach_same ids (a ∷ b ∷ []) x y p q = absurd p
+unreach_same ids (a ∷ b ∷ safi ∷ rest) x y p q = unreach_of_same ids (family_of (from_be_bytes w16 (a ∷ b ∷ [])) safi) rest x y p q
 
 only_same : (S : List ℕ → Option (List Nlri) → Type 0) → Determined S → (form : Form) (contents : List (List ℕ)) (x y : Option (List Nlri)) → IsOnly S form contents x → IsOnly S form contents y → x ≡ y
 only_same S d Table contents x y p q = p ∙ sym q
@@ -70,8 +72,8 @@ only_same S d Message [] x y p q = p ∙ sym q
 only_same S d Message (c ∷ []) x y p q = d c x y p q
 only_same S d Message (c ∷ e ∷ contents) x y p q = absurd p
 
-pub reading_same : (wide : Bool) (form : Form) (add_path : Bool) (bytes : List ℕ) (x y : Reading) → IsRead wide form add_path bytes x → IsRead wide form add_path bytes y → x ≡ y
-reading_same wide form add_path bytes x y p q =
+pub reading_same : (wide : Bool) (form : Form) (ids : Identified) (bytes : List ℕ) (x y : Reading) → IsRead wide form ids bytes x → IsRead wide form ids bytes y → x ≡ y
+reading_same wide form ids bytes x y p q =
     let fields : p.fields ≡ q.fields = joined_same field_reader bytes p.fields q.fields p.spelled q.spelled in
     let of : (kind : ℕ) → contents_of kind p.fields ≡ contents_of kind q.fields = λ kind. ap (contents_of kind) fields in
     let path = reads_same (IsPath wide) (path_same wide) (first_of (contents_of 2 q.fields)) x.path y.path (subst (λ (cs : List (List ℕ)). Reads (IsPath wide) (first_of cs) x.path) (of 2) p.path) q.path in
@@ -79,8 +81,8 @@ reading_same wide form add_path bytes x y p q =
     let aggregator : x.aggregator ≡ y.aggregator = p.aggregator ∙ ap (λ (cs : List (List ℕ)). aggregator_of wide (first_of cs)) (of 7) ∙ sym q.aggregator in
     let aggregator4 : x.aggregator4 ≡ y.aggregator4 = p.aggregator4 ∙ ap (λ (cs : List (List ℕ)). has_length 8 (first_of cs)) (of 18) ∙ sym q.aggregator4 in
     let otc : x.otc ≡ y.otc = p.otc ∙ ap (λ (cs : List (List ℕ)). otc_of (first_of cs)) (of 35) ∙ sym q.otc in
-    let announced = only_same (IsReach add_path) (reach_same add_path) form (contents_of 14 q.fields) x.announced y.announced (subst (λ (cs : List (List ℕ)). IsOnly (IsReach add_path) form cs x.announced) (of 14) p.announced) q.announced in
-    let withdrawn = only_same (IsUnreach add_path) (unreach_same add_path) form (contents_of 15 q.fields) x.withdrawn y.withdrawn (subst (λ (cs : List (List ℕ)). IsOnly (IsUnreach add_path) form cs x.withdrawn) (of 15) p.withdrawn) q.withdrawn in
+    let announced = only_same (IsReach ids) (reach_same ids) form (contents_of 14 q.fields) x.announced y.announced (subst (λ (cs : List (List ℕ)). IsOnly (IsReach ids) form cs x.announced) (of 14) p.announced) q.announced in
+    let withdrawn = only_same (IsUnreach ids) (unreach_same ids) form (contents_of 15 q.fields) x.withdrawn y.withdrawn (subst (λ (cs : List (List ℕ)). IsOnly (IsUnreach ids) form cs x.withdrawn) (of 15) p.withdrawn) q.withdrawn in
     λ i. record { path = path i; path4 = path4 i; aggregator = aggregator i; aggregator4 = aggregator4 i; otc = otc i; announced = announced i; withdrawn = withdrawn i }
 
 pub no_prefix_begins_another : (add_path six : Bool) (bytes : List ℕ) (one other : Nlri) (rest more : List ℕ) → Begins (IsNlri add_path six) bytes one rest → Begins (IsNlri add_path six) bytes other more → (one ≡ other) × (rest ≡ more)

@@ -2,6 +2,7 @@
 use Rattle.std.specs.Prelude.{◌≡◌, ℕ, ◌<◌, ◌≤◌, ◌↔◌, Bool, List, ◌++◌, length, ◌⊎◌}
 use Rattle.path_model.specs.declared.nlri.Nlri.{Nlri}
 use Rattle.bgp_attrs.specs.declared.form.Form.{Form}
+use Rattle.bgp_attrs.specs.declared.identified.Identified.{Identified}
 use Rattle.held_bytes.specs.Divided.{NoneBeginsAnother}
 use Rattle.bgp_attrs.specs.declared.items.Item.{Item}
 use Rattle.bgp_attrs.specs.Joined.{IsJoined}
@@ -11,11 +12,11 @@ use Rattle.bgp_attrs.specs.Reading.{Reading, IsRead, IsUnreadable}
 
 -- path attributes have one reading, if any
 abbrev pub AttributesHaveOneReading : Type 0
-AttributesHaveOneReading = (wide : Bool) (form : Form) (add_path : Bool) (bytes : List ℕ) (one other : Reading) → IsRead wide form add_path bytes one → IsRead wide form add_path bytes other → one ≡ other
+AttributesHaveOneReading = (wide : Bool) (form : Form) (ids : Identified) (bytes : List ℕ) (one other : Reading) → IsRead wide form ids bytes one → IsRead wide form ids bytes other → one ≡ other
 
 -- bytes have a reading as path attributes, or they have none: it is always one of the two
 abbrev pub AttributesReadOrNot : Type 0
-AttributesReadOrNot = (wide : Bool) (form : Form) (add_path : Bool) (bytes : List ℕ) → ((value : Reading) × IsRead wide form add_path bytes value) ⊎ IsUnreadable wide form add_path bytes
+AttributesReadOrNot = (wide : Bool) (form : Form) (ids : Identified) (bytes : List ℕ) → ((value : Reading) × IsRead wide form ids bytes value) ⊎ IsUnreadable wide form ids bytes
 
 -- No prefix's spelling, with or without a path identifier, begins another one: what follows, and the prefix itself, are determined.
 abbrev pub NoPrefixBeginsAnother : Type 0

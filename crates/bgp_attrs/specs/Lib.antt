@@ -1,6 +1,7 @@
 pub mod Attributes
 pub mod Blocks
 pub mod Fixed
+pub mod Identified
 pub mod Joined
 pub mod Laws
 pub mod Left

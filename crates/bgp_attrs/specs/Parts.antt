@@ -5,6 +5,7 @@ use Rattle.std.specs.declared.option.Option.{Option}
 use Rattle.path_model.specs.declared.nlri.Nlri.{Nlri}
 use Rattle.bgp_attrs.specs.declared.finding.Firsts.{Firsts}
 use Rattle.bgp_attrs.specs.declared.form.Form.{Form}
+use Rattle.bgp_attrs.specs.declared.identified.Identified.{Identified}
 use Rattle.bgp_attrs.specs.declared.pieces.AttributeList.{AttributeList}
 use Rattle.bgp_attrs.specs.declared.pieces.Segments.{Segments}
 use Rattle.bgp_attrs.specs.Attributes.{Field, contents_of, first_content}
@@ -43,20 +44,20 @@ abbrev pub HasBadPath : Bool → AttributeList → Type 0
 HasBadPath wide list = (value : Option (List Segment)) → IsPathIn wide list value → ⊥
 
 -- the prefixes of the MP_REACH_NLRI
-abbrev pub IsAnnouncedIn : Bool → Form → AttributeList → Option (List Nlri) → Type 0
-IsAnnouncedIn add_path form list value = IsOnly (IsReach add_path) form (contents_in 14 list) value
+abbrev pub IsAnnouncedIn : Identified → Form → AttributeList → Option (List Nlri) → Type 0
+IsAnnouncedIn ids form list value = IsOnly (IsReach ids) form (contents_in 14 list) value
 
 -- it isn't in form, or repeated
-abbrev pub HasBadReach : Bool → Form → AttributeList → Type 0
-HasBadReach add_path form list = (value : Option (List Nlri)) → IsAnnouncedIn add_path form list value → ⊥
+abbrev pub HasBadReach : Identified → Form → AttributeList → Type 0
+HasBadReach ids form list = (value : Option (List Nlri)) → IsAnnouncedIn ids form list value → ⊥
 
 -- the prefixes of the MP_UNREACH_NLRI
-abbrev pub IsWithdrawnIn : Bool → Form → AttributeList → Option (List Nlri) → Type 0
-IsWithdrawnIn add_path form list value = IsOnly (IsUnreach add_path) form (contents_in 15 list) value
+abbrev pub IsWithdrawnIn : Identified → Form → AttributeList → Option (List Nlri) → Type 0
+IsWithdrawnIn ids form list value = IsOnly (IsUnreach ids) form (contents_in 15 list) value
 
 -- it isn't in form, or repeated
-abbrev pub HasBadUnreach : Bool → Form → AttributeList → Type 0
-HasBadUnreach add_path form list = (value : Option (List Nlri)) → IsWithdrawnIn add_path form list value → ⊥
+abbrev pub HasBadUnreach : Identified → Form → AttributeList → Type 0
+HasBadUnreach ids form list = (value : Option (List Nlri)) → IsWithdrawnIn ids form list value → ⊥
 
 -- the content gives no such prefixes
 abbrev pub GivesNone : (List ℕ → Option (List Nlri) → Type 0) → List ℕ → Type 0

@@ -10,6 +10,8 @@ use Rattle.bgp_attrs.specs.declared.form.Form.{Form}
 use Rattle.bgp_attrs.specs.declared.form.Form.TheVariants.{Table, Message}
 use Rattle.bgp_attrs.specs.Attributes.{Field, IsField, contents_of, first_content}
 use Rattle.bgp_attrs.specs.Fixed.{as_width}
+use Rattle.bgp_attrs.specs.Identified.{identifies}
+use Rattle.bgp_attrs.specs.declared.identified.Identified.{Identified}
 use Rattle.bgp_attrs.specs.Joined.{IsJoined}
 use Rattle.bgp_attrs.specs.Prefixes.{IsNlri}
 use Rattle.bgp_attrs.specs.Segments.{Segment, IsSegment, ases_of}
@@ -64,33 +66,33 @@ otc_of (Some content) = if length content == 4 then As (from_be_bytes w32 conten
 abbrev pub family_of : ℕ → ℕ → Option Bool
 family_of afi safi = if (afi == 2) && (safi == 1) then Some true else (if (afi == 1) && (safi == 1) then Some false else None)
 
--- behind the family: a next hop behind its length, one reserved byte, prefixes; the flag says that each prefix has a path identifier
--- before it (RFC 7911, section 3)
-abbrev pub IsReachOf : Bool → Option Bool → List ℕ → Option (List Nlri) → Type 0
-IsReachOf add_path None rest value = value ≡ None
-IsReachOf add_path (Some six) (count ∷ rest) (Some prefixes) = (count + 1 ≤ length rest) × IsJoined (IsNlri add_path six) (drop (count + 1) rest) prefixes
-IsReachOf add_path (Some six) (count ∷ rest) None = ⊥
-IsReachOf add_path (Some six) [] value = ⊥
+-- behind the family: a next hop behind its length, one reserved byte, prefixes, where the family says so each with a path identifier before it
+-- (RFC 7911, section 3)
+abbrev pub IsReachOf : Identified → Option Bool → List ℕ → Option (List Nlri) → Type 0
+IsReachOf ids None rest value = value ≡ None
+IsReachOf ids (Some six) (count ∷ rest) (Some prefixes) = (count + 1 ≤ length rest) × IsJoined (IsNlri (identifies ids six) six) (drop (count + 1) rest) prefixes
+IsReachOf ids (Some six) (count ∷ rest) None = ⊥
+IsReachOf ids (Some six) [] value = ⊥
 
 -- MP_REACH_NLRI: two bytes of AFI, one of SAFI; of a family that isn't unicast of IPv4 or IPv6 the rest is unread
-abbrev pub IsReach : Bool → List ℕ → Option (List Nlri) → Type 0
-IsReach add_path (high ∷ low ∷ safi ∷ rest) value = IsReachOf add_path (family_of (from_be_bytes w16 (high ∷ low ∷ [])) safi) rest value
-IsReach add_path (high ∷ low ∷ []) value = ⊥
-IsReach add_path (high ∷ []) value = ⊥
-IsReach add_path [] value = ⊥
+abbrev pub IsReach : Identified → List ℕ → Option (List Nlri) → Type 0
+IsReach ids (high ∷ low ∷ safi ∷ rest) value = IsReachOf ids (family_of (from_be_bytes w16 (high ∷ low ∷ [])) safi) rest value
+IsReach ids (high ∷ low ∷ []) value = ⊥
+IsReach ids (high ∷ []) value = ⊥
+IsReach ids [] value = ⊥
 
 -- behind the family: prefixes
-abbrev pub IsUnreachOf : Bool → Option Bool → List ℕ → Option (List Nlri) → Type 0
-IsUnreachOf add_path None rest value = value ≡ None
-IsUnreachOf add_path (Some six) rest None = ⊥
-IsUnreachOf add_path (Some six) rest (Some prefixes) = IsJoined (IsNlri add_path six) rest prefixes
+abbrev pub IsUnreachOf : Identified → Option Bool → List ℕ → Option (List Nlri) → Type 0
+IsUnreachOf ids None rest value = value ≡ None
+IsUnreachOf ids (Some six) rest None = ⊥
+IsUnreachOf ids (Some six) rest (Some prefixes) = IsJoined (IsNlri (identifies ids six) six) rest prefixes
 
 -- MP_UNREACH_NLRI: the same without a next hop
-abbrev pub IsUnreach : Bool → List ℕ → Option (List Nlri) → Type 0
-IsUnreach add_path (high ∷ low ∷ safi ∷ rest) value = IsUnreachOf add_path (family_of (from_be_bytes w16 (high ∷ low ∷ [])) safi) rest value
-IsUnreach add_path (high ∷ low ∷ []) value = ⊥
-IsUnreach add_path (high ∷ []) value = ⊥
-IsUnreach add_path [] value = ⊥
+abbrev pub IsUnreach : Identified → List ℕ → Option (List Nlri) → Type 0
+IsUnreach ids (high ∷ low ∷ safi ∷ rest) value = IsUnreachOf ids (family_of (from_be_bytes w16 (high ∷ low ∷ [])) safi) rest value
+IsUnreach ids (high ∷ low ∷ []) value = ⊥
+IsUnreach ids (high ∷ []) value = ⊥
+IsUnreach ids [] value = ⊥
 
 -- in a message at most one, and in form; in a table unread
 abbrev pub IsOnly : (List ℕ → Option (List Nlri) → Type 0) → Form → List (List ℕ) → Option (List Nlri) → Type 0
@@ -100,7 +102,7 @@ IsOnly S Message (content ∷ []) value = S content value
 IsOnly S Message (content ∷ another ∷ contents) value = ⊥
 
 -- The bytes are path attributes, one after another, and this is what counts of them. The first one of each type counts.
-pub record IsRead (wide : Bool) (form : Form) (add_path : Bool) (bytes : List ℕ) (value : Reading) : Type 0 where
+pub record IsRead (wide : Bool) (form : Form) (ids : Identified) (bytes : List ℕ) (value : Reading) : Type 0 where
   pub fields : List Field
   pub spelled : IsJoined IsField bytes fields
   pub path : Reads (IsPath wide) (first_content 2 fields) value.path
@@ -108,9 +110,9 @@ pub record IsRead (wide : Bool) (form : Form) (add_path : Bool) (bytes : List �
   pub aggregator : value.aggregator ≡ aggregator_of wide (first_content 7 fields)
   pub aggregator4 : value.aggregator4 ≡ has_length 8 (first_content 18 fields)
   pub otc : value.otc ≡ otc_of (first_content 35 fields)
-  pub announced : IsOnly (IsReach add_path) form (contents_of 14 fields) value.announced
-  pub withdrawn : IsOnly (IsUnreach add_path) form (contents_of 15 fields) value.withdrawn
+  pub announced : IsOnly (IsReach ids) form (contents_of 14 fields) value.announced
+  pub withdrawn : IsOnly (IsUnreach ids) form (contents_of 15 fields) value.withdrawn
 
 -- the bytes have no reading
-abbrev pub IsUnreadable : Bool → Form → Bool → List ℕ → Type 0
-IsUnreadable wide form add_path bytes = (value : Reading) → IsRead wide form add_path bytes value → ⊥
+abbrev pub IsUnreadable : Bool → Form → Identified → List ℕ → Type 0
+IsUnreadable wide form ids bytes = (value : Reading) → IsRead wide form ids bytes value → ⊥

@@ -13,7 +13,7 @@
 //! whole field; `merging` makes items and trails; `laws` has the laws for the layers above.
 //!
 //! A new kind of list takes three things: the relation of one item, the function that reads it off, and a proof that these are the same
-//! (`IsReader`, in `Joined.antt`). Whether prefixes have path identifiers (RFC 7911) is a parameter of `read` and `prefixes`. A prefix with
+//! (`IsReader`, in `Joined.antt`). Whether prefixes have path identifiers (RFC 7911) is a parameter of `prefixes`, and of `read` for each address family. A prefix with
 //! its identifier is one item, `Nlri` of `path_model`.
 #![tactic(auto)]
 
@@ -22,6 +22,7 @@ mod fault;
 mod finding;
 mod fixed;
 mod form;
+mod identified;
 mod items;
 mod laws;
 mod merging;
@@ -36,6 +37,7 @@ pub use attrs::Attrs;
 pub use fault::Attributes;
 pub use fixed::{take, take_addr, take_asn, take_byte, take_four, take_path, take_two};
 pub use form::Form;
+pub use identified::Identified;
 pub use items::{Item, Items};
 pub use laws::{
     attributes_have_one_reading, attributes_read_or_not, merged_as_the_standard_says,

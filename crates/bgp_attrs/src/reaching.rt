@@ -6,6 +6,7 @@ ghost use Rattle.bgp_attrs.specs.Parts.{GivesNone};
 ghost use Rattle.bgp_attrs.specs.Reading.{family_of as family_word, IsReach, IsReachOf, IsUnreach};
 
 use crate::fault::Attributes;
+use crate::identified::Identified;
 use crate::pieces::Prefixes;
 use crate::whole::prefixes;
 
@@ -21,10 +22,10 @@ fn family(high: u8, low: u8, safi: u8) -> Option<bool>
 }
 
 // The prefixes behind a next hop and a reserved byte.
-fn after_hop(rest: &[u8], six: bool, add_path: bool) -> Result<Option<Prefixes<'_>>, Attributes>
+fn after_hop(rest: &[u8], six: bool, ids: Identified) -> Result<Option<Prefixes<'_>>, Attributes>
     ensures ok { IfOk result (λ found.
-        IsReachOf add_path (Some six) rest.now (option_map prefixes_left found)) }
-    ensures err { OnErr result (GivesNone (IsReachOf add_path (Some six)) rest.now) }
+        IsReachOf ids (Some six) rest.now (option_map prefixes_left found)) }
+    ensures err { OnErr result (GivesNone (IsReachOf ids (Some six)) rest.now) }
 {
     match rest {
         [count, rest @ ..] => {
@@ -33,7 +34,7 @@ fn after_hop(rest: &[u8], six: bool, add_path: bool) -> Result<Option<Prefixes<'
                 return Err(Attributes);
             }
             let (_, rest) = rest.split_at(skipped);
-            match prefixes(rest, six, add_path) {
+            match prefixes(rest, six, ids.of(six)) {
                 Some(found) => Ok(Some(found)),
                 None => Err(Attributes),
             }
@@ -43,14 +44,14 @@ fn after_hop(rest: &[u8], six: bool, add_path: bool) -> Result<Option<Prefixes<'
 }
 
 // The prefixes of MP_REACH_NLRI, or `None` for another family.
-pub(crate) fn reach(content: &[u8], add_path: bool) -> Result<Option<Prefixes<'_>>, Attributes>
+pub(crate) fn reach(content: &[u8], ids: Identified) -> Result<Option<Prefixes<'_>>, Attributes>
     ensures ok { IfOk result (λ found.
-        IsReach add_path content.now (option_map prefixes_left found)) }
-    ensures err { OnErr result (GivesNone (IsReach add_path) content.now) }
+        IsReach ids content.now (option_map prefixes_left found)) }
+    ensures err { OnErr result (GivesNone (IsReach ids) content.now) }
 {
     match content {
         [high, low, safi, rest @ ..] => match family(*high, *low, *safi) {
-            Some(six) => after_hop(rest, six, add_path),
+            Some(six) => after_hop(rest, six, ids),
             None => Ok(None),
         },
         [_, _] => Err(Attributes),
@@ -60,14 +61,14 @@ pub(crate) fn reach(content: &[u8], add_path: bool) -> Result<Option<Prefixes<'_
 }
 
 // The prefixes of MP_UNREACH_NLRI, or `None` for another family.
-pub(crate) fn unreach(content: &[u8], add_path: bool) -> Result<Option<Prefixes<'_>>, Attributes>
+pub(crate) fn unreach(content: &[u8], ids: Identified) -> Result<Option<Prefixes<'_>>, Attributes>
     ensures ok { IfOk result (λ found.
-        IsUnreach add_path content.now (option_map prefixes_left found)) }
-    ensures err { OnErr result (GivesNone (IsUnreach add_path) content.now) }
+        IsUnreach ids content.now (option_map prefixes_left found)) }
+    ensures err { OnErr result (GivesNone (IsUnreach ids) content.now) }
 {
     match content {
         [high, low, safi, rest @ ..] => match family(*high, *low, *safi) {
-            Some(six) => match prefixes(rest, six, add_path) {
+            Some(six) => match prefixes(rest, six, ids.of(six)) {
                 Some(found) => Ok(Some(found)),
                 None => Err(Attributes),
             },

@@ -9,6 +9,7 @@ use crate::fault::Attributes;
 use crate::finding::{Found, attributes, only_content};
 use crate::fixed::as_size;
 use crate::form::Form;
+use crate::identified::Identified;
 use crate::pieces::{Ases, AttributeList, Prefixes, Segments};
 use crate::reaching::{reach, unreach};
 use crate::whole::segments;
@@ -21,19 +22,19 @@ const MP_UNREACH_NLRI: u8 = 15;
 /// Reads an attribute field. It takes no memory; the answer keeps slices of the bytes.
 ///
 /// `wide` says that ASes have four bytes (RFC 6793), as in a table's records and between speakers that agreed on it; else they have
-/// two, and AS4_PATH and AS4_AGGREGATOR count. `add_path` says that each prefix of MP_REACH_NLRI and MP_UNREACH_NLRI has a path identifier
-/// before it (RFC 7911, section 3); in a table both are unread. A malformed Only-to-Customer refuses nothing (RFC 9234, section 5). A
+/// two, and AS4_PATH and AS4_AGGREGATOR count. `ids` says in which families each prefix of MP_REACH_NLRI and MP_UNREACH_NLRI has a path
+/// identifier before it (RFC 7911, section 3); in a table both are unread. A malformed Only-to-Customer refuses nothing (RFC 9234, section 5). A
 /// refusal comes exactly where the bytes have no reading: an attribute's header or content is cut, the first AS_PATH is malformed, or in
 /// a message MP_REACH_NLRI or MP_UNREACH_NLRI is repeated or malformed.
 #[inline(always)]
-pub fn read(bytes: &[u8], wide: bool, form: Form, add_path: bool) -> Result<Attrs<'_>, Attributes>
-    ensures ok { IfOk result (λ attrs. IsRead wide form add_path bytes.now attrs) }
-    ensures only { (value : Reading) → IsRead wide form add_path bytes.now value → IsOk result }
+pub fn read(bytes: &[u8], wide: bool, form: Form, ids: Identified) -> Result<Attrs<'_>, Attributes>
+    ensures ok { IfOk result (λ attrs. IsRead wide form ids bytes.now attrs) }
+    ensures only { (value : Reading) → IsRead wide form ids bytes.now value → IsOk result }
 {
     let found = attributes(bytes).ok_or(Attributes)?;
     let path = path_in(&found, wide)?;
-    let announced = announced_in(found.list, form, add_path)?;
-    let withdrawn = withdrawn_in(found.list, form, add_path)?;
+    let announced = announced_in(found.list, form, ids)?;
+    let withdrawn = withdrawn_in(found.list, form, ids)?;
     Ok(Attrs {
         path,
         path4: path4_in(&found, wide),
@@ -125,16 +126,16 @@ fn otc_by(content: &[u8]) -> Otc
 fn announced_in<'a>(
     fields: AttributeList<'a>,
     form: Form,
-    add_path: bool,
+    ids: Identified,
 ) -> Result<Option<Prefixes<'a>>, Attributes>
     ensures ok { IfOk result (λ found.
-        IsAnnouncedIn add_path form fields.entry (option_map prefixes_left found)) }
-    ensures err { OnErr result (HasBadReach add_path form fields.entry) }
+        IsAnnouncedIn ids form fields.entry (option_map prefixes_left found)) }
+    ensures err { OnErr result (HasBadReach ids form fields.entry) }
 {
     match form {
         Form::Table => Ok(None),
         Form::Message => match only_content(fields, MP_REACH_NLRI)? {
-            Some(content) => reach(content, add_path),
+            Some(content) => reach(content, ids),
             None => Ok(None),
         },
     }
@@ -144,16 +145,16 @@ fn announced_in<'a>(
 fn withdrawn_in<'a>(
     fields: AttributeList<'a>,
     form: Form,
-    add_path: bool,
+    ids: Identified,
 ) -> Result<Option<Prefixes<'a>>, Attributes>
     ensures ok { IfOk result (λ found.
-        IsWithdrawnIn add_path form fields.entry (option_map prefixes_left found)) }
-    ensures err { OnErr result (HasBadUnreach add_path form fields.entry) }
+        IsWithdrawnIn ids form fields.entry (option_map prefixes_left found)) }
+    ensures err { OnErr result (HasBadUnreach ids form fields.entry) }
 {
     match form {
         Form::Table => Ok(None),
         Form::Message => match only_content(fields, MP_UNREACH_NLRI)? {
-            Some(content) => unreach(content, add_path),
+            Some(content) => unreach(content, ids),
             None => Ok(None),
         },
     }

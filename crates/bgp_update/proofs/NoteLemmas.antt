@@ -10,6 +10,7 @@ use Rattle.path_model.specs.declared.peer.Peer.{Peer}
 use Rattle.path_model.specs.Batches.{removals, announcements}
 use Rattle.path_model.specs.Notes.{announced_of, HasNotes}
 use Rattle.path_model.specs.Trail.{Path}
+use Rattle.bgp_attrs.specs.declared.identified.Identified.{Identified}
 use Rattle.bgp_attrs.specs.Merging.{trail_in}
 use Rattle.bgp_attrs.specs.Reading.{Reading}
 use Rattle.bgp_update.specs.Updates.{Update, IsMessageReading, HasPathIfAnnounced, withdrawn_in, announced_in, all_announcements, noted_of}
@@ -39,6 +40,6 @@ noted_has peer update reading has =
     ∙ sym (announced_by peer (trail_in reading) nlris (λ none. has (mapped_none _ reading.path none)))
     ∙ sym (announced_behind peer (withdrawn_in update reading) (all_announcements peer (trail_in reading) nlris))
 
-pub each_has_note : (wide add_path : Bool) (peer : Peer) (message : List ℕ) (noted : Noted) → IsMessageReading wide add_path peer message (Ok noted) → HasNotes noted
-each_has_note wide add_path peer message noted (inl none) = subst HasNotes (sym none.1) refl
-each_has_note wide add_path peer message noted (inr makes) = subst HasNotes (sym makes.5) (noted_has peer makes.0 makes.2 makes.4)
+pub each_has_note : (wide : Bool) (ids : Identified) (peer : Peer) (message : List ℕ) (noted : Noted) → IsMessageReading wide ids peer message (Ok noted) → HasNotes noted
+each_has_note wide ids peer message noted (inl none) = subst HasNotes (sym none.1) refl
+each_has_note wide ids peer message noted (inr makes) = subst HasNotes (sym makes.5) (noted_has peer makes.0 makes.2 makes.4)

@@ -6,6 +6,7 @@ use Rattle.path_model.specs.declared.nlri.Nlri.{Nlri}
 use Rattle.path_model.specs.declared.noted.Noted.{Noted}
 use Rattle.path_model.specs.declared.peer.Peer.{Peer}
 use Rattle.bgp_attrs.specs.declared.form.Form.TheVariants.{Message}
+use Rattle.bgp_attrs.specs.declared.identified.Identified.{Identified}
 use Rattle.bgp_attrs.specs.declared.pieces.Prefixes.{Prefixes}
 use Rattle.bgp_attrs.specs.Left.{prefixes_left}
 use Rattle.bgp_attrs.specs.Reading.{Reading, IsRead, IsUnreadable}
@@ -26,9 +27,9 @@ IsOutcomeBy peer update reading (Err faults.Attributes) = ⊥
 IsOutcomeBy peer update reading (Err faults.NoPath) = AnnouncesWithoutPath update reading
 
 -- by the parts
-abbrev pub IsOutcomeOf : Bool → Bool → Peer → Update → Result Noted UpdateFault → Type 0
-IsOutcomeOf wide add_path peer update (Err faults.NoMemory) = Unit {0}
-IsOutcomeOf wide add_path peer update (Err faults.Message) = ⊥
-IsOutcomeOf wide add_path peer update (Err faults.Attributes) = IsUnreadable wide Message add_path update.attributes
-IsOutcomeOf wide add_path peer update (Err faults.NoPath) = (reading : Reading) × IsRead wide Message add_path update.attributes reading × AnnouncesWithoutPath update reading
-IsOutcomeOf wide add_path peer update (Ok noted) = (reading : Reading) × IsRead wide Message add_path update.attributes reading × HasPathIfAnnounced update reading × (noted ≡ noted_of peer update reading)
+abbrev pub IsOutcomeOf : Bool → Identified → Peer → Update → Result Noted UpdateFault → Type 0
+IsOutcomeOf wide ids peer update (Err faults.NoMemory) = Unit {0}
+IsOutcomeOf wide ids peer update (Err faults.Message) = ⊥
+IsOutcomeOf wide ids peer update (Err faults.Attributes) = IsUnreadable wide Message ids update.attributes
+IsOutcomeOf wide ids peer update (Err faults.NoPath) = (reading : Reading) × IsRead wide Message ids update.attributes reading × AnnouncesWithoutPath update reading
+IsOutcomeOf wide ids peer update (Ok noted) = (reading : Reading) × IsRead wide Message ids update.attributes reading × HasPathIfAnnounced update reading × (noted ≡ noted_of peer update reading)

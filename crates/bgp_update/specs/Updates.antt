@@ -11,7 +11,9 @@ use Rattle.path_model.specs.declared.peer.Peer.{Peer}
 use Rattle.path_model.specs.Batches.{removals, announcements}
 use Rattle.path_model.specs.Trail.{Path}
 use Rattle.bgp_attrs.specs.declared.form.Form.TheVariants.{Message}
+use Rattle.bgp_attrs.specs.declared.identified.Identified.{Identified}
 use Rattle.bgp_attrs.specs.Blocks.{IsBlock}
+use Rattle.bgp_attrs.specs.Identified.{identifies}
 use Rattle.held_bytes.specs.Units.{Begins}
 use Rattle.bgp_attrs.specs.Joined.{IsJoined}
 use Rattle.bgp_attrs.specs.Merging.{trail_in}
@@ -81,23 +83,23 @@ abbrev pub HasPathIfAnnounced : Update → Reading → Type 0
 HasPathIfAnnounced update reading = (reading.path ≡ None) → announced_in update reading ≡ []
 
 -- the message is an UPDATE that makes these changes
-abbrev pub MakesChanges : Bool → Bool → Peer → List ℕ → Noted → Type 0
-MakesChanges wide add_path peer message noted =
-    (update : Update) × IsMessage add_path message (Some update) × (reading : Reading) × IsRead wide Message add_path update.attributes reading × HasPathIfAnnounced update reading × (noted ≡ noted_of peer update reading)
+abbrev pub MakesChanges : Bool → Identified → Peer → List ℕ → Noted → Type 0
+MakesChanges wide ids peer message noted =
+    (update : Update) × IsMessage (identifies ids false) message (Some update) × (reading : Reading) × IsRead wide Message ids update.attributes reading × HasPathIfAnnounced update reading × (noted ≡ noted_of peer update reading)
 
 -- What the message says: its changes with their notes, or the first fault, by the order of the cases. A case has the readings that the
 -- ones before it deny, so that no two hold at once.
-abbrev pub IsMessageReading : Bool → Bool → Peer → List ℕ → Result Noted UpdateFault → Type 0
-IsMessageReading wide add_path peer message (Err faults.Message) = (shape : Option Update) → IsMessage add_path message shape → ⊥
-IsMessageReading wide add_path peer message (Err faults.Attributes) = (update : Update) × IsMessage add_path message (Some update) × IsUnreadable wide Message add_path update.attributes
-IsMessageReading wide add_path peer message (Err faults.NoPath) = (update : Update) × IsMessage add_path message (Some update) × (reading : Reading) × IsRead wide Message add_path update.attributes reading × AnnouncesWithoutPath update reading
-IsMessageReading wide add_path peer message (Err faults.NoMemory) = ⊥
-IsMessageReading wide add_path peer message (Ok noted) = (IsMessage add_path message None × (noted ≡ without_notes [])) ⊎ MakesChanges wide add_path peer message noted
+abbrev pub IsMessageReading : Bool → Identified → Peer → List ℕ → Result Noted UpdateFault → Type 0
+IsMessageReading wide ids peer message (Err faults.Message) = (shape : Option Update) → IsMessage (identifies ids false) message shape → ⊥
+IsMessageReading wide ids peer message (Err faults.Attributes) = (update : Update) × IsMessage (identifies ids false) message (Some update) × IsUnreadable wide Message ids update.attributes
+IsMessageReading wide ids peer message (Err faults.NoPath) = (update : Update) × IsMessage (identifies ids false) message (Some update) × (reading : Reading) × IsRead wide Message ids update.attributes reading × AnnouncesWithoutPath update reading
+IsMessageReading wide ids peer message (Err faults.NoMemory) = ⊥
+IsMessageReading wide ids peer message (Ok noted) = (IsMessage (identifies ids false) message None × (noted ≡ without_notes [])) ⊎ MakesChanges wide ids peer message noted
 
 -- the answer is what the message says, or want of memory
-abbrev pub IsMessageOutcome : Bool → Bool → Peer → List ℕ → Result Noted UpdateFault → Type 0
-IsMessageOutcome wide add_path peer message (Err faults.Message) = IsMessageReading wide add_path peer message (Err faults.Message)
-IsMessageOutcome wide add_path peer message (Err faults.Attributes) = IsMessageReading wide add_path peer message (Err faults.Attributes)
-IsMessageOutcome wide add_path peer message (Err faults.NoPath) = IsMessageReading wide add_path peer message (Err faults.NoPath)
-IsMessageOutcome wide add_path peer message (Err faults.NoMemory) = Unit {0}
-IsMessageOutcome wide add_path peer message (Ok noted) = IsMessageReading wide add_path peer message (Ok noted)
+abbrev pub IsMessageOutcome : Bool → Identified → Peer → List ℕ → Result Noted UpdateFault → Type 0
+IsMessageOutcome wide ids peer message (Err faults.Message) = IsMessageReading wide ids peer message (Err faults.Message)
+IsMessageOutcome wide ids peer message (Err faults.Attributes) = IsMessageReading wide ids peer message (Err faults.Attributes)
+IsMessageOutcome wide ids peer message (Err faults.NoPath) = IsMessageReading wide ids peer message (Err faults.NoPath)
+IsMessageOutcome wide ids peer message (Err faults.NoMemory) = Unit {0}
+IsMessageOutcome wide ids peer message (Ok noted) = IsMessageReading wide ids peer message (Ok noted)

@@ -9,7 +9,7 @@ use crate::fault::UpdateFault;
 use crate::parting::Parts;
 use crate::shaping::message_parts;
 use av_base::NoMemory;
-use bgp_attrs::{Attrs, Form, Prefixes};
+use bgp_attrs::{Attrs, Form, Identified, Prefixes};
 use path_model::{Changes, NlriList, Noted, Notes, Peer};
 use std::alloc::Global;
 
@@ -19,20 +19,20 @@ use std::alloc::Global;
 /// All announcements share one path, so it takes the memory of the path once, and some 11 bytes for each prefix, 8 more where it has a
 /// path identifier, and 8 more where the attribute is there.
 ///
-/// `wide` says that ASes have four bytes; `add_path` that each prefix, withdrawn or announced, has a path identifier before it (RFC 7911,
-/// section 3). The refusals are tested over the whole message in this order: 24 Message, 23 Attributes,
+/// `wide` says that ASes have four bytes; `ids` in which families each prefix, withdrawn or announced, has a path identifier before it
+/// (RFC 7911, section 3). The refusals are tested over the whole message in this order: 24 Message, 23 Attributes,
 /// 25 NoPath.
 pub fn read(
     alloc: Global,
     message: &[u8],
     wide: bool,
-    add_path: bool,
+    ids: Identified,
     peer: Peer,
 ) -> Result<Noted, UpdateFault>
-    ensures { IsMessageOutcome wide add_path peer message.now result }
+    ensures { IsMessageOutcome wide ids peer message.now result }
 {
-    match message_parts(message, add_path) {
-        Ok(Some(parts)) => changes_of(alloc, parts, wide, add_path, peer),
+    match message_parts(message, ids.of(false)) {
+        Ok(Some(parts)) => changes_of(alloc, parts, wide, ids, peer),
         Ok(None) => Ok(Noted {
             changes: Changes::new(alloc),
             notes: Notes::new(alloc),
@@ -46,12 +46,12 @@ fn changes_of(
     alloc: Global,
     parts: Parts<'_>,
     wide: bool,
-    add_path: bool,
+    ids: Identified,
     peer: Peer,
 ) -> Result<Noted, UpdateFault>
-    ensures { IsOutcomeOf wide add_path peer (update_of parts.entry) result }
+    ensures { IsOutcomeOf wide ids peer (update_of parts.entry) result }
 {
-    match bgp_attrs::read(parts.attributes, wide, Form::Message, add_path) {
+    match bgp_attrs::read(parts.attributes, wide, Form::Message, ids) {
         Ok(attrs) => changes_by(alloc, parts, &attrs, peer),
         Err(_) => Err(UpdateFault::Attributes),
     }

@@ -5,6 +5,7 @@ use Rattle.std.specs.List.{AllByRecursion}
 use Rattle.std.proofs.lemmas.Option.{same_Some, some_pair_parts}
 use Rattle.std.specs.declared.option.Option.{Option}
 use Rattle.std.specs.declared.result.Result.{Result}
+use Rattle.bgp_attrs.specs.Identified.{in_both}
 use Rattle.path_model.specs.declared.change.Change.{Change}
 use Rattle.path_model.specs.declared.change.Change.TheVariants.{Announce}
 use Rattle.path_model.specs.declared.noted.Noted.{Noted}
@@ -52,12 +53,12 @@ use Rattle.mrt_reader.proofs.ShapeLemmas.{read_prefix, counted_of, counted_long}
 
 gives_same : (wide : Bool) (attributes : List ℕ) (one other : Path) (x y : Otc) → GivesRoute wide attributes one x → GivesRoute wide attributes other y → (one ≡ other) × (x ≡ y)
 gives_same wide attributes one other x y p q =
-    let same = attrs.reading_same wide Table false attributes p.0 q.0 p.1 q.1 in
+    let same = attrs.reading_same wide Table (in_both false) attributes p.0 q.0 p.1 q.1 in
     (same_Some one other (sym p.2 ∙ ap trail_in same ∙ q.2), sym p.3 ∙ ap (λ (r : Reading). r.otc) same ∙ q.3)
 
 gives_lacks : (wide : Bool) (attributes : List ℕ) (trail : Path) (otc : Otc) → GivesRoute wide attributes trail otc → LacksPath wide attributes → ⊥
 gives_lacks wide attributes trail otc p q =
-    let same = attrs.reading_same wide Table false attributes p.0 q.0 p.1 q.1 in
+    let same = attrs.reading_same wide Table (in_both false) attributes p.0 q.0 p.1 q.1 in
     let none : trail_in p.0 ≡ None = ap trail_in same ∙ ap (option_map (λ (path : List Segment). path_of_items (merged_with path (used_in q.0)))) q.2 in
     let both : Some trail ≡ None = sym p.2 ∙ none in
     cc
@@ -247,7 +248,7 @@ dumped_route dumped trail otc = with_first (Announce (key_of dumped.peer (dumped
 abbrev DumpCase : Dumped → Result Body BodyFault → Type 0
 DumpCase dumped reading =
     ((trail : Path) × (otc : Otc) × GivesRoute false dumped.attributes trail otc × (reading ≡ Ok (bodies.Routes (dumped_route dumped trail otc) besides.Nothing)))
-    ⊎ (IsUnreadable false Table false dumped.attributes × (reading ≡ Err faults.Attributes))
+    ⊎ (IsUnreadable false Table (in_both false) dumped.attributes × (reading ≡ Err faults.Attributes))
     ⊎ (LacksPath false dumped.attributes × (reading ≡ Err faults.NoPath))
 
 dump_case : (dumped : Dumped) (reading : Result Body BodyFault) → DumpSays dumped reading → DumpCase dumped reading
@@ -285,7 +286,7 @@ dump_says_same dumped one other p q = dumps_say_same dumped one other (dump_case
 
 message_says_same : (wide add_path : Bool) (it : Session × List ℕ) (one other : Result Body BodyFault) → MessageSays wide add_path it one → MessageSays wide add_path it other → one ≡ other
 message_says_same wide add_path (session, message) one other p q =
-    p.2 ∙ ap (raised session.local.addr) (messages.reading_same wide add_path session.peer message p.0 q.0 p.1 q.1) ∙ sym q.2
+    p.2 ∙ ap (raised session.local.addr) (messages.reading_same wide (in_both add_path) session.peer message p.0 q.0 p.1 q.1) ∙ sym q.2
 
 layout_says_same : (layout : Layout) (before : Known) (body : List ℕ) (one other : Result Body BodyFault) → LayoutSays layout before body one → LayoutSays layout before body other → one ≡ other
 layout_says_same layouts.PeerIndex before body one other p q = form_same (IsPeerTable body) TableSays (table_at body) one other (table_reads body) (λ peers a b. a ∙ sym b) p q

@@ -5,6 +5,7 @@ use Rattle.std.specs.Int.{w16, from_be_bytes}
 use Rattle.std.specs.List.{AllByRecursion}
 use Rattle.std.proofs.lemmas.Bool.Decides.{nat_tests}
 use Rattle.std.specs.declared.option.Option.{Option}
+use Rattle.bgp_attrs.specs.Identified.{in_both}
 use Rattle.av_base.specs.One.{HasOne}
 use Rattle.path_model.specs.declared.noted.Noted.{Noted}
 use Rattle.path_model.specs.declared.otc.Otc.{Otc}
@@ -103,7 +104,7 @@ within_or_beyond peers entry = by_test (nat_lt entry.index (length peers)) refl
     by_test true e = inl (grind (arith, nat_tests))
     by_test false e = inr (grind (arith, nat_tests))
 
-path_or_none : (wide : Bool) (attributes : List ℕ) (reading : Reading) → IsRead wide Table false attributes reading → (path : Option (List Segment)) → reading.path ≡ path
+path_or_none : (wide : Bool) (attributes : List ℕ) (reading : Reading) → IsRead wide Table (in_both false) attributes reading → (path : Option (List Segment)) → reading.path ≡ path
     → ((trail : Path) × (otc : Otc) × GivesRoute wide attributes trail otc) ⊎ LacksPath wide attributes
 path_or_none wide attributes reading is (Some path) e =
     inl (path_of_items (merged_with path (used_in reading)), reading.otc, (reading, is, ap (option_map (λ (p : List Segment). path_of_items (merged_with p (used_in reading)))) e, refl))
@@ -161,7 +162,7 @@ entries_by writer peers prefix entries within (inl read) = with_paths (paths_or_
 
 entries_some : (writer : Writer) (peers : List Peer) (prefix : Subnet) (entries : List Entry) → AllByRecursion (IsWithin peers) entries ⊎ AnyOf (IsBeyond peers) entries → Says (EntriesSay writer peers prefix entries)
 entries_some writer peers prefix entries (inr any) = (Err faults.PeerIndex, any)
-entries_some writer peers prefix entries (inl within) = entries_by writer peers prefix entries within (all_or_any EntryReadable EntryUnreadable (λ entry. reading_decided true Table false entry.attributes) entries)
+entries_some writer peers prefix entries (inl within) = entries_by writer peers prefix entries within (all_or_any EntryReadable EntryUnreadable (λ entry. reading_decided true Table (in_both false) entry.attributes) entries)
 
 -- ---- all layouts
 
@@ -172,7 +173,7 @@ rib_some writer add_path six (Some table) body (inl rib) =
     let say = entries_some writer table rib.0.prefix rib.0.entries (all_or_any (IsWithin table) (IsBeyond table) (within_or_beyond table) rib.0.entries) in
     (say.0, rib_from writer add_path six (Some table) body table rib.0 say.0 rib.1 refl say.1)
 
-dump_by : (dumped : Dumped) → SomeOrNone (IsRead false Table false dumped.attributes) → Says (DumpSays dumped)
+dump_by : (dumped : Dumped) → SomeOrNone (IsRead false Table (in_both false) dumped.attributes) → Says (DumpSays dumped)
 dump_by dumped (inr none) = (Err faults.Attributes, none)
 dump_by dumped (inl x) = with_path (path_or_none false dumped.attributes x.0 x.1 x.0.path refl)
   where
@@ -181,7 +182,7 @@ dump_by dumped (inl x) = with_path (path_or_none false dumped.attributes x.0 x.1
     with_path (inr lacks) = (Err faults.NoPath, lacks)
 
 message_some : (wide add_path : Bool) (it : Session × List ℕ) → Says (MessageSays wide add_path it)
-message_some wide add_path (session, message) = let inner = messages.reading_some wide add_path session.peer message in (raised session.local.addr inner.0, (inner.0, inner.1, refl))
+message_some wide add_path (session, message) = let inner = messages.reading_some wide (in_both add_path) session.peer message in (raised session.local.addr inner.0, (inner.0, inner.1, refl))
 
 state_some : (before : Known) (change : StateChange) → Says (StateSays before change)
 state_some before change = (Ok (states.says before change), refl)
@@ -189,7 +190,7 @@ state_some before change = (Ok (states.says before change), refl)
 layout_some : (layout : Layout) (before : Known) (body : List ℕ) → Says (LayoutSays layout before body)
 layout_some layouts.PeerIndex before body = form_some (IsPeerTable body) TableSays (table_at body) (table_reads body) (λ table. (Ok (bodies.Peers table), refl))
 layout_some (layouts.Rib six add_path) before body = rib_some before.writer add_path six before.peers body (rib_decided add_path six body)
-layout_some (layouts.Dump six) before body = form_some (IsTableDump six body) DumpSays (dump_at six body) (dump_reads six body) (λ dumped. dump_by dumped (reading_decided false Table false dumped.attributes))
+layout_some (layouts.Dump six) before body = form_some (IsTableDump six body) DumpSays (dump_at six body) (dump_reads six body) (λ dumped. dump_by dumped (reading_decided false Table (in_both false) dumped.attributes))
 layout_some (layouts.Message timed wide add_path) before body =
     form_some (λ (it : Session × List ℕ). IsRecordedMessage timed wide body it.0 it.1) (MessageSays wide add_path) (message_at timed wide body) (message_reads timed wide body) (message_some wide add_path)
 layout_some (layouts.State timed wide) before body =

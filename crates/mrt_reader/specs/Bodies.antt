@@ -5,6 +5,7 @@ use Rattle.std.specs.declared.result.Result.{Result}
 use Rattle.path_model.specs.declared.addr.Addr.{Addr}
 use Rattle.path_model.specs.declared.noted.Noted.{Noted}
 use Rattle.path_model.specs.declared.peer.Peer.{Peer}
+use Rattle.bgp_attrs.specs.Identified.{in_both}
 use Rattle.bgp_update.specs.declared.fault.UpdateFault.{UpdateFault}
 use Rattle.bgp_update.specs.declared.fault.UpdateFault.TheVariants as update_faults
 use Rattle.bgp_update.specs.Updates as updates
@@ -67,7 +68,7 @@ raised local (Err fault) = Err (fault_of fault)
 -- a recorded message of a session: what the message says, where `add_path` with path identifiers; and beside it, whose address is local
 abbrev pub MessageSays : Bool → Bool → Session × List ℕ → Result Body BodyFault → Type 0
 MessageSays wide add_path (session, message) reading =
-    (inner : Result Noted UpdateFault) × updates.IsMessageReading wide add_path session.peer message inner × (reading ≡ raised session.local.addr inner)
+    (inner : Result Noted UpdateFault) × updates.IsMessageReading wide (in_both add_path) session.peer message inner × (reading ≡ raised session.local.addr inner)
 
 -- a state change: what it does, by what is known before it
 abbrev pub StateSays : Known → StateChange → Result Body BodyFault → Type 0

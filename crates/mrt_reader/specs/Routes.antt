@@ -13,6 +13,7 @@ use Rattle.path_model.specs.Prefix.{Subnet}
 use Rattle.path_model.specs.Trail.{Path}
 use Rattle.bgp_attrs.specs.declared.form.Form.TheVariants.{Table}
 use Rattle.bgp_attrs.specs.Merging.{trail_in}
+use Rattle.bgp_attrs.specs.Identified.{in_both}
 use Rattle.bgp_attrs.specs.Reading.{Reading, IsRead, IsUnreadable}
 use Rattle.bgp_update.specs.Updates.{without_notes}
 use Rattle.dialects.specs.declared.writer.Rule.TheVariants.{PathlessEntry}
@@ -33,15 +34,15 @@ AnyOf P (x ∷ xs) = P x ⊎ AnyOf P xs
 
 -- the attributes have a reading
 abbrev pub IsReadable : Bool → List ℕ → Type 0
-IsReadable wide attributes = (reading : Reading) × IsRead wide Table false attributes reading
+IsReadable wide attributes = (reading : Reading) × IsRead wide Table (in_both false) attributes reading
 
 -- they have one, without AS_PATH
 abbrev pub LacksPath : Bool → List ℕ → Type 0
-LacksPath wide attributes = (reading : Reading) × IsRead wide Table false attributes reading × (reading.path ≡ None)
+LacksPath wide attributes = (reading : Reading) × IsRead wide Table (in_both false) attributes reading × (reading.path ≡ None)
 
 -- they give this path, and say this of Only-to-Customer (RFC 9234, section 5)
 abbrev pub GivesRoute : Bool → List ℕ → Path → Otc → Type 0
-GivesRoute wide attributes trail otc = (reading : Reading) × IsRead wide Table false attributes reading × (trail_in reading ≡ Some trail) × (reading.otc ≡ otc)
+GivesRoute wide attributes trail otc = (reading : Reading) × IsRead wide Table (in_both false) attributes reading × (trail_in reading ≡ Some trail) × (reading.otc ≡ otc)
 
 -- an announcement and its note, before others
 abbrev pub with_first : Change → Otc → Noted → Noted
@@ -62,7 +63,7 @@ abbrev pub EntryReadable : Entry → Type 0
 EntryReadable entry = IsReadable true entry.attributes
 
 abbrev pub EntryUnreadable : Entry → Type 0
-EntryUnreadable entry = IsUnreadable true Table false entry.attributes
+EntryUnreadable entry = IsUnreadable true Table (in_both false) entry.attributes
 
 abbrev pub EntryLacksPath : Entry → Type 0
 EntryLacksPath entry = LacksPath true entry.attributes
@@ -130,6 +131,6 @@ DumpSays dumped (Err faults.Body) = ⊥
 DumpSays dumped (Err faults.NoPeerTable) = ⊥
 DumpSays dumped (Err faults.PeerIndex) = ⊥
 DumpSays dumped (Err faults.Message) = ⊥
-DumpSays dumped (Err faults.Attributes) = IsUnreadable false Table false dumped.attributes
+DumpSays dumped (Err faults.Attributes) = IsUnreadable false Table (in_both false) dumped.attributes
 DumpSays dumped (Err faults.NoPath) = LacksPath false dumped.attributes
 DumpSays dumped (Err faults.NoMemory) = ⊥

@@ -11,6 +11,7 @@ use Rattle.path_model.specs.declared.peer.Peer.{Peer}
 use Rattle.path_model.specs.Prefix.{Subnet}
 use Rattle.path_model.specs.Trail.{Path}
 use Rattle.bgp_attrs.specs.declared.form.Form.TheVariants.{Table}
+use Rattle.bgp_attrs.specs.Identified.{in_both}
 use Rattle.bgp_attrs.specs.Reading.{IsUnreadable}
 use Rattle.mrt_reader.specs.declared.fault.BodyFault.{BodyFault}
 use Rattle.mrt_reader.specs.declared.fault.BodyFault.TheVariants as faults
@@ -25,7 +26,7 @@ with_last others change otc = record { changes = others.changes ++ change ∷ []
 abbrev pub IsPut : Bool → Key → List ℕ → Noted → Noted → Result Bool BodyFault → Type 0
 IsPut wide key attributes old new (Ok true) = (trail : Path) × (otc : Otc) × GivesRoute wide attributes trail otc × (new ≡ with_last old (Announce key trail) otc)
 IsPut wide key attributes old new (Ok false) = LacksPath wide attributes × (new ≡ old)
-IsPut wide key attributes old new (Err faults.Attributes) = IsUnreadable wide Table false attributes
+IsPut wide key attributes old new (Err faults.Attributes) = IsUnreadable wide Table (in_both false) attributes
 IsPut wide key attributes old new (Err faults.NoMemory) = Unit {0}
 IsPut wide key attributes old new (Err faults.NoPath) = ⊥
 IsPut wide key attributes old new (Err faults.Message) = ⊥

@@ -12,7 +12,7 @@ use crate::entries::Entries;
 use crate::fault::BodyFault;
 use crate::peers::PeerTable;
 use av_base::NoMemory;
-use bgp_attrs::Form;
+use bgp_attrs::{Form, Identified};
 use dialects::{Rule, Writer};
 use path_model::{Changes, Key, Noted, Notes, Prefix};
 use std::alloc::Global;
@@ -107,7 +107,7 @@ pub(crate) fn put_route(
 ) -> Result<bool, BodyFault>
     ensures { IsPut wide key attributes.now noted.old noted.new result }
 {
-    match bgp_attrs::read(attributes, wide, Form::Table, false) {
+    match bgp_attrs::read(attributes, wide, Form::Table, Identified::in_both(false)) {
         Ok(attrs) => match attrs.trail(alloc)? {
             Some(trail) => {
                 noted.changes.announce(key, trail)?;

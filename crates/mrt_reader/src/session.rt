@@ -7,7 +7,7 @@ ghost use Rattle.mrt_reader.specs.Readers.{six_of, behind_time, session_at, mess
 
 use crate::body::{Beside, Body};
 use crate::fault::BodyFault;
-use bgp_attrs::{take, take_addr, take_asn, take_two};
+use bgp_attrs::{Identified, take, take_addr, take_asn, take_two};
 use bgp_update::UpdateFault;
 use path_model::Peer;
 use std::alloc::Global;
@@ -46,7 +46,7 @@ fn changes_of(
 ) -> Result<Body, BodyFault>
     ensures { OrNoMemory (MessageSays wide add_path (session_of ends, message.now)) result }
 {
-    match bgp_update::read(alloc, message, wide, add_path, ends.peer) {
+    match bgp_update::read(alloc, message, wide, Identified::in_both(add_path), ends.peer) {
         Ok(noted) => Ok(Body::Routes(noted, Beside::Own(ends.local.addr))),
         Err(UpdateFault::Message) => Err(BodyFault::Message),
         Err(UpdateFault::Attributes) => Err(BodyFault::Attributes),

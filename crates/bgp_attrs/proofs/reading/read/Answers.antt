@@ -19,9 +19,9 @@ returns-in_err-path-clause-only c = λ (value : Reading) is.
 pub returns-in_err-announced-clause-only : goal.returns-in_err-announced-clause-only
 returns-in_err-announced-clause-only c = λ (value : Reading) is.
     let same = joined_same field_reader c.args.bytes.now _ _ is.spelled (joined (goal.at.returns-in_err-announced-clause-only c).In_ok-found) in
-    absurd (c.in_err-announced.ensures.err value.announced (subst (λ (fields : List Field). IsOnly (IsReach c.args.add_path) c.args.form (contents_of 14 fields) value.announced) same is.announced))
+    absurd (c.in_err-announced.ensures.err value.announced (subst (λ (fields : List Field). IsOnly (IsReach c.args.ids) c.args.form (contents_of 14 fields) value.announced) same is.announced))
 
 pub returns-in_err-withdrawn-clause-only : goal.returns-in_err-withdrawn-clause-only
 returns-in_err-withdrawn-clause-only c = λ (value : Reading) is.
     let same = joined_same field_reader c.args.bytes.now _ _ is.spelled (joined (goal.at.returns-in_err-withdrawn-clause-only c).In_ok-found) in
-    absurd (c.in_err-withdrawn.ensures.err value.withdrawn (subst (λ (fields : List Field). IsOnly (IsUnreach c.args.add_path) c.args.form (contents_of 15 fields) value.withdrawn) same is.withdrawn))
+    absurd (c.in_err-withdrawn.ensures.err value.withdrawn (subst (λ (fields : List Field). IsOnly (IsUnreach c.args.ids) c.args.form (contents_of 15 fields) value.withdrawn) same is.withdrawn))
