@@ -11,7 +11,7 @@ use Rattle.path_model.specs.declared.nlri.Nlri.{Nlri}
 use Rattle.path_model.specs.declared.noted.Noted.{Noted}
 use Rattle.path_model.specs.declared.peer.Peer.{Peer}
 use Rattle.bgp_attrs.specs.declared.form.Form.TheVariants.{Message}
-use Rattle.bgp_attrs.specs.declared.identified.Identified.{Identified}
+use Rattle.bgp_update.specs.declared.session.Session.{Session}
 use Rattle.bgp_attrs.specs.Blocks.{block_at}
 use Rattle.bgp_attrs.specs.Identified.{identifies}
 use Rattle.bgp_attrs.specs.Joined.{IsJoined}
@@ -35,62 +35,62 @@ updates_same add_path message one other p q = same_Some one other (message_same 
 not_both : (add_path : Bool) (message : List ℕ) (update : Update) → IsMessage add_path message None → IsMessage add_path message (Some update) → ⊥
 not_both add_path message update p q = let e = message_same add_path message None (Some update) p q in cc
 
-unreadable_read : (wide : Bool) (ids : Identified) (message : List ℕ) (one other : Update) (reading : Reading) → IsMessage (identifies ids false) message (Some one) → IsUnreadable wide Message ids one.attributes → IsMessage (identifies ids false) message (Some other) → IsRead wide Message ids other.attributes reading → ⊥
-unreadable_read wide ids message one other reading p unread q read =
-    unread reading (subst (λ (u : Update). IsRead wide Message ids u.attributes reading) (sym (updates_same (identifies ids false) message one other p q)) read)
+unreadable_read : (session : Session) (message : List ℕ) (one other : Update) (reading : Reading) → IsMessage (identifies session.ids false) message (Some one) → IsUnreadable session.wide Message session.ids one.attributes → IsMessage (identifies session.ids false) message (Some other) → IsRead session.wide Message session.ids other.attributes reading → ⊥
+unreadable_read session message one other reading p unread q read =
+    unread reading (subst (λ (u : Update). IsRead session.wide Message session.ids u.attributes reading) (sym (updates_same (identifies session.ids false) message one other p q)) read)
 
-readings_same : (wide : Bool) (ids : Identified) (message : List ℕ) (one other : Update) (x y : Reading) → IsMessage (identifies ids false) message (Some one) → IsRead wide Message ids one.attributes x → IsMessage (identifies ids false) message (Some other) → IsRead wide Message ids other.attributes y → x ≡ y
-readings_same wide ids message one other x y p read q read_other =
-    attrs.reading_same wide Message ids one.attributes x y read (subst (λ (u : Update). IsRead wide Message ids u.attributes y) (sym (updates_same (identifies ids false) message one other p q)) read_other)
+readings_same : (session : Session) (message : List ℕ) (one other : Update) (x y : Reading) → IsMessage (identifies session.ids false) message (Some one) → IsRead session.wide Message session.ids one.attributes x → IsMessage (identifies session.ids false) message (Some other) → IsRead session.wide Message session.ids other.attributes y → x ≡ y
+readings_same session message one other x y p read q read_other =
+    attrs.reading_same session.wide Message session.ids one.attributes x y read (subst (λ (u : Update). IsRead session.wide Message session.ids u.attributes y) (sym (updates_same (identifies session.ids false) message one other p q)) read_other)
 
-lacks_has : (wide : Bool) (ids : Identified) (message : List ℕ) (one other : Update) (x y : Reading) → IsMessage (identifies ids false) message (Some one) → IsRead wide Message ids one.attributes x → AnnouncesWithoutPath one x
-    → IsMessage (identifies ids false) message (Some other) → IsRead wide Message ids other.attributes y → HasPathIfAnnounced other y → ⊥
-lacks_has wide ids message one other x y p read lacks q read_other has =
-    let updates = updates_same (identifies ids false) message one other p q in
-    let readings = readings_same wide ids message one other x y p read q read_other in
+lacks_has : (session : Session) (message : List ℕ) (one other : Update) (x y : Reading) → IsMessage (identifies session.ids false) message (Some one) → IsRead session.wide Message session.ids one.attributes x → AnnouncesWithoutPath one x
+    → IsMessage (identifies session.ids false) message (Some other) → IsRead session.wide Message session.ids other.attributes y → HasPathIfAnnounced other y → ⊥
+lacks_has session message one other x y p read lacks q read_other has =
+    let updates = updates_same (identifies session.ids false) message one other p q in
+    let readings = readings_same session message one other x y p read q read_other in
     let here : HasPathIfAnnounced one x = subst (λ (u : Update). HasPathIfAnnounced u x) (sym updates) (subst (HasPathIfAnnounced other) (sym readings) has) in
     lacks.1 (here lacks.0)
 
-makes_same : (wide : Bool) (ids : Identified) (peer : Peer) (message : List ℕ) (noted others : Noted) → MakesChanges wide ids peer message noted → MakesChanges wide ids peer message others → noted ≡ others
-makes_same wide ids peer message noted others p q =
-    let updates = updates_same (identifies ids false) message p.0 q.0 p.1 q.1 in
-    let readings = readings_same wide ids message p.0 q.0 p.2 q.2 p.1 p.3 q.1 q.3 in
-    p.5 ∙ (λ i. noted_of peer (updates i) (readings i)) ∙ sym q.5
+makes_same : (session : Session) (peer : Peer) (message : List ℕ) (noted others : Noted) → MakesChanges session peer message noted → MakesChanges session peer message others → noted ≡ others
+makes_same session peer message noted others p q =
+    let updates = updates_same (identifies session.ids false) message p.0 q.0 p.1 q.1 in
+    let readings = readings_same session message p.0 q.0 p.2 q.2 p.1 p.3 q.1 q.3 in
+    p.5 ∙ (λ i. noted_of session peer (updates i) (readings i)) ∙ sym q.5
 
-noted_same : (wide : Bool) (ids : Identified) (peer : Peer) (message : List ℕ) (noted others : Noted) → IsMessageReading wide ids peer message (Ok noted) → IsMessageReading wide ids peer message (Ok others) → noted ≡ others
-noted_same wide ids peer message noted others (inl p) (inl q) = p.1 ∙ sym q.1
-noted_same wide ids peer message noted others (inl p) (inr q) = absurd (not_both (identifies ids false) message q.0 p.0 q.1)
-noted_same wide ids peer message noted others (inr p) (inl q) = absurd (not_both (identifies ids false) message p.0 q.0 p.1)
-noted_same wide ids peer message noted others (inr p) (inr q) = makes_same wide ids peer message noted others p q
+noted_same : (session : Session) (peer : Peer) (message : List ℕ) (noted others : Noted) → IsMessageReading session peer message (Ok noted) → IsMessageReading session peer message (Ok others) → noted ≡ others
+noted_same session peer message noted others (inl p) (inl q) = p.1 ∙ sym q.1
+noted_same session peer message noted others (inl p) (inr q) = absurd (not_both (identifies session.ids false) message q.0 p.0 q.1)
+noted_same session peer message noted others (inr p) (inl q) = absurd (not_both (identifies session.ids false) message p.0 q.0 p.1)
+noted_same session peer message noted others (inr p) (inr q) = makes_same session peer message noted others p q
 
-pub reading_same : (wide : Bool) (ids : Identified) (peer : Peer) (message : List ℕ) (one other : Result Noted UpdateFault) → IsMessageReading wide ids peer message one → IsMessageReading wide ids peer message other → one ≡ other
-reading_same wide ids peer message (Err faults.NoMemory) other p q = absurd p
-reading_same wide ids peer message (Err faults.Message) (Err faults.NoMemory) p q = absurd q
-reading_same wide ids peer message (Err faults.Message) (Err faults.Message) p q = refl
-reading_same wide ids peer message (Err faults.Message) (Err faults.Attributes) p q = absurd (p (Some q.0) q.1)
-reading_same wide ids peer message (Err faults.Message) (Err faults.NoPath) p q = absurd (p (Some q.0) q.1)
-reading_same wide ids peer message (Err faults.Message) (Ok noted) p (inl q) = absurd (p None q.0)
-reading_same wide ids peer message (Err faults.Message) (Ok noted) p (inr q) = absurd (p (Some q.0) q.1)
-reading_same wide ids peer message (Err faults.Attributes) (Err faults.NoMemory) p q = absurd q
-reading_same wide ids peer message (Err faults.Attributes) (Err faults.Message) p q = absurd (q (Some p.0) p.1)
-reading_same wide ids peer message (Err faults.Attributes) (Err faults.Attributes) p q = refl
-reading_same wide ids peer message (Err faults.Attributes) (Err faults.NoPath) p q = absurd (unreadable_read wide ids message p.0 q.0 q.2 p.1 p.2 q.1 q.3)
-reading_same wide ids peer message (Err faults.Attributes) (Ok noted) p (inl q) = absurd (not_both (identifies ids false) message p.0 q.0 p.1)
-reading_same wide ids peer message (Err faults.Attributes) (Ok noted) p (inr q) = absurd (unreadable_read wide ids message p.0 q.0 q.2 p.1 p.2 q.1 q.3)
-reading_same wide ids peer message (Err faults.NoPath) (Err faults.NoMemory) p q = absurd q
-reading_same wide ids peer message (Err faults.NoPath) (Err faults.Message) p q = absurd (q (Some p.0) p.1)
-reading_same wide ids peer message (Err faults.NoPath) (Err faults.Attributes) p q = absurd (unreadable_read wide ids message q.0 p.0 p.2 q.1 q.2 p.1 p.3)
-reading_same wide ids peer message (Err faults.NoPath) (Err faults.NoPath) p q = refl
-reading_same wide ids peer message (Err faults.NoPath) (Ok noted) p (inl q) = absurd (not_both (identifies ids false) message p.0 q.0 p.1)
-reading_same wide ids peer message (Err faults.NoPath) (Ok noted) p (inr q) = absurd (lacks_has wide ids message p.0 q.0 p.2 q.2 p.1 p.3 p.4 q.1 q.3 q.4)
-reading_same wide ids peer message (Ok noted) (Err faults.NoMemory) p q = absurd q
-reading_same wide ids peer message (Ok noted) (Err faults.Message) (inl p) q = absurd (q None p.0)
-reading_same wide ids peer message (Ok noted) (Err faults.Message) (inr p) q = absurd (q (Some p.0) p.1)
-reading_same wide ids peer message (Ok noted) (Err faults.Attributes) (inl p) q = absurd (not_both (identifies ids false) message q.0 p.0 q.1)
-reading_same wide ids peer message (Ok noted) (Err faults.Attributes) (inr p) q = absurd (unreadable_read wide ids message q.0 p.0 p.2 q.1 q.2 p.1 p.3)
-reading_same wide ids peer message (Ok noted) (Err faults.NoPath) (inl p) q = absurd (not_both (identifies ids false) message q.0 p.0 q.1)
-reading_same wide ids peer message (Ok noted) (Err faults.NoPath) (inr p) q = absurd (lacks_has wide ids message q.0 p.0 q.2 p.2 q.1 q.3 q.4 p.1 p.3 p.4)
-reading_same wide ids peer message (Ok noted) (Ok others) p q = ap Ok (noted_same wide ids peer message noted others p q)
+pub reading_same : (session : Session) (peer : Peer) (message : List ℕ) (one other : Result Noted UpdateFault) → IsMessageReading session peer message one → IsMessageReading session peer message other → one ≡ other
+reading_same session peer message (Err faults.NoMemory) other p q = absurd p
+reading_same session peer message (Err faults.Message) (Err faults.NoMemory) p q = absurd q
+reading_same session peer message (Err faults.Message) (Err faults.Message) p q = refl
+reading_same session peer message (Err faults.Message) (Err faults.Attributes) p q = absurd (p (Some q.0) q.1)
+reading_same session peer message (Err faults.Message) (Err faults.NoPath) p q = absurd (p (Some q.0) q.1)
+reading_same session peer message (Err faults.Message) (Ok noted) p (inl q) = absurd (p None q.0)
+reading_same session peer message (Err faults.Message) (Ok noted) p (inr q) = absurd (p (Some q.0) q.1)
+reading_same session peer message (Err faults.Attributes) (Err faults.NoMemory) p q = absurd q
+reading_same session peer message (Err faults.Attributes) (Err faults.Message) p q = absurd (q (Some p.0) p.1)
+reading_same session peer message (Err faults.Attributes) (Err faults.Attributes) p q = refl
+reading_same session peer message (Err faults.Attributes) (Err faults.NoPath) p q = absurd (unreadable_read session message p.0 q.0 q.2 p.1 p.2 q.1 q.3)
+reading_same session peer message (Err faults.Attributes) (Ok noted) p (inl q) = absurd (not_both (identifies session.ids false) message p.0 q.0 p.1)
+reading_same session peer message (Err faults.Attributes) (Ok noted) p (inr q) = absurd (unreadable_read session message p.0 q.0 q.2 p.1 p.2 q.1 q.3)
+reading_same session peer message (Err faults.NoPath) (Err faults.NoMemory) p q = absurd q
+reading_same session peer message (Err faults.NoPath) (Err faults.Message) p q = absurd (q (Some p.0) p.1)
+reading_same session peer message (Err faults.NoPath) (Err faults.Attributes) p q = absurd (unreadable_read session message q.0 p.0 p.2 q.1 q.2 p.1 p.3)
+reading_same session peer message (Err faults.NoPath) (Err faults.NoPath) p q = refl
+reading_same session peer message (Err faults.NoPath) (Ok noted) p (inl q) = absurd (not_both (identifies session.ids false) message p.0 q.0 p.1)
+reading_same session peer message (Err faults.NoPath) (Ok noted) p (inr q) = absurd (lacks_has session message p.0 q.0 p.2 q.2 p.1 p.3 p.4 q.1 q.3 q.4)
+reading_same session peer message (Ok noted) (Err faults.NoMemory) p q = absurd q
+reading_same session peer message (Ok noted) (Err faults.Message) (inl p) q = absurd (q None p.0)
+reading_same session peer message (Ok noted) (Err faults.Message) (inr p) q = absurd (q (Some p.0) p.1)
+reading_same session peer message (Ok noted) (Err faults.Attributes) (inl p) q = absurd (not_both (identifies session.ids false) message q.0 p.0 q.1)
+reading_same session peer message (Ok noted) (Err faults.Attributes) (inr p) q = absurd (unreadable_read session message q.0 p.0 p.2 q.1 q.2 p.1 p.3)
+reading_same session peer message (Ok noted) (Err faults.NoPath) (inl p) q = absurd (not_both (identifies session.ids false) message q.0 p.0 q.1)
+reading_same session peer message (Ok noted) (Err faults.NoPath) (inr p) q = absurd (lacks_has session message q.0 p.0 q.2 p.2 q.1 q.3 q.4 p.1 p.3 p.4)
+reading_same session peer message (Ok noted) (Ok others) p q = ap Ok (noted_same session peer message noted others p q)
 
 -- ---- some reading
 
@@ -163,28 +163,28 @@ message_decided add_path message = by_frame add_path message (frame_from message
 
 -- ---- the changes
 
-abbrev HasReading : Bool → Identified → Peer → List ℕ → Type 0
-HasReading wide ids peer message = (result : Result Noted UpdateFault) × IsMessageReading wide ids peer message result
+abbrev HasReading : Session → Peer → List ℕ → Type 0
+HasReading session peer message = (result : Result Noted UpdateFault) × IsMessageReading session peer message result
 
-by_path : (wide : Bool) (ids : Identified) (peer : Peer) (message : List ℕ) (update : Update) → IsMessage (identifies ids false) message (Some update) → (reading : Reading) → IsRead wide Message ids update.attributes reading
-    → (path : Option (List Segment)) → reading.path ≡ path → (announced : List Nlri) → announced_in update reading ≡ announced → HasReading wide ids peer message
-by_path wide ids peer message update is reading read (Some path) p announced a = (Ok (noted_of peer update reading), inr (update, is, reading, read, (λ none. absurd (let both : Some path ≡ None = sym p ∙ none in cc)), refl))
-by_path wide ids peer message update is reading read None p [] a = (Ok (noted_of peer update reading), inr (update, is, reading, read, (λ none. a), refl))
-by_path wide ids peer message update is reading read None p (prefix ∷ prefixes) a = (Err faults.NoPath, (update, is, reading, read, (p, λ none. (let both : prefix ∷ prefixes ≡ [] = sym a ∙ none in cc))))
+by_path : (session : Session) (peer : Peer) (message : List ℕ) (update : Update) → IsMessage (identifies session.ids false) message (Some update) → (reading : Reading) → IsRead session.wide Message session.ids update.attributes reading
+    → (path : Option (List Segment)) → reading.path ≡ path → (announced : List Nlri) → announced_in update reading ≡ announced → HasReading session peer message
+by_path session peer message update is reading read (Some path) p announced a = (Ok (noted_of session peer update reading), inr (update, is, reading, read, (λ none. absurd (let both : Some path ≡ None = sym p ∙ none in cc)), refl))
+by_path session peer message update is reading read None p [] a = (Ok (noted_of session peer update reading), inr (update, is, reading, read, (λ none. a), refl))
+by_path session peer message update is reading read None p (prefix ∷ prefixes) a = (Err faults.NoPath, (update, is, reading, read, (p, λ none. (let both : prefix ∷ prefixes ≡ [] = sym a ∙ none in cc))))
 
-by_attributes : (wide : Bool) (ids : Identified) (peer : Peer) (message : List ℕ) (update : Update) → IsMessage (identifies ids false) message (Some update) → SomeOrNone (IsRead wide Message ids update.attributes) → HasReading wide ids peer message
-by_attributes wide ids peer message update is (inl x) = by_path wide ids peer message update is x.0 x.1 x.0.path refl (announced_in update x.0) refl
-by_attributes wide ids peer message update is (inr none) = (Err faults.Attributes, (update, is, none))
+by_attributes : (session : Session) (peer : Peer) (message : List ℕ) (update : Update) → IsMessage (identifies session.ids false) message (Some update) → SomeOrNone (IsRead session.wide Message session.ids update.attributes) → HasReading session peer message
+by_attributes session peer message update is (inl x) = by_path session peer message update is x.0 x.1 x.0.path refl (announced_in update x.0) refl
+by_attributes session peer message update is (inr none) = (Err faults.Attributes, (update, is, none))
 
-by_message : (wide : Bool) (ids : Identified) (peer : Peer) (message : List ℕ) → SomeOrNone (IsMessage (identifies ids false) message) → HasReading wide ids peer message
-by_message wide ids peer message (inl (None, is)) = (Ok (without_notes []), inl (is, refl))
-by_message wide ids peer message (inl (Some update, is)) = by_attributes wide ids peer message update is (reading_decided wide Message ids update.attributes)
-by_message wide ids peer message (inr none) = (Err faults.Message, none)
+by_message : (session : Session) (peer : Peer) (message : List ℕ) → SomeOrNone (IsMessage (identifies session.ids false) message) → HasReading session peer message
+by_message session peer message (inl (None, is)) = (Ok (without_notes []), inl (is, refl))
+by_message session peer message (inl (Some update, is)) = by_attributes session peer message update is (reading_decided session.wide Message session.ids update.attributes)
+by_message session peer message (inr none) = (Err faults.Message, none)
 
-pub reading_some : (wide : Bool) (ids : Identified) (peer : Peer) (message : List ℕ) → (result : Result Noted UpdateFault) × IsMessageReading wide ids peer message result
-reading_some wide ids peer message = by_message wide ids peer message (message_decided (identifies ids false) message)
+pub reading_some : (session : Session) (peer : Peer) (message : List ℕ) → (result : Result Noted UpdateFault) × IsMessageReading session peer message result
+reading_some session peer message = by_message session peer message (message_decided (identifies session.ids false) message)
 
-pub one_reading : (wide : Bool) (ids : Identified) (peer : Peer) (message : List ℕ) → HasOne (IsMessageReading wide ids peer message)
-one_reading wide ids peer message =
-    let some = reading_some wide ids peer message in
-    record { one = some.0; is = some.1; only = λ other is. reading_same wide ids peer message other some.0 is some.1 }
+pub one_reading : (session : Session) (peer : Peer) (message : List ℕ) → HasOne (IsMessageReading session peer message)
+one_reading session peer message =
+    let some = reading_some session peer message in
+    record { one = some.0; is = some.1; only = λ other is. reading_same session peer message other some.0 is some.1 }

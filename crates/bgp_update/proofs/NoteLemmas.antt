@@ -10,10 +10,10 @@ use Rattle.path_model.specs.declared.peer.Peer.{Peer}
 use Rattle.path_model.specs.Batches.{removals, announcements}
 use Rattle.path_model.specs.Notes.{announced_of, HasNotes}
 use Rattle.path_model.specs.Trail.{Path}
-use Rattle.bgp_attrs.specs.declared.identified.Identified.{Identified}
+use Rattle.bgp_update.specs.declared.session.Session.{Session}
 use Rattle.bgp_attrs.specs.Merging.{trail_in}
 use Rattle.bgp_attrs.specs.Reading.{Reading}
-use Rattle.bgp_update.specs.Updates.{Update, IsMessageReading, HasPathIfAnnounced, withdrawn_in, announced_in, all_announcements, noted_of}
+use Rattle.bgp_update.specs.Updates.{Update, IsMessageReading, HasPathIfAnnounced, withdrawn_in, announced_in, all_announcements, noted_of, path_from}
 
 -- removals in front announce nothing
 announced_behind : (peer : Peer) (nlris : List Nlri) (more : List Change) → announced_of (removals peer nlris ++ more) ≡ announced_of more
@@ -33,13 +33,13 @@ mapped_none : {A B : Type 0} (f : A → B) (o : Option A) → option_map f o ≡
 mapped_none f None e = refl
 mapped_none f (Some x) e = absurd cc
 
-noted_has : (peer : Peer) (update : Update) (reading : Reading) → HasPathIfAnnounced update reading → HasNotes (noted_of peer update reading)
-noted_has peer update reading has =
+noted_has : (session : Session) (peer : Peer) (update : Update) (reading : Reading) → HasPathIfAnnounced update reading → HasNotes (noted_of session peer update reading)
+noted_has session peer update reading has =
     let nlris = announced_in update reading in
     length-replicate (length nlris) reading.otc
-    ∙ sym (announced_by peer (trail_in reading) nlris (λ none. has (mapped_none _ reading.path none)))
-    ∙ sym (announced_behind peer (withdrawn_in update reading) (all_announcements peer (trail_in reading) nlris))
+    ∙ sym (announced_by peer (path_from session peer reading) nlris (λ none. has (mapped_none _ reading.path (mapped_none _ (trail_in reading) none))))
+    ∙ sym (announced_behind peer (withdrawn_in update reading) (all_announcements peer (path_from session peer reading) nlris))
 
-pub each_has_note : (wide : Bool) (ids : Identified) (peer : Peer) (message : List ℕ) (noted : Noted) → IsMessageReading wide ids peer message (Ok noted) → HasNotes noted
-each_has_note wide ids peer message noted (inl none) = subst HasNotes (sym none.1) refl
-each_has_note wide ids peer message noted (inr makes) = subst HasNotes (sym makes.5) (noted_has peer makes.0 makes.2 makes.4)
+pub each_has_note : (session : Session) (peer : Peer) (message : List ℕ) (noted : Noted) → IsMessageReading session peer message (Ok noted) → HasNotes noted
+each_has_note session peer message noted (inl none) = subst HasNotes (sym none.1) refl
+each_has_note session peer message noted (inr makes) = subst HasNotes (sym makes.5) (noted_has session peer makes.0 makes.2 makes.4)

@@ -4,13 +4,13 @@ use Rattle.av_base.specs.One.{HasOne}
 use Rattle.path_model.specs.declared.noted.Noted.{Noted}
 use Rattle.path_model.specs.declared.peer.Peer.{Peer}
 use Rattle.path_model.specs.Notes.{HasNotes}
-use Rattle.bgp_attrs.specs.declared.identified.Identified.{Identified}
+use Rattle.bgp_update.specs.declared.session.Session.{Session}
 use Rattle.bgp_update.specs.Updates.{IsMessageReading}
 
 -- each message has exactly one reading
 abbrev pub EachMessageHasOneReading : Type 0
-EachMessageHasOneReading = (wide : Bool) (ids : Identified) (peer : Peer) (message : List ℕ) → HasOne (IsMessageReading wide ids peer message)
+EachMessageHasOneReading = (session : Session) (peer : Peer) (message : List ℕ) → HasOne (IsMessageReading session peer message)
 
 -- each announcement of a message has its note
 abbrev pub EachAnnouncementHasItsNote : Type 0
-EachAnnouncementHasItsNote = (wide : Bool) (ids : Identified) (peer : Peer) (message : List ℕ) (noted : Noted) → IsMessageReading wide ids peer message (Ok noted) → HasNotes noted
+EachAnnouncementHasItsNote = (session : Session) (peer : Peer) (message : List ℕ) (noted : Noted) → IsMessageReading session peer message (Ok noted) → HasNotes noted

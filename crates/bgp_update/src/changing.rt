@@ -2,16 +2,20 @@
 ghost use Rattle.std.specs.Prelude.{◌≡◌, ◌++◌, IfOk, OnOk};
 ghost use Rattle.bgp_attrs.specs.Left.{prefixes_left};
 ghost use Rattle.bgp_update.specs.Outcomes.{IsOutcomeBy, IsOutcomeOf, some_left};
-ghost use Rattle.bgp_update.specs.Updates.{IsMessageOutcome};
+ghost use Rattle.bgp_update.specs.Updates.{IsMessageOutcome, held_path as path_held};
 ghost use Rattle.bgp_update.specs.Views.{update_of};
 
 use crate::fault::UpdateFault;
 use crate::parting::Parts;
+use crate::session::Session;
 use crate::shaping::message_parts;
 use av_base::NoMemory;
-use bgp_attrs::{Attrs, Form, Identified, Prefixes};
-use path_model::{Changes, NlriList, Noted, Notes, Peer};
+use bgp_attrs::{Attrs, Form, Prefixes};
+use path_model::{Changes, NlriList, Noted, Notes, Peer, Trail};
 use std::alloc::Global;
+
+// The most ASes of a path.
+const MOST: usize = 65535;
 
 /// The changes that a message from a peer makes: its removals, and then its announcements, and beside them a note for each
 /// announcement: what the attributes say of Only-to-Customer (RFC 9234, section 5). A message that is no UPDATE makes none.
@@ -19,20 +23,18 @@ use std::alloc::Global;
 /// All announcements share one path, so it takes the memory of the path once, and some 11 bytes for each prefix, 8 more where it has a
 /// path identifier, and 8 more where the attribute is there.
 ///
-/// `wide` says that ASes have four bytes; `ids` in which families each prefix, withdrawn or announced, has a path identifier before it
-/// (RFC 7911, section 3). The refusals are tested over the whole message in this order: 24 Message, 23 Attributes,
-/// 25 NoPath.
+/// `session` says how wide ASes are, which prefixes, withdrawn or announced, have path identifiers before them, and whether the peer's
+/// own AS goes before the paths. The refusals are tested over the whole message in this order: 24 Message, 23 Attributes, 25 NoPath.
 pub fn read(
     alloc: Global,
     message: &[u8],
-    wide: bool,
-    ids: Identified,
+    session: Session,
     peer: Peer,
 ) -> Result<Noted, UpdateFault>
-    ensures { IsMessageOutcome wide ids peer message.now result }
+    ensures { IsMessageOutcome session peer message.now result }
 {
-    match message_parts(message, ids.of(false)) {
-        Ok(Some(parts)) => changes_of(alloc, parts, wide, ids, peer),
+    match message_parts(message, session.ids.of(false)) {
+        Ok(Some(parts)) => changes_of(alloc, parts, session, peer),
         Ok(None) => Ok(Noted {
             changes: Changes::new(alloc),
             notes: Notes::new(alloc),
@@ -45,14 +47,13 @@ pub fn read(
 fn changes_of(
     alloc: Global,
     parts: Parts<'_>,
-    wide: bool,
-    ids: Identified,
+    session: Session,
     peer: Peer,
 ) -> Result<Noted, UpdateFault>
-    ensures { IsOutcomeOf wide ids peer (update_of parts.entry) result }
+    ensures { IsOutcomeOf session peer (update_of parts.entry) result }
 {
-    match bgp_attrs::read(parts.attributes, wide, Form::Message, ids) {
-        Ok(attrs) => changes_by(alloc, parts, &attrs, peer),
+    match bgp_attrs::read(parts.attributes, session.wide, Form::Message, session.ids) {
+        Ok(attrs) => changes_by(alloc, parts, &attrs, session, peer),
         Err(_) => Err(UpdateFault::Attributes),
     }
 }
@@ -62,9 +63,10 @@ fn changes_by(
     alloc: Global,
     parts: Parts<'_>,
     attrs: &Attrs<'_>,
+    session: Session,
     peer: Peer,
 ) -> Result<Noted, UpdateFault>
-    ensures { IsOutcomeBy peer (update_of parts.entry) attrs.now result }
+    ensures { IsOutcomeBy session peer (update_of parts.entry) attrs.now result }
 {
     let mut changes = Changes::new(alloc);
     let withdrawn = all_of(alloc, parts.withdrawn, attrs.withdrawn())?;
@@ -74,7 +76,8 @@ fn changes_by(
     notes.note_all(attrs.otc(), announced.len())?;
     match attrs.trail(alloc)? {
         Some(trail) => {
-            changes.announce_all(peer, trail, announced)?;
+            let path = held_path(alloc, session.holds, peer.asn, trail)?;
+            changes.announce_all(peer, path, announced)?;
             Ok(Noted { changes, notes })
         }
         None => {
@@ -85,6 +88,24 @@ fn changes_by(
             }
         }
     }
+}
+
+// The path, behind the peer's own AS where it tells what it holds. For one AS more than the most there is no memory.
+fn held_path(alloc: Global, holds: bool, asn: u32, trail: Trail) -> Result<Trail, NoMemory>
+    ensures { IfOk result (λ path. path ≡ path_held holds asn trail) }
+{
+    if !holds {
+        return Ok(trail);
+    }
+    let mut behind = Vec::from_slice(alloc, trail.chain().as_slice())?;
+    behind.reverse();
+    let mut path = Vec::new(alloc);
+    path.push(asn)?;
+    path.extend_from_slice(behind.as_slice())?;
+    if path.len() > MOST {
+        return Err(NoMemory);
+    }
+    Ok(Trail::from_newest_first(trail.is_set(), path))
 }
 
 // The prefixes of an UPDATE and then those of an attribute, in one list that has room for one word of each from the start.

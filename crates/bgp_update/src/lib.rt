@@ -13,9 +13,11 @@ mod fault;
 mod framing;
 mod laws;
 mod parting;
+mod session;
 mod shaping;
 
 pub use changing::read;
 pub use fault::UpdateFault;
 pub use framing::after_marker;
 pub use laws::{each_announcement_has_its_note, each_message_has_one_reading};
+pub use session::Session;

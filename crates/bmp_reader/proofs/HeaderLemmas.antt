@@ -22,7 +22,7 @@ joined bytes a ra b rb c rc d rd e re rest p q r s t u =
 named_finds : (kind flags : ℕ) (bytes : List ℕ) (header : PeerHeader) (rest : List ℕ) → named_at kind flags bytes ≡ Some (header, rest) → Begins IsPeerHeader (kind ∷ (flags ∷ bytes)) header rest
 unfolding named_at
 named_finds kind flags bytes header rest e =
-    let six = is_six flags in
+    let six = is_six kind flags in
     let a = and_then_some _ (cut 8 bytes) (header, rest) e in
     let b = and_then_some _ (cut (unread_size six) a.0.1) (header, rest) a.2 in
     let c = and_then_some _ (addr_at six b.0.1) (header, rest) b.2 in
@@ -52,11 +52,11 @@ named_finds kind flags bytes header rest e =
       whole = ap (λ (xs : List ℕ). kind ∷ (flags ∷ xs)) (joined bytes a.0.0 a.0.1 b.0.0 b.0.1 p3.0 c.0.1 p4.0 d.0.1 f.0.0 f.0.1 rest p1.1 p2.1 p3.2 p4.2 p5.1 made.1);
     })
 
-named_here : (header : PeerHeader) (distinguisher unread addr asn time rest : List ℕ) → length distinguisher ≡ 8 → length unread ≡ unread_size (is_six header.flags) → SpellsAddr (is_six header.flags) addr header.peer.addr
+named_here : (header : PeerHeader) (distinguisher unread addr asn time rest : List ℕ) → length distinguisher ≡ 8 → length unread ≡ unread_size (is_six header.kind header.flags) → SpellsAddr (is_six header.kind header.flags) addr header.peer.addr
     → SpellsFour asn header.peer.asn → length time ≡ 12 → named_at header.kind header.flags (distinguisher ++ (unread ++ (addr ++ (asn ++ (time ++ rest))))) ≡ Some (header, rest)
 unfolding named_at
 named_here header distinguisher unread addr asn time rest eight is_unread is_addr is_asn twelve =
-    let six = is_six header.flags in
+    let six = is_six header.kind header.flags in
     let r4 = time ++ rest in
     let r3 = asn ++ r4 in
     let r2 = addr ++ r3 in

@@ -1,3 +1,4 @@
+pub mod AgreementLemmas
 pub mod CapabilityLemmas
 pub mod FormLemmas
 pub mod HeaderLemmas
@@ -5,7 +6,6 @@ pub mod LawLemmas
 pub mod MessageLemmas
 pub mod NoteLemmas
 pub mod OpenLemmas
-pub mod PeerLemmas
 pub mod ReadingLemmas
 pub mod SeenLemmas
 pub mod TimeLemmas

@@ -1,18 +1,20 @@
 -- What is seen of capabilities is what they tell.
 use Rattle.std.proofs.Common.{◌≡◌, ◌≢◌, inl, inr, ℕ, Bool, true, false, cond, List, [], ◌∷◌, ◌++◌, Some, None, refl, sym, ap, subst, ◌∙◌, append_assoc, true≢false, arith}
-use Rattle.std.specs.Prelude.{◌==◌, ◌||◌, ◌↔◌, IsTrue}
+use Rattle.std.specs.Prelude.{◌==◌, ◌||◌, ◌&&◌}
 use Rattle.std.specs.declared.option.Option.{Option}
-use Rattle.std.specs.List.{Contains}
+use Rattle.std.specs.List.{Contains, list_any}
+use Rattle.std.proofs.lemmas.List.Folds.{list_any-append}
 use Rattle.std.proofs.lemmas.List.{append-nil}
 use Rattle.std.proofs.lemmas.List.Elements.{Contains-append_left, Contains-push, Contains-push_cases}
 use Rattle.std.proofs.lemmas.Bool.Decides.{nat_tests}
 use Rattle.path_model.specs.declared.role.Role.{Role}
+use Rattle.bmp_reader.specs.declared.seen.Offered.{Offered}
 use Rattle.bmp_reader.specs.declared.seen.Seen.{Seen}
 use Rattle.bmp_reader.specs.declared.seen.Told.{Told}
 use Rattle.bmp_reader.specs.declared.seen.Told.TheVariants.{Nothing, Value, Several}
-use Rattle.bmp_reader.specs.Learning.{role_of_value, role_capability, TellsValue, TellsRole, HasPaths}
+use Rattle.bmp_reader.specs.Learning.{agreed_by, can, has_code, is_offer, role_of_value, role_capability, TellsValue, TellsRole}
 use Rattle.bmp_reader.specs.Opens.{Triple}
-use Rattle.bmp_reader.specs.Seen.{unseen, told_also, told_by, see, see_all, role_told}
+use Rattle.bmp_reader.specs.Seen.{agreed_of, offered_also, unseen, told_also, told_by, see, see_all, role_told}
 
 -- what capabilities tell of roles
 abbrev IsTold : List Triple → Told → Type 0
@@ -67,42 +69,55 @@ told_more front told last is = by_test (last.code == 9) refl
     by_test true t = by_value last.value refl (grind (arith, nat_tests))
     by_test false t = kept front told last (λ value e. (let c : last.code ≡ 9 = ap (λ (t : Triple). t.code) e in grind (arith, nat_tests))) is
 
--- ---- whether ADD-PATH is among them
+-- ---- what else they tell
 
-abbrev SaysPaths : List Triple → Bool → Type 0
-SaysPaths front paths = IsTrue paths ↔ HasPaths front
-
-paths_more : (front : List Triple) (paths : Bool) (last : Triple) → SaysPaths front paths → SaysPaths (front ++ last ∷ []) (paths || (last.code == 69))
-paths_more front true last says = (λ on. (let has = says.0 refl in (has.0, Contains-append_left front (last ∷ []) (record { code = 69; value = has.0 }) has.1)), λ has. refl)
-paths_more front false last says = by_test (last.code == 69) refl
+-- what is seen so far is what the capabilities have
+any_more : {P : Triple → Bool} (front : List Triple) (seen : Bool) (last : Triple) → seen ≡ list_any P front → (seen || P last) ≡ list_any P (front ++ last ∷ [])
+any_more {P} front seen last is = ap (λ (b : Bool). b || P last) is ∙ ap (λ (b : Bool). list_any P front || b) (one (P last)) ∙ sym (list_any-append P front (last ∷ []))
   where
-    by_test : (path : Bool) → (last.code == 69) ≡ path → SaysPaths (front ++ last ∷ []) path
-    by_test true t =
-        (let c : last.code ≡ 69 = grind (arith, nat_tests) in
-        let same : last ≡ record { code = 69; value = last.value } = (λ i. record { code = c i; value = last.value }) in
-        (λ on. (last.value, subst (λ (t : Triple). Contains (front ++ last ∷ []) t) same (Contains-push front last)), λ has. refl))
-    by_test false t = (
-      λ on. absurd (true≢false (sym on)),
-      λ has. elim (Contains-push_cases front last (record { code = 69; value = has.0 }) has.1) [
-        | inl before ↦ says.1 (has.0, before)
-        | inr e ↦ absurd (let c : last.code ≡ 69 = ap (λ (t : Triple). t.code) e in grind (arith, nat_tests))
-      ],
-    )
+    one : (b : Bool) → b ≡ cond b true false
+    one true = refl
+    one false = refl
+
+pub record IsOffered (front : List Triple) (six : Bool) (offered : Offered) : Type 0 where
+  pub sends : offered.sends ≡ can 2 six front
+  pub receives : offered.receives ≡ can 1 six front
+
+offered_more : (front : List Triple) (six : Bool) (offered : Offered) (last : Triple) → IsOffered front six offered → IsOffered (front ++ last ∷ []) six (offered_also offered last six)
+offered_more front six offered last is = record {
+  sends = any_more {P = is_offer 2 six} front offered.sends last is.sends;
+  receives = any_more {P = is_offer 1 six} front offered.receives last is.receives;
+}
 
 -- ---- all of them
 
 pub record IsSeen (front : List Triple) (seen : Seen) : Type 0 where
   pub told : IsTold front seen.told
-  pub add_path : SaysPaths front seen.add_path
+  pub four : IsOffered front false seen.four
+  pub six : IsOffered front true seen.six
+  pub add_path : seen.add_path ≡ has_code 69 front
+  pub wide : seen.wide ≡ has_code 65 front
 
 nowhere : (t : Triple) → Contains [] t → ⊥
 nowhere t has = let less = has.1 in omega arith
 
 none_seen : IsSeen [] unseen
-none_seen = record { told = λ value has. nowhere (role_capability value) has; add_path = (λ on. absurd (true≢false (sym on)), λ has. absurd (nowhere (record { code = 69; value = has.0 }) has.1)) }
+none_seen = record {
+  told = λ value has. nowhere (role_capability value) has;
+  four = record { sends = refl; receives = refl };
+  six = record { sends = refl; receives = refl };
+  add_path = refl;
+  wide = refl;
+}
 
 one_seen : (front : List Triple) (seen : Seen) (last : Triple) → IsSeen front seen → IsSeen (front ++ last ∷ []) (see seen last)
-one_seen front seen last is = record { told = told_more front seen.told last is.told; add_path = paths_more front seen.add_path last is.add_path }
+one_seen front seen last is = record {
+  told = told_more front seen.told last is.told;
+  four = offered_more front false seen.four last is.four;
+  six = offered_more front true seen.six last is.six;
+  add_path = any_more {P = λ t. t.code == 69} front seen.add_path last is.add_path;
+  wide = any_more {P = λ t. t.code == 65} front seen.wide last is.wide;
+}
 
 more_seen : (front : List Triple) (seen : Seen) (capabilities : List Triple) → IsSeen front seen → IsSeen (front ++ capabilities) (see_all seen capabilities)
 more_seen front seen [] is = subst (λ (ts : List Triple). IsSeen ts seen) (sym (append-nil front)) is
@@ -111,6 +126,17 @@ more_seen front seen (last ∷ capabilities) is =
 
 pub all_seen : (capabilities : List Triple) → IsSeen capabilities (see_all unseen capabilities)
 all_seen capabilities = more_seen [] unseen capabilities none_seen
+
+-- what is seen of both OPENs is what they agree on
+pub both_seen : (sent received : List Triple) → agreed_of (see_all unseen sent) (see_all unseen received) ≡ agreed_by sent received
+both_seen sent received =
+    let s = all_seen sent in
+    let r = all_seen received in
+    λ i. record {
+      ids = record { four = s.four.receives i && r.four.sends i; six = s.six.receives i && r.six.sends i };
+      paths = s.add_path i && r.add_path i;
+      wide = s.wide i && r.wide i;
+    }
 
 -- what is seen of some and then of others
 pub see-append : (seen : Seen) (some others : List Triple) → see_all seen (some ++ others) ≡ see_all (see_all seen some) others
@@ -136,10 +162,3 @@ role_same capabilities None None p q = refl
 role_same capabilities None (Some role) p q = absurd (p q.0 role q.1 q.2)
 role_same capabilities (Some role) None p q = absurd (q p.0 role p.1 p.2)
 role_same capabilities (Some one) (Some other) p q = sym p.2 ∙ ap role_of_value (q.1.only p.0 p.1.some) ∙ q.2
-
--- a truth value is determined by what it says
-pub truth_same : {P : Type 0} (one other : Bool) → IsTrue one ↔ P → IsTrue other ↔ P → one ≡ other
-truth_same true true p q = refl
-truth_same true false p q = sym (q.1 (p.0 refl))
-truth_same false true p q = p.1 (q.0 refl)
-truth_same false false p q = refl

@@ -6,8 +6,8 @@ use Rattle.held_bytes.specs.Units.{AreUnits}
 use Rattle.path_model.specs.declared.noted.Noted.{Noted}
 use Rattle.path_model.specs.Notes.{HasNotes}
 use Rattle.bmp_reader.specs.declared.body.Body.TheVariants.{Routes}
-use Rattle.bmp_reader.specs.declared.view.View.{View}
-use Rattle.bmp_reader.specs.Bodies.{Identifying, IsReading}
+use Rattle.bmp_reader.specs.Before.{Known}
+use Rattle.bmp_reader.specs.Bodies.{IsReading}
 use Rattle.bmp_reader.specs.Coming.{IsComing, IsOtherVersion, IsBadLength}
 use Rattle.bmp_reader.specs.Messages.{Sent, IsMessage}
 use Rattle.bmp_reader.specs.Opens.{Open, HasCapabilities}
@@ -32,13 +32,13 @@ OtherVersionStays = (bytes more : List ℕ) → IsOtherVersion bytes → IsOther
 abbrev pub BadLengthStays : Type 0
 BadLengthStays = (bytes more : List ℕ) → IsBadLength bytes → IsBadLength (bytes ++ more)
 
--- each message has exactly one reading, in either view and by whatever peers identify paths
+-- each message has exactly one reading, whatever is known before it
 abbrev pub EachMessageHasOneReading : Type 0
-EachMessageHasOneReading = (it : Sent) (view : View) (peers : Identifying) → HasOne (IsReading it view peers)
+EachMessageHasOneReading = (it : Sent) (before : Known) → HasOne (IsReading it before)
 
 -- each announcement of a message has its note
 abbrev pub EachAnnouncementHasItsNote : Type 0
-EachAnnouncementHasItsNote = (it : Sent) (view : View) (peers : Identifying) (noted : Noted) → IsReading it view peers (Ok (Routes noted)) → HasNotes noted
+EachAnnouncementHasItsNote = (it : Sent) (before : Known) (noted : Noted) → IsReading it before (Ok (Routes noted)) → HasNotes noted
 
 -- each OPEN has exactly one list of capabilities
 abbrev pub EachOpenHasItsCapabilities : Type 0

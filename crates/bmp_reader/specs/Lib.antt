@@ -1,4 +1,6 @@
+pub mod Before
 pub mod Bodies
+pub mod Codes
 pub mod Coming
 pub mod Forms
 pub mod Gathering

@@ -18,8 +18,8 @@ use Rattle.bmp_reader.specs.Times.{is_of_peer}
 unfoldable pub named_at : ℕ → ℕ → List ℕ → Option (PeerHeader × List ℕ)
 named_at kind flags bytes = do
   distinguisher ← cut 8 bytes
-  unread ← cut (unread_size (is_six flags)) distinguisher.1
-  addr ← addr_at (is_six flags) unread.1
+  unread ← cut (unread_size (is_six kind flags)) distinguisher.1
+  addr ← addr_at (is_six kind flags) unread.1
   asn ← four_at addr.1
   time ← cut 12 asn.1
   Some (record { kind = kind; flags = flags; peer = record { addr = addr.0; asn = asn.0 } }, time.1)

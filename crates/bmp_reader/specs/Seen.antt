@@ -1,18 +1,23 @@
 -- What has been seen of capabilities, one after another; only private contracts cite it.
-use Rattle.std.specs.Prelude.{ℕ, ◌==◌, ◌||◌, false, if◌then◌else◌, List, [], ◌∷◌, Some, None, option_map}
+use Rattle.std.specs.Prelude.{ℕ, ◌==◌, ◌||◌, ◌&&◌, Bool, true, false, if◌then◌else◌, List, [], ◌∷◌, Some, None, option_map}
 use Rattle.std.specs.declared.option.Option.{Option}
 use Rattle.path_model.specs.declared.role.Role.{Role}
+use Rattle.bmp_reader.specs.declared.agreed.Agreed.{Agreed}
+use Rattle.bmp_reader.specs.declared.seen.Offered.{Offered}
 use Rattle.bmp_reader.specs.declared.seen.Seen.{Seen}
 use Rattle.bmp_reader.specs.declared.seen.Told.{Told}
 use Rattle.bmp_reader.specs.declared.seen.Told.TheVariants.{Nothing, Value, Several}
-use Rattle.bmp_reader.specs.Learning.{role_of_value}
+use Rattle.bmp_reader.specs.Learning.{is_offer, role_of_value}
 use Rattle.bmp_reader.specs.Opens.{Triple}
 use Rattle.bgp_attrs.specs.Fixed.{◌>>=◌}
 use Rattle.bmp_reader.specs.Readers.{triple_at, own_of}
 
 -- nothing
+abbrev pub unoffered : Offered
+unoffered = record { sends = false; receives = false }
+
 abbrev pub unseen : Seen
-unseen = record { told = Nothing; add_path = false }
+unseen = record { told = Nothing; four = unoffered; six = unoffered; add_path = false; wide = false }
 
 -- one value more is told
 abbrev pub told_also : Told → ℕ → Told
@@ -26,11 +31,21 @@ told_by told (value ∷ []) = told_also told value
 told_by told [] = told
 told_by told (a ∷ b ∷ rest) = told
 
+-- what one capability more offers of a family
+abbrev pub offered_also : Offered → Triple → Bool → Offered
+offered_also before capability six = record {
+  sends = before.sends || is_offer 2 six capability;
+  receives = before.receives || is_offer 1 six capability;
+}
+
 -- one capability more
 abbrev pub see : Seen → Triple → Seen
 see seen capability = record {
   told = if capability.code == 9 then told_by seen.told capability.value else seen.told;
+  four = offered_also seen.four capability false;
+  six = offered_also seen.six capability true;
   add_path = seen.add_path || (capability.code == 69);
+  wide = seen.wide || (capability.code == 65);
 }
 
 abbrev pub see_all : Seen → List Triple → Seen
@@ -55,3 +70,11 @@ abbrev pub role_told : Told → Option Role
 role_told Nothing = None
 role_told (Value value) = role_of_value value
 role_told Several = None
+
+-- what two OPENs agree on, by what was seen of each
+abbrev pub agreed_of : Seen → Seen → Agreed
+agreed_of sent received = record {
+  ids = record { four = sent.four.receives && received.four.sends; six = sent.six.receives && received.six.sends };
+  paths = sent.add_path && received.add_path;
+  wide = sent.wide && received.wide;
+}

@@ -1,4 +1,5 @@
 //! What a message says.
+use crate::agreed::Agreed;
 use path_model::{Noted, Peer, Role};
 
 /// What a message says.
@@ -13,8 +14,8 @@ pub enum Body {
         peer: Peer,
         /// The role that the peer says it has in its OPEN (RFC 9234, section 4.1). That is its own: `Provider` for our provider.
         role: Option<Role>,
-        /// Whether both OPENs have the capability ADD-PATH (RFC 7911, section 4).
-        paths: bool,
+        /// What both OPENs agree on.
+        agreed: Agreed,
     },
     /// It is passed over.
     Passed,

@@ -1,12 +1,15 @@
 //! Per-peer headers.
 ghost use Rattle.std.specs.Prelude.{◌≡◌, option_map};
-ghost use Rattle.bmp_reader.specs.Bodies.{is_elsewhere as is_elsewhere_by, is_of_other as is_of_other_view};
-ghost use Rattle.bmp_reader.specs.Headers.{is_wide as is_wide_by, unread_size};
+ghost use Rattle.bmp_reader.specs.Before.{is_elsewhere as is_elsewhere_by, is_of_other as is_of_other_view};
+ghost use Rattle.bmp_reader.specs.Headers.{is_sent as is_sent_by, is_six as is_six_by, is_wide as is_wide_by, unread_size};
 ghost use Rattle.bmp_reader.specs.Readers.{named_at, header_at, down_at};
 
-use crate::view::View;
 use bgp_attrs::{take, take_addr, take_byte, take_four};
+use dialects::View;
 use path_model::Peer;
+
+// The type of a header of Loc-RIB.
+const LOC: u8 = 3;
 
 /// What the header of a peer says: the peer's type, its flags, and the peer.
 #[derive(Clone, Copy, Debug)]
@@ -17,11 +20,14 @@ pub(crate) struct PeerHeader {
 }
 
 impl PeerHeader {
-    // Whether the peer isn't a Global Instance Peer.
-    pub(crate) fn is_elsewhere(&self) -> bool
-        ensures { result ≡ is_elsewhere_by self.now }
+    // Whether the peer is of another type than those that are read in the view.
+    pub(crate) fn is_elsewhere(&self, view: View) -> bool
+        ensures { result ≡ is_elsewhere_by view self.now }
     {
-        self.kind != 0
+        match view {
+            View::Pre | View::Post => self.kind != 0,
+            View::Loc => self.kind != LOC,
+        }
     }
 
     // Whether the routes are of the other view.
@@ -32,14 +38,22 @@ impl PeerHeader {
         match view {
             View::Pre => post,
             View::Post => !post,
+            View::Loc => false,
         }
     }
 
-    // Whether the ASes in AS_PATH have four bytes.
-    pub(crate) fn is_wide(&self) -> bool
-        ensures { result ≡ is_wide_by self.now.flags }
+    // Whether the router sends the routes (RFC 8671, section 4).
+    pub(crate) fn is_sent(&self) -> bool
+        ensures { result ≡ is_sent_by self.now.flags }
     {
-        self.flags & 0x20 == 0
+        self.flags & 0x10 != 0
+    }
+
+    // Whether the flags say that the ASes in AS_PATH have four bytes.
+    pub(crate) fn is_wide(&self) -> bool
+        ensures { result ≡ is_wide_by self.now.kind self.now.flags }
+    {
+        self.kind == LOC || self.flags & 0x20 == 0
     }
 }
 
@@ -59,7 +73,7 @@ pub(crate) fn take_header(bytes: &[u8]) -> Option<(PeerHeader, &[u8])>
 fn take_named(kind: u8, flags: u8, bytes: &[u8]) -> Option<(PeerHeader, &[u8])>
     ensures { option_map (λ x. (x.0, x.1.now)) result ≡ named_at kind flags bytes.now }
 {
-    let six = flags & 0x80 != 0;
+    let six = is_six(kind, flags);
     let (_, rest) = take(bytes, 8)?;
     let (_, rest) = take(rest, size_before_addr(six))?;
     let (addr, rest) = take_addr(rest, six)?;
@@ -67,6 +81,13 @@ fn take_named(kind: u8, flags: u8, bytes: &[u8]) -> Option<(PeerHeader, &[u8])>
     let (_, rest) = take(rest, 12)?;
     let peer = Peer { addr, asn };
     Some((PeerHeader { peer, kind, flags }, rest))
+}
+
+// Whether the address is one of IPv6. That of Loc-RIB is none.
+fn is_six(kind: u8, flags: u8) -> bool
+    ensures { result ≡ is_six_by kind flags }
+{
+    kind != LOC && flags & 0x80 != 0
 }
 
 // How many bytes stand before an address in a field of sixteen bytes.

@@ -1,7 +1,7 @@
 -- Which rules of reading hold for what a writer wrote: the table of `docs/formats.md`, one line a rule.
 use Rattle.std.specs.Prelude.{Bool, true, false}
 use Rattle.dialects.specs.declared.writer.Rule.{Rule}
-use Rattle.dialects.specs.declared.writer.Rule.TheVariants.{EstablishedAlone, PathlessEntry, UnnamedPeer, SwappedPeer}
+use Rattle.dialects.specs.declared.writer.Rule.TheVariants.{EstablishedAlone, PathlessEntry, UnnamedPeer, SwappedPeer, SentRoute, AgreedPaths, AgreedWidth}
 use Rattle.dialects.specs.declared.writer.Writer.{Writer}
 use Rattle.dialects.specs.declared.writer.Writer.TheVariants.{Plain, Any, Bird, Frr, OpenBgpd, GoBgp}
 
@@ -28,3 +28,6 @@ has writer EstablishedAlone = is_told writer
 has writer PathlessEntry = is_told writer
 has writer UnnamedPeer = is_told writer
 has writer SwappedPeer = is_openbgpd writer
+has writer SentRoute = is_told writer
+has writer AgreedPaths = is_told writer
+has writer AgreedWidth = is_told writer

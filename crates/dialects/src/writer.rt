@@ -29,6 +29,12 @@ pub enum Rule {
     UnnamedPeer,
     /// Where a state change names the writer itself as the peer, its local fields name the peer.
     SwappedPeer,
+    /// In BMP, a route that the router sends is passed over (RFC 8671).
+    SentRoute,
+    /// In BMP, path identifiers are read, in the families and the direction that both OPENs agree on (RFC 7911, section 4).
+    AgreedPaths,
+    /// In BMP, ASes have the width that both OPENs agree on (RFC 6793, section 3).
+    AgreedWidth,
 }
 
 impl Writer {
@@ -41,6 +47,7 @@ impl Writer {
         match rule {
             Rule::EstablishedAlone | Rule::PathlessEntry | Rule::UnnamedPeer => self.is_told(),
             Rule::SwappedPeer => self.is_openbgpd(),
+            Rule::SentRoute | Rule::AgreedPaths | Rule::AgreedWidth => self.is_told(),
         }
     }
 

@@ -1,7 +1,6 @@
 -- Want of memory is no reading.
 use Rattle.std.proofs.Common.{◌≡◌, ℕ, Bool, List, Ok, Err}
 use Rattle.std.specs.declared.result.Result.{Result}
-use Rattle.bgp_attrs.specs.Identified.{in_both}
 use Rattle.path_model.specs.declared.addr.Addr.{Addr}
 use Rattle.path_model.specs.declared.noted.Noted.{Noted}
 use Rattle.path_model.specs.declared.peer.Peer.{Peer}
@@ -12,7 +11,7 @@ use Rattle.mrt_reader.specs.declared.fault.BodyFault.TheVariants.{NoMemory}
 use Rattle.mrt_reader.specs.declared.layout.Layout.{Layout}
 use Rattle.mrt_reader.specs.declared.layout.Layout.TheVariants as layouts
 use Rattle.mrt_reader.specs.Before.{Known}
-use Rattle.mrt_reader.specs.Bodies.{IsReading, TableSays, MessageSays, StateSays, LayoutSays, raised}
+use Rattle.mrt_reader.specs.Bodies.{told_session, IsReading, TableSays, MessageSays, StateSays, LayoutSays, raised}
 use Rattle.mrt_reader.specs.Dumps.{IsTableDump}
 use Rattle.mrt_reader.specs.Layouts.{layout_of}
 use Rattle.mrt_reader.specs.Peers.{IsPeerTable}
@@ -21,7 +20,7 @@ use Rattle.mrt_reader.specs.Routes.{DumpSays}
 use Rattle.mrt_reader.specs.Sessions.{Session, IsRecordedMessage, IsStateChange}
 use Rattle.mrt_reader.proofs.FormLemmas.{form_reads}
 
-raised_reads : (wide add_path : Bool) (peer : Peer) (local : Addr) (message : List ℕ) (inner : Result Noted UpdateFault) → messages.IsMessageReading wide (in_both add_path) peer message inner → Err NoMemory ≡ raised local inner → ⊥
+raised_reads : (wide add_path : Bool) (peer : Peer) (local : Addr) (message : List ℕ) (inner : Result Noted UpdateFault) → messages.IsMessageReading (told_session wide add_path) peer message inner → Err NoMemory ≡ raised local inner → ⊥
 raised_reads wide add_path peer local message (Ok noted) reads is = cc
 raised_reads wide add_path peer local message (Err update_faults.Message) reads is = cc
 raised_reads wide add_path peer local message (Err update_faults.Attributes) reads is = cc

@@ -1,7 +1,6 @@
 -- Each announcement of a record has its note.
 use Rattle.std.proofs.Common.{◌≡◌, ℕ, ◌==◌, ◌&&◌, not, inl, inr, Bool, true, false, if◌then◌else◌, List, [], ◌∷◌, length, Ok, Err, refl, sym, subst, arith}
 use Rattle.std.specs.declared.result.Result.{Result}
-use Rattle.bgp_attrs.specs.Identified.{in_both}
 use Rattle.path_model.specs.declared.addr.Addr.{Addr}
 use Rattle.path_model.specs.declared.change.Change.{Change}
 use Rattle.path_model.specs.declared.change.Change.TheVariants.{RemovePeer}
@@ -24,7 +23,7 @@ use Rattle.mrt_reader.specs.declared.fault.BodyFault.{BodyFault}
 use Rattle.mrt_reader.specs.declared.layout.Layout.{Layout}
 use Rattle.mrt_reader.specs.declared.layout.Layout.TheVariants as layouts
 use Rattle.mrt_reader.specs.Before.{Known}
-use Rattle.mrt_reader.specs.Bodies.{ByForm, TableSays, raised, MessageSays, StateSays, LayoutSays, IsReading}
+use Rattle.mrt_reader.specs.Bodies.{told_session, ByForm, TableSays, raised, MessageSays, StateSays, LayoutSays, IsReading}
 use Rattle.mrt_reader.specs.Dumps.{Dumped, IsTableDump}
 use Rattle.mrt_reader.specs.Layouts.{layout_of}
 use Rattle.mrt_reader.specs.Peers.{IsPeerTable}
@@ -88,10 +87,10 @@ state_has before change noted beside says = by_rule (has before.writer Establish
     by_rule true e = absurd cc
     by_rule false e = by_state (change.new == 6) e
 
-raised_has : (wide add_path : Bool) (peer : Peer) (local : Addr) (message : List ℕ) (noted : Noted) (beside : Beside) (inner : Result Noted UpdateFault) → updates.IsMessageReading wide (in_both add_path) peer message inner
+raised_has : (wide add_path : Bool) (peer : Peer) (local : Addr) (message : List ℕ) (noted : Noted) (beside : Beside) (inner : Result Noted UpdateFault) → updates.IsMessageReading (told_session wide add_path) peer message inner
     → Ok (bodies.Routes noted beside) ≡ raised local inner → HasNotes noted
 raised_has wide add_path peer local message noted beside (Ok others) reads is =
-    let same : noted ≡ others = cc in subst HasNotes (sym same) (messages.each_has_note wide (in_both add_path) peer message others reads)
+    let same : noted ≡ others = cc in subst HasNotes (sym same) (messages.each_has_note (told_session wide add_path) peer message others reads)
 raised_has wide add_path peer local message noted beside (Err fault) reads is = absurd cc
 
 layout_has : (layout : Layout) (before : Known) (body : List ℕ) (noted : Noted) (beside : Beside) → LayoutSays layout before body (Ok (bodies.Routes noted beside)) → HasNotes noted

@@ -33,7 +33,7 @@ use Rattle.mrt_reader.specs.declared.fault.BodyFault.TheVariants as faults
 use Rattle.mrt_reader.specs.declared.layout.Layout.{Layout}
 use Rattle.mrt_reader.specs.declared.layout.Layout.TheVariants as layouts
 use Rattle.mrt_reader.specs.Before.{Known}
-use Rattle.mrt_reader.specs.Bodies.{TableSays, HasEntries, RibSays, raised, MessageSays, StateSays, LayoutSays, IsReading}
+use Rattle.mrt_reader.specs.Bodies.{told_session, TableSays, HasEntries, RibSays, raised, MessageSays, StateSays, LayoutSays, IsReading}
 use Rattle.mrt_reader.specs.Dumps.{Dumped, IsTableDump}
 use Rattle.mrt_reader.specs.Layouts.{layout_of}
 use Rattle.mrt_reader.specs.Peers.{IsPeerTable}
@@ -286,7 +286,7 @@ dump_says_same dumped one other p q = dumps_say_same dumped one other (dump_case
 
 message_says_same : (wide add_path : Bool) (it : Session × List ℕ) (one other : Result Body BodyFault) → MessageSays wide add_path it one → MessageSays wide add_path it other → one ≡ other
 message_says_same wide add_path (session, message) one other p q =
-    p.2 ∙ ap (raised session.local.addr) (messages.reading_same wide (in_both add_path) session.peer message p.0 q.0 p.1 q.1) ∙ sym q.2
+    p.2 ∙ ap (raised session.local.addr) (messages.reading_same (told_session wide add_path) session.peer message p.0 q.0 p.1 q.1) ∙ sym q.2
 
 layout_says_same : (layout : Layout) (before : Known) (body : List ℕ) (one other : Result Body BodyFault) → LayoutSays layout before body one → LayoutSays layout before body other → one ≡ other
 layout_says_same layouts.PeerIndex before body one other p q = form_same (IsPeerTable body) TableSays (table_at body) one other (table_reads body) (λ peers a b. a ∙ sym b) p q

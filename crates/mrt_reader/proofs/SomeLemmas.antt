@@ -33,7 +33,7 @@ use Rattle.mrt_reader.specs.declared.fault.BodyFault.TheVariants as faults
 use Rattle.mrt_reader.specs.declared.layout.Layout.{Layout}
 use Rattle.mrt_reader.specs.declared.layout.Layout.TheVariants as layouts
 use Rattle.mrt_reader.specs.Before.{Known}
-use Rattle.mrt_reader.specs.Bodies.{TableSays, RibSays, raised, MessageSays, StateSays, LayoutSays, IsReading}
+use Rattle.mrt_reader.specs.Bodies.{told_session, TableSays, RibSays, raised, MessageSays, StateSays, LayoutSays, IsReading}
 use Rattle.mrt_reader.specs.Dumps.{Dumped, IsTableDump}
 use Rattle.mrt_reader.specs.Layouts.{layout_of}
 use Rattle.mrt_reader.specs.Peers.{IsPeerTable}
@@ -182,7 +182,7 @@ dump_by dumped (inl x) = with_path (path_or_none false dumped.attributes x.0 x.1
     with_path (inr lacks) = (Err faults.NoPath, lacks)
 
 message_some : (wide add_path : Bool) (it : Session × List ℕ) → Says (MessageSays wide add_path it)
-message_some wide add_path (session, message) = let inner = messages.reading_some wide (in_both add_path) session.peer message in (raised session.local.addr inner.0, (inner.0, inner.1, refl))
+message_some wide add_path (session, message) = let inner = messages.reading_some (told_session wide add_path) session.peer message in (raised session.local.addr inner.0, (inner.0, inner.1, refl))
 
 state_some : (before : Known) (change : StateChange) → Says (StateSays before change)
 state_some before change = (Ok (states.says before change), refl)

@@ -1,5 +1,5 @@
 -- What the body of a record says, by what is known before it. Begin reading at `IsReading`, at the end.
-use Rattle.std.specs.Prelude.{◌≡◌, ℕ, ◌⊎◌, Bool, List, Some, None, Ok, Err}
+use Rattle.std.specs.Prelude.{◌≡◌, ℕ, ◌⊎◌, Bool, false, List, Some, None, Ok, Err}
 use Rattle.std.specs.declared.option.Option.{Option}
 use Rattle.std.specs.declared.result.Result.{Result}
 use Rattle.path_model.specs.declared.addr.Addr.{Addr}
@@ -8,6 +8,7 @@ use Rattle.path_model.specs.declared.peer.Peer.{Peer}
 use Rattle.bgp_attrs.specs.Identified.{in_both}
 use Rattle.bgp_update.specs.declared.fault.UpdateFault.{UpdateFault}
 use Rattle.bgp_update.specs.declared.fault.UpdateFault.TheVariants as update_faults
+use Rattle.bgp_update.specs.declared.session.Session.{Session as HowRead}
 use Rattle.bgp_update.specs.Updates as updates
 use Rattle.dialects.specs.declared.writer.Writer.{Writer}
 use Rattle.mrt_reader.specs.declared.body.Beside.TheVariants as besides
@@ -65,10 +66,14 @@ abbrev pub raised : Addr → Result Noted UpdateFault → Result Body BodyFault
 raised local (Ok noted) = Ok (bodies.Routes noted (besides.Own local))
 raised local (Err fault) = Err (fault_of fault)
 
+-- how a message is read, by its record's subtype: with ASes of four bytes, and with path identifiers in both families, or without
+abbrev pub told_session : Bool → Bool → HowRead
+told_session wide add_path = record { ids = in_both add_path; wide = wide; holds = false }
+
 -- a recorded message of a session: what the message says, where `add_path` with path identifiers; and beside it, whose address is local
 abbrev pub MessageSays : Bool → Bool → Session × List ℕ → Result Body BodyFault → Type 0
 MessageSays wide add_path (session, message) reading =
-    (inner : Result Noted UpdateFault) × updates.IsMessageReading wide (in_both add_path) session.peer message inner × (reading ≡ raised session.local.addr inner)
+    (inner : Result Noted UpdateFault) × updates.IsMessageReading (told_session wide add_path) session.peer message inner × (reading ≡ raised session.local.addr inner)
 
 -- a state change: what it does, by what is known before it
 abbrev pub StateSays : Known → StateChange → Result Body BodyFault → Type 0

@@ -1,6 +1,6 @@
 //! Bodies of recorded messages.
 ghost use Rattle.std.specs.Prelude.{◌≡◌, option_map};
-ghost use Rattle.mrt_reader.specs.Bodies.{OrNoMemory, MessageSays, fault_of};
+ghost use Rattle.mrt_reader.specs.Bodies.{OrNoMemory, MessageSays, fault_of, told_session};
 ghost use Rattle.mrt_reader.specs.Gathering.{ByParts};
 ghost use Rattle.mrt_reader.specs.Left.{session_of};
 ghost use Rattle.mrt_reader.specs.Readers.{six_of, behind_time, session_at, message_at};
@@ -8,7 +8,7 @@ ghost use Rattle.mrt_reader.specs.Readers.{six_of, behind_time, session_at, mess
 use crate::body::{Beside, Body};
 use crate::fault::BodyFault;
 use bgp_attrs::{Identified, take, take_addr, take_asn, take_two};
-use bgp_update::UpdateFault;
+use bgp_update::{Session, UpdateFault};
 use path_model::Peer;
 use std::alloc::Global;
 
@@ -46,12 +46,23 @@ fn changes_of(
 ) -> Result<Body, BodyFault>
     ensures { OrNoMemory (MessageSays wide add_path (session_of ends, message.now)) result }
 {
-    match bgp_update::read(alloc, message, wide, Identified::in_both(add_path), ends.peer) {
+    match bgp_update::read(alloc, message, told(wide, add_path), ends.peer) {
         Ok(noted) => Ok(Body::Routes(noted, Beside::Own(ends.local.addr))),
         Err(UpdateFault::Message) => Err(BodyFault::Message),
         Err(UpdateFault::Attributes) => Err(BodyFault::Attributes),
         Err(UpdateFault::NoPath) => Err(BodyFault::NoPath),
         Err(UpdateFault::NoMemory) => Err(BodyFault::NoMemory),
+    }
+}
+
+// How messages are read whose ASes have four bytes, and whose prefixes have path identifiers, where it is told so.
+fn told(wide: bool, add_path: bool) -> Session
+    ensures { result ≡ told_session wide add_path }
+{
+    Session {
+        ids: Identified::in_both(add_path),
+        wide,
+        holds: false,
     }
 }
 

@@ -14,19 +14,19 @@ pub returns-in-RouteMonitoring : goal.returns-in-RouteMonitoring
 returns-in-RouteMonitoring c =
     let body = c.args.message.now.body.now in
     let is : kind_of c.args.message.now.kind ≡ RouteMonitoring = sym c.kind_of.ensures ∙ c.in-RouteMonitoring.is in
-    subst (λ (kind : Kind). OrNoMemory (λ r. KindSays kind c.args.view c.args.peers.now body r) c.read_routes.result) (sym is)
-    (or_by_form (λ (it : PeerHeader × List ℕ). IsRouteMonitoring body it.0 it.1) (RoutesSay c.args.view c.args.peers.now) (header_at body) c.read_routes.result (monitoring_reads body) c.read_routes.ensures)
+    subst (λ (kind : Kind). OrNoMemory (λ r. KindSays kind c.args.before.now body r) c.read_routes.result) (sym is)
+    (or_by_form (λ (it : PeerHeader × List ℕ). IsRouteMonitoring body it.0 it.1) (RoutesSay c.args.before.now) (header_at body) c.read_routes.result (monitoring_reads body) c.read_routes.ensures)
 
 pub returns-in-PeerDown : goal.returns-in-PeerDown
 returns-in-PeerDown c =
     let body = c.args.message.now.body.now in
     let is : kind_of c.args.message.now.kind ≡ PeerDown = sym c.kind_of.ensures ∙ c.in-PeerDown.is in
-    subst (λ (kind : Kind). OrNoMemory (λ r. KindSays kind c.args.view c.args.peers.now body r) c.read_down.result) (sym is)
-    (or_by_form (IsPeerDown body) DownSays (down_at body) c.read_down.result (down_reads body) c.read_down.ensures)
+    subst (λ (kind : Kind). OrNoMemory (λ r. KindSays kind c.args.before.now body r) c.read_down.result) (sym is)
+    (or_by_form (IsPeerDown body) (DownSays c.args.before.now.view) (down_at body) c.read_down.result (down_reads body) c.read_down.ensures)
 
 pub returns-in-PeerUp : goal.returns-in-PeerUp
 returns-in-PeerUp c =
     let body = c.args.message.now.body.now in
     let is : kind_of c.args.message.now.kind ≡ PeerUp = sym c.kind_of.ensures ∙ c.in-PeerUp.is in
-    subst (λ (kind : Kind). OrNoMemory (λ r. KindSays kind c.args.view c.args.peers.now body r) c.read_up.result) (sym is)
-    (or_by_form (IsPeerUp body) UpSays (up_at body) c.read_up.result (up_reads body) (or_no_memory (λ r. ByParts (up_at body) UpSays r) c.read_up.result c.read_up.ensures))
+    subst (λ (kind : Kind). OrNoMemory (λ r. KindSays kind c.args.before.now body r) c.read_up.result) (sym is)
+    (or_by_form (IsPeerUp body) (UpSays c.args.before.now.view) (up_at body) c.read_up.result (up_reads body) (or_no_memory (λ r. ByParts (up_at body) (UpSays c.args.before.now.view) r) c.read_up.result c.read_up.ensures))
