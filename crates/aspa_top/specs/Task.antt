@@ -23,11 +23,6 @@ use Rattle.aspa_top.specs.declared.task.Task.TheVariants.{Idle as Nothing, Happe
 abbrev pub table_event : TableChange → Task
 table_event change = Happen (TableEvent change)
 
--- the kind of dump that a `bmp` line opens, by its view: `post`, or `pre`
-abbrev pub bmp_kind : Bool → DumpKind
-bmp_kind true = kinds.BmpPost
-bmp_kind false = kinds.BmpPre
-
 -- the key of a route from the peer of this address and AS
 abbrev pub key_of : Addr → ℕ → Subnet → Option ℕ → Key
 key_of addr asn prefix path = record { peer = record { addr = addr; asn = asn }; prefix = prefix; path = path }
@@ -47,7 +42,7 @@ task_of (Unassert customer) = table_event (UnassertByHand customer)
 task_of (SetRole asn role) = Happen (RoleEvent asn role)
 task_of (RoleDefault role) = Happen (DefaultRole role)
 task_of (Open name file writer) = OpenDump (kinds.Mrt writer) name file
-task_of (Bmp name file post) = OpenDump (bmp_kind post) name file
+task_of (Bmp name file view writer) = OpenDump (kinds.Bmp view writer) name file
 task_of (Take name count) = TakeUnits name count
 task_of (Until name moment) = TakeUntil name moment
 task_of (Feed name place) = Connect name place

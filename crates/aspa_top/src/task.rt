@@ -1,6 +1,6 @@
 //! What a command asks for.
 ghost use Rattle.std.specs.Prelude.{◌≡◌};
-ghost use Rattle.aspa_top.specs.Task.{bmp_kind, key_of, may_wait, table_event, task_of};
+ghost use Rattle.aspa_top.specs.Task.{key_of, may_wait, table_event, task_of};
 
 use crate::files::{FileKind, Format};
 use analyser::Event;
@@ -118,7 +118,9 @@ pub(crate) fn task_of(command: Command) -> Task
         Command::Role(asn, role) => Task::Happen(Event::Role(asn, role)),
         Command::RoleDefault(role) => Task::Happen(Event::DefaultRole(role)),
         Command::Open(name, file, writer) => Task::Open(DumpKind::Mrt(writer), name, file),
-        Command::Bmp(name, file, post) => Task::Open(bmp_kind(post), name, file),
+        Command::Bmp(name, file, view, writer) => {
+            Task::Open(DumpKind::Bmp(view, writer), name, file)
+        }
         Command::Take(name, count) => Task::Take(name, count),
         Command::Until(name, moment) => Task::Until(name, moment),
         Command::Feed(name, place) => Task::Connect(name, place),
@@ -159,17 +161,6 @@ fn key_of(addr: Addr, asn: u32, prefix: Prefix, path: Option<u32>) -> Key
 {
     let peer = Peer { addr, asn };
     Key { peer, prefix, path }
-}
-
-// The kind of dump that a `bmp` line opens.
-fn bmp_kind(post: bool) -> DumpKind
-    ensures { result ≡ bmp_kind post }
-{
-    if post {
-        DumpKind::BmpPost
-    } else {
-        DumpKind::BmpPre
-    }
 }
 
 // The table changes.

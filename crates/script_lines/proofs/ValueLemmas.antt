@@ -5,6 +5,8 @@ use Rattle.std.specs.List.{All}
 use Rattle.std.proofs.lemmas.Bool.{cases_lt}
 use Rattle.std.proofs.lemmas.List.Elements.{All-head, All-tail, All-cons, All-nil}
 use Rattle.dialects.specs.declared.writer.Writer.{Writer}
+use Rattle.dialects.specs.declared.view.View.{View}
+use Rattle.dialects.specs.declared.view.View.TheVariants.{Pre, Post, Loc}
 use Rattle.dialects.specs.declared.writer.Writer.TheVariants.{Plain, Any, Bird, Frr, OpenBgpd, GoBgp}
 use Rattle.path_model.specs.declared.addr.Addr.{Addr}
 use Rattle.path_model.specs.declared.peer.Peer.{Peer}
@@ -69,20 +71,21 @@ decided_visible : (byte : ℕ) → Decided (IsVisible byte)
 decided_visible byte = decided_both (decided_le 33 byte) (decided_le byte 126)
 
 -- the view that a word could name
-view_of : List ℕ → Bool
-view_of = value_among view_text true (false ∷ [])
+view_of : List ℕ → View
+view_of = value_among view_text Loc (Pre ∷ Post ∷ [])
 
-view_of-view_text : (post : Bool) → view_of (view_text post) ≡ post
+view_of-view_text : (view : View) → view_of (view_text view) ≡ view
 unfolding view_of value_among
-view_of-view_text false = refl
-view_of-view_text true = refl
+view_of-view_text Pre = refl
+view_of-view_text Post = refl
+view_of-view_text Loc = refl
 
 -- two views with one word are equal
-view_text_injective : (one other : Bool) → view_text one ≡ view_text other → one ≡ other
+view_text_injective : (one other : View) → view_text one ≡ view_text other → one ≡ other
 view_text_injective = found_injective view_text view_of view_of-view_text
 
 -- whether a word names a view
-decided_view : (word : List ℕ) → Decided ((post : Bool) × (word ≡ view_text post))
+decided_view : (word : List ℕ) → Decided ((view : View) × (word ≡ view_text view))
 decided_view = found_or_none view_text view_of view_of-view_text
 
 -- the writer that a word could name

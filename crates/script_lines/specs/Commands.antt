@@ -36,7 +36,7 @@ row UnassertName = record { word = codes "unassert"; form = AS then end; made = 
 row AtName = record { word = codes "at"; form = MOMENT then end; made = λ moment. At moment }
 row RoleName = record { word = codes "role"; form = WHOM then ROLE then end; made = λ whom role. sets_role whom role }
 row OpenName = record { word = codes "open"; form = NAME then TEXT then optional WRITER; made = λ name file writer. Open name file (unwrap_or writer Plain) }
-row BmpName = record { word = codes "bmp"; form = NAME then TEXT then VIEW then end; made = λ name file post. Bmp name file post }
+row BmpName = record { word = codes "bmp"; form = NAME then TEXT then VIEW then optional WRITER; made = λ name file view writer. Bmp name file view (unwrap_or writer Plain) }
 row TakeName = record { word = codes "take"; form = NAME then COUNT then end; made = λ name count. Take name count }
 row UntilName = record { word = codes "until"; form = NAME then MOMENT then end; made = λ name seconds. Until name seconds }
 row FeedName = record { word = codes "feed"; form = NAME then TEXT then end; made = λ name place. Feed name place }

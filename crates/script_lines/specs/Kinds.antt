@@ -1,7 +1,9 @@
 -- The kinds of words that a command's line may hold behind the command's name.
-use Rattle.std.specs.Prelude.{◌≡◌, ℕ, Bool, true, false, ◌≤◌, List, codes, All}
+use Rattle.std.specs.Prelude.{◌≡◌, ℕ, ◌≤◌, List, codes, All}
 use Rattle.std.specs.declared.option.Option.{Option}
 use Rattle.std.specs.declared.option.Option.TheVariants.{Some, None}
+use Rattle.dialects.specs.declared.view.View.{View}
+use Rattle.dialects.specs.declared.view.View.TheVariants.{Pre, Post, Loc}
 use Rattle.dialects.specs.declared.writer.Writer.{Writer}
 use Rattle.dialects.specs.declared.writer.Writer.TheVariants.{Plain, Any, Bird, Frr, OpenBgpd, GoBgp}
 use Rattle.path_model.specs.declared.addr.Addr.{Addr}
@@ -16,10 +18,12 @@ use Rattle.av_text.specs.VerdictText.{verdict_text}
 use Rattle.av_text.specs.Number.{IsNumber}
 use Rattle.script_lines.specs.Word.{IsVisible}
 
--- the one spelling of a view of what a router received (RFC 7854, section 4.2): before its inbound policy, or, as true, behind it
-abbrev pub view_text : Bool → List ℕ
-view_text false = codes "pre"
-view_text true = codes "post"
+-- the one spelling of a view of a router's routes: what it received, before its inbound policy or behind it (RFC 7854, section 4.2), or what it uses
+-- itself (RFC 9069)
+abbrev pub view_text : View → List ℕ
+view_text Pre = codes "pre"
+view_text Post = codes "post"
+view_text Loc = codes "loc"
 
 -- the one spelling of who wrote a dump
 abbrev pub writer_text : Writer → List ℕ
@@ -64,7 +68,7 @@ abbrev pub ValueOf : WordKind → Type 0
 ValueOf NAME = List ℕ
 ValueOf TEXT = List ℕ
 ValueOf ROLE = Role
-ValueOf VIEW = Bool
+ValueOf VIEW = View
 ValueOf WRITER = Writer
 ValueOf VERDICT = Verdict
 ValueOf ADDRESS = Addr
@@ -82,7 +86,7 @@ abbrev pub Spells : (kind : WordKind) → List ℕ → ValueOf kind → Type 0
 Spells NAME word name = IsName word × (name ≡ word)
 Spells TEXT word text = All IsVisible word × (text ≡ word)
 Spells ROLE word role = word ≡ role_text role
-Spells VIEW word post = word ≡ view_text post
+Spells VIEW word view = word ≡ view_text view
 Spells WRITER word writer = word ≡ writer_text writer
 Spells VERDICT word verdict = word ≡ verdict_text verdict
 Spells ADDRESS word addr = IsAddrText word addr
@@ -95,7 +99,7 @@ abbrev pub HasForm : WordKind → List ℕ → Type 0
 HasForm NAME word = (name : List ℕ) × Spells NAME word name
 HasForm TEXT word = (text : List ℕ) × Spells TEXT word text
 HasForm ROLE word = (role : Role) × Spells ROLE word role
-HasForm VIEW word = (post : Bool) × Spells VIEW word post
+HasForm VIEW word = (view : View) × Spells VIEW word view
 HasForm WRITER word = (writer : Writer) × Spells WRITER word writer
 HasForm VERDICT word = (verdict : Verdict) × Spells VERDICT word verdict
 HasForm ADDRESS word = (addr : Addr) × Spells ADDRESS word addr

@@ -15,7 +15,7 @@ use crate::saying::Saying;
 use crate::word::Word;
 use av_text::Words;
 use conditions::Conditions;
-use dialects::Writer;
+use dialects::{View, Writer};
 use path_model::{Addr, AsList, Name, Prefix, Role, Verdict};
 use std::alloc::Global;
 
@@ -49,9 +49,9 @@ pub enum Command {
     /// `open NAME FILE` or `open NAME FILE WRITER`: the file's records of MRT (RFC 6396) are a dump of that name, read by the rules for this
     /// writer; without the word by the letter of the format.
     Open(Name, Word, Writer),
-    /// `bmp NAME FILE VIEW`: the file's messages of BMP (RFC 7854) are a dump of that name; true for the view `post`, of routes behind the
-    /// router's inbound policy.
-    Bmp(Name, Word, bool),
+    /// `bmp NAME FILE VIEW` or `bmp NAME FILE VIEW WRITER`: the file's messages of BMP (RFC 7854) are a dump of that name, of which the routes
+    /// of this view are read, by the rules for this writer; without the word by the letter of the format.
+    Bmp(Name, Word, View, Writer),
     /// `take NAME N`: at most so many more units of the dump, or PDUs of the feed, 1 to 100,000,000.
     Take(Name, u32),
     /// `until NAME SECONDS`: the records of the dump up to the first whose time, in seconds since 1970-01-01 00:00 UTC, isn't below this one
@@ -253,11 +253,11 @@ pub(crate) fn read_fields(
             Ok(Command::Open(name, file, writer.unwrap_or(Writer::Plain)))
         }
         CommandName::Bmp => {
-            let (name, (file, (post, ()))) = <Then<
+            let (name, (file, (view, writer))) = <Then<
                 NameWord,
-                Then<TextWord, Then<ViewWord, End>>,
+                Then<TextWord, Then<ViewWord, Optional<WriterWord>>>,
             >>::read(alloc, words)?;
-            Ok(Command::Bmp(name, file, post))
+            Ok(Command::Bmp(name, file, view, writer.unwrap_or(Writer::Plain)))
         }
         CommandName::Take => {
             let (name, (count, ())) = <Then<NameWord, Then<CountWord, End>>>::read(alloc, words)?;

@@ -1,5 +1,6 @@
 //! The kinds of words that a command's line may hold, each read as its value.
-ghost use Rattle.std.specs.Prelude.{◌≡◌, ◌≢◌, ◌↔◌, Bool, codes, IfOk, IfErr, IfSome, IfNone, IsTrue};
+ghost use Rattle.std.specs.Prelude.{◌≡◌, ◌≢◌, ◌↔◌, codes, IfOk, IfErr, IfSome, IfNone, IsTrue};
+ghost use Rattle.dialects.specs.declared.view.View.{View as AnyView};
 ghost use Rattle.dialects.specs.declared.writer.Writer.{Writer as AnyWriter};
 ghost use Rattle.path_model.specs.declared.verdict.Verdict.{Verdict as AnyVerdict};
 ghost use Rattle.av_text.specs.VerdictText.{verdict_text};
@@ -8,7 +9,7 @@ ghost use Rattle.script_lines.specs.Kinds.{ADDRESS, NAME, NUMBER, PREFIX, ROLE, 
 use crate::fault::LineFault;
 use crate::word::Word;
 use av_text::{read_addr, read_name, read_prefix, read_role, read_u32};
-use dialects::Writer;
+use dialects::{View, Writer};
 use path_model::{Addr, Name, Prefix, Role, Verdict};
 use std::alloc::Global;
 
@@ -87,28 +88,29 @@ impl Kind for RoleWord {
 pub(crate) struct ViewWord;
 
 impl Kind for ViewWord {
-    type Value = bool;
+    type Value = View;
 
     ghost kind = { VIEW };
 
-    ghost value = { λ post. post };
+    ghost value = { λ view. view };
 
-    fn read(_alloc: Global, word: &[u8]) -> Result<bool, LineFault> {
+    fn read(_alloc: Global, word: &[u8]) -> Result<View, LineFault> {
         match read_view(word) {
-            Some(post) => Ok(post),
+            Some(view) => Ok(view),
             None => Err(LineFault::Words),
         }
     }
 }
 
-// Reads a word as a view: true for `post`.
-fn read_view(word: &[u8]) -> Option<bool>
-    ensures spelled { IfSome result (λ post. word.now ≡ view_text post) }
-    ensures none { IfNone result ((post : Bool) → word.now ≢ view_text post) }
+// Reads a word as a view.
+fn read_view(word: &[u8]) -> Option<View>
+    ensures spelled { IfSome result (λ view. word.now ≡ view_text view) }
+    ensures none { IfNone result ((view : AnyView) → word.now ≢ view_text view) }
 {
     match word {
-        b"pre" => Some(false),
-        b"post" => Some(true),
+        b"pre" => Some(View::Pre),
+        b"post" => Some(View::Post),
+        b"loc" => Some(View::Loc),
         _ => None,
     }
 }

@@ -55,7 +55,7 @@ nothing_left (Some told) file = subst (λ (o : Option (List ℕ)). IfSome o (λ 
 
 fresh_twice : (known : Known) → fresh_of known ≡ fresh_of (fresh_of known)
 fresh_twice (Mrt before) = refl
-fresh_twice (Bmp view peers) = refl
+fresh_twice (Bmp before) = refl
 
 -- the dump ended, and its file was let go
 pub LetsGo-end : (old mid new : HeldDump) (files files_end : Option Files) → new ≡ record mid { held = []; known = fresh_of mid.known; over = true } → files_end ≡ option_map (closes mid.file) files → LetsGo old new files_end

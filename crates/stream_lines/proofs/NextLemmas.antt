@@ -12,12 +12,12 @@ use Rattle.mrt_reader.specs.Bodies as mrt
 use Rattle.mrt_reader.specs.Coming as records
 use Rattle.mrt_reader.specs.Records.{Recorded, IsRecord}
 use Rattle.mrt_reader.proofs.LawLemmas.{too_long_stays}
+use Rattle.bmp_reader.specs.Before.{Known as BeforeMessage}
 use Rattle.bmp_reader.specs.declared.body.Body.{Body as MessageBody}
 use Rattle.bmp_reader.specs.declared.fault.BmpFault.{BmpFault}
 use Rattle.bmp_reader.specs.declared.fault.BmpFault.TheVariants as bmp_faults
 use Rattle.bmp_reader.specs.declared.fault.BmpFrameFault.{BmpFrameFault}
 use Rattle.bmp_reader.specs.declared.fault.BmpFrameFault.TheVariants as frames
-use Rattle.bmp_reader.specs.declared.view.View.{View}
 use Rattle.bmp_reader.specs.Bodies as bmp
 use Rattle.bmp_reader.specs.Coming as messages
 use Rattle.bmp_reader.specs.Messages.{Sent, IsMessage}
@@ -62,27 +62,27 @@ gives_too_long before held long = λ more. (records.TooLong, too_long_stays held
 
 -- ---- messages
 
-message_reads : (it : Sent) (view : View) (peers : bmp.Identifying) (reading : Result MessageBody BmpFault) (known : Known) (effect : Result Effect Cause)
-    → Says (MessageSays view peers reading) known effect → bmp.IsOutcome it view peers reading → bmp.IsReading it view peers reading
-message_reads it view peers (Ok body) known effect says reads = reads
-message_reads it view peers (Err bmp_faults.Body) known effect says reads = reads
-message_reads it view peers (Err bmp_faults.Message) known effect says reads = reads
-message_reads it view peers (Err bmp_faults.Attributes) known effect says reads = reads
-message_reads it view peers (Err bmp_faults.NoPath) known effect says reads = reads
-message_reads it view peers (Err bmp_faults.NoMemory) known effect says reads = absurd (says [])
+message_reads : (it : Sent) (before : BeforeMessage) (reading : Result MessageBody BmpFault) (known : Known) (effect : Result Effect Cause)
+    → Says (MessageSays before reading) known effect → bmp.IsOutcome it before reading → bmp.IsReading it before reading
+message_reads it before (Ok body) known effect says reads = reads
+message_reads it before (Err bmp_faults.Body) known effect says reads = reads
+message_reads it before (Err bmp_faults.Message) known effect says reads = reads
+message_reads it before (Err bmp_faults.Attributes) known effect says reads = reads
+message_reads it before (Err bmp_faults.NoPath) known effect says reads = reads
+message_reads it before (Err bmp_faults.NoMemory) known effect says reads = absurd (says [])
 
-pub gives_message : (view : View) (peers : bmp.Identifying) (held rest : List ℕ) (it : Sent) (reading : Result MessageBody BmpFault) (known : Known) (effect : Result Effect Cause)
-    → Begins IsMessage held it rest → bmp.IsOutcome it view peers reading → Says (MessageSays view peers reading) known effect → Gives (Bmp view peers) held known rest (Some (AUnit effect))
-gives_message view peers held rest it reading known effect begins reads says = λ more.
-    (messages.Whole it (rest ++ more), begins_more IsMessage held rest more it begins, (reading, message_reads it view peers reading known effect says reads, says (rest ++ more)))
+pub gives_message : (before : BeforeMessage) (held rest : List ℕ) (it : Sent) (reading : Result MessageBody BmpFault) (known : Known) (effect : Result Effect Cause)
+    → Begins IsMessage held it rest → bmp.IsOutcome it before reading → Says (MessageSays before reading) known effect → Gives (Bmp before) held known rest (Some (AUnit effect))
+gives_message before held rest it reading known effect begins reads says = λ more.
+    (messages.Whole it (rest ++ more), begins_more IsMessage held rest more it begins, (reading, message_reads it before reading known effect says reads, says (rest ++ more)))
 
-pub gives_break : (view : View) (peers : bmp.Identifying) (held held_new : List ℕ) (fault : BmpFrameFault) (cause : Cause) → messages.Answers held held_new (Err fault) → IsBreak fault cause
-    → Gives (Bmp view peers) held (Bmp view peers) held_new (Some (Broken cause))
-gives_break view peers held held_new frames.BmpVersion cause answers is = λ more.
-    (messages.OtherVersion, other_version_stays held more answers.0, (λ i. comes (Broken (is i)) (Bmp view peers) (answers.1 i ++ more)))
-gives_break view peers held held_new frames.BmpLength cause answers is = λ more.
-    (messages.BadLength, bad_length_stays held more answers.0, (λ i. comes (Broken (is i)) (Bmp view peers) (answers.1 i ++ more)))
-gives_break view peers held held_new frames.CutShort cause answers is = absurd answers
+pub gives_break : (before : BeforeMessage) (held held_new : List ℕ) (fault : BmpFrameFault) (cause : Cause) → messages.Answers held held_new (Err fault) → IsBreak fault cause
+    → Gives (Bmp before) held (Bmp before) held_new (Some (Broken cause))
+gives_break before held held_new frames.BmpVersion cause answers is = λ more.
+    (messages.OtherVersion, other_version_stays held more answers.0, (λ i. comes (Broken (is i)) (Bmp before) (answers.1 i ++ more)))
+gives_break before held held_new frames.BmpLength cause answers is = λ more.
+    (messages.BadLength, bad_length_stays held more answers.0, (λ i. comes (Broken (is i)) (Bmp before) (answers.1 i ++ more)))
+gives_break before held held_new frames.CutShort cause answers is = absurd answers
 
 -- ---- either
 
@@ -90,9 +90,9 @@ gives_break view peers held held_new frames.CutShort cause answers is = absurd a
 last_comes : (known : Known) (held : List ℕ) (next : Next) → IsPartial known held → IsLast held next → IsComing known held (comes next known held)
 last_comes known held (AUnit effect) partial last = absurd last
 last_comes (Mrt before) held (Broken cause) partial last = (records.CutShort, (partial, last.0), ap (λ (c : Cause). comes (Broken c) (Mrt before) held) last.1)
-last_comes (Bmp view peers) held (Broken cause) partial last = (messages.CutShort, (partial, last.0), ap (λ (c : Cause). comes (Broken c) (Bmp view peers) held) last.1)
+last_comes (Bmp before) held (Broken cause) partial last = (messages.CutShort, (partial, last.0), ap (λ (c : Cause). comes (Broken c) (Bmp before) held) last.1)
 last_comes (Mrt before) held End partial last = (records.End, last, refl)
-last_comes (Bmp view peers) held End partial last = (messages.End, last, refl)
+last_comes (Bmp before) held End partial last = (messages.End, last, refl)
 
 -- `held` is held, `left` is left of the file, and `old` was left before anything was read
 module _ (known : Known) (old : Option (List ℕ)) (held : List ℕ) where

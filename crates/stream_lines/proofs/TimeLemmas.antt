@@ -8,11 +8,10 @@ use Rattle.held_bytes.specs.Units.{Begins, BeginsWithNone}
 use Rattle.mrt_reader.specs.Coming as records
 use Rattle.mrt_reader.specs.Records.{Recorded, IsRecord}
 use Rattle.mrt_reader.proofs.LawLemmas as record_laws
+use Rattle.bmp_reader.specs.Before.{Known as BeforeMessage}
 use Rattle.bmp_reader.specs.Coming as messages
 use Rattle.bmp_reader.specs.Messages.{Sent, IsMessage}
 use Rattle.bmp_reader.specs.Times.{HasTime, IsNextTime}
-use Rattle.bmp_reader.specs.declared.view.View.{View}
-use Rattle.bmp_reader.specs.Bodies.{Identifying}
 use Rattle.bmp_reader.proofs.LawLemmas as message_laws
 use Rattle.bmp_reader.proofs.MessageLemmas.{not_bad, not_other, one_message, partial_empty}
 use Rattle.bmp_reader.proofs.TimeLemmas as message_times
@@ -64,17 +63,17 @@ untimed_more held more messages.End is none at_end =
 -- what comes next has one time at most,
 timed_same : (known : Known) (left : List ℕ) (one other : ℕ) → IsTimed known left (Some one) → IsTimed known left (Some other) → one ≡ other
 timed_same (Mrt before) left one other a b = stamps_same left one other a b
-timed_same (Bmp view peers) left one other a b = times_same left one other a b
+timed_same (Bmp before) left one other a b = times_same left one other a b
 
 -- and the same whatever comes behind it
 timed_more : (known : Known) (held more : List ℕ) (time : ℕ) → IsTimed known held (Some time) → IsTimed known (held ++ more) (Some time)
 timed_more (Mrt before) held more time is = (is.0, is.1 ++ more, begins_more IsRecord held is.1 more is.0 is.2, is.3)
-timed_more (Bmp view peers) held more time is = (is.0, is.1 ++ more, begins_more IsMessage held is.1 more is.0 is.2, is.3)
+timed_more (Bmp before) held more time is = (is.0, is.1 ++ more, begins_more IsMessage held is.1 more is.0 is.2, is.3)
 
 -- without one, where all is held that comes until it is whole, none comes
 untimed : (known : Known) (held more : List ℕ) → IsTimed known held None → (IsPartial known held → more ≡ []) → (time : ℕ) → IsTimed known (held ++ more) (Some time) → ⊥
 untimed (Mrt before) held more none at_end time is = none_more held more none at_end is.0 is.1 is.2
-untimed (Bmp view peers) held more none at_end time is =
+untimed (Bmp before) held more none at_end time is =
     let next = message_laws.one_thing_comes held in
     untimed_more held more next.one next.is none at_end is.0 is.1 time is.2 is.3
 
@@ -116,19 +115,19 @@ record_timed before left records.TooLong is = inr (λ time next. record_laws.not
 record_timed before left records.CutShort is = inr (λ time next. is.0.no_record next.0 next.1 next.2)
 record_timed before left records.End is = inr (λ time next. record_laws.not_empty left next.0 next.1 next.2 is)
 
-message_timed : (view : View) (peers : Identifying) (left : List ℕ) (it : messages.Coming) → messages.IsComing left it → TimedOrNot (Bmp view peers) left
-message_timed view peers left (messages.Whole it rest) is = elim (message_times.timed_or_not it) [
+message_timed : (before : BeforeMessage) (left : List ℕ) (it : messages.Coming) → messages.IsComing left it → TimedOrNot (Bmp before) left
+message_timed before left (messages.Whole it rest) is = elim (message_times.timed_or_not it) [
   | inl has ↦ inl (has.0, (it, rest, is, has.1))
   | inr none ↦ inr (λ time next. none time (message_times.time_of_next left time it rest next is))
 ]
-message_timed view peers left messages.OtherVersion is = inr (λ time next. not_other left next.0 next.1 next.2 is)
-message_timed view peers left messages.BadLength is = inr (λ time next. not_bad left next.0 next.1 next.2 is)
-message_timed view peers left messages.CutShort is = inr (λ time next. is.0.no_message next.0 next.1 next.2)
-message_timed view peers left messages.End is = inr (λ time next. message_laws.not_empty left next.0 next.1 next.2 is)
+message_timed before left messages.OtherVersion is = inr (λ time next. not_other left next.0 next.1 next.2 is)
+message_timed before left messages.BadLength is = inr (λ time next. not_bad left next.0 next.1 next.2 is)
+message_timed before left messages.CutShort is = inr (λ time next. is.0.no_message next.0 next.1 next.2)
+message_timed before left messages.End is = inr (λ time next. message_laws.not_empty left next.0 next.1 next.2 is)
 
 timed_or_not : (known : Known) (left : List ℕ) → TimedOrNot known left
 timed_or_not (Mrt before) left = let next = record_laws.one_thing_comes left in record_timed before left next.one next.is
-timed_or_not (Bmp view peers) left = let next = message_laws.one_thing_comes left in message_timed view peers left next.one next.is
+timed_or_not (Bmp before) left = let next = message_laws.one_thing_comes left in message_timed before left next.one next.is
 
 -- ---- it is from the moment on, or not
 

@@ -1,43 +1,28 @@
 -- How the logic stores what is held of a dump: no clause cites it, and a reader can skip it.
-use Rattle.std.specs.Prelude.{◌≡◌, ◌⊎◌, ℕ, List, Bool, true, false, refl}
+use Rattle.std.specs.Prelude.{◌≡◌, ◌⊎◌, ℕ, List, Bool, refl}
 use Rattle.std.specs.Coded.{Coded, code_by, coded×, coded⊎, coded_bool, coded_list, coded_ℕ}
-use Rattle.std.specs.FinSet as set
 use Rattle.std.proofs.Common.{inl, inr}
-use Rattle.path_model.specs.Codes.{coded_peer}
 use Rattle.mrt_reader.specs.Before.{Known as BeforeRecord}
-use Rattle.mrt_reader.specs.Codes.{coded_known as coded_before}
-use Rattle.bmp_reader.specs.declared.view.View.{View}
-use Rattle.bmp_reader.specs.declared.view.View.TheVariants.{Pre, Post}
-use Rattle.bmp_reader.specs.Bodies.{Identifying}
+use Rattle.mrt_reader.specs.Codes.{coded_known as coded_record}
+use Rattle.bmp_reader.specs.Before.{Known as BeforeMessage}
+use Rattle.bmp_reader.specs.Codes.{coded_known as coded_message}
 use Rattle.stream_lines.specs.Held.{HeldDump}
 use Rattle.stream_lines.specs.Units.{Known, Mrt, Bmp}
 
--- a view as whether it is that behind the inbound policy
-abbrev pub is_post : View → Bool
-is_post Pre = false
-is_post Post = true
-
-abbrev pub view_of : Bool → View
-view_of true = Post
-view_of false = Pre
-
-abbrev pub known_parts : Known → BeforeRecord ⊎ (Bool × Identifying)
+abbrev pub known_parts : Known → BeforeRecord ⊎ BeforeMessage
 known_parts (Mrt before) = inl before
-known_parts (Bmp view peers) = inr (is_post view, peers)
+known_parts (Bmp before) = inr before
 
-abbrev pub known_from : BeforeRecord ⊎ (Bool × Identifying) → Known
+abbrev pub known_from : BeforeRecord ⊎ BeforeMessage → Known
 known_from (inl before) = Mrt before
-known_from (inr (post, peers)) = Bmp (view_of post) peers
+known_from (inr before) = Bmp before
 
 pub known_back : (known : Known) → known_from (known_parts known) ≡ known
 known_back (Mrt before) = refl
-known_back (Bmp Pre peers) = refl
-known_back (Bmp Post peers) = refl
+known_back (Bmp before) = refl
 
 abbrev pub coded_known : Coded Known
-coded_known =
-    code_by (BeforeRecord ⊎ (Bool × Identifying))
-    (coded⊎ coded_before (coded× coded_bool (set.code coded_peer))) known_parts known_from known_back
+coded_known = code_by (BeforeRecord ⊎ BeforeMessage) (coded⊎ coded_record coded_message) known_parts known_from known_back
 
 abbrev pub coded_dump : Coded HeldDump
 coded_dump =

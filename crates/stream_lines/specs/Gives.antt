@@ -19,7 +19,7 @@ use Rattle.stream_lines.specs.Until.{IsPast}
 -- no whole unit, and nothing with which none can begin
 abbrev pub IsPartial : Known → List ℕ → Type 0
 IsPartial (Mrt before) held = records.IsPartial held
-IsPartial (Bmp view peers) held = messages.IsPartial held
+IsPartial (Bmp before) held = messages.IsPartial held
 
 -- More bytes than this begin with a whole unit, or with nothing that begins one: those of the longest record with its header. The longest
 -- message has fewer.

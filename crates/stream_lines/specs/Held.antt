@@ -1,6 +1,6 @@
 -- What is held of a dump that was opened.
 use Rattle.std.specs.Prelude.{ℕ, Bool, List}
-use Rattle.std.specs.FinSet as set
+use Rattle.bmp_reader.specs.Before.{fresh as fresh_message}
 use Rattle.mrt_reader.specs.Before.{fresh}
 use Rattle.stream_lines.specs.declared.reader.Reader.{Reader}
 use Rattle.stream_lines.specs.declared.reader.Reader.TheVariants as readers
@@ -22,9 +22,9 @@ held_of (readers.Bmp messages) = messages.framer
 
 abbrev pub known_of : Reader → Known
 known_of (readers.Mrt records) = Mrt records.before
-known_of (readers.Bmp messages) = Bmp messages.view messages.peers
+known_of (readers.Bmp messages) = Bmp messages.before
 
--- of a dump that is over nothing is known but who wrote it, or the view
+-- of a dump that is over nothing is known but who wrote it, and the view
 abbrev pub fresh_of : Known → Known
 fresh_of (Mrt before) = Mrt (fresh before.writer)
-fresh_of (Bmp view peers) = Bmp view set.empty
+fresh_of (Bmp before) = Bmp (fresh_message before.writer before.view)

@@ -1,6 +1,5 @@
 -- What comes next in a dump: in one of MRT records, or of BMP messages. Begin reading at `IsComing`, at the end.
-use Rattle.std.specs.Prelude.{◌≡◌, ℕ, List, if◌then◌else◌, Bool}
-use Rattle.std.specs.FinSet as set
+use Rattle.std.specs.Prelude.{◌≡◌, ℕ, List}
 use Rattle.std.specs.declared.option.Option.{Option}
 use Rattle.std.specs.declared.option.Option.TheVariants.{Some, None}
 use Rattle.std.specs.declared.result.Result.{Result}
@@ -21,8 +20,7 @@ use Rattle.bmp_reader.specs.declared.body.Body.{Body as MessageBody}
 use Rattle.bmp_reader.specs.declared.body.Body.TheVariants as sayings
 use Rattle.bmp_reader.specs.declared.fault.BmpFault.{BmpFault}
 use Rattle.bmp_reader.specs.declared.fault.BmpFault.TheVariants as bmp_faults
-use Rattle.bmp_reader.specs.declared.view.View.{View}
-use Rattle.bmp_reader.specs.declared.view.View.TheVariants.{Pre, Post}
+use Rattle.bmp_reader.specs.Before.{Known as BeforeMessage, fresh as fresh_message, with_agreed}
 use Rattle.bmp_reader.specs.Bodies as bmp
 use Rattle.bmp_reader.specs.Coming as messages
 use Rattle.report_text.specs.declared.cause.Cause.{Cause}
@@ -36,23 +34,16 @@ use Rattle.stream_lines.specs.declared.next.Next.TheVariants.{Unit as AUnit, Bro
 
 -- ---- what the units before have told
 
--- In a dump of MRT records it is what is known before the next one: who wrote it, the last accepted peer table, and the writer's own
--- addresses. In one of BMP messages, which is read in a view, it is the peers whose
--- prefixes have path identifiers: those whose last accepted Peer Up, of peer type 0, had the capability ADD-PATH (RFC 7911, section 4) in
--- both OPENs. A Peer Down leaves that as it is.
+-- In a dump of MRT records it is who wrote it, the last accepted peer table, and the writer's own addresses; in one of BMP messages who wrote it,
+-- in which view it is read, and what the OPENs of each peer agreed on.
 pub data Known : Type 0 where
   Mrt : (before : BeforeRecord) → Known
-  Bmp : (view : View) (peers : bmp.Identifying) → Known
+  Bmp : (before : BeforeMessage) → Known
 
 -- before the first unit nothing was told
 abbrev pub first_known : DumpKind → Known
 first_known (kinds.Mrt writer) = Mrt (fresh writer)
-first_known kinds.BmpPre = Bmp Pre set.empty
-first_known kinds.BmpPost = Bmp Post set.empty
-
--- the peers that identify paths, after a Peer Up of one that says whether it does
-abbrev pub noted : bmp.Identifying → Peer → Bool → bmp.Identifying
-noted peers peer paths = if paths then set.insert peers peer else set.remove peers peer
+first_known (kinds.Bmp view writer) = Bmp (fresh_message writer view)
 
 -- ---- what comes next
 
@@ -126,26 +117,26 @@ abbrev pub learnt : Peer → Option Role → Effect
 learnt peer (Some role) = Learn peer.asn role
 learnt peer None = Note
 
--- A message that reads so: its changes happen, with their notes; the role of a peer that came up is learnt, and whether it identifies
--- paths; or it is passed over. A refused one changes nothing.
-abbrev pub MessageSays : View → bmp.Identifying → Result MessageBody BmpFault → List ℕ → Coming → Type 0
-MessageSays view peers (Ok (sayings.Routes noted)) rest coming = coming ≡ comes (AUnit (Ok (Routes noted))) (Bmp view peers) rest
-MessageSays view peers (Ok (sayings.Up peer role paths)) rest coming = coming ≡ comes (AUnit (Ok (learnt peer role))) (Bmp view (noted peers peer paths)) rest
-MessageSays view peers (Ok sayings.Passed) rest coming = coming ≡ comes (AUnit (Ok Pass)) (Bmp view peers) rest
-MessageSays view peers (Err fault) rest coming = IsRefused (message_cause fault) (Bmp view peers) rest coming
+-- A message that reads so: its changes happen, with their notes; the role of a peer that came up is learnt, and what its OPENs agree on; or
+-- it is passed over. A refused one changes nothing.
+abbrev pub MessageSays : BeforeMessage → Result MessageBody BmpFault → List ℕ → Coming → Type 0
+MessageSays before (Ok (sayings.Routes noted)) rest coming = coming ≡ comes (AUnit (Ok (Routes noted))) (Bmp before) rest
+MessageSays before (Ok (sayings.Up peer role agreed)) rest coming = coming ≡ comes (AUnit (Ok (learnt peer role))) (Bmp (with_agreed before peer agreed)) rest
+MessageSays before (Ok sayings.Passed) rest coming = coming ≡ comes (AUnit (Ok Pass)) (Bmp before) rest
+MessageSays before (Err fault) rest coming = IsRefused (message_cause fault) (Bmp before) rest coming
 
 -- a message is what it says in the view; another version, a length out of range, or the end within a message, ends the dump
-abbrev pub MessageComes : View → bmp.Identifying → List ℕ → messages.Coming → Coming → Type 0
-MessageComes view peers left (messages.Whole it rest) coming =
-    (reading : Result MessageBody BmpFault) × bmp.IsReading it view peers reading × MessageSays view peers reading rest coming
-MessageComes view peers left messages.OtherVersion coming = coming ≡ comes (Broken causes.BmpVersion) (Bmp view peers) left
-MessageComes view peers left messages.BadLength coming = coming ≡ comes (Broken causes.BmpLength) (Bmp view peers) left
-MessageComes view peers left messages.CutShort coming = coming ≡ comes (Broken causes.CutShort) (Bmp view peers) left
-MessageComes view peers left messages.End coming = coming ≡ comes End (Bmp view peers) left
+abbrev pub MessageComes : BeforeMessage → List ℕ → messages.Coming → Coming → Type 0
+MessageComes before left (messages.Whole it rest) coming =
+    (reading : Result MessageBody BmpFault) × bmp.IsReading it before reading × MessageSays before reading rest coming
+MessageComes before left messages.OtherVersion coming = coming ≡ comes (Broken causes.BmpVersion) (Bmp before) left
+MessageComes before left messages.BadLength coming = coming ≡ comes (Broken causes.BmpLength) (Bmp before) left
+MessageComes before left messages.CutShort coming = coming ≡ comes (Broken causes.CutShort) (Bmp before) left
+MessageComes before left messages.End coming = coming ≡ comes End (Bmp before) left
 
 -- ---- either
 
 -- what comes next of these bytes, by what the units before have told
 abbrev pub IsComing : Known → List ℕ → Coming → Type 0
 IsComing (Mrt before) left coming = (it : records.Coming) × records.IsComing left it × RecordComes before left it coming
-IsComing (Bmp view peers) left coming = (it : messages.Coming) × messages.IsComing left it × MessageComes view peers left it coming
+IsComing (Bmp before) left coming = (it : messages.Coming) × messages.IsComing left it × MessageComes before left it coming

@@ -11,7 +11,7 @@ use Rattle.stream_lines.specs.Units.{Known, Mrt, Bmp}
 -- a header has none, and one with the time 0 hasn't either: it goes with the one before it.
 abbrev pub IsTimed : Known → List ℕ → Option ℕ → Type 0
 IsTimed (Mrt before) left time = IsNextStamp left time
-IsTimed (Bmp view peers) left time = IsNextTime left time
+IsTimed (Bmp before) left time = IsNextTime left time
 
 -- a unit comes next whose time isn't below the moment
 pub record IsFrom (moment : ℕ) (dump : Dump) : Type 0 where

@@ -1,12 +1,11 @@
 //! The messages of a dump of BMP.
 ghost use Rattle.std.specs.Prelude.{◌≡◌, ◌<◌, ◌≤◌, [], length, take, Some, IfOk};
-ghost use Rattle.std.specs.FinSet as set;
 ghost use Rattle.stream_lines.specs.Gives.{Gives, IsBreak, Says};
-ghost use Rattle.stream_lines.specs.Units.{Bmp, MessageSays, learnt as learnt_of, message_cause as cause_of_fault, noted};
+ghost use Rattle.stream_lines.specs.Units.{Bmp, MessageSays, learnt as learnt_of, message_cause as cause_of_fault};
 
 use crate::next::{Effect, Next};
 use av_base::{NoMemory, PIECE};
-use bmp_reader::{BmpFault, BmpFrameFault, Body, Framer, PathPeers, View, read_message};
+use bmp_reader::{Before, BmpFault, BmpFrameFault, Body, Framer, read_message};
 use held_bytes::{HeldBytes, Room};
 use path_model::{Peer, Role};
 use report_text::Cause;
@@ -18,52 +17,45 @@ use std::mem;
 pub(crate) struct Messages {
     // what was read of the file and belongs to no message yet
     pub(crate) framer: Framer,
-    // the peers whose prefixes have path identifiers
-    pub(crate) peers: PathPeers,
-    // which routes of a peer are read
-    pub(crate) view: View,
+    // what is known before the next one
+    pub(crate) before: Before,
 }
 
 impl Messages {
     /// Nothing was read.
-    pub(crate) fn new(alloc: Global, view: View) -> Messages
-        ensures { result ≡ record { framer = []; peers = set.empty; view = view } }
+    pub(crate) fn new(alloc: Global, before: Before) -> Messages
+        ensures { result ≡ record { framer = []; before = before } }
     {
         Messages {
             framer: Framer::new(alloc),
-            peers: PathPeers::new(alloc),
-            view,
+            before,
         }
     }
 
     /// Takes the first message off and reads it. None comes where no whole one is held.
     pub(crate) fn next(&mut self, alloc: Global) -> Result<Option<Next>, NoMemory>
-        ensures { IfOk result (Gives (Bmp self.old.view self.old.peers) self.old.framer
-            (Bmp self.new.view self.new.peers) self.new.framer) }
+        ensures { IfOk result (Gives (Bmp self.old.before) self.old.framer
+            (Bmp self.new.before) self.new.framer) }
     {
         let reading = match self.framer.next() {
-            Ok(Some(message)) => read_message(alloc, &message, self.view, &self.peers),
+            Ok(Some(message)) => read_message(alloc, &message, &self.before),
             Ok(None) => return Ok(None),
             Err(fault) => return Ok(Some(Next::Broken(break_cause(fault)))),
         };
-        let effect = self.take(alloc, reading)?;
+        let effect = self.take(reading)?;
         Ok(Some(Next::Unit(effect)))
     }
 
     // What a message does that reads so.
-    fn take(
-        &mut self,
-        alloc: Global,
-        reading: Result<Body, BmpFault>,
-    ) -> Result<Result<Effect, Cause>, NoMemory>
+    fn take(&mut self, reading: Result<Body, BmpFault>) -> Result<Result<Effect, Cause>, NoMemory>
         ensures framer { self.new.framer ≡ self.old.framer }
-        ensures says { IfOk result (Says (MessageSays self.old.view self.old.peers reading)
-            (Bmp self.new.view self.new.peers)) }
+        ensures says { IfOk result (Says (MessageSays self.old.before reading)
+            (Bmp self.new.before)) }
     {
         match reading {
             Ok(Body::Routes(noted)) => Ok(Ok(Effect::Routes(noted))),
-            Ok(Body::Up { peer, role, paths }) => {
-                self.note(alloc, peer, paths)?;
+            Ok(Body::Up { peer, role, agreed }) => {
+                self.before.note(peer, agreed)?;
                 Ok(Ok(learnt(peer, role)))
             }
             Ok(Body::Passed) => Ok(Ok(Effect::Pass)),
@@ -74,24 +66,12 @@ impl Messages {
         }
     }
 
-    // A peer came up, and its prefixes have path identifiers or not.
-    fn note(&mut self, alloc: Global, peer: Peer, paths: bool) -> Result<(), NoMemory>
-        ensures framer { self.new.framer ≡ self.old.framer }
-        ensures view { self.new.view ≡ self.old.view }
-        ensures peers { IfOk result (λ _. self.new.peers ≡ noted self.old.peers peer paths) }
-    {
-        let peers = mem::replace(&mut self.peers, PathPeers::new(alloc));
-        self.peers = peers.note(peer, paths)?;
-        Ok(())
-    }
-
     /// Gives the buffer out, with room for a piece of the file. Nothing is held until it is back.
     pub(crate) fn lend(&mut self, alloc: Global) -> Result<Room, NoMemory>
         ensures held { IfOk result (λ room.
             take room.held room.bytes.items ≡ self.old.framer) }
         ensures room { IfOk result (λ room. room.held < length room.bytes.items) }
-        ensures peers { self.new.peers ≡ self.old.peers }
-        ensures view { self.new.view ≡ self.old.view }
+        ensures before { self.new.before ≡ self.old.before }
     {
         let framer = mem::replace(&mut self.framer, Framer::new(alloc));
         framer.into_held().into_room(PIECE)

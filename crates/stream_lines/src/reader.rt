@@ -10,7 +10,7 @@ use crate::messages::Messages;
 use crate::next::Next;
 use crate::records::Records;
 use av_base::NoMemory;
-use bmp_reader::View;
+use bmp_reader::Before;
 use held_bytes::Room;
 use report_text::Cause;
 use std::alloc::Global;
@@ -30,8 +30,9 @@ impl Reader {
     {
         match kind {
             DumpKind::Mrt(writer) => Reader::Mrt(Records::new(alloc, writer)),
-            DumpKind::BmpPre => Reader::Bmp(Messages::new(alloc, View::Pre)),
-            DumpKind::BmpPost => Reader::Bmp(Messages::new(alloc, View::Post)),
+            DumpKind::Bmp(view, writer) => {
+                Reader::Bmp(Messages::new(alloc, Before::new(alloc, view, writer)))
+            }
         }
     }
 
@@ -113,7 +114,7 @@ impl Reader {
     {
         let fresh = match self {
             Reader::Mrt(records) => Reader::Mrt(Records::new(alloc, records.before.writer())),
-            Reader::Bmp(messages) => Reader::Bmp(Messages::new(alloc, messages.view)),
+            Reader::Bmp(messages) => Reader::Bmp(Messages::new(alloc, messages.before.afresh(alloc))),
         };
         *self = fresh;
     }

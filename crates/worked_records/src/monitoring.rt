@@ -4,12 +4,14 @@ use crate::records::{ONE, ROUTE, joined};
 use View::{Post, Pre};
 use Wanted::RemovePeer;
 use av_base::NoMemory;
-use bmp_reader::{Body, Framer, PathPeers, View, read_message};
+use bgp_attrs::Identified;
+use bmp_reader::{Agreed, Before, Body, Framer, read_message};
+use dialects::{View, Writer};
 use path_model::{Peer, Role};
 use std::alloc::Global;
 use std::slice::Iter;
 
-// A peer that comes up, its role, and whether its prefixes have path identifiers.
+// A peer that comes up, its role, and whether both OPENs have ADD-PATH.
 type Up = (Peer, Option<Role>, bool);
 
 // The session with 192.0.2.1, AS 64501, comes up; the OPEN that came from it says that it is a customer.
@@ -96,9 +98,9 @@ const STREAMS: [Case; 6] = [
     (&["03 00000006 FF", UP], Pre, &[CUSTOMER], &[]),
 ];
 
-fn is_up(peer: Peer, role: Option<Role>, paths: bool, want: Option<&Up>) -> bool {
+fn is_up(peer: Peer, role: Option<Role>, agreed: Agreed, want: Option<&Up>) -> bool {
     match want {
-        Some((one, its, identified)) => peer == *one && role == *its && paths == *identified,
+        Some((one, its, paths)) => peer == *one && role == *its && agreed.paths == *paths,
         None => false,
     }
 }
@@ -107,29 +109,32 @@ fn is_up(peer: Peer, role: Option<Role>, paths: bool, want: Option<&Up>) -> bool
 fn is_next(
     alloc: Global,
     framer: &mut Framer,
-    view: View,
-    peers: &PathPeers,
+    before: &Before,
     ups: &mut Iter<'_, Up>,
     wants: &mut Iter<'_, Wanted>,
 ) -> bool {
     match framer.next() {
-        Ok(Some(message)) => match read_message(alloc, &message, view, peers) {
+        Ok(Some(message)) => match read_message(alloc, &message, before) {
             Ok(Body::Passed) => true,
             Ok(Body::Routes(noted)) => are_next(&noted, wants),
-            Ok(Body::Up { peer, role, paths }) => is_up(peer, role, paths, ups.next()),
+            Ok(Body::Up { peer, role, agreed }) => is_up(peer, role, agreed, ups.next()),
             Err(_) => false,
         },
         _ => false,
     }
 }
 
-fn is_read(alloc: Global, case: &Case, peers: &PathPeers) -> Result<bool, NoMemory> {
+fn is_read(alloc: Global, case: &Case, noted: Option<Agreed>) -> Result<bool, NoMemory> {
     let (messages, view, ups, wants) = *case;
+    let mut before = Before::new(alloc, view, Writer::Plain);
+    if let Some(agreed) = noted {
+        before.note(ONE, agreed)?;
+    }
     let mut framer = Framer::new(alloc).feed(&joined(alloc, messages)?)?;
     let mut ups = ups.iter();
     let mut wants = wants.iter();
     for _ in 0..messages.len() {
-        if !is_next(alloc, &mut framer, view, peers, &mut ups, &mut wants) {
+        if !is_next(alloc, &mut framer, &before, &mut ups, &mut wants) {
             return Ok(false);
         }
     }
@@ -138,9 +143,8 @@ fn is_read(alloc: Global, case: &Case, peers: &PathPeers) -> Result<bool, NoMemo
 
 // How many streams say what they should, up to the first that doesn't.
 fn count(alloc: Global, streams: &[Case]) -> Result<usize, NoMemory> {
-    let peers = PathPeers::new(alloc);
     for (place, case) in streams.iter().enumerate() {
-        if !is_read(alloc, case, &peers)? {
+        if !is_read(alloc, case, None)? {
             return Ok(place);
         }
     }
@@ -161,9 +165,16 @@ const TAKEN: Case = (&[ROUTES], Pre, &[], &[ROUTE]);
 #[test]
 fn peers_with_path_identifiers(rt: HostRuntime) -> Result<(), NoMemory> {
     let alloc = rt.alloc();
-    let peers = PathPeers::new(alloc).note(ONE, true)?;
-    assert!(rt; is_read(alloc, &PASSED, &peers)?);
-    let peers = peers.note(ONE, false)?;
-    assert!(rt; is_read(alloc, &TAKEN, &peers)?);
+    assert!(rt; is_read(alloc, &PASSED, Some(agreed(true)))?);
+    assert!(rt; is_read(alloc, &TAKEN, Some(agreed(false)))?);
     Ok(())
+}
+
+// What OPENs agree on, both of which have ADD-PATH or not.
+fn agreed(paths: bool) -> Agreed {
+    Agreed {
+        ids: Identified::in_both(paths),
+        paths,
+        wide: true,
+    }
 }

@@ -4,7 +4,7 @@ use crate::records::{TABLE, noted, table};
 use Otc::{Absent, As, Malformed};
 use av_base::NoMemory;
 use bgp_attrs::{Attributes, Form, read};
-use bmp_reader::{Body, Framer, PathPeers, View, read_message};
+use bmp_reader::{Before as BeforeMessage, Body, Framer, read_message};
 use dialects::Writer;
 use mrt_reader::Before;
 use path_model::{Notes, Otc};
@@ -129,7 +129,8 @@ fn is_message_noted(alloc: Global, wants: &[Otc]) -> Result<bool, NoMemory> {
     let mut framer = Framer::new(alloc).feed(&hex(alloc, MESSAGE)?)?;
     match framer.next() {
         Ok(Some(message)) => {
-            match read_message(alloc, &message, View::Pre, &PathPeers::new(alloc)) {
+            let before = BeforeMessage::new(alloc, View::Pre, Writer::Plain);
+            match read_message(alloc, &message, &before) {
                 Ok(Body::Routes(noted)) => Ok(are_notes(&noted.notes, wants)),
                 _ => Ok(false),
             }

@@ -21,7 +21,7 @@ pub(crate) enum Reading {
     RoleDefault(Role),
     Open(&'static str, &'static str, Writer),
     // of the view `post`, or `pre`
-    Bmp(&'static str, &'static str, bool),
+    Bmp(&'static str, &'static str, View, Writer),
     Take(&'static str, u32),
     Until(&'static str, u32),
     Feed(&'static str, &'static str),
@@ -150,8 +150,18 @@ pub(crate) const DUMPS: [Row; 22] = [
         Reading::Refused(LineFault::Words),
     ),
     (b"open d", Reading::Refused(LineFault::Words)),
-    (b"bmp b f pre", Reading::Bmp("b", "f", false)),
-    (b"bmp b f post", Reading::Bmp("b", "f", true)),
+    (
+        b"bmp b f pre",
+        Reading::Bmp("b", "f", View::Pre, Writer::Plain),
+    ),
+    (
+        b"bmp b f post any",
+        Reading::Bmp("b", "f", View::Post, Writer::Any),
+    ),
+    (
+        b"bmp b f loc frr",
+        Reading::Bmp("b", "f", View::Loc, Writer::Frr),
+    ),
     (b"bmp b f in", Reading::Refused(LineFault::Words)),
     (b"bmp b f", Reading::Refused(LineFault::Words)),
     (b"bmp b f pre more", Reading::Refused(LineFault::Words)),

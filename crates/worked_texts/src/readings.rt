@@ -37,8 +37,8 @@ fn is_read_so(read: &Result<Command, LineFault>, reading: Reading) -> bool {
         (Ok(Command::Open(name, file, writer)), Reading::Open(called, of, by)) => {
             name.text() == called && file.text() == of && *writer == by
         }
-        (Ok(Command::Bmp(name, file, post)), Reading::Bmp(called, of, wanted)) => {
-            name.text() == called && file.text() == of && *post == wanted
+        (Ok(Command::Bmp(name, file, view, writer)), Reading::Bmp(called, of, wanted, by)) => {
+            name.text() == called && file.text() == of && *view == wanted && *writer == by
         }
         (Ok(Command::Take(name, count)), Reading::Take(called, wanted)) => {
             name.text() == called && *count == wanted

@@ -5,7 +5,7 @@ use Rattle.dialects.specs.declared.writer.Writer.{Writer}
 use Rattle.dialects.specs.declared.writer.Writer.TheVariants.{Plain}
 use Rattle.path_model.specs.declared.verdict.Verdict.{Verdict}
 use Rattle.av_text.specs.Words.{words_left}
-use Rattle.script_lines.specs.declared.commands.Command.TheVariants.{Attests, Details, Open, Why}
+use Rattle.script_lines.specs.declared.commands.Command.TheVariants.{Attests, Bmp, Details, Open, Why}
 use Rattle.script_lines.specs.declared.commands.CommandName.TheVariants.{Aspa as AspaName, Aspa64 as Aspa64Name, Validated as ValidatedName, Slurm as SlurmName, Filter as FilterName, Unfilter as UnfilterName, Assert as AssertName, Unassert as UnassertName, At as AtName, Role as RoleName, Open as OpenName, Bmp as BmpName, Take as TakeName, Until as UntilName, Feed as FeedName, Ask as AskName, Sync as SyncName, Serve as ServeName, Judge as JudgeName, Clear as ClearName, Changes as ChangesName, Why as WhyName, Details as DetailsName, Say as SayName, Report as ReportName, Origins as OriginsName, Leaks as LeaksName, Suspects as SuspectsName, Peers as PeersName, Sent as SentName, Explain as ExplainName, Attests as AttestsName, Neighbours as NeighboursName, Routes as RoutesName, Silent as SilentName, Summary as SummaryName}
 use Rattle.script_lines.specs.Commands.{made_by, SpellsCommand}
 use Rattle.script_lines.proofs.ExplainLemmas.{explained_spelled}
@@ -48,7 +48,10 @@ returns-in_ok-name-in-Open-clause-spelled c =
     rw c.in-Open.is (subst P (option_map_id found.writer) (found.ensures.spelled (made_by OpenName)))
 
 pub returns-in_ok-name-in-Bmp-clause-spelled : goal.returns-in_ok-name-in-Bmp-clause-spelled
-returns-in_ok-name-in-Bmp-clause-spelled c = rw c.in-Bmp.is (c.in_ok-name-in-Bmp.ensures.spelled (made_by BmpName))
+returns-in_ok-name-in-Bmp-clause-spelled c =
+    let found = c.in_ok-name-in-Bmp in
+    let P : Option Writer → Type 0 = λ writer. SpellsCommand BmpName (words_left c.args.words) (Bmp found.name found.file found.view (unwrap_or writer Plain)) in
+    rw c.in-Bmp.is (subst P (option_map_id found.writer) (found.ensures.spelled (made_by BmpName)))
 
 pub returns-in_ok-name-in-Take-clause-spelled : goal.returns-in_ok-name-in-Take-clause-spelled
 returns-in_ok-name-in-Take-clause-spelled c = rw c.in-Take.is (c.in_ok-name-in-Take.ensures.spelled (made_by TakeName))
