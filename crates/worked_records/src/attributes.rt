@@ -1,7 +1,7 @@
 //! Path attributes, and the paths that they give.
 use crate::hex::{hex, put_hex};
 use av_base::NoMemory;
-use bgp_attrs::{Attributes, Form, Item, Items, Segments, merge4, read};
+use bgp_attrs::{Attributes, Form, Identified, Item, Items, Segments, merge4, read};
 use path_model::Trail;
 use std::alloc::Global;
 
@@ -17,7 +17,7 @@ fn is_path(trail: &Trail, set: bool, chain: &[u32]) -> bool {
 }
 
 fn is_said(alloc: Global, bytes: &[u8], wide: bool, said: Said) -> Result<bool, NoMemory> {
-    let Ok(attrs) = read(bytes, wide, Form::Message, false) else {
+    let Ok(attrs) = read(bytes, wide, Form::Message, Identified::in_both(false)) else {
         return Ok(false);
     };
     match (attrs.trail(alloc)?, said) {
@@ -149,7 +149,7 @@ fn is_merged(chain: &[u32], merged: bool) -> bool {
 // A merged path has the first 100 ASes of its AS_PATH and all of its AS4_PATH.
 fn is_long_path(alloc: Global, merged: bool) -> Result<bool, NoMemory> {
     let bytes = long_path(alloc, merged)?;
-    let Ok(attrs) = read(&bytes, !merged, Form::Message, false) else {
+    let Ok(attrs) = read(&bytes, !merged, Form::Message, Identified::in_both(false)) else {
         return Ok(false);
     };
     match attrs.trail(alloc)? {
@@ -196,7 +196,7 @@ const MERGES: [Merge; 4] = [
 
 // The path of an attribute by itself.
 fn segments(bytes: &[u8]) -> Option<Segments<'_>> {
-    match read(bytes, true, Form::Table, false) {
+    match read(bytes, true, Form::Table, Identified::in_both(false)) {
         Ok(attrs) => attrs.path(),
         Err(Attributes) => None,
     }

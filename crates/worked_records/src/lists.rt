@@ -1,7 +1,7 @@
 //! Lists of prefixes, with path identifiers and without, and the attributes that have some.
 use crate::hex::hex;
 use av_base::NoMemory;
-use bgp_attrs::{Attributes, Form, Prefixes, prefixes, read};
+use bgp_attrs::{Attributes, Form, Identified, Prefixes, prefixes, read};
 use path_model::Addr;
 use std::alloc::Global;
 
@@ -120,7 +120,7 @@ fn count(list: Option<Prefixes<'_>>) -> usize {
 
 // How many prefixes attributes announce and withdraw.
 fn counts(bytes: &[u8], form: Form, paths: bool) -> Option<(usize, usize)> {
-    match read(bytes, false, form, paths) {
+    match read(bytes, false, form, Identified::in_both(paths)) {
         Ok(attrs) => Some((count(attrs.announced()), count(attrs.withdrawn()))),
         Err(Attributes) => None,
     }

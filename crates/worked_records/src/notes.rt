@@ -3,9 +3,9 @@ use crate::hex::hex;
 use crate::records::{TABLE, noted, table};
 use Otc::{Absent, As, Malformed};
 use av_base::NoMemory;
-use bgp_attrs::{Attributes, Form, read};
+use bgp_attrs::{Attributes, Form, Identified, read};
 use bmp_reader::{Before as BeforeMessage, Body, Framer, read_message};
-use dialects::Writer;
+use dialects::{View, Writer};
 use mrt_reader::Before;
 use path_model::{Notes, Otc};
 use std::alloc::Global;
@@ -25,7 +25,7 @@ const FIELDS: [(&str, Otc); 5] = [
 // What a field says, in a table or in a message.
 fn said(alloc: Global, text: &str, form: Form) -> Result<Option<Otc>, NoMemory> {
     let bytes = hex(alloc, text)?;
-    match read(&bytes, true, form, false) {
+    match read(&bytes, true, form, Identified::in_both(false)) {
         Ok(attrs) => Ok(Some(attrs.otc())),
         Err(Attributes) => Ok(None),
     }

@@ -1,6 +1,6 @@
 //! Lines by themselves, and what each is read as: of each command some that are right, and some wrong in the number of words, in a spelling
 //! and in a number.
-use dialects::Writer;
+use dialects::{View, Writer};
 use path_model::{Role, Verdict};
 use script_lines::LineFault;
 
@@ -120,7 +120,7 @@ pub(crate) const AMENDMENTS: [Row; 20] = [
     (b"at 00", Reading::Refused(LineFault::Number)),
 ];
 
-pub(crate) const DUMPS: [Row; 22] = [
+pub(crate) const DUMPS: [Row; 23] = [
     (
         b"role 64501 customer",
         Reading::Role(64_501, Role::Customer),
