@@ -98,6 +98,17 @@ printf '\0\0\0\0\0\15\0\2\377\377\377\377' >"$work/huge"
 ulimit -S -n 20
 for ((i = 1; i <= 24; i++)); do lines "aspa a $work/long"; done |
     runs 'long files' 1 "$(refusals 24 '% cause 40 FileLong')"
+# a validator's file may be longer, up to 1 GiB
+truncate -s 1073741825 "$work/longer"
+lines "validated v $work/longer" | runs "a validator's file that is too long" 1 '! line 1 cause 40 FileLong'
+rm "$work/longer"
+{
+    printf '{"aspas":['
+    head -c 67108864 /dev/zero | tr '\0' ' '
+    printf ']}'
+} >"$work/larger"
+lines "validated v $work/larger" | runs "a validator's file over 64 MiB" 0 ''
+rm "$work/larger"
 for dump in 'cut 27 CutShort' 'huge 26 TooLong'; do
     read -r file cause word <<<"$dump"
     for ((i = 1; i <= 24; i++)); do lines "open d$i $work/$file" "take d$i 1"; done |

@@ -30,7 +30,7 @@ use Rattle.aspa_top.specs.declared.files.FileKind.TheVariants.{Source, Slurm}
 use Rattle.aspa_top.specs.declared.files.Format.TheVariants.{Payloads, PayloadLines, Validated}
 use Rattle.aspa_top.specs.declared.files.Outcome.{Outcome}
 use Rattle.aspa_top.specs.declared.files.Outcome.TheVariants.{NoFile, Long, Flawed, Good}
-use Rattle.aspa_top.specs.Files.{Makes, Fails, IsWithin, IsBeyond, of_source, payload_cause, slurm_cause, validated_cause}
+use Rattle.aspa_top.specs.Files.{Makes, Fails, IsWithin, IsBeyond, limit_of, of_source, payload_cause, slurm_cause, validated_cause}
 use Rattle.aspa_top.specs.FileSteps.{ComesTold, IsRefusedFor, IsRowsOutcome, IsTermsOutcome, Understands}
 
 -- ---- a file that was read whole
@@ -46,10 +46,10 @@ whole : (named left : Option (List ℕ)) (bytes some : List ℕ) → named ≡ S
 whole named None bytes some is taken at_end = absurd (let no : ⊥ = cc in no)
 whole named (Some left) bytes some is taken at_end = taken ∙ ap (λ (t : List ℕ). Some (bytes ++ t)) at_end ∙ ap Some (append-nil bytes)
 
-front : (named left : Option (List ℕ)) (bytes some : List ℕ) → named ≡ Some some → named ≡ prepend_known bytes left
-    → 67108864 < length bytes → IsBeyond named
-front named None bytes some is taken long = absurd (let no : ⊥ = cc in no)
-front named (Some left) bytes some is taken long =
+front : (limit : ℕ) (named left : Option (List ℕ)) (bytes some : List ℕ) → named ≡ Some some → named ≡ prepend_known bytes left
+    → limit < length bytes → IsBeyond limit named
+front limit named None bytes some is taken long = absurd (let no : ⊥ = cc in no)
+front limit named (Some left) bytes some is taken long =
     record { bytes = bytes ++ left; is = taken; beyond = omega (arith, long, length-append bytes left) }
 
 module _ (old mid new : Option Files) (before after : ℕ) (name : List ℕ) (file : ℕ) (bytes : List ℕ)
@@ -60,9 +60,9 @@ module _ (old mid new : Option Files) (before after : ℕ) (name : List ℕ) (fi
       let left : IfSome (Some told) (λ files. left_of mid file ≡ files.named name) = rw is at (left_of-opens old mid before after name file opened count) in
       sym left ∙ taken
 
-  within : (P : List ℕ → Type 0) → length bytes ≤ 67108864 → IsAtEnd (left_of new file) → P bytes
-      → (told : Files) → old ≡ Some told → IsWithin (told.named name) P
-  within P short at_end holds = λ told is. record {
+  within : (limit : ℕ) (P : List ℕ → Type 0) → length bytes ≤ limit → IsAtEnd (left_of new file) → P bytes
+      → (told : Files) → old ≡ Some told → IsWithin limit (told.named name) P
+  within limit P short at_end holds = λ told is. record {
     bytes = bytes;
     is = whole (told.named name) (left_of new file) bytes opened.bytes (opened.named told is) (told_bytes told is) at_end;
     within = short;
@@ -70,16 +70,16 @@ module _ (old mid new : Option Files) (before after : ℕ) (name : List ℕ) (fi
   }
 
   -- it was read to its end
-  pub file_within : (kind : FileKind) (outcome : Outcome) → length bytes ≤ 67108864 → IsAtEnd (left_of new file)
+  pub file_within : (kind : FileKind) (outcome : Outcome) → length bytes ≤ limit_of kind → IsAtEnd (left_of new file)
       → Understands kind bytes outcome → ComesTold old kind name outcome
   file_within kind NoFile short at_end none = absurd none
   file_within kind Long short at_end none = absurd none
-  file_within kind (Flawed flaw) short at_end fails = within (λ b. Fails kind b flaw) short at_end fails
-  file_within kind (Good made) short at_end makes = within (λ b. Makes kind b made) short at_end makes
+  file_within kind (Flawed flaw) short at_end fails = within (limit_of kind) (λ b. Fails kind b flaw) short at_end fails
+  file_within kind (Good made) short at_end makes = within (limit_of kind) (λ b. Makes kind b made) short at_end makes
 
   -- it is over its limit
-  pub file_beyond : (kind : FileKind) → 67108864 < length bytes → ComesTold old kind name Long
-  file_beyond kind long = λ told is. front (told.named name) (left_of new file) bytes opened.bytes (opened.named told is) (told_bytes told is) long
+  pub file_beyond : (kind : FileKind) → limit_of kind < length bytes → ComesTold old kind name Long
+  file_beyond kind long = λ told is. front (limit_of kind) (told.named name) (left_of new file) bytes opened.bytes (opened.named told is) (told_bytes told is) long
 
 -- ---- what its bytes are understood as
 

@@ -30,7 +30,7 @@ use Rattle.aspa_top.specs.declared.files.Flaw.{Flaw}
 use Rattle.aspa_top.specs.declared.files.Made.{Made}
 use Rattle.aspa_top.specs.declared.files.Outcome.{Outcome}
 use Rattle.aspa_top.specs.declared.files.Outcome.TheVariants.{NoFile, Long, Flawed, Good}
-use Rattle.aspa_top.specs.Files.{Makes, Fails, IsWithin, IsBeyond, ComesOf, of_slurm, of_source, of_validated, payload_cause, slurm_cause, validated_cause}
+use Rattle.aspa_top.specs.Files.{Makes, Fails, IsWithin, IsBeyond, ComesOf, limit_of, of_slurm, of_source, of_validated, payload_cause, slurm_cause, validated_cause}
 
 -- ---- what is inside two answers that are equal
 
@@ -101,17 +101,17 @@ makes_or_fails Slurm bytes change flaw a b = no_change_and_flaw (IsSlurmReading 
 
 -- ---- one outcome
 
-module _ (named : Option (List ℕ)) where
-  absent_beyond : named ≡ None → IsBeyond named → ⊥
+module _ (limit : ℕ) (named : Option (List ℕ)) where
+  absent_beyond : named ≡ None → IsBeyond limit named → ⊥
   absent_beyond none beyond = let some = beyond.is in cc
 
-  absent_within : {P : List ℕ → Type 0} → named ≡ None → IsWithin named P → ⊥
+  absent_within : {P : List ℕ → Type 0} → named ≡ None → IsWithin limit named P → ⊥
   absent_within {P} none within = let some = within.is in cc
 
-  same_bytes : {P Q : List ℕ → Type 0} (one : IsWithin named P) (other : IsWithin named Q) → other.bytes ≡ one.bytes
+  same_bytes : {P Q : List ℕ → Type 0} (one : IsWithin limit named P) (other : IsWithin limit named Q) → other.bytes ≡ one.bytes
   same_bytes {P} {Q} one other = let a = one.is in let b = other.is in cc
 
-  beyond_within : {P : List ℕ → Type 0} → IsBeyond named → IsWithin named P → ⊥
+  beyond_within : {P : List ℕ → Type 0} → IsBeyond limit named → IsWithin limit named P → ⊥
   beyond_within {P} one other =
       let a = one.is in
       let b = other.is in
@@ -120,25 +120,25 @@ module _ (named : Option (List ℕ)) where
 
 pub outcome_unique : (kind : FileKind) (named : Option (List ℕ)) (one other : Outcome) → ComesOf kind named one → ComesOf kind named other → one ≡ other
 outcome_unique kind named NoFile NoFile a b = refl
-outcome_unique kind named NoFile Long a b = absurd (absent_beyond named a b)
-outcome_unique kind named NoFile (Flawed g) a b = absurd (absent_within named a b)
-outcome_unique kind named NoFile (Good d) a b = absurd (absent_within named a b)
-outcome_unique kind named Long NoFile a b = absurd (absent_beyond named b a)
+outcome_unique kind named NoFile Long a b = absurd (absent_beyond (limit_of kind) named a b)
+outcome_unique kind named NoFile (Flawed g) a b = absurd (absent_within (limit_of kind) named a b)
+outcome_unique kind named NoFile (Good d) a b = absurd (absent_within (limit_of kind) named a b)
+outcome_unique kind named Long NoFile a b = absurd (absent_beyond (limit_of kind) named b a)
 outcome_unique kind named Long Long a b = refl
-outcome_unique kind named Long (Flawed g) a b = absurd (beyond_within named a b)
-outcome_unique kind named Long (Good d) a b = absurd (beyond_within named a b)
-outcome_unique kind named (Flawed f) NoFile a b = absurd (absent_within named b a)
-outcome_unique kind named (Flawed f) Long a b = absurd (beyond_within named b a)
+outcome_unique kind named Long (Flawed g) a b = absurd (beyond_within (limit_of kind) named a b)
+outcome_unique kind named Long (Good d) a b = absurd (beyond_within (limit_of kind) named a b)
+outcome_unique kind named (Flawed f) NoFile a b = absurd (absent_within (limit_of kind) named b a)
+outcome_unique kind named (Flawed f) Long a b = absurd (beyond_within (limit_of kind) named b a)
 outcome_unique kind named (Flawed f) (Flawed g) a b =
-    ap Flawed (fails_one kind a.bytes f g a.holds (subst (λ (bytes : List ℕ). Fails kind bytes g) (same_bytes named a b) b.holds))
+    ap Flawed (fails_one kind a.bytes f g a.holds (subst (λ (bytes : List ℕ). Fails kind bytes g) (same_bytes (limit_of kind) named a b) b.holds))
 outcome_unique kind named (Flawed f) (Good d) a b =
-    absurd (makes_or_fails kind a.bytes d f (subst (λ (bytes : List ℕ). Makes kind bytes d) (same_bytes named a b) b.holds) a.holds)
-outcome_unique kind named (Good c) NoFile a b = absurd (absent_within named b a)
-outcome_unique kind named (Good c) Long a b = absurd (beyond_within named b a)
+    absurd (makes_or_fails kind a.bytes d f (subst (λ (bytes : List ℕ). Makes kind bytes d) (same_bytes (limit_of kind) named a b) b.holds) a.holds)
+outcome_unique kind named (Good c) NoFile a b = absurd (absent_within (limit_of kind) named b a)
+outcome_unique kind named (Good c) Long a b = absurd (beyond_within (limit_of kind) named b a)
 outcome_unique kind named (Good c) (Flawed g) a b =
-    absurd (makes_or_fails kind a.bytes c g a.holds (subst (λ (bytes : List ℕ). Fails kind bytes g) (same_bytes named a b) b.holds))
+    absurd (makes_or_fails kind a.bytes c g a.holds (subst (λ (bytes : List ℕ). Fails kind bytes g) (same_bytes (limit_of kind) named a b) b.holds))
 outcome_unique kind named (Good c) (Good d) a b =
-    ap Good (makes_one kind a.bytes c d a.holds (subst (λ (bytes : List ℕ). Makes kind bytes d) (same_bytes named a b) b.holds))
+    ap Good (makes_one kind a.bytes c d a.holds (subst (λ (bytes : List ℕ). Makes kind bytes d) (same_bytes (limit_of kind) named a b) b.holds))
 
 -- ---- and there is one
 
@@ -178,7 +178,7 @@ bad_remembers line bad = bad.refused.2.1.2
 line_remembers : (bytes : List ℕ) (unit : ℕ) (fault : PayloadFault) → LineRefusedAt bytes unit fault → fault ≢ PayloadMemory
 line_remembers bytes unit fault found is = bad_remembers _ (rw is at found.refused)
 
-read_within : {A : Type 0} (terms : A → TermMap) (kind : FileKind) (name bytes : List ℕ) (Due : Result A FileFault → Type 0) → length bytes ≤ 67108864
+read_within : {A : Type 0} (terms : A → TermMap) (kind : FileKind) (name bytes : List ℕ) (Due : Result A FileFault → Type 0) → length bytes ≤ limit_of kind
     → ((read : A) → Due (Ok read) → Makes kind bytes (of_source name (terms read) []))
     → ((unit : ℕ) (fault : PayloadFault) (cause : Cause) → Due (Err (Bad unit fault)) → payload_cause fault ≡ Some cause → Fails kind bytes (record { unit = unit; cause = cause }))
     → ((unit : ℕ) (fault : PayloadFault) → Due (Err (Bad unit fault)) → fault ≢ PayloadMemory)
@@ -189,7 +189,7 @@ read_within {A} terms kind name bytes Due within makes fails remembers none (Err
     (Flawed (record { unit = unit; cause = cause.0 }), record { bytes = bytes; is = refl; within = within; holds = fails unit fault cause.0 reads cause.1 })
 read_within {A} terms kind name bytes Due within makes fails remembers none (Err NoMemory) reads = absurd (none reads)
 
-unit_within : {A F : Type 0} (made : A → Made) (cause_of : F → Option Cause) (kind : FileKind) (bytes : List ℕ) (Due : Result A F → Type 0) → length bytes ≤ 67108864
+unit_within : {A F : Type 0} (made : A → Made) (cause_of : F → Option Cause) (kind : FileKind) (bytes : List ℕ) (Due : Result A F → Type 0) → length bytes ≤ limit_of kind
     → ((read : A) → Due (Ok read) → Makes kind bytes (made read))
     → ((fault : F) (cause : Cause) → Due (Err fault) → cause_of fault ≡ Some cause → Fails kind bytes (record { unit = 1; cause = cause }))
     → ((fault : F) → Due (Err fault) → (cause : Cause) × (cause_of fault ≡ Some cause))
@@ -200,7 +200,7 @@ unit_within {A} {F} made cause_of kind bytes Due within makes fails has_cause (E
     let cause = has_cause fault reads in
     (Flawed (record { unit = 1; cause = cause.0 }), record { bytes = bytes; is = refl; within = within; holds = fails fault cause.0 reads cause.1 })
 
-some_within : (kind : FileKind) (bytes : List ℕ) → length bytes ≤ 67108864 → (outcome : Outcome) × ComesOf kind (Some bytes) outcome
+some_within : (kind : FileKind) (bytes : List ℕ) → length bytes ≤ limit_of kind → (outcome : Outcome) × ComesOf kind (Some bytes) outcome
 some_within (Source name Payloads) bytes within =
     let the = each_file bytes in
     read_within terms_of (Source name Payloads) name bytes (IsFileReading bytes) within (λ rows reads. (rows, reads, refl)) (λ unit fault cause reads is. (fault, reads, is)) (λ unit fault reads. unit_remembers bytes unit fault reads) (λ none. none) the.one the.is
@@ -214,10 +214,10 @@ some_within Slurm bytes within =
     let the = each_slurm_file bytes in
     unit_within of_slurm slurm_cause Slurm bytes (IsSlurmReading bytes) within (λ slurm reads. (slurm, reads, refl)) (λ fault cause reads is. (fault, reads, refl, is)) (λ fault reads. slurm_has_cause bytes fault reads) the.one the.is
 
-by_length : (kind : FileKind) (bytes : List ℕ) (fits : Bool) → nat_le (length bytes) 67108864 ≡ fits → (outcome : Outcome) × ComesOf kind (Some bytes) outcome
+by_length : (kind : FileKind) (bytes : List ℕ) (fits : Bool) → nat_le (length bytes) (limit_of kind) ≡ fits → (outcome : Outcome) × ComesOf kind (Some bytes) outcome
 by_length kind bytes true is = some_within kind bytes (grind (arith, nat_tests, is))
 by_length kind bytes false is = (Long, record { bytes = bytes; is = refl; beyond = grind (arith, nat_tests, is) })
 
 pub some_outcome : (kind : FileKind) (named : Option (List ℕ)) → (outcome : Outcome) × ComesOf kind named outcome
 some_outcome kind None = (NoFile, refl)
-some_outcome kind (Some bytes) = by_length kind bytes (nat_le (length bytes) 67108864) refl
+some_outcome kind (Some bytes) = by_length kind bytes (nat_le (length bytes) (limit_of kind)) refl

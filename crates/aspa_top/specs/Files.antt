@@ -100,22 +100,29 @@ Fails (Source name Validated) bytes flaw =
 Fails Slurm bytes flaw =
     (fault : SlurmFault) × IsSlurmReading bytes (Err fault) × (flaw.unit ≡ 1) × (slurm_cause fault ≡ Some flaw.cause)
 
--- a file that is there, and has no more bytes than a file may have; of these this holds
-pub record IsWithin (named : Option (List ℕ)) (P : List ℕ → Type 0) : Type 0 where
+-- the most bytes that a file may have: a validator's 1 GiB, and another 64 MiB
+abbrev pub limit_of : FileKind → ℕ
+limit_of (Source name Payloads) = 67108864
+limit_of (Source name PayloadLines) = 67108864
+limit_of (Source name Validated) = 1073741824
+limit_of Slurm = 67108864
+
+-- a file that is there, and has no more bytes than this; of these that holds
+pub record IsWithin (limit : ℕ) (named : Option (List ℕ)) (P : List ℕ → Type 0) : Type 0 where
   pub bytes : List ℕ
   pub is : named ≡ Some bytes
-  pub within : length bytes ≤ 67108864
+  pub within : length bytes ≤ limit
   pub holds : P bytes
 
 -- a file that is there, and has more
-pub record IsBeyond (named : Option (List ℕ)) : Type 0 where
+pub record IsBeyond (limit : ℕ) (named : Option (List ℕ)) : Type 0 where
   pub bytes : List ℕ
   pub is : named ≡ Some bytes
-  pub beyond : 67108864 < length bytes
+  pub beyond : limit < length bytes
 
 -- what comes of a file that is to be read so, where the world has this under its name
 abbrev pub ComesOf : FileKind → Option (List ℕ) → Outcome → Type 0
 ComesOf kind named NoFile = named ≡ None
-ComesOf kind named Long = IsBeyond named
-ComesOf kind named (Flawed flaw) = IsWithin named (λ bytes. Fails kind bytes flaw)
-ComesOf kind named (Good made) = IsWithin named (λ bytes. Makes kind bytes made)
+ComesOf kind named Long = IsBeyond (limit_of kind) named
+ComesOf kind named (Flawed flaw) = IsWithin (limit_of kind) named (λ bytes. Fails kind bytes flaw)
+ComesOf kind named (Good made) = IsWithin (limit_of kind) named (λ bytes. Makes kind bytes made)

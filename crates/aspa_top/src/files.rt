@@ -5,7 +5,7 @@ ghost use Rattle.av_base.specs.Files.{left_of};
 ghost use Rattle.av_base.specs.Told.{Rose};
 ghost use Rattle.av_text.specs.Spellings.{IsInLine};
 ghost use Rattle.aspa_top.specs.declared.files.Outcome.TheVariants.{Good};
-ghost use Rattle.aspa_top.specs.Files.{of_source, unit_name, payload_cause as cause_of_payload, slurm_cause as cause_of_slurm, validated_cause as cause_of_validated};
+ghost use Rattle.aspa_top.specs.Files.{limit_of, of_source, unit_name, payload_cause as cause_of_payload, slurm_cause as cause_of_slurm, validated_cause as cause_of_validated};
 ghost use Rattle.aspa_top.specs.FileSteps.{ComesTold, IsRefusedFor, IsRowsOutcome, IsTermsOutcome, Understands};
 ghost use Rattle.stream_lines.specs.Frames.{Leaves};
 
@@ -20,8 +20,11 @@ use std::alloc::Global;
 use validated::{Validated, ValidatedFault};
 use vap_table::TableChange;
 
-/// The most bytes that a file may have.
-pub(crate) const FILE_LIMIT: usize = 67_108_864;
+// The most bytes that a file may have which isn't a validator's.
+const FILE_LIMIT: usize = 67_108_864;
+
+// The most bytes that a validator's file may have.
+const VALIDATED_LIMIT: usize = 1_073_741_824;
 
 /// What a file says.
 #[derive(Debug, Drop)]
@@ -52,6 +55,17 @@ impl FileKind {
         match self {
             FileKind::Source(name, _) => name.text(),
             FileKind::Slurm => "slurm",
+        }
+    }
+
+    // The most bytes that the file may have.
+    fn limit(&self) -> usize
+        ensures is { result ≡ limit_of self.now }
+        ensures some { result ≤ 1073741824 }
+    {
+        match self {
+            FileKind::Source(_, Format::Validated) => VALIDATED_LIMIT,
+            _ => FILE_LIMIT,
         }
     }
 }
@@ -86,7 +100,7 @@ pub(crate) struct Made {
 pub(crate) enum Outcome {
     /// The name isn't there.
     NoFile,
-    /// It has more than [`FILE_LIMIT`] bytes.
+    /// It has more bytes than a file of its kind may have.
     Long,
     /// One of its units is refused.
     Flawed(Flaw),
@@ -110,8 +124,9 @@ pub(crate) fn load_file<F: Shelf>(
     let Some(file) = shelf.open_file(name)? else {
         return Ok(Outcome::NoFile);
     };
-    let bytes = read_whole(alloc, file, shelf, FILE_LIMIT)?;
-    if bytes.len() > FILE_LIMIT {
+    let limit = kind.limit();
+    let bytes = read_whole(alloc, file, shelf, limit)?;
+    if bytes.len() > limit {
         shelf.close_file(file);
         return Ok(Outcome::Long);
     }
@@ -153,7 +168,7 @@ fn read_whole<F: Shelf>(
 
 // What comes of a file of these bytes.
 fn understand(alloc: Global, kind: &FileKind, bytes: &[u8]) -> Result<Outcome, NoMemory>
-    requires { length bytes.now ≤ 67108864 }
+    requires { length bytes.now ≤ limit_of kind.now }
     ensures comes { IfOk result (Understands kind.now bytes.now) }
 {
     match kind {
@@ -169,7 +184,7 @@ fn understand_source(
     format: Format,
     bytes: &[u8],
 ) -> Result<Outcome, NoMemory>
-    requires { length bytes.now ≤ 67108864 }
+    requires { length bytes.now ≤ limit_of (FileKind.Source name.now format) }
     ensures comes { IfOk result (Understands (FileKind.Source name.now format) bytes.now) }
 {
     match format {

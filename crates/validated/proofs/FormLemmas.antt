@@ -1,12 +1,12 @@
 -- A tree has one form, or none.
-use Rattle.std.proofs.Common.{◌≡◌, inl, inr, List, Option, Some, None, codes, option_map, refl, ap, subst}
+use Rattle.std.proofs.Common.{◌≡◌, inl, inr, List, [], ◌++◌, Option, Some, None, codes, option_map, refl, sym, ◌∙◌, ap, subst}
 use Rattle.serde_json.specs.Data.{Data}
 use Rattle.serde_json.specs.Find.{as_array, get}
 use Rattle.json_fields.specs.Each.{Each, IfThere}
 use Rattle.json_fields.specs.Object.{ArrayIs, list_of, number_if_there, text_if_there}
 use Rattle.json_fields.specs.Tokens.{IsListOf}
 use Rattle.json_fields.proofs.FoundLemmas.{SomeOrNone, array_or_none, each_or_none, found_or_none, same_array, same_each, same_some, there_or_none}
-use Rattle.validated.specs.Form.{Aspa, Form, IsAsNumeral, IsAspa, IsFile, IsMomentNumeral, IsRoa, Roa, customer_of}
+use Rattle.validated.specs.Form.{AreByFamily, Aspa, AspasAre, Form, IsAsNumeral, IsAspa, IsFile, IsMomentNumeral, IsRoa, Roa, customer_of}
 use Rattle.validated.proofs.NumeralLemmas.{as_numeral_or_none, moment_numeral_or_none, one_as_numeral, one_moment_numeral}
 
 -- ---- what may be absent
@@ -57,15 +57,30 @@ one_roa d a b s t =
     let ends : a.expires ≡ b.expires = one_there IsMomentNumeral one_moment_numeral (get (codes "expires") d) a.expires b.expires s.expires t.expires in
     λ i. record { asn = asns i; prefix = prefixes i; max = maxima i; expires = ends i }
 
-one_list : (d : Data) (xs ys : List Roa) → IsListOf IsRoa d xs → IsListOf IsRoa d ys → xs ≡ ys
-one_list d xs ys s t =
+one_list : {A : Type 0} (R : Data → A → Type 0) → ((d : Data) (a b : A) → R d a → R d b → a ≡ b) → (d : Data) (xs ys : List A)
+    → IsListOf R d xs → IsListOf R d ys → xs ≡ ys
+one_list R one d xs ys s t =
     let same : s.elements ≡ t.elements = same_some _ s.elements t.elements s.is t.is in
-    same_each IsRoa one_roa t.elements xs ys (subst (λ (ds : List Data). Each IsRoa ds xs) same s.each) t.each
+    same_each R one t.elements xs ys (subst (λ (ds : List Data). Each R ds xs) same s.each) t.each
+
+one_by_family : (d : Data) (xs ys : List Aspa) → AreByFamily d xs → AreByFamily d ys → xs ≡ ys
+one_by_family d xs ys s t =
+    let four : s.four ≡ t.four = same_array IsAspa one_aspa (codes "ipv4") d s.four t.four s.ipv4 t.ipv4 in
+    let six : s.six ≡ t.six = same_array IsAspa one_aspa (codes "ipv6") d s.six t.six s.ipv6 t.ipv6 in
+    let joined : s.four ++ s.six ≡ t.four ++ t.six = λ i. four i ++ six i in
+    s.both ∙ joined ∙ sym t.both
+
+one_attested : (first second roas : Option Data) (xs ys : List Aspa) → AspasAre first second roas xs → AspasAre first second roas ys → xs ≡ ys
+one_attested (Some d) second roas xs ys s t = one_list IsAspa one_aspa d xs ys s t
+one_attested None (Some d) roas xs ys s t = one_by_family d xs ys s t
+one_attested None None (Some d) xs ys s t = s ∙ sym t
+one_attested None None None xs ys s t = absurd s
 
 pub one_form : (tree : Data) (f g : Form) → IsFile tree f → IsFile tree g → f ≡ g
 one_form tree f g s t =
-    let aspas : f.aspas ≡ g.aspas = same_array IsAspa one_aspa (codes "aspas") tree f.aspas g.aspas s.aspas t.aspas in
-    let roas : f.roas ≡ g.roas = one_there (IsListOf IsRoa) one_list (get (codes "roas") tree) f.roas g.roas s.roas t.roas in
+    let aspas : f.aspas ≡ g.aspas =
+        one_attested (get (codes "aspas") tree) (get (codes "provider_authorizations") tree) (get (codes "roas") tree) f.aspas g.aspas s.aspas t.aspas in
+    let roas : f.roas ≡ g.roas = one_there (IsListOf IsRoa) (one_list IsRoa one_roa) (get (codes "roas") tree) f.roas g.roas s.roas t.roas in
     λ i. record { aspas = aspas i; roas = roas i }
 
 -- ---- one, or none
@@ -96,21 +111,36 @@ roa_or_none d =
     roa_by d (some_or_none IsAsNumeral as_numeral_or_none (get (codes "asn") d)) (there_or_none (text_if_there (codes "prefix") d))
     (found_or_none (number_if_there (codes "maxLength") d)) (if_there_or_none IsMomentNumeral moment_numeral_or_none (get (codes "expires") d))
 
-list_by : (d : Data) → SomeOrNone (λ ds. option_map list_of (as_array d) ≡ Some ds) → SomeOrNone (IsListOf IsRoa d)
-list_by d (inr none) = inr (λ list h. none h.elements h.is)
-list_by d (inl ds) = by (each_or_none IsRoa roa_or_none ds.0) where
-  by : SomeOrNone (Each IsRoa ds.0) → SomeOrNone (IsListOf IsRoa d)
+list_by : {A : Type 0} (R : Data → A → Type 0) → ((d : Data) → SomeOrNone (R d)) → (d : Data)
+    → SomeOrNone (λ ds. option_map list_of (as_array d) ≡ Some ds) → SomeOrNone (IsListOf R d)
+list_by R dec d (inr none) = inr (λ list h. none h.elements h.is)
+list_by {A = A} R dec d (inl ds) = by (each_or_none R dec ds.0) where
+  by : SomeOrNone (Each R ds.0) → SomeOrNone (IsListOf R d)
   by (inl list) = inl (list.0, record { elements = ds.0; is = ds.1; each = list.1 })
-  by (inr none) = inr (λ list h. none list (subst (λ (es : List Data). Each IsRoa es list) (same_some _ h.elements ds.0 h.is ds.1) h.each))
+  by (inr none) = inr (λ list h. none list (subst (λ (es : List Data). Each R es list) (same_some _ h.elements ds.0 h.is ds.1) h.each))
 
-list_or_none : (d : Data) → SomeOrNone (IsListOf IsRoa d)
-list_or_none d = list_by d (found_or_none (option_map list_of (as_array d)))
+list_or_none : {A : Type 0} (R : Data → A → Type 0) → ((d : Data) → SomeOrNone (R d)) → (d : Data) → SomeOrNone (IsListOf R d)
+list_or_none R dec d = list_by R dec d (found_or_none (option_map list_of (as_array d)))
 
-form_by : (tree : Data) → SomeOrNone (ArrayIs IsAspa (codes "aspas") tree) → SomeOrNone (IfThere (IsListOf IsRoa) (get (codes "roas") tree)) → SomeOrNone (IsFile tree)
+by_family_by : (d : Data) → SomeOrNone (ArrayIs IsAspa (codes "ipv4") d) → SomeOrNone (ArrayIs IsAspa (codes "ipv6") d) → SomeOrNone (AreByFamily d)
+by_family_by d (inr none) six = inr (λ list h. none h.four h.ipv4)
+by_family_by d (inl four) (inr none) = inr (λ list h. none h.six h.ipv6)
+by_family_by d (inl four) (inl six) = inl (four.0 ++ six.0, record { four = four.0; six = six.0; ipv4 = four.1; ipv6 = six.1; both = refl })
+
+attested_or_none : (first second roas : Option Data) → SomeOrNone (AspasAre first second roas)
+attested_or_none (Some d) second roas = list_or_none IsAspa aspa_or_none d
+attested_or_none None (Some d) roas =
+    by_family_by d (array_or_none IsAspa aspa_or_none (codes "ipv4") d) (array_or_none IsAspa aspa_or_none (codes "ipv6") d)
+attested_or_none None None (Some d) = inl ([], refl)
+attested_or_none None None None = inr (λ list h. h)
+
+form_by : (tree : Data) → SomeOrNone (AspasAre (get (codes "aspas") tree) (get (codes "provider_authorizations") tree) (get (codes "roas") tree))
+    → SomeOrNone (IfThere (IsListOf IsRoa) (get (codes "roas") tree)) → SomeOrNone (IsFile tree)
 form_by tree (inr none) rs = inr (λ f h. none f.aspas h.aspas)
 form_by tree (inl as_) (inr none) = inr (λ f h. none f.roas h.roas)
 form_by tree (inl as_) (inl rs) = inl (record { aspas = as_.0; roas = rs.0 }, record { aspas = as_.1; roas = rs.1 })
 
 pub form_or_none : (tree : Data) → SomeOrNone (IsFile tree)
 form_or_none tree =
-    form_by tree (array_or_none IsAspa aspa_or_none (codes "aspas") tree) (if_there_or_none (IsListOf IsRoa) list_or_none (get (codes "roas") tree))
+    form_by tree (attested_or_none (get (codes "aspas") tree) (get (codes "provider_authorizations") tree) (get (codes "roas") tree))
+    (if_there_or_none (IsListOf IsRoa) (list_or_none IsRoa roa_or_none) (get (codes "roas") tree))

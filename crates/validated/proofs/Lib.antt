@@ -1,6 +1,7 @@
 mod AnswerLemmas
 mod AssertingLemmas
 mod ContentLemmas
+mod FamiliesLemmas
 mod FormLemmas
 mod GatheringLemmas
 mod KeptLemmas

@@ -1,6 +1,6 @@
 -- The form of a file: what its tree says. An AS and a moment are written as a number, an AS also as the text `AS` and a number. What is
 -- written so and is no number of 32 bits stands in the form as none.
-use Rattle.std.specs.Prelude.{◌≡◌, ◌⊎◌, ℕ, ◌<◌, ◌^◌, List, ◌++◌, Bool, true, ◌||◌, codes, decimal, is_some, map, option_map}
+use Rattle.std.specs.Prelude.{◌≡◌, ◌⊎◌, ℕ, ◌<◌, ◌^◌, List, [], ◌++◌, Bool, true, ◌||◌, codes, decimal, is_some, map, option_map}
 use Rattle.std.specs.Option.{option_or}
 use Rattle.std.specs.declared.option.Option.{Option}
 use Rattle.std.specs.declared.option.Option.TheVariants.{Some, None}
@@ -79,9 +79,24 @@ pub record IsRoa (d : Data) (roa : Roa) : Type 0 where
   pub max : number_if_there (codes "maxLength") d ≡ Some roa.max
   pub expires : IfThere IsMomentNumeral (get (codes "expires") d) roa.expires
 
--- the tree is an object with an array `aspas`, and maybe an array `roas`; its other members are passed over
+-- the attestations by address family, as rpki-client wrote them before its version 8.7: those of `ipv4`, and then those of `ipv6`
+pub record AreByFamily (d : Data) (aspas : List Aspa) : Type 0 where
+  pub four : List Aspa
+  pub six : List Aspa
+  pub ipv4 : ArrayIs IsAspa (codes "ipv4") d four
+  pub ipv6 : ArrayIs IsAspa (codes "ipv6") d six
+  pub both : aspas ≡ four ++ six
+
+-- The attestations are those of `aspas`; without it those of `provider_authorizations`; and without both there are none, if there are `roas`.
+abbrev pub AspasAre : Option Data → Option Data → Option Data → List Aspa → Type 0
+AspasAre (Some aspas) by_family roas list = IsListOf IsAspa aspas list
+AspasAre None (Some by_family) roas list = AreByFamily by_family list
+AspasAre None None (Some roas) list = list ≡ []
+AspasAre None None None list = ⊥
+
+-- the tree is an object with attestations, or with records, or with both; its other members are passed over
 pub record IsFile (d : Data) (form : Form) : Type 0 where
-  pub aspas : ArrayIs IsAspa (codes "aspas") d form.aspas
+  pub aspas : AspasAre (get (codes "aspas") d) (get (codes "provider_authorizations") d) (get (codes "roas") d) form.aspas
   pub roas : IfThere (IsListOf IsRoa) (get (codes "roas") d) form.roas
 
 -- ---- how the code's drafts are seen (of private functions)

@@ -7,8 +7,9 @@ use Rattle.serde_json.specs.Find.{get}
 use Rattle.json_fields.specs.Each.{IfThere}
 use Rattle.json_fields.specs.Object.{ArrayIs, number_if_there, text_if_there}
 use Rattle.json_fields.specs.Tokens.{Holds, IsListOf, Keeps, numbers_kept, texts_kept, items_view}
-use Rattle.validated.specs.Form.{IsAsNumeral, IsAspa, IsMomentNumeral, IsRoa, aspa_view, customer_of, numeral_view, roa_view}
+use Rattle.validated.specs.Form.{AreByFamily, IsAsNumeral, IsAspa, IsMomentNumeral, IsRoa, aspa_view, customer_of, numeral_view, roa_view}
 use Rattle.validated.specs.declared.aspa.AspaFields.{AspaFields}
+use Rattle.validated.specs.declared.families.Families.{Families}
 use Rattle.validated.specs.declared.file.File.{File}
 use Rattle.validated.specs.declared.roa.RoaFields.{RoaFields}
 
@@ -32,6 +33,11 @@ pub record RoaIs (kept : RoaFields) (d : Data) : Type 0 where
   pub max : numbers_kept kept.max ≡ number_if_there (codes "maxLength") d
   pub expires : Keeps numeral_view IsMomentNumeral kept.expires (get (codes "expires") d)
 
+pub record FamiliesAre (kept : Families) (d : Data) : Type 0 where
+  pub ipv4 : Holds (items_view aspa_view) kept.ipv4 (ArrayIs IsAspa (codes "ipv4") d)
+  pub ipv6 : Holds (items_view aspa_view) kept.ipv6 (ArrayIs IsAspa (codes "ipv6") d)
+
 pub record FileIs (kept : File) (d : Data) : Type 0 where
-  pub aspas : Holds (items_view aspa_view) kept.aspas (ArrayIs IsAspa (codes "aspas") d)
+  pub aspas : Keeps (items_view aspa_view) (IsListOf IsAspa) kept.aspas (get (codes "aspas") d)
+  pub by_family : Keeps (items_view aspa_view) AreByFamily kept.by_family (get (codes "provider_authorizations") d)
   pub roas : Keeps (items_view roa_view) (IsListOf IsRoa) kept.roas (get (codes "roas") d)

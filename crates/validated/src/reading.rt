@@ -16,6 +16,6 @@ pub fn read(alloc: Global, bytes: &[u8]) -> Result<Validated, ValidatedFault>
     ensures { Answers (IsReading bytes.now) result }
 {
     let file: File = read_file(alloc, bytes)?;
-    let draft = file.into_draft().ok_or(ValidatedFault::Member)?;
+    let draft = file.into_draft(alloc).ok_or(ValidatedFault::Member)?;
     read_content(alloc, draft)
 }
