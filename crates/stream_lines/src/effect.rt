@@ -68,8 +68,8 @@ fn perform<L: Ledger>(
 ) -> Result<(), NoMemory>
     ensures did { OnOk result (Changed noted progress.old progress.new) }
     ensures others { progress.new ≡ record progress.old {
-        analyser = progress.new.analyser;
-        marks = progress.new.marks;
+      analyser = progress.new.analyser;
+      marks = progress.new.marks;
     } }
     ensures ticks { TicksWithin progress.old.analyser (Routes noted.changes) steps.old steps.new }
 {
