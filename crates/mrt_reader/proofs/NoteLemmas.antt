@@ -1,5 +1,5 @@
 -- Each announcement of a record has its note.
-use Rattle.std.proofs.Common.{◌≡◌, ℕ, ◌==◌, ◌&&◌, not, inl, inr, Bool, true, false, if◌then◌else◌, List, [], ◌∷◌, length, Ok, Err, refl, sym, subst, arith}
+use Rattle.std.proofs.Common.{◌≡◌, ℕ, ◌==◌, inl, inr, Bool, true, false, if◌then◌else◌, List, [], ◌∷◌, length, Ok, Err, refl, sym, subst, arith}
 use Rattle.std.specs.declared.result.Result.{Result}
 use Rattle.path_model.specs.declared.addr.Addr.{Addr}
 use Rattle.path_model.specs.declared.change.Change.{Change}
@@ -12,9 +12,7 @@ use Rattle.path_model.specs.Prefix.{Subnet}
 use Rattle.bgp_update.specs.declared.fault.UpdateFault.{UpdateFault}
 use Rattle.bgp_update.specs.Updates as updates
 use Rattle.bgp_update.proofs.NoteLemmas as messages
-use Rattle.dialects.specs.declared.writer.Rule.TheVariants.{EstablishedAlone, UnnamedPeer}
 use Rattle.dialects.specs.declared.writer.Writer.{Writer}
-use Rattle.dialects.specs.Dialect.{has}
 use Rattle.mrt_reader.specs.declared.body.Beside.{Beside}
 use Rattle.mrt_reader.specs.declared.body.Beside.TheVariants as besides
 use Rattle.mrt_reader.specs.declared.body.Body.{Body}
@@ -65,25 +63,31 @@ dump_has dumped noted besides.Nothing e = subst HasNotes (sym e.3) refl
 dump_has dumped noted besides.Passed e = absurd e
 dump_has dumped noted (besides.Own addr) e = absurd e
 
+-- the reading is this one
+abbrev Is : Result Body BodyFault → Body → Type 0
+Is reading body = reading ≡ Ok body
+
 -- the end of a session announces nothing
-announces_none : (noted : Noted) (beside : Beside) (changes : List Change) → announced_of changes ≡ 0 → Ok (bodies.Routes noted beside) ≡ Ok (bodies.Routes (updates.without_notes changes) besides.Nothing) → HasNotes noted
+announces_none : (noted : Noted) (beside : Beside) (changes : List Change) → announced_of changes ≡ 0 → Is (Ok (bodies.Routes noted beside)) (bodies.Routes (updates.without_notes changes) besides.Nothing) → HasNotes noted
 announces_none noted beside changes none e = let same : noted ≡ updates.without_notes changes = cc in subst HasNotes (sym same) (sym none)
 
-state_has : (before : Known) (change : StateChange) (noted : Noted) (beside : Beside) → StateSays before change (Ok (bodies.Routes noted beside)) → HasNotes noted
-state_has before change noted beside says = by_rule (has before.writer EstablishedAlone && not (states.touches_session change)) says
+ended_has : (before : Known) (peer : Peer) (noted : Noted) (beside : Beside) → Is (Ok (bodies.Routes noted beside)) (states.ended before peer) → HasNotes noted
+ended_has before peer noted beside is = by_name (states.is_unnamed before peer) is
   where
-    peer : Peer
-    peer = states.peer_in before change
-
-    by_name : (named : Bool) → Ok (bodies.Routes noted beside) ≡ Ok (if named then bodies.Left peer.asn else bodies.Routes (updates.without_notes (RemovePeer peer ∷ [])) besides.Nothing) → HasNotes noted
+    by_name : (named : Bool) → Is (Ok (bodies.Routes noted beside)) (if named then bodies.Left peer.asn else bodies.Routes (updates.without_notes (RemovePeer peer ∷ [])) besides.Nothing) → HasNotes noted
     by_name true e = absurd cc
     by_name false e = announces_none noted beside (RemovePeer peer ∷ []) refl e
 
-    by_state : (up : Bool) → Ok (bodies.Routes noted beside) ≡ Ok (if up then bodies.Routes (updates.without_notes []) besides.Nothing else states.ended before peer) → HasNotes noted
+state_has : (before : Known) (change : StateChange) (noted : Noted) (beside : Beside) → StateSays before change (Ok (bodies.Routes noted beside)) → HasNotes noted
+state_has before change noted beside says = by_rule (states.is_passed before change) says
+  where
+    by_state : (up : Bool) → Is (Ok (bodies.Routes noted beside)) (if up then bodies.Routes (updates.without_notes []) besides.Nothing else states.ended before (states.peer_in before change)) → HasNotes noted
     by_state true e = announces_none noted beside [] refl e
-    by_state false e = by_name (has before.writer UnnamedPeer && states.is_unspecified peer.addr) e
+    by_state false e = ended_has before (states.peer_in before change) noted beside e
 
-    by_rule : (passed : Bool) → Ok (bodies.Routes noted beside) ≡ Ok (if passed then bodies.Passed else (if change.new == 6 then bodies.Routes (updates.without_notes []) besides.Nothing else states.ended before peer)) → HasNotes noted
+    by_rule : (passed : Bool)
+        → Is (Ok (bodies.Routes noted beside)) (if passed then bodies.Passed else (if change.new == 6 then bodies.Routes (updates.without_notes []) besides.Nothing else states.ended before (states.peer_in before change)))
+        → HasNotes noted
     by_rule true e = absurd cc
     by_rule false e = by_state (change.new == 6) e
 

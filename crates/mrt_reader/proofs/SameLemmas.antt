@@ -140,7 +140,7 @@ EntriesCase writer peers prefix entries reading =
     ⊎ (AllByRecursion (IsWithin peers) entries × AnyOf EntryUnreadable entries × (reading ≡ Err faults.Attributes))
     ⊎ ((has writer PathlessEntry ≡ false) × AllByRecursion (IsWithin peers) entries × AllByRecursion EntryReadable entries × AnyOf EntryLacksPath entries × (reading ≡ Err faults.NoPath))
     ⊎ ((noted : Noted) × (has writer PathlessEntry ≡ true) × AllByRecursion (IsWithin peers) entries × AnyOf EntryLacksPath entries × AreSomeRoutes peers prefix entries noted
-      × (reading ≡ Ok (bodies.Routes noted besides.Passed)))
+    × (reading ≡ Ok (bodies.Routes noted besides.Passed)))
 
 entries_case : (writer : Writer) (peers : List Peer) (prefix : Subnet) (entries : List Entry) (reading : Result Body BodyFault) → EntriesSay writer peers prefix entries reading → EntriesCase writer peers prefix entries reading
 entries_case writer peers prefix entries (Ok (bodies.Routes noted besides.Nothing)) say = inl (noted, say, refl)

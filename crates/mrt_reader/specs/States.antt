@@ -23,19 +23,29 @@ abbrev pub is_unspecified : Addr → Bool
 is_unspecified (V4 bits) = bits == 0
 is_unspecified (V6 bits) = bits == 0
 
--- Whose session it is: whom the record names as the peer; but where that is the writer itself, by the addresses that messages before had as
--- the local ones, and the writer swaps the two, whom it names as the local one.
+-- it is passed over: neither state is Established, and the rule holds for who wrote it
+abbrev pub is_passed : Known → StateChange → Bool
+is_passed before change = has before.writer EstablishedAlone && not (touches_session change)
+
+-- the record names its writer as the peer, by the addresses that messages before had as the local ones
+abbrev pub is_swapped : Known → Session → Bool
+is_swapped before session = has before.writer SwappedPeer && set.contains before.own session.peer.addr
+
+-- Whose session it is: whom the record names as the peer; but where that is the writer itself, whom it names as the local one.
 abbrev pub peer_in : Known → StateChange → Peer
-peer_in before change =
-    if has before.writer SwappedPeer && set.contains before.own change.session.peer.addr then change.session.local else change.session.peer
+peer_in before change = if is_swapped before change.session then change.session.local else change.session.peer
+
+-- no address says whose session it is, but its AS
+abbrev pub is_unnamed : Known → Peer → Bool
+is_unnamed before peer = has before.writer UnnamedPeer && is_unspecified peer.addr
 
 -- a peer's session ended: its routes are gone; where no address says which peer it is, those of all peers in the AS
 abbrev pub ended : Known → Peer → Body
-ended before peer = if has before.writer UnnamedPeer && is_unspecified peer.addr then Left peer.asn else Routes (without_notes (RemovePeer peer ∷ [])) Nothing
+ended before peer = if is_unnamed before peer then Left peer.asn else Routes (without_notes (RemovePeer peer ∷ [])) Nothing
 
 -- The session is up, and nothing happens; or it ended. A change between two states of which none is Established ends no session: it is passed
 -- over, where the rule holds, and else taken for an end.
 abbrev pub says : Known → StateChange → Body
 says before change =
-    if has before.writer EstablishedAlone && not (touches_session change) then Passed
+    if is_passed before change then Passed
     else (if change.new == 6 then Routes (without_notes []) Nothing else ended before (peer_in before change))

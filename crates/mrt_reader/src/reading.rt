@@ -19,11 +19,7 @@ use std::alloc::Global;
 ///
 /// The refusals are tested over the whole record in this order: 28 Body, 29 NoPeerTable, 30 PeerIndex, 24 Message, 23 Attributes,
 /// 25 NoPath. A refused record changes nothing, so no entry before a malformed one counts.
-pub fn read_body(
-    alloc: Global,
-    unit: &Record<'_>,
-    before: &Before,
-) -> Result<Body, BodyFault>
+pub fn read_body(alloc: Global, unit: &Record<'_>, before: &Before) -> Result<Body, BodyFault>
     ensures { IsOutcome (recorded unit.now) before.now result }
 {
     match layout_of(unit.kind, unit.subkind) {

@@ -24,7 +24,14 @@ pub(crate) fn read_rib(
     match rib_parts(body, six, add_path) {
         Some(parts) => match peers {
             Some(peers) => {
-                routes_of_entries(alloc, peers, &parts.prefix, parts.entries, parts.count, writer)
+                routes_of_entries(
+                    alloc,
+                    peers,
+                    &parts.prefix,
+                    parts.entries,
+                    parts.count,
+                    writer,
+                )
             }
             None => Err(BodyFault::NoPeerTable),
         },

@@ -1,10 +1,10 @@
 //! Bodies of state changes.
-ghost use Rattle.std.specs.Prelude.{◌≡◌, option_map};
+ghost use Rattle.std.specs.Prelude.{◌≡◌, Ok, option_map};
 ghost use Rattle.mrt_reader.specs.Bodies.{OrNoMemory, StateSays};
 ghost use Rattle.mrt_reader.specs.Gathering.{ByParts};
-ghost use Rattle.mrt_reader.specs.Left.{change_of};
+ghost use Rattle.mrt_reader.specs.Left.{change_of, session_of};
 ghost use Rattle.mrt_reader.specs.Readers.{state_at};
-ghost use Rattle.mrt_reader.specs.States.{is_unspecified as names_none, peer_in, touches_session as is_of_session};
+ghost use Rattle.mrt_reader.specs.States.{ended, is_passed as passed_over, is_swapped as names_writer, is_unnamed as names_none, is_unspecified as unspecified, peer_in};
 
 use crate::before::Before;
 use crate::body::{Beside, Body};
@@ -46,14 +46,46 @@ pub(crate) fn read_state(
 fn change_at(alloc: Global, change: StateChange, before: &Before) -> Result<Body, BodyFault>
     ensures { OrNoMemory (StateSays before.now (change_of change)) result }
 {
-    if before.writer.has(Rule::EstablishedAlone) && !touches_session(change) {
+    if is_passed(change, before) {
         return Ok(Body::Passed);
     }
     if change.new == ESTABLISHED {
         return Ok(Body::Routes(no_changes(alloc), Beside::Nothing));
     }
-    let peer = peer_of(change, before);
-    if before.writer.has(Rule::UnnamedPeer) && is_unspecified(peer.addr) {
+    end_of(alloc, peer_of(change, before), before)
+}
+
+// Whether it is passed over, since the session wasn't Established, nor is it now.
+fn is_passed(change: StateChange, before: &Before) -> bool
+    ensures { result ≡ passed_over before.now (change_of change) }
+{
+    before.writer.has(Rule::EstablishedAlone)
+        && !(change.old == ESTABLISHED || change.new == ESTABLISHED)
+}
+
+// Whose session it is.
+fn peer_of(change: StateChange, before: &Before) -> Peer
+    ensures { result ≡ peer_in before.now (change_of change) }
+{
+    if is_swapped(change.ends, before) {
+        change.ends.local
+    } else {
+        change.ends.peer
+    }
+}
+
+// Whether the record names its writer as the peer.
+fn is_swapped(ends: Ends, before: &Before) -> bool
+    ensures { result ≡ names_writer before.now (session_of ends) }
+{
+    before.writer.has(Rule::SwappedPeer) && before.own.has(&ends.peer.addr)
+}
+
+// The end of a peer's session, or of those of all peers in its AS where no address says which it is.
+fn end_of(alloc: Global, peer: Peer, before: &Before) -> Result<Body, BodyFault>
+    ensures { OrNoMemory (λ reading. reading ≡ Ok (ended before.now peer)) result }
+{
+    if is_unnamed(peer, before) {
         return Ok(Body::Left(peer.asn));
     }
     let mut noted = no_changes(alloc);
@@ -61,28 +93,16 @@ fn change_at(alloc: Global, change: StateChange, before: &Before) -> Result<Body
     Ok(Body::Routes(noted, Beside::Nothing))
 }
 
-// Whether the session was Established, or is now.
-fn touches_session(change: StateChange) -> bool
-    ensures { result ≡ is_of_session (change_of change) }
+// Whether the peer's AS alone is known.
+fn is_unnamed(peer: Peer, before: &Before) -> bool
+    ensures { result ≡ names_none before.now peer }
 {
-    change.old == ESTABLISHED || change.new == ESTABLISHED
-}
-
-// Whose session it is.
-fn peer_of(change: StateChange, before: &Before) -> Peer
-    ensures { result ≡ peer_in before.now (change_of change) }
-{
-    let ends = change.ends;
-    if before.writer.has(Rule::SwappedPeer) && before.own.has(&ends.peer.addr) {
-        ends.local
-    } else {
-        ends.peer
-    }
+    before.writer.has(Rule::UnnamedPeer) && is_unspecified(peer.addr)
 }
 
 // Whether an address is that of none: 0.0.0.0 or ::.
 fn is_unspecified(addr: Addr) -> bool
-    ensures { result ≡ names_none addr }
+    ensures { result ≡ unspecified addr }
 {
     match addr {
         Addr::V4(bits) => bits == 0,

@@ -32,7 +32,7 @@ pub(crate) fn take_effect<L: Ledger>(
     match effect {
         Effect::Routes(noted) => perform(alloc, noted, progress, steps),
         Effect::Part(noted) => {
-            progress.passed += 1;
+            passed_once(progress);
             perform(alloc, noted, progress, steps)
         }
         Effect::Leave(asn) => {
@@ -45,10 +45,18 @@ pub(crate) fn take_effect<L: Ledger>(
         Effect::Learn(asn, role) => progress.analyser.apply(Event::Role(asn, role), steps),
         Effect::Note => Ok(()),
         Effect::Pass => {
-            progress.passed += 1;
+            passed_once(progress);
             Ok(())
         }
     }
+}
+
+// One unit is counted as passed over.
+fn passed_once(progress: &mut Progress)
+    requires { progress.old.passed < 2 ^ 63 }
+    ensures { progress.new ≡ record progress.old { passed = progress.old.passed + 1 } }
+{
+    progress.passed += 1;
 }
 
 // The routes change, and what the changes say of Only-to-Customer is marked.
@@ -59,6 +67,10 @@ fn perform<L: Ledger>(
     steps: &mut Steps<L>,
 ) -> Result<(), NoMemory>
     ensures did { OnOk result (Changed noted progress.old progress.new) }
+    ensures others { progress.new ≡ record progress.old {
+      analyser = progress.new.analyser;
+      marks = progress.new.marks;
+    } }
     ensures ticks { TicksWithin progress.old.analyser (Routes noted.changes) steps.old steps.new }
 {
     note(alloc, &mut progress.marks, &noted)?;

@@ -168,11 +168,7 @@ pub(crate) fn table(alloc: Global, stream: &[u8]) -> Result<Option<PeerTable>, N
 }
 
 /// The changes of one record, by what is known before it.
-pub(crate) fn noted(
-    alloc: Global,
-    text: &str,
-    before: &Before,
-) -> Result<Option<Noted>, NoMemory> {
+pub(crate) fn noted(alloc: Global, text: &str, before: &Before) -> Result<Option<Noted>, NoMemory> {
     let mut framer = Framer::new(alloc).feed(&joined(alloc, &[text])?)?;
     match framer.next() {
         Ok(Some(record)) => match read_body(alloc, &record, before) {
