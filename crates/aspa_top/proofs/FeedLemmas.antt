@@ -74,6 +74,7 @@ module _ (working : Working) (name : List ℕ) (old : Outside) (links : Links) (
     dumps = stands.dumps;
     feeds = holds.held.each;
     caches = stands.caches;
+    timing = stands.timing;
     begun = stands.begun;
     made = holds.held.made;
     lines = stands.lines;

@@ -34,13 +34,13 @@ use Rattle.aspa_top.specs.declared.files.Amendment.{Amendment}
 use Rattle.aspa_top.specs.declared.files.Outcome.{Outcome}
 use Rattle.aspa_top.specs.declared.files.Outcome.TheVariants.{NoFile, Long as FileLong, Flawed, Good}
 use Rattle.aspa_top.specs.declared.task.Task.{Task}
-use Rattle.aspa_top.specs.declared.task.Task.TheVariants.{Idle, Happen, Clear, Judge, Explain, Sent, Say, Load, Open, Take, Until, Connect, OnFeed, Serve, Answer, Changes}
+use Rattle.aspa_top.specs.declared.task.Task.TheVariants.{Idle, Happen, Clear, Judge, Explain, Sent, Say, Load, Open, Take, Until, Connect, OnFeed, Serve, SetTiming, Answer, Changes}
 use Rattle.aspa_top.specs.Tasks.{State, MakesHappen, Holds, TakesFile, LoadsUnless, OpensNamed, TakesOpen, TakesNamed, TakesRecordsUnless, TakesUntilNamed, Works, ConnectsUnless, ShowsChanges, DoesTask, amended, is_stream, is_taken, with_name, asking_of, asking_on, feeds_of, with_feeds, taking_of, after_taking, most_records}
 use Rattle.aspa_top.specs.World.{World}
 use Rattle.aspa_top.proofs.JudgedLemmas.{ExplainsPath-unique, IsJudged-unique, ListsSent-unique, some_explanation, some_sent}
 use Rattle.aspa_top.proofs.OutcomeLemmas.{some_outcome, outcome_unique}
 use Rattle.aspa_top.proofs.QuestionLemmas.{replies_unique, some_reply}
-use Rattle.aspa_top.proofs.ServingLemmas.{ServesTable-unique}
+use Rattle.aspa_top.proofs.ServingLemmas.{ServesTable-unique, SetsTiming-unique, some_timing}
 
 -- ---- a text
 
@@ -160,6 +160,7 @@ some_task world state (Until name moment) other none = some_until_of (state.dump
 some_task world state (Connect name place) other none = absurd other
 some_task world state (OnFeed name work) other none = some_work world state name work (none name)
 some_task world state (Serve place session count) other none = absurd other
+some_task world state (SetTiming timing) other none = some_timing state timing
 some_task world state (Answer question) other none = some_reply state question
 some_task world state Changes other none = some_changes state
 
@@ -279,5 +280,6 @@ DoesTask-unique world attempts told state (Connect name place) one other end las
     Connects-unique (state.sources name || is_some (state.dumps name)) world attempts told state name place one other end last a b
 DoesTask-unique world attempts told state (OnFeed name work) one other end last a b = Works-unique world attempts told state name work one other end last a b
 DoesTask-unique world attempts told state (Serve place session count) one other end last a b = ServesTable-unique world attempts told state place session count one other end last a b
+DoesTask-unique world attempts told state (SetTiming timing) one other end last a b = SetsTiming-unique state timing one other end last a b
 DoesTask-unique world attempts told state (Answer question) one other end last a b = replies_unique state question one other end last a b
 DoesTask-unique world attempts told state Changes one other end last a b = ShowsChanges-unique state one other end last a b

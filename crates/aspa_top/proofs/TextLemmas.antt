@@ -41,13 +41,14 @@ use Rattle.report_text.specs.Feeds.{feed_line}
 use Rattle.report_text.specs.Served.{served_line, served_text}
 use Rattle.report_text.proofs.RefusalLemmas.{feed_end_is_one_line, refusal_is_one_line, serve-in_line}
 use Rattle.report_text.proofs.AnswerLemmas.{served_is_one_line}
-use Rattle.aspa_top.specs.Serving.{ServesTable}
+use Rattle.rtr_pdu.specs.declared.timing.Timing.{Timing}
+use Rattle.aspa_top.specs.Serving.{ServesTable, SetsTiming}
 use Rattle.aspa_top.specs.declared.files.FileKind.{FileKind}
 use Rattle.aspa_top.specs.declared.files.Outcome.{Outcome}
 use Rattle.aspa_top.specs.declared.files.Outcome.TheVariants.{NoFile, Long as FileLong, Flawed, Good}
 use Rattle.aspa_top.specs.declared.task.Question.{Question}
 use Rattle.aspa_top.specs.declared.task.Task.{Task}
-use Rattle.aspa_top.specs.declared.task.Task.TheVariants.{Idle as Nothing, Happen, Clear, Judge as JudgePath, Explain as ExplainPath, Sent as ListSent, Say, Load, Open, Take, Until, Connect, OnFeed, Serve, Answer, Changes}
+use Rattle.aspa_top.specs.declared.task.Task.TheVariants.{Idle as Nothing, Happen, Clear, Judge as JudgePath, Explain as ExplainPath, Sent as ListSent, Say, Load, Open, Take, Until, Connect, OnFeed, Serve, SetTiming, Answer, Changes}
 use Rattle.aspa_top.specs.Files.{unit_name}
 use Rattle.aspa_top.specs.Tasks.{State, MakesHappen, Refuses, TakesFile, LoadsUnless, OpensNamed, TakesOpen, TakesNamed, TakesRecordsUnless, TakesUntilNamed, Works, ConnectsUnless, DoesTask, is_stream, is_taken, asking_of, asking_on, feeds_of, with_feeds, taking_of}
 use Rattle.aspa_top.specs.Answers.{AnswersUnless, Replies, refused_for}
@@ -236,6 +237,11 @@ Replies-refused state question text next rest replies = by_cause (refused_for st
   by_cause (Some cause) refuses = Refuses-refused state of_line cause text next rest tt refuses
   by_cause None answers = answered state next text text rest refl (answers_counted text rest (answer_lines state question text answers.0)) (ap (λ (s : State). s.refused) answers.1)
 
+SetsTiming-refused : (state : State) (timing : Timing) (text : List ℕ) (next : State) (rest : List ℕ)
+    → SetsTiming state timing text next → next.refused + refusals_in rest ≡ state.refused + refusals_in (text ++ rest)
+SetsTiming-refused state timing text next rest (inl set) = silent text rest state.refused next.refused set.1 (ap (λ (s : State). s.refused) set.2)
+SetsTiming-refused state timing text next rest (inr refused) = Refuses-refused state of_line causes.Number text next rest tt refused.1
+
 DoesTask-refused : (world : World) (state : State) (task : Task) (text : List ℕ) (next : State) (rest : List ℕ) → IsNamedInLine task
     → DoesTask world state task text next → next.refused + refusals_in rest ≡ state.refused + refusals_in (text ++ rest)
 DoesTask-refused world state Nothing text next rest in_line does = silent text rest state.refused next.refused does.0 (ap (λ (s : State). s.refused) does.1)
@@ -261,6 +267,7 @@ DoesTask-refused world state (Connect name place) text next rest in_line does =
     Connects-refused (state.sources name || is_some (state.dumps name)) world state name place text next rest in_line does
 DoesTask-refused world state (OnFeed name work) text next rest in_line does = Works-refused world state name work text next rest in_line does
 DoesTask-refused world state (Serve place session count) text next rest in_line does = ServesTable-refused world state place session count text next rest does
+DoesTask-refused world state (SetTiming timing) text next rest in_line does = SetsTiming-refused state timing text next rest does
 DoesTask-refused world state (Answer question) text next rest in_line does = Replies-refused state question text next rest does
 DoesTask-refused world state Changes text next rest in_line does =
     answered state next text (flat_map change_row does.changes) rest does.text_is (changes_counted does.changes rest) (ap (λ (s : State). s.refused) does.left)

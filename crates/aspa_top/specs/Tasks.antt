@@ -42,10 +42,10 @@ use Rattle.aspa_top.specs.declared.files.FileKind.TheVariants.{Source, Slurm as 
 use Rattle.aspa_top.specs.declared.files.Outcome.{Outcome}
 use Rattle.aspa_top.specs.declared.files.Outcome.TheVariants.{NoFile, Long as FileLong, Flawed, Good}
 use Rattle.aspa_top.specs.declared.task.Task.{Task}
-use Rattle.aspa_top.specs.declared.task.Task.TheVariants.{Idle, Happen, Clear, Judge, Explain, Sent, Say, Load, Open, Take, Until, Connect, OnFeed, Serve, Answer, Changes}
+use Rattle.aspa_top.specs.declared.task.Task.TheVariants.{Idle, Happen, Clear, Judge, Explain, Sent, Say, Load, Open, Take, Until, Connect, OnFeed, Serve, SetTiming, Answer, Changes}
 use Rattle.aspa_top.specs.Answers.{Replies}
 use Rattle.aspa_top.specs.Files.{ComesOf, unit_name}
-use Rattle.aspa_top.specs.Serving.{ServesTable, ServesTablePart}
+use Rattle.aspa_top.specs.Serving.{ServesTable, ServesTablePart, SetsTiming}
 pub use Rattle.aspa_top.specs.Dumps.{new_dump, with_dump, OpensNamed, Opens, asking_of, taking_of, after_taking, TakesAll, TakesOpen, TakesRecords, TakesRecordsUnless, TakesUntilNamed, TakesUpTo, most_records}
 pub use Rattle.aspa_top.specs.State.{State, start, same_name, is_stream, Refuses}
 use Rattle.aspa_top.specs.World.{World}
@@ -245,6 +245,7 @@ DoesTask world state (Until name moment) text next = TakesUpTo state name moment
 DoesTask world state (Connect name place) text next = Connects world state name place text next
 DoesTask world state (OnFeed name work) text next = Works world state name work text next
 DoesTask world state (Serve place session count) text next = ServesTable world state place session count text next
+DoesTask world state (SetTiming timing) text next = SetsTiming state timing text next
 DoesTask world state (Answer question) text next = Replies state question text next
 DoesTask world state Changes text next = ShowsChanges state text next
 

@@ -7,6 +7,7 @@ use analyser::Event;
 use conditions::Conditions;
 use path_model::{Addr, AsList, Key, Name, Peer, Prefix, Role};
 use rtr_client::Work;
+use rtr_pdu::Timing;
 use script_lines::{Command, Saying, Word};
 use stream_lines::DumpKind;
 use vap_table::TableChange;
@@ -40,6 +41,8 @@ pub(crate) enum Task {
     Connect(Name, Word),
     /// It serves so many routers at a place, as the cache of a session.
     Serve(Word, u16, u32),
+    /// Routers are given these times from then on.
+    SetTiming(Timing),
     /// It works on the feed of that name.
     OnFeed(Name, Work),
     /// It asks, and changes nothing.
@@ -55,7 +58,7 @@ impl Task {
     {
         match self {
             Task::Idle | Task::Happen(_) | Task::Clear | Task::Judge(_, _, _) => false,
-            Task::Explain(_, _, _) | Task::Sent(_, _) => false,
+            Task::Explain(_, _, _) | Task::Sent(_, _) | Task::SetTiming(_) => false,
             Task::Say(_) | Task::Answer(_) | Task::Changes => false,
             Task::Load(_, _) | Task::Open(_, _, _) | Task::Take(_, _) | Task::Until(_, _) => true,
             Task::Connect(_, _) | Task::Serve(_, _, _) | Task::OnFeed(_, _) => true,
@@ -125,6 +128,11 @@ pub(crate) fn task_of(command: Command) -> Task
         Command::Ask(name) => Task::OnFeed(name, Work::Ask),
         Command::Sync(name, count) => Task::OnFeed(name, Work::Sync(count)),
         Command::Serve(place, session, count) => Task::Serve(place, session, count),
+        Command::Timing(refresh, retry, expire) => Task::SetTiming(Timing {
+            refresh,
+            retry,
+            expire,
+        }),
         Command::Judge(role, neighbour, path) => { Task::Judge(role, neighbour, path) }
         Command::Explain(role, neighbour, path) => Task::Explain(role, neighbour, path),
         Command::Sent(role, path) => Task::Sent(role, path),

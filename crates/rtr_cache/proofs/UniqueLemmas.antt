@@ -71,7 +71,7 @@ reply_unique cache (Notify session serial) one other turn next a b = (b.0 ∙ sy
 reply_unique cache (CacheResponse session) one other turn next a b = (b.0 ∙ sym a.0, b.1 ∙ sym a.1)
 reply_unique cache (Prefix announce v) one other turn next a b = (b.0 ∙ sym a.0, b.1 ∙ sym a.1)
 reply_unique cache (Passed kind) one other turn next a b = (b.0 ∙ sym a.0, b.1 ∙ sym a.1)
-reply_unique cache (EndOfData session serial) one other turn next a b = (b.0 ∙ sym a.0, b.1 ∙ sym a.1)
+reply_unique cache (EndOfData session serial timing) one other turn next a b = (b.0 ∙ sym a.0, b.1 ∙ sym a.1)
 reply_unique cache CacheReset one other turn next a b = (b.0 ∙ sym a.0, b.1 ∙ sym a.1)
 reply_unique cache (Aspa announce customer providers) one other turn next a b = (b.0 ∙ sym a.0, b.1 ∙ sym a.1)
 
@@ -187,7 +187,7 @@ some_reply cache (Notify session serial) = refused 3
 some_reply cache (CacheResponse session) = refused 3
 some_reply cache (Prefix announce v) = refused 3
 some_reply cache (Passed kind) = refused 3
-some_reply cache (EndOfData session serial) = refused 3
+some_reply cache (EndOfData session serial timing) = refused 3
 some_reply cache CacheReset = refused 3
 some_reply cache (Aspa announce customer providers) = refused 3
 

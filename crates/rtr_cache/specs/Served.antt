@@ -47,9 +47,9 @@ pub record IsDifference (from to : RowMap) (pdus : List Pdu) : Type 0 where
 
 -- ---- the table of replies
 
--- an answer with these PDUs of rows
+-- an answer with these PDUs of rows, and the cache's times
 abbrev pub answer : Versions → List Pdu → List Pdu
-answer cache pdus = CacheResponse cache.session ∷ (pdus ++ EndOfData cache.session cache.current.serial ∷ [])
+answer cache pdus = CacheResponse cache.session ∷ (pdus ++ EndOfData cache.session cache.current.serial cache.timing ∷ [])
 
 -- the rows of the version of a serial, where it is kept
 abbrev pub rows_at : List Version → ℕ → Option RowMap

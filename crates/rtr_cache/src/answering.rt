@@ -10,7 +10,7 @@ use crate::telling::{merged, put_difference, put_rows};
 use crate::turn::Turn;
 use av_base::NoMemory;
 use path_model::Patch;
-use rtr_pdu::{Pdu, write};
+use rtr_pdu::{Pdu, Timing, write};
 use std::alloc::Global;
 use std::collections::VecDeque;
 
@@ -58,7 +58,7 @@ fn give_rows(alloc: Global, kept: KeptVersions<'_>, out: &mut Vec<u8>) -> Result
 {
     begin(kept.session, out)?;
     put_rows(alloc, kept.rows, out)?;
-    end(kept.session, kept.serial, out)?;
+    end(kept.session, kept.serial, kept.timing, out)?;
     Ok(Turn::More)
 }
 
@@ -98,7 +98,7 @@ fn give_difference(
     let patch = merged(alloc, kept.back, steps)?;
     begin(kept.session, out)?;
     put_difference(alloc, kept.rows, &patch, out)?;
-    end(kept.session, kept.serial, out)?;
+    end(kept.session, kept.serial, kept.timing, out)?;
     Ok(Turn::More)
 }
 
@@ -134,10 +134,16 @@ fn begin(session: u16, out: &mut Vec<u8>) -> Result<(), NoMemory>
 }
 
 // The PDU behind the rows.
-fn end(session: u16, serial: u32, out: &mut Vec<u8>) -> Result<(), NoMemory>
-    ensures { OnOk result (Appended (Ends session serial ∷ []) out.old.items out.new.items) }
+fn end(session: u16, serial: u32, timing: Timing, out: &mut Vec<u8>) -> Result<(), NoMemory>
+    ensures { OnOk result (Appended (Ends session serial timing ∷ [])
+        out.old.items out.new.items) }
 {
-    write(&Pdu::EndOfData { session, serial }, out)?;
+    let pdu = Pdu::EndOfData {
+        session,
+        serial,
+        timing,
+    };
+    write(&pdu, out)?;
     Ok(())
 }
 

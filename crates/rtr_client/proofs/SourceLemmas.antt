@@ -211,7 +211,7 @@ module _ (old new : Session) (act : Act) (source : Option (List Payload)) (has_i
   pdu_holds (Prefix false v) h = in_answer (λ p. OnPrefixWithdraw p v old act new) h (λ g. g) (λ g. g) (λ g. g) (λ g. g) (λ g. g)
       (λ at g. withdraws_prefix v (withdrawn_whole v at) g) (λ at g. withdraws_prefix v (withdrawn_changes v at) g)
   pdu_holds (Passed kind) h = in_answer (λ p. OnPassed p old act new) h (λ g. g) (λ g. g) (λ g. g) (λ g. g) (λ g. g) (λ at g. stays g) (λ at g. stays g)
-  pdu_holds (EndOfData session serial) h = in_answer (λ p. OnEnd p session serial old act new) h (λ g. g) (λ g. g) (λ g. g) (λ g. g) (λ g. g)
+  pdu_holds (EndOfData session serial timing) h = in_answer (λ p. OnEnd p session serial old act new) h (λ g. g) (λ g. g) (λ g. g) (λ g. g) (λ g. g)
       (λ at g. elim g [
         | inl same ↦ went (Apply (Whole old.rows old.payloads)) (ended old serial) (λ payloads gives. ends_with serial payloads gives) same.1
         | inr other ↦ ends SessionChanged other.1

@@ -18,7 +18,7 @@ use Rattle.rtr_pdu.specs.declared.pdu.Pdu.{Pdu}
 use Rattle.rtr_pdu.specs.declared.pdu.Pdu.TheVariants.{Notify, SerialQuery, ResetQuery, CacheResponse, Prefix, Passed, EndOfData, CacheReset, ErrorReport, Aspa}
 use Rattle.rtr_pdu.specs.declared.pdu.PduFault.{PduFault}
 use Rattle.rtr_pdu.specs.declared.pdu.PduFault.TheVariants.{PduVersion, PduLength, PduType, NoProviders, PrefixRecord, NoMemory}
-use Rattle.rtr_pdu.specs.Pdus.{IsHeader, HasLengths, IsFrame, IsPrefixPdu, IsReport, IsAnnounce, IsAnyLength, Says, FitsLength, announces_prefix, u16_at, u32_at, u128_at, length_in, code_of}
+use Rattle.rtr_pdu.specs.Pdus.{IsHeader, HasLengths, IsFrame, IsPrefixPdu, IsReport, IsAnnounce, IsAnyLength, Says, FitsLength, announces_prefix, u16_at, u32_at, u128_at, timing_at, length_in, code_of}
 use Rattle.rtr_pdu.specs.Units.{Answers, AnswersKnown, HasVersion, HasWhole, IsPartial, IsRefused}
 use Rattle.rtr_pdu.proofs.FrameLemmas.{IsHeader-more, IsHeader-take, whole_of}
 use Rattle.rtr_pdu.proofs.KindLemmas.{kind_at, some_kind, fits_or_not}
@@ -139,7 +139,7 @@ next_whole ResetQueryKind held len header whole = framed held ResetQueryKind len
 next_whole CacheResponseKind held len header whole = framed held CacheResponseKind len header whole (CacheResponse (u16_at (take len held) 2)) refl
 next_whole Ipv4Prefix held len header whole = next_four held len header whole
 next_whole Ipv6Prefix held len header whole = next_six held len header whole
-next_whole EndOfDataKind held len header whole = framed held EndOfDataKind len header whole (EndOfData (u16_at (take len held) 2) (u32_at (take len held) 8)) refl
+next_whole EndOfDataKind held len header whole = framed held EndOfDataKind len header whole (EndOfData (u16_at (take len held) 2) (u32_at (take len held) 8) (timing_at (take len held))) refl
 next_whole CacheResetKind held len header whole = framed held CacheResetKind len header whole CacheReset refl
 next_whole RouterKey held len header whole = framed held RouterKey len header whole (Passed 9) refl
 next_whole ErrorReportKind held len header whole = next_report held len header whole

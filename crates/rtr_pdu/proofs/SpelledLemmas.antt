@@ -12,10 +12,12 @@ use Rattle.path_model.specs.Prefix.{Subnet, IsSubnet, prefix_of}
 use Rattle.origin_model.specs.Vrp.{IsPayload, payload_of}
 use Rattle.origin_model.proofs.CoverLemmas.{own_front}
 use Rattle.rtr_pdu.specs.declared.kind.Kind.TheVariants.{SerialNotify, SerialQuery as SerialQueryKind, ResetQuery as ResetQueryKind, CacheResponse as CacheResponseKind, Ipv4Prefix, Ipv6Prefix, EndOfData as EndOfDataKind, CacheReset as CacheResetKind, ErrorReport as ErrorReportKind, Aspa as AspaKind}
+use Rattle.rtr_pdu.specs.declared.timing.Timing.{Timing}
+use Rattle.rtr_pdu.specs.Timing.{FitsTiming}
 use Rattle.rtr_pdu.specs.declared.pdu.Pdu.{Pdu}
 use Rattle.rtr_pdu.specs.declared.pdu.Pdu.TheVariants.{Notify, SerialQuery, ResetQuery, CacheResponse, Prefix, Passed, EndOfData, CacheReset, ErrorReport, Aspa}
 use Rattle.rtr_pdu.specs.Pdus.{IsFrame, AreNumbers, u32_at, u128_at}
-use Rattle.rtr_pdu.specs.Spelled.{announce_bit, header, sixteen_bytes, timers, spelled, spelled_numbers, IsWritable, FitsFields}
+use Rattle.rtr_pdu.specs.Spelled.{announce_bit, header, sixteen_bytes, spelled, spelled_numbers, spelled_timing, IsWritable, FitsFields}
 
 pub joined : (old a b c : List ℕ) → old ++ a ++ b ++ c ≡ old ++ (a ++ b ++ c)
 joined old a b c = append_assoc (old ++ a) b c ∙ append_assoc old a (b ++ c) ∙ ap (λ (l : List ℕ). old ++ l) (sym (append_assoc a b c))
@@ -48,11 +50,25 @@ response_back session small = record {
   says = λ i. CacheResponse (sym (big_number-reads_back 2 session (big_bytes 4 8) (omega arith)) i);
 }
 
-end_back : (session serial : ℕ) → session < 2 ^ 16 → serial < 2 ^ 32 → IsFrame (spelled (EndOfData session serial)) (EndOfData session serial)
-end_back session serial small low = record {
+end_back : (session serial : ℕ) (timing : Timing) → session < 2 ^ 16 → serial < 2 ^ 32 → FitsTiming timing
+    → IsFrame (spelled (EndOfData session serial timing)) (EndOfData session serial timing)
+end_back session serial timing small low fits = record {
   kind = EndOfDataKind;
-  header = record { long = omega arith; version = refl; code = refl; says = big_number-reads_back 4 24 (big_bytes 4 serial ++ timers) (omega arith); any = (omega arith, omega arith); fits = refl };
-  says = λ i. EndOfData (sym (big_number-reads_back 2 session (big_bytes 4 24 ++ big_bytes 4 serial ++ timers) (omega arith)) i) (sym (big_number-reads_back 4 serial timers (omega arith)) i);
+  header = record {
+    long = omega arith;
+    version = refl;
+    code = refl;
+    says = big_number-reads_back 4 24 (big_bytes 4 serial ++ spelled_timing timing) (omega arith);
+    any = (omega arith, omega arith);
+    fits = refl;
+  };
+  says = λ i. EndOfData (sym (big_number-reads_back 2 session (big_bytes 4 24 ++ big_bytes 4 serial ++ spelled_timing timing) (omega arith)) i)
+      (sym (big_number-reads_back 4 serial (spelled_timing timing) (omega arith)) i)
+      (record {
+        refresh = sym (big_number-reads_back 4 timing.refresh (big_bytes 4 timing.retry ++ big_bytes 4 timing.expire) (omega (arith, fits.refresh))) i;
+        retry = sym (big_number-reads_back 4 timing.retry (big_bytes 4 timing.expire) (omega (arith, fits.retry))) i;
+        expire = sym (big_number-reads_back 4 timing.expire [] (omega (arith, fits.expire))) i;
+      });
 }
 
 cannot_back : IsFrame (spelled CacheReset) CacheReset
@@ -206,7 +222,7 @@ reads_back ResetQuery may fits = reset_back
 reads_back (CacheResponse session) may fits = response_back session fits
 reads_back (Prefix announce vrp) may fits = prefix_back announce vrp.prefix.addr vrp.prefix.len vrp.max vrp.asn fits.0 fits.1
 reads_back (Passed kind) may fits = absurd may
-reads_back (EndOfData session serial) may fits = end_back session serial fits.0 fits.1
+reads_back (EndOfData session serial timing) may fits = end_back session serial timing fits.0 fits.1 fits.2
 reads_back CacheReset may fits = cannot_back
 reads_back (ErrorReport code) may fits = report_back code fits
 reads_back (Aspa true customer providers) may fits = announce_back customer providers may.0 may.1 fits.0 fits.1

@@ -2,4 +2,5 @@ pub mod Bodies
 pub mod Laws
 pub mod Pdus
 pub mod Spelled
+pub mod Timing
 pub mod Units

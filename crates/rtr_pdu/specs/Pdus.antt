@@ -8,6 +8,7 @@ use Rattle.path_model.specs.Prefix.{Subnet, bits_of, prefix_of}
 use Rattle.origin_model.specs.Vrp.{payload_of}
 use Rattle.rtr_pdu.specs.declared.kind.Kind.{Kind}
 use Rattle.rtr_pdu.specs.declared.kind.Kind.TheVariants.{SerialNotify, SerialQuery as SerialQueryKind, ResetQuery as ResetQueryKind, CacheResponse as CacheResponseKind, Ipv4Prefix, Ipv6Prefix, EndOfData as EndOfDataKind, CacheReset as CacheResetKind, RouterKey, ErrorReport as ErrorReportKind, Aspa as AspaKind}
+use Rattle.rtr_pdu.specs.declared.timing.Timing.{Timing}
 use Rattle.rtr_pdu.specs.declared.pdu.Pdu.{Pdu}
 use Rattle.rtr_pdu.specs.declared.pdu.Pdu.TheVariants.{Notify, SerialQuery, ResetQuery, CacheResponse, Prefix, Passed, EndOfData, CacheReset, ErrorReport, Aspa}
 
@@ -86,6 +87,10 @@ pub record IsPrefixPdu (addr : Addr) (asn : ℕ) (bytes : List ℕ) (pdu : Pdu) 
   pub front : prefix_of addr (slice_index bytes 9) ≡ Some prefix
   pub is : pdu ≡ Prefix (announces_prefix bytes) (payload_of prefix (slice_index bytes 10) asn)
 
+-- the times of an End of Data: refresh, retry and expire
+abbrev pub timing_at : List ℕ → Timing
+timing_at bytes = record { refresh = u32_at bytes 12; retry = u32_at bytes 16; expire = u32_at bytes 20 }
+
 -- an error report: behind the header a length and so many bytes, twice
 pub record IsReport (bytes : List ℕ) : Type 0 where
   pub within : 16 + u32_at bytes 8 ≤ length bytes
@@ -121,7 +126,7 @@ Says ResetQueryKind bytes pdu = pdu ≡ ResetQuery
 Says CacheResponseKind bytes pdu = pdu ≡ CacheResponse (u16_at bytes 2)
 Says Ipv4Prefix bytes pdu = IsPrefixPdu (V4 (u32_at bytes 12)) (u32_at bytes 16) bytes pdu
 Says Ipv6Prefix bytes pdu = IsPrefixPdu (V6 (u128_at bytes 12)) (u32_at bytes 28) bytes pdu
-Says EndOfDataKind bytes pdu = pdu ≡ EndOfData (u16_at bytes 2) (u32_at bytes 8)
+Says EndOfDataKind bytes pdu = pdu ≡ EndOfData (u16_at bytes 2) (u32_at bytes 8) (timing_at bytes)
 Says CacheResetKind bytes pdu = pdu ≡ CacheReset
 Says RouterKey bytes pdu = pdu ≡ Passed 9
 Says ErrorReportKind bytes pdu = IsReport bytes × (pdu ≡ ErrorReport (u16_at bytes 2))

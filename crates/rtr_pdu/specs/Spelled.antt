@@ -6,6 +6,8 @@ use Rattle.path_model.specs.declared.addr.Addr.{Addr}
 use Rattle.path_model.specs.declared.addr.Addr.TheVariants.{V4, V6}
 use Rattle.path_model.specs.Prefix.{IsSubnet}
 use Rattle.origin_model.specs.Vrp.{IsPayload}
+use Rattle.rtr_pdu.specs.declared.timing.Timing.{Timing}
+use Rattle.rtr_pdu.specs.Timing.{FitsTiming}
 use Rattle.rtr_pdu.specs.declared.pdu.Pdu.{Pdu}
 use Rattle.rtr_pdu.specs.declared.pdu.Pdu.TheVariants.{Notify, SerialQuery, ResetQuery, CacheResponse, Prefix, Passed, EndOfData, CacheReset, ErrorReport, Aspa}
 
@@ -14,8 +16,8 @@ abbrev pub header : ℕ → ℕ → ℕ → List ℕ
 header code two len = 2 ∷ code ∷ [] ++ big_bytes 2 two ++ big_bytes 4 len
 
 -- the refresh, retry and expire times of an End of Data, in seconds
-abbrev pub timers : List ℕ
-timers = big_bytes 4 3600 ++ big_bytes 4 600 ++ big_bytes 4 7200
+abbrev pub spelled_timing : Timing → List ℕ
+spelled_timing timing = big_bytes 4 timing.refresh ++ big_bytes 4 timing.retry ++ big_bytes 4 timing.expire
 
 -- four bytes for each number
 abbrev pub spelled_numbers : List ℕ → List ℕ
@@ -54,7 +56,7 @@ spelled (CacheResponse session) = header 3 session 8
 spelled (Prefix announce vrp) =
     prefix_header vrp.prefix.addr ++ (announce_bit announce ∷ vrp.prefix.len ∷ vrp.max ∷ 0 ∷ []) ++ spelled_address vrp.prefix.addr ++ big_bytes 4 vrp.asn
 spelled (Passed kind) = []
-spelled (EndOfData session serial) = header 7 session 24 ++ big_bytes 4 serial ++ timers
+spelled (EndOfData session serial timing) = header 7 session 24 ++ big_bytes 4 serial ++ spelled_timing timing
 spelled CacheReset = header 8 0 8
 spelled (ErrorReport code) = header 10 code 16 ++ big_bytes 4 0 ++ big_bytes 4 0
 spelled (Aspa announce customer providers) = header 11 (flags announce) (12 + 4 * length providers) ++ big_bytes 4 customer ++ spelled_numbers providers
@@ -74,7 +76,7 @@ FitsFields ResetQuery = Unit {0}
 FitsFields (CacheResponse session) = session < 2 ^ 16
 FitsFields (Prefix announce vrp) = IsSubnet vrp.prefix × IsPayload vrp
 FitsFields (Passed kind) = Unit {0}
-FitsFields (EndOfData session serial) = (session < 2 ^ 16) × (serial < 2 ^ 32)
+FitsFields (EndOfData session serial timing) = (session < 2 ^ 16) × (serial < 2 ^ 32) × FitsTiming timing
 FitsFields CacheReset = Unit {0}
 FitsFields (ErrorReport code) = code < 2 ^ 16
 FitsFields (Aspa announce customer providers) = (customer < 2 ^ 32) × All (λ provider. provider < 2 ^ 32) providers

@@ -15,6 +15,7 @@ mod kind;
 mod laws;
 mod pdu;
 mod reading;
+mod timing;
 mod writing;
 
 pub use framer::Framer;
@@ -23,4 +24,5 @@ pub use laws::{
     refused_stays_refused, written_reads_back,
 };
 pub use pdu::{Pdu, PduFault};
+pub use timing::Timing;
 pub use writing::write;

@@ -2,6 +2,7 @@
 ghost use Rattle.std.specs.Prelude.{◌≡◌};
 ghost use Rattle.rtr_pdu.specs.declared.pdu.PduFault.TheVariants.{NoMemory as OutOfMemory};
 
+use crate::timing::Timing;
 use av_base::NoMemory;
 use origin_model::Vrp;
 use path_model::AsList;
@@ -36,10 +37,11 @@ pub enum Pdu {
     Passed {
         kind: u8,
     },
-    /// Type 7: the answer is whole, and the data are those of this serial. Its timers are read and not kept.
+    /// Type 7: the answer is whole, and the data are those of this serial. Its times are read as they are written.
     EndOfData {
         session: u16,
         serial: u32,
+        timing: Timing,
     },
     /// Type 8: the cache can't say what changed.
     CacheReset,

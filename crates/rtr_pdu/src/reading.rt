@@ -2,11 +2,12 @@
 ghost use Rattle.std.specs.Prelude.{◌≡◌, ℕ, ◌*◌, ◌≤◌, ◌↔◌, length, IfOk, IfErr, IfSome, IfNone, IsTrue};
 ghost use Rattle.path_model.specs.Prefix.{bits_of};
 ghost use Rattle.rtr_pdu.specs.Bodies.{IsBodyRefused};
-ghost use Rattle.rtr_pdu.specs.Pdus.{AreNumbers, HasLengths, IsFrame, IsHeader, IsPrefixPdu, IsReport};
+ghost use Rattle.rtr_pdu.specs.Pdus.{AreNumbers, HasLengths, IsFrame, IsHeader, IsPrefixPdu, IsReport, timing_at};
 
 use crate::header::{u16_at, u32_at, u128_at};
 use crate::kind::Kind;
 use crate::pdu::{Pdu, PduFault};
+use crate::timing::Timing;
 use av_base::NoMemory;
 use origin_model::Vrp;
 use path_model::{Addr, AsList, Prefix};
@@ -36,11 +37,24 @@ pub(crate) fn read_pdu(alloc: Global, kind: Kind, bytes: &[u8]) -> Result<Pdu, P
         Kind::EndOfData => Ok(Pdu::EndOfData {
             session: u16_at(bytes, 2),
             serial: u32_at(bytes, 8),
+            timing: timing_at(bytes),
         }),
         Kind::CacheReset => Ok(Pdu::CacheReset),
         Kind::RouterKey => Ok(Pdu::Passed { kind: 9 }),
         Kind::ErrorReport => read_report(bytes),
         Kind::Aspa => read_aspa(alloc, bytes),
+    }
+}
+
+// The times of an End of Data.
+fn timing_at(bytes: &[u8]) -> Timing
+    requires { 24 ≤ length bytes.now }
+    ensures { result ≡ timing_at bytes.now }
+{
+    Timing {
+        refresh: u32_at(bytes, 12),
+        retry: u32_at(bytes, 16),
+        expire: u32_at(bytes, 20),
     }
 }
 

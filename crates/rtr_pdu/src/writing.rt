@@ -2,17 +2,17 @@
 ghost use Rattle.std.specs.Prelude.{◌≡◌, ◌≤◌, length, ◌++◌, IfOk, OnOk, OnErr};
 ghost use Rattle.byteorder.specs.Endian.{big_bytes};
 ghost use Rattle.rtr_pdu.specs.declared.pdu.Pdu.TheVariants.{Aspa, Prefix};
-ghost use Rattle.rtr_pdu.specs.Spelled.{announce_bit, flags, header, prefix_header, sixteen_bytes, spelled, spelled_address, spelled_numbers, timers, IsWritable};
+ghost use Rattle.rtr_pdu.specs.Spelled.{announce_bit, flags, header, prefix_header, sixteen_bytes, spelled, spelled_address, spelled_numbers, spelled_timing, IsWritable};
 
 use crate::pdu::Pdu;
+use crate::timing::Timing;
 use av_base::NoMemory;
 use byteorder::{BigEndian, ByteOrder};
 use origin_model::Vrp;
 use path_model::Addr;
 use std::alloc::Global;
 
-/// Appends a PDU, in its one spelling. An error report has no copy of a PDU and no text, an end of data the timers that
-/// draft-ietf-sidrops-8210bis suggests.
+/// Appends a PDU, in its one spelling. An error report has no copy of a PDU and no text.
 pub fn write(pdu: &Pdu, out: &mut Vec<u8>) -> Result<(), NoMemory>
     requires { IsWritable pdu.now }
     ensures ok { OnOk result (out.new.items ≡ out.old.items ++ spelled pdu.now) }
@@ -50,10 +50,14 @@ fn put_pdu(pdu: &Pdu, out: &mut Vec<u8>) -> Result<(), NoMemory>
         Pdu::CacheResponse { session } => put_header(out, 3, *session, 8),
         Pdu::Prefix { announce, vrp } => put_prefix(*announce, vrp, out),
         Pdu::Passed { .. } => unreachable!(),
-        Pdu::EndOfData { session, serial } => {
+        Pdu::EndOfData {
+            session,
+            serial,
+            timing,
+        } => {
             put_header(out, 7, *session, 24)?;
             put_u32(out, *serial)?;
-            put_timers(out)
+            put_timing(out, *timing)
         }
         Pdu::CacheReset => put_header(out, 8, 0, 8),
         Pdu::ErrorReport { code } => {
@@ -128,13 +132,13 @@ fn flags_of(announce: bool) -> u16
     if announce { 256 } else { 0 }
 }
 
-// The refresh, retry and expire times, in seconds.
-fn put_timers(out: &mut Vec<u8>) -> Result<(), NoMemory>
-    ensures { OnOk result (out.new.items ≡ out.old.items ++ timers) }
+// The times of an End of Data.
+fn put_timing(out: &mut Vec<u8>, timing: Timing) -> Result<(), NoMemory>
+    ensures { OnOk result (out.new.items ≡ out.old.items ++ spelled_timing timing) }
 {
-    put_u32(out, 3600)?;
-    put_u32(out, 600)?;
-    put_u32(out, 7200)
+    put_u32(out, timing.refresh)?;
+    put_u32(out, timing.retry)?;
+    put_u32(out, timing.expire)
 }
 
 fn put_header(out: &mut Vec<u8>, code: u8, two: u16, len: u32) -> Result<(), NoMemory>

@@ -50,7 +50,7 @@ IsComing t used CallFailed = ((left : List ℕ) × (t.received ≡ used ++ left)
 -- how many answers a reply is: one where it has an End of Data
 abbrev pub answers_in : List Pdu → ℕ
 answers_in [] = 0
-answers_in (EndOfData session serial ∷ more) = 1 + answers_in more
+answers_in (EndOfData session serial timing ∷ more) = 1 + answers_in more
 answers_in (pdu ∷ more) = answers_in more
 
 abbrev pub after_reply : Serving → List ℕ → List ℕ → List Pdu → Serving

@@ -188,7 +188,7 @@ some_case old (CacheResponse session) = on_response old.phase session old
 some_case old (Prefix true v) = on_prefix_announce old.phase v old
 some_case old (Prefix false v) = on_prefix_withdraw old.phase v old
 some_case old (Passed kind) = on_passed old.phase old
-some_case old (EndOfData session serial) = on_end old.phase session serial old
+some_case old (EndOfData session serial timing) = on_end old.phase session serial old
 some_case old CacheReset = on_reset old.phase old
 some_case old (ErrorReport code) = goes old (End PeerReported) (record old { phase = Over })
 some_case old (Aspa true customer providers) = on_announce old.phase customer providers old

@@ -10,6 +10,7 @@ use Rattle.path_model.specs.Sets.{IsSetOf}
 use Rattle.origin_model.specs.Vrp.{Payload, payload_cmp}
 use Rattle.origin_model.specs.VrpChanges.{Patches, said}
 use Rattle.origin_model.specs.VrpSet.{has}
+use Rattle.rtr_pdu.specs.declared.timing.Timing.{Timing}
 use Rattle.rtr_pdu.specs.declared.pdu.Pdu.{Pdu}
 use Rattle.rtr_pdu.specs.declared.pdu.Pdu.TheVariants.{CacheResponse, Prefix, EndOfData, Aspa}
 use Rattle.rtr_session.specs.declared.act.Act.TheVariants.{Nothing, Apply}
@@ -65,7 +66,8 @@ pub record AnswersChanges (asked : State) (pdus : List Pdu) (patch : PatchMap) (
   pub comes : Receives begun pdus whole
   pub last_session : ℕ
   pub serial : ℕ
-  pub ends : Client whole (EndOfData last_session serial) (Apply (Part patch changes)) done
+  pub timing : Timing
+  pub ends : Client whole (EndOfData last_session serial timing) (Apply (Part patch changes)) done
 
 abbrev pub PatchIsWhatWasNamed : Type 0
 PatchIsWhatWasNamed = (asked done : State) (pdus : List Pdu) (patch : PatchMap) (changes : List (Payload × Bool)) → AnswersChanges asked pdus patch changes done
@@ -81,7 +83,8 @@ pub record AnswersWhole (asked : State) (pdus : List Pdu) (rows : RowMap) (paylo
   pub comes : Receives begun pdus whole
   pub last_session : ℕ
   pub serial : ℕ
-  pub ends : Client whole (EndOfData last_session serial) (Apply (Whole rows payloads)) done
+  pub timing : Timing
+  pub ends : Client whole (EndOfData last_session serial timing) (Apply (Whole rows payloads)) done
 
 -- the last of these PDUs that names the customer
 pub record IsLast (pdus : List Pdu) (customer : ℕ) (last : Pdu) : Type 0 where

@@ -110,7 +110,11 @@ impl Session {
                 }
             }
             Pdu::Passed { .. } => Ok(self.on_passed()),
-            Pdu::EndOfData { session, serial } => self.on_end(session, serial),
+            Pdu::EndOfData {
+                session,
+                serial,
+                ..
+            } => self.on_end(session, serial),
             Pdu::CacheReset => Ok(self.on_reset()),
             Pdu::ErrorReport { .. } => Ok(self.end(Ending::PeerReported)),
             Pdu::Aspa {

@@ -9,7 +9,7 @@ use Rattle.av_text.proofs.WordLemmas.{length-words_of}
 use Rattle.script_lines.specs.declared.commands.Command.{Command}
 use Rattle.script_lines.specs.declared.commands.Command.TheVariants.{Aspa, Aspa64, Validated, Open, Bmp, Take, Until, Feed, Ask, Sync, Serve, Judge, Sent, Explain, Say}
 use Rattle.script_lines.specs.declared.commands.CommandName.{CommandName}
-use Rattle.script_lines.specs.declared.commands.CommandName.TheVariants.{Aspa as AspaName, Aspa64 as Aspa64Name, Validated as ValidatedName, Slurm as SlurmName, Filter as FilterName, Unfilter as UnfilterName, Assert as AssertName, Unassert as UnassertName, At as AtName, Role as RoleName, Open as OpenName, Bmp as BmpName, Take as TakeName, Until as UntilName, Feed as FeedName, Ask as AskName, Sync as SyncName, Serve as ServeName, Judge as JudgeName, Clear as ClearName, Changes as ChangesName, Why as WhyName, Details as DetailsName, Say as SayName, Report as ReportName, Origins as OriginsName, Leaks as LeaksName, Suspects as SuspectsName, Peers as PeersName, Sent as SentName, Explain as ExplainName, Attests as AttestsName, Neighbours as NeighboursName, Routes as RoutesName, Silent as SilentName, Summary as SummaryName}
+use Rattle.script_lines.specs.declared.commands.CommandName.TheVariants.{Aspa as AspaName, Aspa64 as Aspa64Name, Validated as ValidatedName, Slurm as SlurmName, Filter as FilterName, Unfilter as UnfilterName, Assert as AssertName, Unassert as UnassertName, At as AtName, Role as RoleName, Open as OpenName, Bmp as BmpName, Take as TakeName, Until as UntilName, Feed as FeedName, Ask as AskName, Sync as SyncName, Serve as ServeName, Timing as TimingName, Judge as JudgeName, Clear as ClearName, Changes as ChangesName, Why as WhyName, Details as DetailsName, Say as SayName, Report as ReportName, Origins as OriginsName, Leaks as LeaksName, Suspects as SuspectsName, Peers as PeersName, Sent as SentName, Explain as ExplainName, Attests as AttestsName, Neighbours as NeighboursName, Routes as RoutesName, Silent as SilentName, Summary as SummaryName}
 use Rattle.script_lines.specs.Kinds.{WordKind, NAME, TEXT, ROLE, VIEW, VERDICT, ADDRESS, PREFIX, NUMBER, WHOM, ValueOf, Spells}
 use Rattle.script_lines.specs.Forms.{Form, end, ases, texts, optional, ◌then◌, ◌or◌, conditions, sentence, Builds, IsSpelled}
 use Rattle.conditions.specs.declared.asked.Conditions.{Conditions}
@@ -94,6 +94,7 @@ makes_bounded words FeedName = λ name is place any. is
 makes_bounded words AskName = λ name is. is
 makes_bounded words SyncName = λ name is count within. (is, within)
 makes_bounded words ServeName = λ place any session most count within. (most, within)
+makes_bounded words TimingName = λ refresh fast retry again expire last. tt
 makes_bounded words JudgeName = λ role any neighbour other path some few. few
 makes_bounded words ClearName = tt
 makes_bounded words ChangesName = tt

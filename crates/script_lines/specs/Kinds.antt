@@ -47,6 +47,17 @@ COUNT = NUMBER 1 100000000
 abbrev pub SESSION : WordKind
 SESSION = NUMBER 0 65535
 
+-- how long a router waits after an answer until it asks again, how long after a query that failed, and how long it keeps what it has where no
+-- query succeeds, in seconds (RFC 8210, section 6)
+abbrev pub REFRESH : WordKind
+REFRESH = NUMBER 1 86400
+
+abbrev pub RETRY : WordKind
+RETRY = NUMBER 1 7200
+
+abbrev pub EXPIRE : WordKind
+EXPIRE = NUMBER 600 172800
+
 -- what such a word stands for
 abbrev pub ValueOf : WordKind → Type 0
 ValueOf NAME = List ℕ

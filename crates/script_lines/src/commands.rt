@@ -8,8 +8,8 @@ use crate::condition_words::ConditionWords;
 use crate::fault::LineFault;
 use crate::fields::{Ases, End, Fields, OneOf, Optional, Or, Texts, Then};
 use crate::kinds::{
-    AddressWord, AsWord, CountWord, IdentifierWord, MomentWord, NameWord, PrefixWord, RoleWord,
-    SessionWord, TextWord, VerdictWord, ViewWord, WhomWord,
+    AddressWord, AsWord, CountWord, ExpireWord, IdentifierWord, MomentWord, NameWord, PrefixWord,
+    RefreshWord, RetryWord, RoleWord, SessionWord, TextWord, VerdictWord, ViewWord, WhomWord,
 };
 use crate::saying::Saying;
 use crate::word::Word;
@@ -64,6 +64,9 @@ pub enum Command {
     /// `serve PLACE SESSION N`: so many routers are served at the place, 1 to 100,000,000 of them, one after another, as by a cache of that
     /// session (RFC 8210, section 5.1).
     Serve(Word, u16, u32),
+    /// `timing REFRESH RETRY EXPIRE`: what routers are told from then on of how often they ask and how long they keep what they have, in
+    /// seconds (RFC 8210, section 6).
+    Timing(u32, u32, u32),
     /// `judge ROLE NEIGHBOUR AS..`: the verdict of the path, written neighbour first.
     Judge(Role, u32, AsList),
     /// `clear`: all routes go, in one event.
@@ -127,6 +130,7 @@ pub(crate) enum CommandName {
     Ask,
     Sync,
     Serve,
+    Timing,
     Judge,
     Clear,
     Changes,
@@ -171,6 +175,7 @@ pub(crate) fn command_name(word: &[u8]) -> Option<CommandName>
         b"ask" => Some(CommandName::Ask),
         b"sync" => Some(CommandName::Sync),
         b"serve" => Some(CommandName::Serve),
+        b"timing" => Some(CommandName::Timing),
         b"judge" => Some(CommandName::Judge),
         b"clear" => Some(CommandName::Clear),
         b"changes" => Some(CommandName::Changes),
@@ -282,6 +287,13 @@ pub(crate) fn read_fields(
                 Then<SessionWord, Then<CountWord, End>>,
             >>::read(alloc, words)?;
             Ok(Command::Serve(place, session, count))
+        }
+        CommandName::Timing => {
+            let (refresh, (retry, (expire, ()))) = <Then<
+                RefreshWord,
+                Then<RetryWord, Then<ExpireWord, End>>,
+            >>::read(alloc, words)?;
+            Ok(Command::Timing(refresh, retry, expire))
         }
         CommandName::Judge => {
             let (role, (neighbour, path)) = <Then<RoleWord, Then<AsWord, Ases<0>>>>::read(

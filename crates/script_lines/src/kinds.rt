@@ -193,6 +193,15 @@ pub(crate) type IdentifierWord = NumberWord<0, 4_294_967_295>;
 /// How many units of a stream are taken, or routers are served.
 pub(crate) type CountWord = NumberWord<1, 100_000_000>;
 
+/// How long a router waits after an answer until it asks again, in seconds (RFC 8210, section 6).
+pub(crate) type RefreshWord = NumberWord<1, 86_400>;
+
+/// How long it waits after a query that failed.
+pub(crate) type RetryWord = NumberWord<1, 7_200>;
+
+/// How long it keeps what it has, where no query succeeds.
+pub(crate) type ExpireWord = NumberWord<600, 172_800>;
+
 #[tactic(auto, using(crate::proofs::KindLemmas::number_steps))]
 impl<const LEAST: u32, const MOST: u32> Kind for NumberWord<LEAST, MOST> {
     type Value = u32;

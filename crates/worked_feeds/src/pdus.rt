@@ -3,7 +3,7 @@ ghost use Rattle.std.specs.Prelude.{◌<◌, ◌≤◌, length};
 
 use av_base::NoMemory;
 use path_model::{Addr, AsList};
-use rtr_pdu::{Framer, Pdu, PduFault, write};
+use rtr_pdu::{Framer, Pdu, PduFault, Timing, write};
 use std::alloc::Global;
 
 /// A Cache Response, an announcement of the provider 64497 by 64496, and an End of Data, all of session 7.
@@ -23,7 +23,7 @@ pub(crate) enum Said {
     Four(bool, u32, u8, u8, u32),
     Six(bool, u128, u8, u8, u32),
     Passed(u8),
-    EndOfData(u16, u32),
+    EndOfData(u16, u32, Timing),
     CacheReset,
     ErrorReport(u16),
     Announce(u32, usize, u64),
@@ -52,7 +52,11 @@ fn said_by(pdu: &Pdu) -> Said {
             }
         }
         Pdu::Passed { kind } => Said::Passed(*kind),
-        Pdu::EndOfData { session, serial } => Said::EndOfData(*session, *serial),
+        Pdu::EndOfData {
+            session,
+            serial,
+            timing,
+        } => Said::EndOfData(*session, *serial, *timing),
         Pdu::CacheReset => Said::CacheReset,
         Pdu::ErrorReport { code } => Said::ErrorReport(*code),
         Pdu::Aspa {
@@ -133,9 +137,17 @@ const UNITS: [(&[u8], Said); 14] = [
     ),
     (
         &[
-            2, 7, 0, 7, 0, 0, 0, 24, 0, 0, 0, 1, 0, 0, 0, 0, 0, 0, 0, 0, 0, 0, 0, 0,
+            2, 7, 0, 7, 0, 0, 0, 24, 0, 0, 0, 1, 0, 0, 0, 2, 0, 0, 0, 3, 0, 0, 0, 4,
         ],
-        Said::EndOfData(7, 1),
+        Said::EndOfData(
+            7,
+            1,
+            Timing {
+                refresh: 2,
+                retry: 3,
+                expire: 4,
+            },
+        ),
     ),
 ];
 
@@ -167,7 +179,15 @@ fn reports_another_version(rt: HostRuntime) -> Result<(), NoMemory> {
 const IN_STREAM: [Said; 3] = [
     Said::CacheResponse(7),
     Said::Announce(64_496, 1, 64_497),
-    Said::EndOfData(7, 1),
+    Said::EndOfData(
+        7,
+        1,
+        Timing {
+            refresh: 3600,
+            retry: 600,
+            expire: 7200,
+        },
+    ),
 ];
 
 // The stream, 334 times.
@@ -237,7 +257,7 @@ const WRITTEN: [&[u8]; 7] = [
     &[2, 1, 0, 7, 0, 0, 0, 12, 0, 0, 0, 1],
     &[2, 10, 0, 8, 0, 0, 0, 16, 0, 0, 0, 0, 0, 0, 0, 0],
     &[
-        2, 7, 0, 7, 0, 0, 0, 24, 0, 0, 0, 1, 0, 0, 14, 16, 0, 0, 2, 88, 0, 0, 28, 32,
+        2, 7, 0, 7, 0, 0, 0, 24, 0, 0, 0, 1, 0, 1, 81, 128, 0, 0, 28, 32, 0, 2, 163, 0,
     ],
 ];
 

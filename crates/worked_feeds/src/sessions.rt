@@ -2,7 +2,7 @@
 use av_base::NoMemory;
 use origin_model::Vrp;
 use path_model::{Addr, AsList, Prefix};
-use rtr_pdu::Pdu;
+use rtr_pdu::{Pdu, Timing};
 use rtr_session::{Act, Delta, Ending, Phase, Query, Session};
 use std::alloc::Global;
 
@@ -63,7 +63,11 @@ fn pdu(alloc: Global, sent: Sent) -> Result<Option<Pdu>, NoMemory> {
         Sent::ResetQuery => Some(Pdu::ResetQuery),
         Sent::Response(session) => Some(Pdu::CacheResponse { session }),
         Sent::Passed => Some(Pdu::Passed { kind: 9 }),
-        Sent::End(session) => Some(Pdu::EndOfData { session, serial: 2 }),
+        Sent::End(session) => Some(Pdu::EndOfData {
+            session,
+            serial: 2,
+            timing: Timing::suggested(),
+        }),
         Sent::Reset => Some(Pdu::CacheReset),
         Sent::Report => Some(Pdu::ErrorReport { code: 2 }),
         Sent::Row(customer, providers) => Some(aspa(alloc, customer, providers)?),

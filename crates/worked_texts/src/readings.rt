@@ -56,6 +56,9 @@ fn is_read_so(read: &Result<Command, LineFault>, reading: Reading) -> bool {
         (Ok(Command::Serve(place, session, count)), Reading::Serve(at, of, wanted)) => {
             place.text() == at && *session == of && *count == wanted
         }
+        (Ok(Command::Timing(refresh, retry, expire)), Reading::Timing(fast, again, last)) => {
+            *refresh == fast && *retry == again && *expire == last
+        }
         (Ok(Command::Report), Reading::Report) => true,
         (Ok(Command::Origins), Reading::Origins) => true,
         (Ok(Command::Leaks), Reading::Leaks) => true,
