@@ -110,7 +110,7 @@ task_keeps world state (Load kind file) text next other none does = load_keeps (
 task_keeps world state (Open kind name file) text next other none does = open_keeps (state.sources name || is_stream state name) (world.named file) state kind name text next does
 task_keeps world state (Take name count) text next other none does = take_keeps (state.dumps name) world state name count text next (none name) does
 task_keeps world state (Until name moment) text next other none does = until_keeps (state.dumps name) state name moment text next does
-task_keeps world state (Connect name place) text next other none does = absurd other
+task_keeps world state (Connect name place said) text next other none does = absurd other
 task_keeps world state (OnFeed name work) text next other none does = work_keeps world state name work text next (none name) does
 task_keeps world state (Serve place session count) text next other none does = absurd other
 task_keeps world state (SetTiming timing) text next other none does = timing_keeps state timing text next does
@@ -138,7 +138,7 @@ AsksNoAttempt (Ok task) = ConnectsNone task
 AsksNoAttempt (Err cause) = Unit {0}
 
 no_attempt : (line : List ℕ) (reading : Result Command LineFault) → IsReading line reading → NeedsNoAttempt line → AsksNoAttempt (asked_of reading)
-no_attempt line (Ok (FeedLine name place)) reads other = other.no_feed name place reads
+no_attempt line (Ok (FeedLine name place said)) reads other = other.no_feed name place said reads
 no_attempt line (Ok (ServeLine place session count)) reads other = other.no_serve place session count reads
 no_attempt line (Err fault) reads other = tt
 no_attempt line (Ok command) reads other = tt
@@ -252,7 +252,7 @@ Evaluates-split world before (line ∷ more) left text end evaluates =
 front_of_task : (world : World) (attempts : List Attempt) → world.ends.attempts ≡ Some attempts → (state : State) (task : Task) (part text : List ℕ) (moved next : State)
     → Moves world state task part moved → DoesTask world state task text next → (more : List ℕ) × (text ≡ part ++ more)
 front_of_task world attempts told state (Take name count) part text moved next moves does = (text, ap (λ (t : List ℕ). t ++ text) (sym moves.0))
-front_of_task world attempts told state (Connect name place) part text moved next moves does = (text, ap (λ (t : List ℕ). t ++ text) (sym moves.0))
+front_of_task world attempts told state (Connect name place said) part text moved next moves does = (text, ap (λ (t : List ℕ). t ++ text) (sym moves.0))
 front_of_task world attempts told state (OnFeed name work) part text moved next moves does = (text, ap (λ (t : List ℕ). t ++ text) (sym moves.0))
 front_of_task world attempts told state (Serve place session count) part text moved next moves does = table_front world attempts told state place session count part text moved next moves does
 front_of_task world attempts told state (Until name moment) part text moved next moves does = absurd moves

@@ -7,6 +7,7 @@ use Rattle.path_model.specs.declared.verdict.Verdict.TheVariants.{Valid, Unknown
 use Rattle.av_text.specs.VerdictText.{verdict_text}
 use Rattle.av_text.specs.Spellings.{IsInLine}
 use Rattle.av_text.proofs.LackLemmas.{verdict_text-lacks}
+use Rattle.rtr_pdu.specs.declared.version.Version.{Version}
 use Rattle.rtr_client.specs.declared.telling.Telling.{Telling}
 use Rattle.rtr_client.specs.declared.working.Work.{Work}
 use Rattle.rtr_client.specs.declared.working.Work.TheVariants.{Take as TakePdus}
@@ -168,10 +169,10 @@ Works-refused world state name work text next rest in_line works =
     told_counted state next (asking_on state name) works.does.tells text rest works.does.after works.after in_line works.does.text_is
     (Works-counted world.ends (feeds_of state) name work (state.feeds name) works.does.tells works.does.after works.does.done) works.does.left works.left
 
-Connects-refused : (used : Bool) (world : World) (state : State) (name place text : List ℕ) (next : State) (rest : List ℕ) → IsInLine name
-    → ConnectsUnless used world state name place text next → next.refused + refusals_in rest ≡ state.refused + refusals_in (text ++ rest)
-Connects-refused true world state name place text next rest in_line connects = Refuses-refused state of_line causes.NameTaken text next rest tt connects
-Connects-refused false world state name place text next rest in_line connects =
+Connects-refused : (used : Bool) (world : World) (state : State) (name place : List ℕ) (said : Option Version) (text : List ℕ) (next : State) (rest : List ℕ) → IsInLine name
+    → ConnectsUnless used world state name place said text next → next.refused + refusals_in rest ≡ state.refused + refusals_in (text ++ rest)
+Connects-refused true world state name place said text next rest in_line connects = Refuses-refused state of_line causes.NameTaken text next rest tt connects
+Connects-refused false world state name place said text next rest in_line connects =
     told_counted state next (asking_on state name) connects.does.tells text rest connects.does.after connects.after in_line connects.does.text_is
     (ap (λ (s : FeedState). s.refused) connects.does.done.left) connects.does.left connects.left
 
@@ -263,8 +264,8 @@ DoesTask-refused world state (Load kind file) text next rest in_line does = Load
 DoesTask-refused world state (Open kind name file) text next rest in_line does = Opens-refused (state.sources name || is_stream state name) (world.named file) state kind name text next rest does
 DoesTask-refused world state (Take name count) text next rest in_line does = Takes-refused (state.dumps name) world state name count text next rest in_line does
 DoesTask-refused world state (Until name moment) text next rest in_line does = TakesUntil-refused (state.dumps name) state name moment text next rest in_line does
-DoesTask-refused world state (Connect name place) text next rest in_line does =
-    Connects-refused (state.sources name || is_some (state.dumps name)) world state name place text next rest in_line does
+DoesTask-refused world state (Connect name place said) text next rest in_line does =
+    Connects-refused (state.sources name || is_some (state.dumps name)) world state name place said text next rest in_line does
 DoesTask-refused world state (OnFeed name work) text next rest in_line does = Works-refused world state name work text next rest in_line does
 DoesTask-refused world state (Serve place session count) text next rest in_line does = ServesTable-refused world state place session count text next rest does
 DoesTask-refused world state (SetTiming timing) text next rest in_line does = SetsTiming-refused state timing text next rest does

@@ -122,7 +122,9 @@ fn perform_task<F: Shelf, K: Links, W: Sink, L: Ledger>(
         Task::Open(kind, name, file) => { open(alloc, working, kind, name, &file, outside) }
         Task::Take(name, count) => { take(alloc, working, &name, count, outside) }
         Task::Until(name, moment) => { take_up_to(alloc, working, &name, moment, outside) }
-        Task::Connect(name, place) => { connect_feed(alloc, working, &name, &place, outside) }
+        Task::Connect(name, place, said) => {
+            connect_feed(alloc, working, &name, &place, said, outside)
+        }
         Task::Serve(place, session, count) => {
             serve_routers(alloc, working, &place, session, count, outside)
         }

@@ -12,6 +12,7 @@ use Rattle.std.proofs.lemmas.Map.Keys.{sorted_from_strictly_increasing}
 use Rattle.path_model.specs.Authority.{has}
 use Rattle.attestations.specs.CurrentTable.{Parts, IsCurrentRow}
 use Rattle.path_model.specs.Rows.{RowMap, PatchMap}
+use Rattle.rtr_pdu.specs.declared.version.Version.TheVariants.{Two}
 use Rattle.rtr_pdu.specs.declared.timing.Timing.{Timing}
 use Rattle.rtr_pdu.specs.declared.pdu.Pdu.{Pdu}
 use Rattle.rtr_pdu.specs.declared.pdu.Pdu.TheVariants.{CacheResponse, EndOfData, CacheReset}
@@ -39,15 +40,15 @@ use Rattle.rtr_cache.proofs.UnitLemmas.{reply_taken}
 
 -- ---- what is served may be written
 
-all_writable : (rows : RowMap) (customers : List ℕ) → RowsFit rows → All IsWritable (told_of rows customers)
-all_writable rows [] fit = All-nil IsWritable
-all_writable rows (x ∷ more) fit = All-cons IsWritable (told x (map.get rows x)) (told_of rows more) (looked_writable rows x (map.get rows x) fit refl) (all_writable rows more fit)
+all_writable : (rows : RowMap) (customers : List ℕ) → RowsFit rows → All (IsWritable Two) (told_of rows customers)
+all_writable rows [] fit = All-nil (IsWritable Two)
+all_writable rows (x ∷ more) fit = All-cons (IsWritable Two) (told x (map.get rows x)) (told_of rows more) (looked_writable rows x (map.get rows x) fit refl) (all_writable rows more fit)
 
-answer_writable : (cache : Versions) (customers : List ℕ) → RowsFit cache.current.rows → All IsWritable (answer cache (told_of cache.current.rows customers))
+answer_writable : (cache : Versions) (customers : List ℕ) → RowsFit cache.current.rows → All (IsWritable Two) (answer cache (told_of cache.current.rows customers))
 answer_writable cache customers fit =
-    All-cons IsWritable (CacheResponse cache.session) (told_of cache.current.rows customers ++ EndOfData cache.session cache.current.serial cache.timing ∷ []) tt
-    (All-append IsWritable (told_of cache.current.rows customers) (EndOfData cache.session cache.current.serial cache.timing ∷ []) (all_writable cache.current.rows customers fit)
-    (All-cons IsWritable (EndOfData cache.session cache.current.serial cache.timing) [] tt (All-nil IsWritable)))
+    All-cons (IsWritable Two) (CacheResponse cache.session) (told_of cache.current.rows customers ++ EndOfData cache.session cache.current.serial cache.timing ∷ []) tt
+    (All-append (IsWritable Two) (told_of cache.current.rows customers) (EndOfData cache.session cache.current.serial cache.timing ∷ []) (all_writable cache.current.rows customers fit)
+    (All-cons (IsWritable Two) (EndOfData cache.session cache.current.serial cache.timing) [] tt (All-nil (IsWritable Two))))
 
 -- ---- the runs
 
@@ -125,8 +126,8 @@ whole_exchange : (cache : Versions) (asked done : State) (acts : List Act) → S
 whole_exchange cache asked done acts serves phase t =
     let reply = t.replies.are in
     let rows = reply.are_rows in
-    let writable : All IsWritable t.replies.pdus =
-    subst (λ (pdus : List Pdu). All IsWritable pdus) (sym (reply.are ∙ ap (λ (list : List Pdu). answer cache list) rows.are)) (answer_writable cache rows.customers serves.fit) in
+    let writable : All (IsWritable Two) t.replies.pdus =
+    subst (λ (pdus : List Pdu). All (IsWritable Two) pdus) (sym (reply.are ∙ ap (λ (list : List Pdu). answer cache list) rows.are)) (answer_writable cache rows.customers serves.fit) in
     let start : record asked { phase = AskedWhole } ≡ asked = λ i. record asked { phase = sym phase i } in
     let run : Run cache asked t.replies.pdus = subst (λ (s : State). Run cache s t.replies.pdus) start
     (subst (λ (pdus : List Pdu). Run cache (record asked { phase = AskedWhole }) pdus) (sym reply.are) (whole_run cache asked.session asked.serial asked.rows asked.changes asked.payloads asked.payload_changes reply.rows serves.good rows)) in
@@ -137,9 +138,9 @@ abbrev Or_again : Versions → List Act → State → Type 0
 Or_again cache acts mid = ((last_query acts ≡ None) × HoldsCurrent cache mid) ⊎ ((last_query acts ≡ Some Reset) × (mid.phase ≡ AskedWhole))
 
 by_serial : (cache : Versions) (asked mid : State) (acts : List Act) (pdus : List Pdu) (turn : Turn) (from : Option RowMap) → Serves cache → asked.phase ≡ AskedChanges → asked.session ≡ cache.session
-    → ((rows : RowMap) → from ≡ Some rows → asked.rows ≡ rows) → OnSerial cache from pdus turn → (All IsWritable pdus → Takes asked pdus acts mid) → Or_again cache acts mid
+    → ((rows : RowMap) → from ≡ Some rows → asked.rows ≡ rows) → OnSerial cache from pdus turn → (All (IsWritable Two) pdus → Takes asked pdus acts mid) → Or_again cache acts mid
 by_serial cache asked mid acts pdus turn None serves phase session holds (are, stays) takes =
-    let writable : All IsWritable pdus = subst (λ (list : List Pdu). All IsWritable list) (sym are) (All-cons IsWritable CacheReset [] tt (All-nil IsWritable)) in
+    let writable : All (IsWritable Two) pdus = subst (λ (list : List Pdu). All (IsWritable Two) list) (sym are) (All-cons (IsWritable Two) CacheReset [] tt (All-nil (IsWritable Two))) in
     let start : record asked { phase = AskedChanges } ≡ asked = λ i. record asked { phase = sym phase i } in
     let own : Takes asked pdus (Send Reset ∷ []) (record asked { phase = AskedWhole }) =
     subst (λ (list : List Pdu). Takes asked list (Send Reset ∷ []) (record asked { phase = AskedWhole })) (sym are)
@@ -149,8 +150,8 @@ by_serial cache asked mid acts pdus turn None serves phase session holds (are, s
     inr (ap last_query same.0, ap (λ (s : State). s.phase) same.1)
 by_serial cache asked mid acts pdus turn (Some from) serves phase session holds gives takes =
     let reply = gives.is_difference in
-    let writable : All IsWritable pdus =
-    subst (λ (list : List Pdu). All IsWritable list) (sym (gives.are ∙ ap (λ (list : List Pdu). answer cache list) reply.are)) (answer_writable cache reply.customers serves.fit) in
+    let writable : All (IsWritable Two) pdus =
+    subst (λ (list : List Pdu). All (IsWritable Two) list) (sym (gives.are ∙ ap (λ (list : List Pdu). answer cache list) reply.are)) (answer_writable cache reply.customers serves.fit) in
     let start : record { phase = AskedChanges; session = cache.session; serial = asked.serial; rows = from; changes = asked.changes; payloads = asked.payloads; payload_changes = asked.payload_changes } ≡ asked =
     λ i. record { phase = sym phase i; session = sym session i; serial = asked.serial; rows = sym (holds from refl) i; changes = asked.changes; payloads = asked.payloads; payload_changes = asked.payload_changes } in
     let run : Run cache asked pdus = subst (λ (s : State). Run cache s pdus) start

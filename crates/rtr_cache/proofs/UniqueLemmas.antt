@@ -16,6 +16,7 @@ use Rattle.path_model.specs.Authority.{has}
 use Rattle.path_model.specs.Rows.{RowMap}
 use Rattle.path_model.proofs.AscendingLemmas.{ascending_sorted, has_ascending, same_members}
 use Rattle.path_model.proofs.MemberLemmas.{has-append}
+use Rattle.rtr_pdu.specs.declared.version.Version.TheVariants.{Two}
 use Rattle.rtr_pdu.specs.declared.pdu.Pdu.{Pdu}
 use Rattle.rtr_pdu.specs.declared.pdu.Pdu.TheVariants.{Notify, SerialQuery, ResetQuery, CacheResponse, Prefix, Passed, EndOfData, CacheReset, ErrorReport, Aspa}
 use Rattle.rtr_pdu.proofs.UnitLemmas.{its_units}
@@ -212,6 +213,6 @@ some_run (pdu ∷ more) old =
 
 pub is_taken : (cache : Versions) (asked : State) (query : Query) (bytes : List ℕ) (turn : Turn) → Replies cache (pdu_of query) bytes turn → IsTaken cache asked query bytes
 is_taken cache asked query bytes turn replies =
-    let division = its_units bytes in
+    let division = its_units Two bytes in
     let run = some_run division.one asked in
     record { acts = run.acts; done = run.done; takes = record { bytes = bytes; turn = turn; replies = replies; units = division.one; rest = division.its; are = division.is; takes = run.takes }; same = refl }

@@ -6,6 +6,7 @@ use Rattle.av_base.specs.One.{HasOnePair}
 use Rattle.path_model.specs.Rows.{RowMap}
 use Rattle.attestations.specs.CurrentTable.{Parts}
 use Rattle.held_bytes.specs.Units.{AreUnits}
+use Rattle.rtr_pdu.specs.declared.version.Version.TheVariants.{Two}
 use Rattle.rtr_pdu.specs.declared.timing.Timing.{Timing}
 use Rattle.rtr_pdu.specs.declared.pdu.Pdu.{Pdu}
 use Rattle.rtr_pdu.specs.declared.pdu.Pdu.TheVariants.{SerialQuery, ResetQuery}
@@ -44,7 +45,7 @@ pub record TakesReply (cache : Versions) (asked : State) (query : Query) (acts :
   pub replies : Replies cache (pdu_of query) bytes turn
   pub units : List Pdu
   pub rest : List ℕ
-  pub are : AreUnits IsFrame bytes units rest
+  pub are : AreUnits (IsFrame Two) bytes units rest
   pub takes : Takes asked units acts done
 
 -- the query that is sent on the last of these PDUs, if one is

@@ -7,6 +7,7 @@ use Rattle.std.specs.declared.option.Option.TheVariants.{Some, None}
 use Rattle.std.specs.FinMap as finite
 use Rattle.path_model.specs.Authority.{has}
 use Rattle.path_model.specs.Rows.{RowMap}
+use Rattle.rtr_pdu.specs.declared.version.Version.TheVariants.{Two}
 use Rattle.rtr_pdu.specs.declared.pdu.Pdu.{Pdu}
 use Rattle.rtr_pdu.specs.declared.pdu.Pdu.TheVariants.{SerialQuery, ResetQuery, CacheResponse, EndOfData, CacheReset, ErrorReport, Aspa}
 use Rattle.rtr_pdu.specs.Spelled.{spelled, FitsFields}
@@ -96,7 +97,7 @@ IsReply cache pdu pdus turn = Refuses 3 pdus turn
 
 abbrev pub spelled_all : List Pdu → List ℕ
 spelled_all [] = []
-spelled_all (pdu ∷ more) = spelled pdu ++ spelled_all more
+spelled_all (pdu ∷ more) = spelled Two pdu ++ spelled_all more
 
 -- the bytes are the spellings of the reply's PDUs one after another, and each number fits its field
 pub record Replies (cache : Versions) (pdu : Pdu) (bytes : List ℕ) (turn : Turn) : Type 0 where

@@ -10,7 +10,7 @@ use crate::telling::{merged, put_difference, put_rows};
 use crate::turn::Turn;
 use av_base::NoMemory;
 use path_model::Patch;
-use rtr_pdu::{Pdu, Timing, write};
+use rtr_pdu::{Pdu, Timing, Version, write};
 use std::alloc::Global;
 use std::collections::VecDeque;
 
@@ -129,7 +129,7 @@ fn count(back: &VecDeque<Patch>) -> usize
 fn begin(session: u16, out: &mut Vec<u8>) -> Result<(), NoMemory>
     ensures { OnOk result (Appended (Begins session ∷ []) out.old.items out.new.items) }
 {
-    write(&Pdu::CacheResponse { session }, out)?;
+    write(Version::Two, &Pdu::CacheResponse { session }, out)?;
     Ok(())
 }
 
@@ -143,7 +143,7 @@ fn end(session: u16, serial: u32, timing: Timing, out: &mut Vec<u8>) -> Result<(
         serial,
         timing,
     };
-    write(&pdu, out)?;
+    write(Version::Two, &pdu, out)?;
     Ok(())
 }
 
@@ -152,7 +152,7 @@ fn reset(out: &mut Vec<u8>) -> Result<Turn, NoMemory>
     ensures more { IfOk result (λ turn. turn ≡ GoesOn) }
     ensures appended { OnOk result (Appended (Resets ∷ []) out.old.items out.new.items) }
 {
-    write(&Pdu::CacheReset, out)?;
+    write(Version::Two, &Pdu::CacheReset, out)?;
     Ok(Turn::More)
 }
 
@@ -161,6 +161,6 @@ fn refuse(code: u16, out: &mut Vec<u8>) -> Result<Turn, NoMemory>
     ensures close { IfOk result (λ turn. turn ≡ Closes) }
     ensures appended { OnOk result (Appended (Reports code ∷ []) out.old.items out.new.items) }
 {
-    write(&Pdu::ErrorReport { code }, out)?;
+    write(Version::Two, &Pdu::ErrorReport { code }, out)?;
     Ok(Turn::Close)
 }

@@ -4,3 +4,4 @@ pub mod Pdus
 pub mod Spelled
 pub mod Timing
 pub mod Units
+pub mod Versions

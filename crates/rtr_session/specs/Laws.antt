@@ -17,13 +17,13 @@ use Rattle.rtr_session.specs.declared.act.Act.TheVariants.{Nothing, Apply}
 use Rattle.rtr_session.specs.declared.act.Delta.TheVariants.{Whole, Part}
 use Rattle.rtr_session.specs.declared.act.Phase.TheVariants.{AskedWhole, AskedChanges}
 use Rattle.rtr_session.specs.State.{State}
-use Rattle.rtr_session.specs.Client.{Client, Asks, without_zero}
+use Rattle.rtr_session.specs.Client.{Client, Takes, Asks, without_zero}
 
 -- ---- one case
 
--- each PDU has one case in each state: one act, and one state behind it
+-- each PDU has one case in each state, be the session strict or not: one act, and one state behind it
 abbrev pub EachPduHasOneCase : Type 0
-EachPduHasOneCase = (old : State) (pdu : Pdu) → HasOnePair (Client old pdu)
+EachPduHasOneCase = (strict : Bool) (old : State) (pdu : Pdu) → HasOnePair (Takes strict old pdu)
 
 -- each state has one query or none, and one state behind it
 abbrev pub EachStateHasOneQuery : Type 0

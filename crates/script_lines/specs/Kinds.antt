@@ -12,6 +12,8 @@ use Rattle.av_text.specs.PrefixText.{IsPrefixText}
 use Rattle.av_text.specs.RoleText.{role_text}
 use Rattle.av_text.specs.VerdictText.{verdict_text}
 use Rattle.av_text.specs.Number.{IsNumber}
+use Rattle.rtr_pdu.specs.declared.version.Version.{Version}
+use Rattle.rtr_pdu.specs.declared.version.Version.TheVariants.{Zero, One, Two}
 use Rattle.script_lines.specs.Word.{IsVisible}
 
 -- the one spelling of a view of what a router received (RFC 7854, section 4.2): before its inbound policy, or, as true, behind it
@@ -19,12 +21,19 @@ abbrev pub view_text : Bool → List ℕ
 view_text false = codes "pre"
 view_text true = codes "post"
 
--- NAME, a text such as FILE or PLACE, ROLE, VIEW, VERDICT, ADDRESS, PREFIX, a number from a least one to a most, and whom a role is given: an AS or all others
+-- the one spelling of a version of the RPKI to Router protocol
+abbrev pub version_text : Version → List ℕ
+version_text Zero = codes "0"
+version_text One = codes "1"
+version_text Two = codes "2"
+
+-- NAME, a text such as FILE or PLACE, ROLE, VIEW, VERSION, VERDICT, ADDRESS, PREFIX, a number from a least one to a most, and whom a role is given: an AS or all others
 pub data WordKind : Type 0 where
   NAME : WordKind
   TEXT : WordKind
   ROLE : WordKind
   VIEW : WordKind
+  VERSION : WordKind
   VERDICT : WordKind
   ADDRESS : WordKind
   PREFIX : WordKind
@@ -64,6 +73,7 @@ ValueOf NAME = List ℕ
 ValueOf TEXT = List ℕ
 ValueOf ROLE = Role
 ValueOf VIEW = Bool
+ValueOf VERSION = Version
 ValueOf VERDICT = Verdict
 ValueOf ADDRESS = Addr
 ValueOf PREFIX = Subnet
@@ -81,6 +91,7 @@ Spells NAME word name = IsName word × (name ≡ word)
 Spells TEXT word text = All IsVisible word × (text ≡ word)
 Spells ROLE word role = word ≡ role_text role
 Spells VIEW word post = word ≡ view_text post
+Spells VERSION word version = word ≡ version_text version
 Spells VERDICT word verdict = word ≡ verdict_text verdict
 Spells ADDRESS word addr = IsAddrText word addr
 Spells PREFIX word prefix = IsPrefixText word prefix
@@ -93,6 +104,7 @@ HasForm NAME word = (name : List ℕ) × Spells NAME word name
 HasForm TEXT word = (text : List ℕ) × Spells TEXT word text
 HasForm ROLE word = (role : Role) × Spells ROLE word role
 HasForm VIEW word = (post : Bool) × Spells VIEW word post
+HasForm VERSION word = (version : Version) × Spells VERSION word version
 HasForm VERDICT word = (verdict : Verdict) × Spells VERDICT word verdict
 HasForm ADDRESS word = (addr : Addr) × Spells ADDRESS word addr
 HasForm PREFIX word = (prefix : Subnet) × Spells PREFIX word prefix
@@ -105,6 +117,7 @@ LacksNumber NAME word = ⊥
 LacksNumber TEXT word = ⊥
 LacksNumber ROLE word = ⊥
 LacksNumber VIEW word = ⊥
+LacksNumber VERSION word = ⊥
 LacksNumber VERDICT word = ⊥
 LacksNumber ADDRESS word = ⊥
 LacksNumber PREFIX word = ⊥

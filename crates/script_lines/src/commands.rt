@@ -9,13 +9,15 @@ use crate::fault::LineFault;
 use crate::fields::{Ases, End, Fields, OneOf, Optional, Or, Texts, Then};
 use crate::kinds::{
     AddressWord, AsWord, CountWord, ExpireWord, IdentifierWord, MomentWord, NameWord, PrefixWord,
-    RefreshWord, RetryWord, RoleWord, SessionWord, TextWord, VerdictWord, ViewWord, WhomWord,
+    RefreshWord, RetryWord, RoleWord, SessionWord, TextWord, VerdictWord, VersionWord, ViewWord,
+    WhomWord,
 };
 use crate::saying::Saying;
 use crate::word::Word;
 use av_text::Words;
 use conditions::Conditions;
 use path_model::{Addr, AsList, Name, Prefix, Role, Verdict};
+use rtr_pdu::Version;
 use std::alloc::Global;
 
 /// What a line of a script asks for. ASes and providers stand in the order written, with repeats.
@@ -55,8 +57,9 @@ pub enum Command {
     /// `until NAME SECONDS`: the records of the dump up to the first whose time, in seconds since 1970-01-01 00:00 UTC, isn't below this one
     /// (RFC 6396, section 2); that one stays.
     Until(Name, u32),
-    /// `feed NAME PLACE`: a new connection to the place is the feed of that name, and its cache is asked for all that it has.
-    Feed(Name, Word),
+    /// `feed NAME PLACE` or `feed NAME PLACE VERSION`: a new connection to the place is the feed of that name, and its cache is asked for
+    /// all that it has; in that version of the protocol, if one is said.
+    Feed(Name, Word, Option<Version>),
     /// `ask NAME`: the feed's cache is asked for what is new.
     Ask(Name),
     /// `sync NAME N`: PDUs of the feed until it is up to date or over, and at most so many, 1 to 100,000,000.
@@ -270,8 +273,11 @@ pub(crate) fn read_fields(
             Ok(Command::Until(name, seconds))
         }
         CommandName::Feed => {
-            let (name, (place, ())) = <Then<NameWord, Then<TextWord, End>>>::read(alloc, words)?;
-            Ok(Command::Feed(name, place))
+            let (name, (place, said)) = <Then<
+                NameWord,
+                Then<TextWord, Optional<VersionWord>>,
+            >>::read(alloc, words)?;
+            Ok(Command::Feed(name, place, said))
         }
         CommandName::Ask => {
             let (name, ()) = <Then<NameWord, End>>::read(alloc, words)?;

@@ -2,12 +2,14 @@
 ghost use Rattle.std.specs.Prelude.{◌≡◌, ◌≢◌, ◌↔◌, Bool, codes, IfOk, IfErr, IfSome, IfNone, IsTrue};
 ghost use Rattle.path_model.specs.declared.verdict.Verdict.{Verdict as AnyVerdict};
 ghost use Rattle.av_text.specs.VerdictText.{verdict_text};
-ghost use Rattle.script_lines.specs.Kinds.{ADDRESS, NAME, NUMBER, PREFIX, ROLE, SESSION, TEXT, VERDICT, VIEW, WHOM, view_text};
+ghost use Rattle.script_lines.specs.Kinds.{ADDRESS, NAME, NUMBER, PREFIX, ROLE, SESSION, TEXT, VERDICT, VERSION, VIEW, WHOM, version_text, view_text};
+ghost use Rattle.rtr_pdu.specs.declared.version.Version.{Version as AnyVersion};
 
 use crate::fault::LineFault;
 use crate::word::Word;
 use av_text::{read_addr, read_name, read_prefix, read_role, read_u32};
 use path_model::{Addr, Name, Prefix, Role, Verdict};
+use rtr_pdu::Version;
 use std::alloc::Global;
 
 /// A kind of word.
@@ -107,6 +109,37 @@ fn read_view(word: &[u8]) -> Option<bool>
     match word {
         b"pre" => Some(false),
         b"post" => Some(true),
+        _ => None,
+    }
+}
+
+/// A VERSION of the RPKI to Router protocol.
+pub(crate) struct VersionWord;
+
+impl Kind for VersionWord {
+    type Value = Version;
+
+    ghost kind = { VERSION };
+
+    ghost value = { λ version. version };
+
+    fn read(_alloc: Global, word: &[u8]) -> Result<Version, LineFault> {
+        match read_version(word) {
+            Some(version) => Ok(version),
+            None => Err(LineFault::Words),
+        }
+    }
+}
+
+// Reads a word as a version.
+fn read_version(word: &[u8]) -> Option<Version>
+    ensures spelled { IfSome result (λ version. word.now ≡ version_text version) }
+    ensures none { IfNone result ((version : AnyVersion) → word.now ≢ version_text version) }
+{
+    match word {
+        b"0" => Some(Version::Zero),
+        b"1" => Some(Version::One),
+        b"2" => Some(Version::Two),
         _ => None,
     }
 }

@@ -1,6 +1,7 @@
 //! Lines by themselves, and what each is read as: of each command some that are right, and some wrong in the number of words, in a spelling
 //! and in a number.
 use path_model::{Role, Verdict};
+use rtr_pdu::Version;
 use script_lines::LineFault;
 
 /// What a line is read as.
@@ -23,7 +24,8 @@ pub(crate) enum Reading {
     Bmp(&'static str, &'static str, bool),
     Take(&'static str, u32),
     Until(&'static str, u32),
-    Feed(&'static str, &'static str),
+    // at this place, and in this version, if one is said
+    Feed(&'static str, &'static str, Option<Version>),
     Ask(&'static str),
     Sync(&'static str, u32),
     // at this place, in this session, so many routers
@@ -152,9 +154,27 @@ pub(crate) const DUMPS: [Row; 22] = [
     (b"report now", Reading::Refused(LineFault::Words)),
 ];
 
-pub(crate) const FEEDS: [Row; 16] = [
-    (b"feed c cache:323", Reading::Feed("c", "cache:323")),
-    (b"feed c-1\t[::1]:8282", Reading::Feed("c-1", "[::1]:8282")),
+pub(crate) const FEEDS: [Row; 22] = [
+    (b"feed c cache:323", Reading::Feed("c", "cache:323", None)),
+    (
+        b"feed c-1\t[::1]:8282",
+        Reading::Feed("c-1", "[::1]:8282", None),
+    ),
+    (
+        b"feed c cache:323 0",
+        Reading::Feed("c", "cache:323", Some(Version::Zero)),
+    ),
+    (
+        b"feed c cache:323\t1 ",
+        Reading::Feed("c", "cache:323", Some(Version::One)),
+    ),
+    (
+        b"feed c cache:323 2",
+        Reading::Feed("c", "cache:323", Some(Version::Two)),
+    ),
+    (b"feed c cache:323 3", Reading::Refused(LineFault::Words)),
+    (b"feed c cache:323 01", Reading::Refused(LineFault::Words)),
+    (b"feed c cache:323 1 1", Reading::Refused(LineFault::Words)),
     (b"feed c", Reading::Refused(LineFault::Words)),
     (b"feed c cache 323", Reading::Refused(LineFault::Words)),
     (b"feed c:1 cache:323", Reading::Refused(LineFault::Words)),
