@@ -221,11 +221,11 @@ fi
 
 # causes: of lines 'N WORD' those that are a cause with its word
 causes() {
-    awk '$1 >= 5 && $1 <= 47 && $2 ~ /^[A-Z][a-z]+[A-Za-z0-9]*$/ {print $1, $2}' | sort -u
+    awk '$1 >= 5 && $1 <= 48 && $2 ~ /^[A-Z][a-z]+[A-Za-z0-9]*$/ {print $1, $2}' | sort -u
 }
 rows='s/^\| ([0-9]+) \| ([A-Za-z0-9]+) \|.*/\1 \2/p'
 sed -nE "$rows" docs/formats.md | causes >"$work/causes"
-check 'the causes of docs/formats.md' 43 "$(wc -l <"$work/causes")"
+check 'the causes of docs/formats.md' 44 "$(wc -l <"$work/causes")"
 check 'the causes of docs/guide.md' "$(cat "$work/causes")" "$(sed -nE "$rows" docs/guide.md | causes)"
 check "the causes of $manual" "$(cat "$work/causes")" "$(sed -n 's/^\.It //p' "$manual" | causes)"
 # shellcheck disable=SC2086

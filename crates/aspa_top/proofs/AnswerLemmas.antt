@@ -84,6 +84,7 @@ read_state working = record {
   dumps = λ name. None;
   feeds = λ name. None;
   caches = λ session. None;
+  timing = working.timing;
   begun = NoneMore;
   made = 0;
   lines = working.lines;

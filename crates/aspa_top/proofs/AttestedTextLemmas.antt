@@ -73,13 +73,13 @@ row_printable row good = asserting_printable row.0 (named row.1) good.customer (
 
 row_no_attempt : (row : ℕ × List ℕ) → IsGood row → NeedsNoAttempt (line_of_row row)
 row_no_attempt row good = record {
-  no_feed = λ name place reads. let same = IsReading-unique (line_of_row row) (Ok (Assert row.0 (named row.1))) (Ok (Feed name place)) (row_reads row good) reads in let no : ⊥ = cc in no;
+  no_feed = λ name place said reads. let same = IsReading-unique (line_of_row row) (Ok (Assert row.0 (named row.1))) (Ok (Feed name place said)) (row_reads row good) reads in let no : ⊥ = cc in no;
   no_serve = λ place session count reads. let same = IsReading-unique (line_of_row row) (Ok (Assert row.0 (named row.1))) (Ok (Serve place session count)) (row_reads row good) reads in let no : ⊥ = cc in no;
 }
 
 attests_no_attempt : NeedsNoAttempt (codes "attests")
 attests_no_attempt = record {
-  no_feed = λ name place reads. let same = IsReading-unique (codes "attests") (Ok (Attests None)) (Ok (Feed name place)) attests_reads reads in let no : ⊥ = cc in no;
+  no_feed = λ name place said reads. let same = IsReading-unique (codes "attests") (Ok (Attests None)) (Ok (Feed name place said)) attests_reads reads in let no : ⊥ = cc in no;
   no_serve = λ place session count reads. let same = IsReading-unique (codes "attests") (Ok (Attests None)) (Ok (Serve place session count)) attests_reads reads in let no : ⊥ = cc in no;
 }
 

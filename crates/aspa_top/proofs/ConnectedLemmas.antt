@@ -1,6 +1,7 @@
 -- Which attempts made the connections of feeds, line by line.
 use Rattle.std.proofs.Common.{ℕ, false, List, refl, sym, ap, ◌∙◌, subst, arith}
 use Rattle.std.specs.declared.option.Option.{Option}
+use Rattle.rtr_pdu.specs.declared.version.Version.{Version}
 use Rattle.rtr_client.specs.declared.working.Work.{Work}
 use Rattle.rtr_client.specs.Laws.{AreConnectedFrom}
 use Rattle.rtr_client.specs.Lines.{State as FeedState}
@@ -26,9 +27,9 @@ module _ (world : World) where
       let written = subst (λ (s : FeedState). AreConnectedFrom world.ends world.made s) (sym works.does.left) (record { later = done.later; each = done.each }) in
       subst AreConnected (sym works.left) (record { later = written.later; each = written.each })
 
-  Connects-connected : (state next : State) (name place text : List ℕ) → AreConnected state → ConnectsUnless false world state name place text next → AreConnected next
-  Connects-connected state next name place text connected connects =
-      let done = connects_connected world.ends world.made (feeds_of state) connects.does.after name place connects.does.tells connected connects.does.done in
+  Connects-connected : (state next : State) (name place : List ℕ) (said : Option Version) (text : List ℕ) → AreConnected state → ConnectsUnless false world state name place said text next → AreConnected next
+  Connects-connected state next name place said text connected connects =
+      let done = connects_connected world.ends world.made (feeds_of state) connects.does.after name place said connects.does.tells connected connects.does.done in
       let written = subst (λ (s : FeedState). AreConnectedFrom world.ends world.made s) (sym connects.does.left) (record { later = done.later; each = done.each }) in
       subst AreConnected (sym connects.left) (record { later = written.later; each = written.each })
 

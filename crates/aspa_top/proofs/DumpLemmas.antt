@@ -110,6 +110,7 @@ module _ (working next : Working) (kind : DumpKind) (name file : List ℕ) (old 
                       (rw is_new (record { kind = refl; over = refl; taken = refl; left = λ yet. ap (prepend_known []) (left ∙ bytes); known = λ yet. refl })) (λ other. stayed.dumps q));
                   feeds = subst (λ (held : Feeds). (q : List ℕ) → HoldsFeed old.links.wire (feed_in held q) (state.feeds q)) (sym (ap (λ (w : Working). w.feeds) is)) stayed.feeds;
                   caches = λ q. ap (λ (w : Working). cache_in w q) is ∙ stayed.caches q;
+                  timing = ap (λ (w : Working). w.timing) is ∙ stands.timing;
                   begun = stayed.begun;
                   made = stayed.made;
                   lines = lines ∙ stands.lines;
@@ -245,6 +246,7 @@ module _ (working : Working) (name : List ℕ) (task : Task) (count : ℕ) (befo
                     (λ other. HoldsOr-leaves old.files files (dump_in working q) (state.dumps q) (λ d e. leaves.files d.file (λ equal. begun.sound.apart name q before d (differ name q other) here e (sym equal))) (stands.dumps q)));
                 feeds = subst (λ (held : Feeds). (q : List ℕ) → HoldsFeed old.links.wire (feed_in held q) (state.feeds q)) (sym (ap (λ (w : Working). w.feeds) is)) stands.feeds;
                 caches = λ q. ap (λ (w : Working). cache_in w q) is ∙ stands.caches q;
+                timing = ap (λ (w : Working). w.timing) is ∙ stands.timing;
                 begun = stands.begun;
                 made = stands.made;
                 lines = lines ∙ stands.lines;

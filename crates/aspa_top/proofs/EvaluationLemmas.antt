@@ -4,6 +4,7 @@ use Rattle.std.specs.declared.option.Option.{Option}
 use Rattle.std.specs.declared.result.Result.{Result}
 use Rattle.av_base.specs.Connections.{Attempt}
 use Rattle.report_text.specs.declared.cause.Cause.{Cause}
+use Rattle.rtr_pdu.specs.declared.timing.Timing.{Timing}
 use Rattle.rtr_client.specs.declared.working.Work.{Work}
 use Rattle.rtr_client.specs.declared.working.Work.TheVariants.{Take as TakePdus}
 use Rattle.rtr_client.specs.Feeds.{Feed}
@@ -22,7 +23,7 @@ use Rattle.aspa_top.specs.declared.files.Outcome.{Outcome}
 use Rattle.aspa_top.specs.declared.files.Outcome.TheVariants.{NoFile, Long as FileLong, Flawed, Good}
 use Rattle.aspa_top.specs.declared.task.Question.{Question}
 use Rattle.aspa_top.specs.declared.task.Task.{Task}
-use Rattle.aspa_top.specs.declared.task.Task.TheVariants.{Idle as Nothing, Happen, Clear, Judge, Explain, Sent, Say, Load, Open, Take, Until, Connect, OnFeed, Serve, Answer, Changes}
+use Rattle.aspa_top.specs.declared.task.Task.TheVariants.{Idle as Nothing, Happen, Clear, Judge, Explain, Sent, Say, Load, Open, Take, Until, Connect, OnFeed, Serve, SetTiming, Answer, Changes}
 use Rattle.aspa_top.specs.Tasks.{State, Moves, TakesFile, LoadsUnless, OpensNamed, TakesOpen, TakesNamed, TakesEarlierUnless, TakesUntilNamed, Works, DoesTask, feeds_of, is_stream, is_taken}
 use Rattle.aspa_top.specs.Answers.{AnswersUnless, Replies, refused_for}
 use Rattle.aspa_top.specs.Evaluation.{Asked, Begins, Does, DoesAsked, asked_of, counted, Performs, Evaluates}
@@ -31,6 +32,7 @@ use Rattle.aspa_top.specs.Laws.{NeedNoAttempts, NeedsNoAttempt}
 use Rattle.std.proofs.lemmas.List.Elements.{All-head, All-tail}
 use Rattle.aspa_top.specs.Program.{BeginsNext}
 use Rattle.aspa_top.specs.World.{World}
+use Rattle.aspa_top.specs.Serving.{SetsTiming}
 use Rattle.aspa_top.proofs.ServingLemmas.{table_front}
 use Rattle.aspa_top.proofs.TaskLemmas.{ConnectsNone, both, some_task, DoesTask-unique}
 
@@ -89,6 +91,10 @@ take_keeps : (dump : Option Dump) (world : World) (state : State) (name : List �
 take_keeps None world state name count text next none takes = work_keeps world state name (TakePdus count) text next none takes
 take_keeps (Some dump) world state name count text next none takes = dump_keeps dump.over state name count dump text next takes
 
+timing_keeps : (state : State) (timing : Timing) (text : List ℕ) (next : State) → SetsTiming state timing text next → next.feeds ≡ state.feeds
+timing_keeps state timing text next (inl set) = ap (λ (s : State). s.feeds) set.2
+timing_keeps state timing text next (inr refused) = ap (λ (s : State). s.feeds) refused.1.1
+
 task_keeps : (world : World) (state : State) (task : Task) (text : List ℕ) (next : State) → ConnectsNone task → HasNoFeeds state → DoesTask world state task text next
     → next.feeds ≡ state.feeds
 task_keeps world state Nothing text next other none does = ap (λ (s : State). s.feeds) does.1
@@ -102,9 +108,10 @@ task_keeps world state (Load kind file) text next other none does = load_keeps (
 task_keeps world state (Open kind name file) text next other none does = open_keeps (state.sources name || is_stream state name) (world.named file) state kind name text next does
 task_keeps world state (Take name count) text next other none does = take_keeps (state.dumps name) world state name count text next (none name) does
 task_keeps world state (Until name moment) text next other none does = until_keeps (state.dumps name) state name moment text next does
-task_keeps world state (Connect name place) text next other none does = absurd other
+task_keeps world state (Connect name place said) text next other none does = absurd other
 task_keeps world state (OnFeed name work) text next other none does = work_keeps world state name work text next (none name) does
 task_keeps world state (Serve place session count) text next other none does = absurd other
+task_keeps world state (SetTiming timing) text next other none does = timing_keeps state timing text next does
 task_keeps world state (Answer question) text next other none does = reply_keeps state question text next does
 task_keeps world state Changes text next other none does = ap (λ (s : State). s.feeds) does.left
 
@@ -129,7 +136,7 @@ AsksNoAttempt (Ok task) = ConnectsNone task
 AsksNoAttempt (Err cause) = Unit {0}
 
 no_attempt : (line : List ℕ) (reading : Result Command LineFault) → IsReading line reading → NeedsNoAttempt line → AsksNoAttempt (asked_of reading)
-no_attempt line (Ok (FeedLine name place)) reads other = other.no_feed name place reads
+no_attempt line (Ok (FeedLine name place said)) reads other = other.no_feed name place said reads
 no_attempt line (Ok (ServeLine place session count)) reads other = other.no_serve place session count reads
 no_attempt line (Err fault) reads other = tt
 no_attempt line (Ok command) reads other = tt
@@ -243,7 +250,7 @@ Evaluates-split world before (line ∷ more) left text end evaluates =
 front_of_task : (world : World) (attempts : List Attempt) → world.ends.attempts ≡ Some attempts → (state : State) (task : Task) (part text : List ℕ) (moved next : State)
     → Moves world state task part moved → DoesTask world state task text next → (more : List ℕ) × (text ≡ part ++ more)
 front_of_task world attempts told state (Take name count) part text moved next moves does = (text, ap (λ (t : List ℕ). t ++ text) (sym moves.0))
-front_of_task world attempts told state (Connect name place) part text moved next moves does = (text, ap (λ (t : List ℕ). t ++ text) (sym moves.0))
+front_of_task world attempts told state (Connect name place said) part text moved next moves does = (text, ap (λ (t : List ℕ). t ++ text) (sym moves.0))
 front_of_task world attempts told state (OnFeed name work) part text moved next moves does = (text, ap (λ (t : List ℕ). t ++ text) (sym moves.0))
 front_of_task world attempts told state (Serve place session count) part text moved next moves does = table_front world attempts told state place session count part text moved next moves does
 front_of_task world attempts told state (Until name moment) part text moved next moves does = absurd moves
@@ -256,6 +263,7 @@ front_of_task world attempts told state (Explain role neighbour path) part text 
 front_of_task world attempts told state (Sent role path) part text moved next moves does = absurd moves
 front_of_task world attempts told state (Load kind file) part text moved next moves does = absurd moves
 front_of_task world attempts told state (Open kind name file) part text moved next moves does = absurd moves
+front_of_task world attempts told state (SetTiming timing) part text moved next moves does = absurd moves
 front_of_task world attempts told state (Answer question) part text moved next moves does = absurd moves
 front_of_task world attempts told state Changes part text moved next moves does = absurd moves
 

@@ -8,6 +8,7 @@ use Rattle.std.specs.Io.KnownBytes.{append_known}
 use Rattle.av_base.specs.declared.standing.Standing.{Standing}
 use Rattle.av_base.specs.Files.{Files}
 use Rattle.av_base.proofs.ToldLemmas.{append_known-nil}
+use Rattle.rtr_pdu.specs.declared.version.Version.{Version}
 use Rattle.rtr_client.specs.declared.feed.Feeds.{Feeds}
 use Rattle.analyser.specs.declared.progress.Progress.{Progress}
 use Rattle.rtr_client.specs.declared.working.Work.{Work}
@@ -74,6 +75,7 @@ module _ (working : Working) (name : List ℕ) (old : Outside) (links : Links) (
     dumps = stands.dumps;
     feeds = holds.held.each;
     caches = stands.caches;
+    timing = stands.timing;
     begun = stands.begun;
     made = holds.held.made;
     lines = stands.lines;
@@ -97,7 +99,7 @@ module _ (working : Working) (name : List ℕ) (old : Outside) (links : Links) (
 
   -- ---- `feed`
 
-  module _ (place : List ℕ) (free : (has_source working name || is_some (dump_in working name)) ≡ false) where
+  module _ (place : List ℕ) (said : Option Version) (free : (has_source working name || is_some (dump_in working name)) ≡ false) where
     free_in : (state : State) → StandsFor old.files old.links working state → (state.sources name || is_some (state.dumps name)) ≡ false
     free_in state stands =
         (λ i. sym (stands.sources name) i || sym (HoldsOr-is_some old.files (dump_in working name) (state.dumps name) (stands.dumps name)) i) ∙ free
@@ -105,10 +107,10 @@ module _ (working : Working) (name : List ℕ) (old : Outside) (links : Links) (
     pub connected : (next : Working) (feeds : Feeds) (last : Progress)
         → FeedsGo old.links.attempts links.attempts old.links.wire links.wire (Holds old.links.attempts old.links.wire working.feeds working.progress)
         (λ before now. Holds links.attempts links.wire feeds last now × (now.judgements ≡ before.judgements)) old.held held
-        (λ world before added now. ConnectLine world asking place before added now)
+        (λ world before added now. ConnectLine world asking place said before added now)
         → next ≡ record working { progress = last; feeds = feeds } → last.marks ≡ working.progress.marks → last.passed ≡ working.progress.passed → last.refused ≤ working.progress.refused + 1
         → FeedsAreSound standings (next.lines * most) feeds → AddsEnds old.held held old.link_faults faults → ticks ≡ old.ticks
-        → Done working (Ok (Connect name place)) old (record old { links = links; standings = standings; link_faults = faults; held = held; ticks = ticks }) next
+        → Done working (Ok (Connect name place said)) old (record old { links = links; standings = standings; link_faults = faults; held = held; ticks = ticks }) next
     connected next feeds last goes is marks passed few sound adds unticked = record {
       goes = λ world tells state stands.
           let did = goes.goes (feeds_of state) (feeds_held state stands) in
@@ -116,9 +118,9 @@ module _ (working : Working) (name : List ℕ) (old : Outside) (links : Links) (
           record {
             text = goes.text;
             after = with_feeds state did.0;
-            does = λ ends comes. subst (λ (used : Bool). ConnectsUnless used (ending world ends) state name place goes.text (with_feeds state did.0))
+            does = λ ends comes. subst (λ (used : Bool). ConnectsUnless used (ending world ends) state name place said goes.text (with_feeds state did.0))
                 (sym (free_in state stands))
-                (record { after = did.0; does = subst (λ (a : FeedAsking). ConnectLine ends a place (feeds_of state) goes.text did.0) asks_same (did.2 ends comes); left = refl });
+                (record { after = did.0; does = subst (λ (a : FeedAsking). ConnectLine ends a place said (feeds_of state) goes.text did.0) asks_same (did.2 ends comes); left = refl });
             added = added_text old.written old.held held goes.text goes.added;
             stands = stands_after state next feeds last did.0 is marks passed stands did.1.0;
             ticked = omega (arith, did.1.1, unticked);
@@ -130,11 +132,11 @@ module _ (working : Working) (name : List ℕ) (old : Outside) (links : Links) (
 
     pub connect_stopped : FeedsGo old.links.attempts links.attempts old.links.wire links.wire (Holds old.links.attempts old.links.wire working.feeds working.progress)
         (λ before now. HasMoved links.attempts links.wire now × (now.judgements ≡ before.judgements)) old.held held
-        (λ world before added now. ConnectPart world asking place before now) → held ≡ old.held → ticks ≡ old.ticks → old.link_faults ≤ faults
-        → EndedEarly working (Ok (Connect name place)) old (record old { links = links; standings = standings; link_faults = faults; held = held; ticks = ticks }) stops.NoMemory
+        (λ world before added now. ConnectPart world asking place said before now) → held ≡ old.held → ticks ≡ old.ticks → old.link_faults ≤ faults
+        → EndedEarly working (Ok (Connect name place said)) old (record old { links = links; standings = standings; link_faults = faults; held = held; ticks = ticks }) stops.NoMemory
     connect_stopped goes silent unticked later = record {
       part = inr (inr (
-        Connect name place,
+        Connect name place said,
         refl,
         λ world state stands.
             let did = goes.goes (feeds_of state) (feeds_held state stands) in
@@ -142,7 +144,7 @@ module _ (working : Working) (name : List ℕ) (old : Outside) (links : Links) (
             record {
               part = [];
               after = with_feeds state did.0;
-              moves = λ ends comes. (refl, record { after = did.0; does = subst (λ (a : FeedAsking). ConnectPart ends a place (feeds_of state) did.0) asks_same (did.2 ends comes); left = refl });
+              moves = λ ends comes. (refl, record { after = did.0; does = subst (λ (a : FeedAsking). ConnectPart ends a place said (feeds_of state) did.0) asks_same (did.2 ends comes); left = refl });
               added = ap (append_known old.written) silent ∙ sym (append_known-nil (all_of old));
               sent = record { feeds = did.1.0; router = no_router links.wire old state stands };
               ticked = omega (arith, unticked);
@@ -204,16 +206,16 @@ module _ (working : Working) (name : List ℕ) (old : Outside) (links : Links) (
     }
 
 -- a source or a dump has the name
-pub connect_refused : (working next : Working) (name place : List ℕ) (old : Outside) (held : List ℕ) → IsBegun old working
+pub connect_refused : (working next : Working) (name place : List ℕ) (said : Option Version) (old : Outside) (held : List ℕ) → IsBegun old working
     → (has_source working name || is_some (dump_in working name)) ≡ true → held ≡ old.held ++ refusal_text working.lines of_line causes.NameTaken
-    → next ≡ refused_in working → Done working (Ok (Connect name place)) old (record old { held = held }) next
-connect_refused working next name place old held begun used added is =
-    done_refused working (Ok (Connect name place)) old (record old { held = held }) next of_line causes.NameTaken tt (Leaves-refl (λ other. Unit {0}) old.files) (λ n d e. tt)
+    → next ≡ refused_in working → Done working (Ok (Connect name place said)) old (record old { held = held }) next
+connect_refused working next name place said old held begun used added is =
+    done_refused working (Ok (Connect name place said)) old (record old { held = held }) next of_line causes.NameTaken tt (Leaves-refl (λ other. Unit {0}) old.files) (λ n d e. tt)
     refl refl refl (omega arith) refl refl added is begun
     (λ world tells state stands.
     let used_in : (state.sources name || is_some (state.dumps name)) ≡ true =
     (λ i. sym (stands.sources name) i || sym (HoldsOr-is_some old.files (dump_in working name) (state.dumps name) (stands.dumps name)) i) ∙ used in
-    subst (λ (b : Bool). ConnectsUnless b world state name place (refusal_text state.lines of_line causes.NameTaken) (record state { refused = state.refused + 1 })) (sym used_in) (refl, refl))
+    subst (λ (b : Bool). ConnectsUnless b world state name place said (refusal_text state.lines of_line causes.NameTaken) (record state { refused = state.refused + 1 })) (sym used_in) (refl, refl))
 
 -- ---- `take` of a name that is no dump's takes from a feed
 

@@ -6,6 +6,8 @@ use Rattle.std.specs.declared.option.Option.{Option}
 use Rattle.report_text.specs.declared.cause.Cause.{Cause}
 use Rattle.origin_model.specs.Vrp.{Payload}
 use Rattle.origin_validation.specs.Records.{source_of, with_source}
+use Rattle.rtr_pdu.specs.declared.version.Version.{Version}
+use Rattle.rtr_pdu.specs.declared.timing.Timing.{Timing}
 use Rattle.rtr_client.specs.declared.working.Work.{Work}
 use Rattle.rtr_client.specs.declared.working.Work.TheVariants.{Take as TakePdus}
 use Rattle.rtr_client.proofs.SourceLemmas.{source_other}
@@ -21,11 +23,11 @@ use Rattle.aspa_top.specs.declared.files.Outcome.{Outcome}
 use Rattle.aspa_top.specs.declared.files.Outcome.TheVariants.{NoFile, Long as FileLong, Flawed, Good}
 use Rattle.aspa_top.specs.declared.task.Question.{Question}
 use Rattle.aspa_top.specs.declared.task.Task.{Task}
-use Rattle.aspa_top.specs.declared.task.Task.TheVariants.{Idle as Nothing, Happen, Clear, Judge as JudgePath, Explain as ExplainPath, Sent as ListSent, Say, Load, Open, Take, Until, Connect, OnFeed, Serve, Answer, Changes}
+use Rattle.aspa_top.specs.declared.task.Task.TheVariants.{Idle as Nothing, Happen, Clear, Judge as JudgePath, Explain as ExplainPath, Sent as ListSent, Say, Load, Open, Take, Until, Connect, OnFeed, Serve, SetTiming, Answer, Changes}
 use Rattle.aspa_top.specs.Answers.{AnswersUnless, Replies, refused_for}
 use Rattle.aspa_top.specs.Evaluation.{Asked, DoesAsked, Evaluates, asked_of, counted}
 use Rattle.aspa_top.specs.Files.{ComesOf, Makes}
-use Rattle.aspa_top.specs.Serving.{ServesTable}
+use Rattle.aspa_top.specs.Serving.{ServesTable, SetsTiming}
 use Rattle.aspa_top.specs.Tasks.{ConnectsUnless, DoesTask, LoadsUnless, OpensNamed, State, TakesFile, TakesNamed, TakesOpen, TakesEarlierUnless, TakesUntilNamed, Works, amended, is_stream, is_taken, same_name}
 use Rattle.aspa_top.specs.World.{World}
 use Rattle.aspa_top.proofs.StandsLemmas.{is_same}
@@ -116,18 +118,22 @@ ServesTable-keeps world state place session count text next (inr serves) =
     let made = ap (λ (s : State). s.made) serves.1.left in
     record { feeds = ap (λ (s : State). s.feeds) serves.1.left; sources = λ name there. ap (λ (s : State). source_of s.origins.sources name) serves.1.left; made = omega (arith, made) }
 
+SetsTiming-keeps : (state : State) (timing : Timing) (text : List ℕ) (next : State) → SetsTiming state timing text next → KeepsFeeds state next
+SetsTiming-keeps state timing text next (inl set) = kept state next _ refl refl refl set.2
+SetsTiming-keeps state timing text next (inr refused) = kept state next _ refl refl refl refused.1.1
+
 -- ---- all lines
 
 -- what lines on feeds leave so, and what rests on the feeds, the sources and the attempts alone, is so behind all lines
 pub record IsLeft (world : World) (Is : State → Type 0) : Type 0 where
   pub keeps : (old new : State) → KeepsFeeds old new → Is old → Is new
   pub works : (state next : State) (name : List ℕ) (work : Work) (text : List ℕ) → Is state → Works world state name work text next → Is next
-  pub connects : (state next : State) (name place text : List ℕ) → Is state → ConnectsUnless false world state name place text next → Is next
+  pub connects : (state next : State) (name place : List ℕ) (said : Option Version) (text : List ℕ) → Is state → ConnectsUnless false world state name place said text next → Is next
 
 module _ (world : World) (Is : State → Type 0) (left : IsLeft world Is) where
-  Connects-left : (used : Bool) (state next : State) (name place text : List ℕ) → Is state → ConnectsUnless used world state name place text next → Is next
-  Connects-left true state next name place text is connects = left.keeps state next (kept state next _ refl refl refl connects.1) is
-  Connects-left false state next name place text is connects = left.connects state next name place text is connects
+  Connects-left : (used : Bool) (state next : State) (name place : List ℕ) (said : Option Version) (text : List ℕ) → Is state → ConnectsUnless used world state name place said text next → Is next
+  Connects-left true state next name place said text is connects = left.keeps state next (kept state next _ refl refl refl connects.1) is
+  Connects-left false state next name place said text is connects = left.connects state next name place said text is connects
 
   Takes-left : (dump : Option Dump) (state next : State) (name : List ℕ) (count : ℕ) (text : List ℕ) → Is state → TakesNamed dump world state name count text next → Is next
   Takes-left None state next name count text is takes = left.works state next name (TakePdus count) text is takes
@@ -146,9 +152,10 @@ module _ (world : World) (Is : State → Type 0) (left : IsLeft world Is) where
       left.keeps state next (Opens-keeps (state.sources name || is_stream state name) (world.named file) state kind name text next does) is
   DoesTask-left state next (Take name count) text is does = Takes-left (state.dumps name) state next name count text is does
   DoesTask-left state next (Until name moment) text is does = left.keeps state next (TakesUntil-keeps (state.dumps name) state name moment text next does) is
-  DoesTask-left state next (Connect name place) text is does = Connects-left (state.sources name || is_some (state.dumps name)) state next name place text is does
+  DoesTask-left state next (Connect name place said) text is does = Connects-left (state.sources name || is_some (state.dumps name)) state next name place said text is does
   DoesTask-left state next (OnFeed name work) text is does = left.works state next name work text is does
   DoesTask-left state next (Serve place session count) text is does = left.keeps state next (ServesTable-keeps world state place session count text next does) is
+  DoesTask-left state next (SetTiming timing) text is does = left.keeps state next (SetsTiming-keeps state timing text next does) is
   DoesTask-left state next (Answer question) text is does = left.keeps state next (Replies-keeps state question text next does) is
   DoesTask-left state next Changes text is does = left.keeps state next (kept state next _ refl refl refl does.left) is
 

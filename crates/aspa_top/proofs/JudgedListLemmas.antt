@@ -87,6 +87,7 @@ module _ (working : Working) (task : Task) (old : Outside) (new : Pouring) (tick
         dumps = stands.dumps;
         feeds = stands.feeds;
         caches = stands.caches;
+        timing = stands.timing;
         begun = stands.begun;
         made = stands.made;
         lines = stands.lines;

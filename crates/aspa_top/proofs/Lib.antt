@@ -37,5 +37,6 @@ pub mod TakeLemmas
 pub mod TaskLemmas
 pub mod TextLemmas
 pub mod TiedLemmas
+pub mod TimingLemmas
 pub mod UntilLemmas
 pub mod WordsLemmas

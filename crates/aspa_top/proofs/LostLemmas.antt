@@ -45,8 +45,8 @@ pub lost_at_end : UnbrokenFeedsAreLostAtEnd
 lost_at_end files before after world meets told on unbroken lines text state evaluates =
     let connected = feeds_were_connected world lines text state evaluates in
     record {
-      connects = λ name place tells next connects has.
-          let broke = (broke_or_ended world.ends (feeds_of state) next name tells).connects place connects has in
+      connects = λ name place said tells next connects has.
+          let broke = (broke_or_ended world.ends (feeds_of state) next name tells).connects place said connects has in
           let whole = made_unbroken files before after world meets told on unbroken state.made broke.0 broke.2.t connected.later broke.1 broke.2.there in
           let broken = broke.2.so in
           let none : ⊥ = cc in

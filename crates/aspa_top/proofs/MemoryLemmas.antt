@@ -113,6 +113,7 @@ module _ (working : Working) (old : Outside) (begun : IsBegun old working) where
             dumps = λ name. subst (λ (d : Option HeldDump). HoldsOr old.files d (state.dumps name)) (sym (ap (λ (w : Working). dump_in w name) is)) (stands.dumps name);
             feeds = subst (λ (held : Feeds). (q : List ℕ) → HoldsFeed old.links.wire (feed_in held q) (state.feeds q)) (sym (ap (λ (w : Working). w.feeds) is)) stands.feeds;
             caches = λ session. ap (λ (w : Working). cache_in w session) is ∙ stands.caches session;
+            timing = ap (λ (w : Working). w.timing) is ∙ stands.timing;
             begun = stands.begun;
             made = stands.made;
             lines = ap (λ (w : Working). w.lines) is ∙ stands.lines;
@@ -170,6 +171,7 @@ module _ (working : Working) (old : Outside) (begun : IsBegun old working) where
             dumps = stands.dumps;
             feeds = stands.feeds;
             caches = stands.caches;
+            timing = stands.timing;
             begun = stands.begun;
             made = stands.made;
             lines = stands.lines;

@@ -22,7 +22,7 @@ IsNamedInLine (OpenDump kind name file) = IsInLine name
 IsNamedInLine (TakeUnits name count) = IsInLine name
 IsNamedInLine (TakeUntil name moment) = IsInLine name
 IsNamedInLine (SayWords words) = IsInLine words
-IsNamedInLine (Connect name place) = IsInLine name
+IsNamedInLine (Connect name place said) = IsInLine name
 IsNamedInLine (OnFeed name work) = IsInLine name
 IsNamedInLine task = Unit {0}
 
@@ -39,7 +39,7 @@ reading_in_line line (Ok (Open name file writer)) reads = names_in_line name (re
 reading_in_line line (Ok (Bmp name file view writer)) reads = names_in_line name (reading_bounded line (Bmp name file view writer) reads)
 reading_in_line line (Ok (Take name count)) reads = names_in_line name (reading_bounded line (Take name count) reads).0
 reading_in_line line (Ok (Until name moment)) reads = names_in_line name (reading_bounded line (Until name moment) reads)
-reading_in_line line (Ok (Feed name place)) reads = names_in_line name (reading_bounded line (Feed name place) reads)
+reading_in_line line (Ok (Feed name place said)) reads = names_in_line name (reading_bounded line (Feed name place said) reads)
 reading_in_line line (Ok (Ask name)) reads = names_in_line name (reading_bounded line (Ask name) reads)
 reading_in_line line (Ok (Sync name count)) reads = names_in_line name (reading_bounded line (Sync name count) reads).0
 reading_in_line line (Ok (Say words)) reads = said_in_line words (reading_bounded line (Say words) reads)

@@ -22,6 +22,7 @@ use Rattle.report_text.specs.Reported.{AddsLines}
 use Rattle.report_text.specs.Served.{served_line, served_text}
 use Rattle.report_text.proofs.AnswerLemmas.{served_is_one_line}
 use Rattle.report_text.proofs.ReportedLemmas.{adds_answer, adds_front, adds_later, adds_more}
+use Rattle.rtr_pdu.specs.declared.timing.Timing.{Timing}
 use Rattle.rtr_cache.specs.Cache.{Comes, FitsPdus, Versions}
 use Rattle.rtr_server.specs.declared.routers.Served.{Served}
 use Rattle.rtr_server.specs.Outcomes.{outcomes_text}
@@ -35,7 +36,7 @@ use Rattle.aspa_top.specs.declared.working.Working.{Working}
 use Rattle.aspa_top.specs.Bounds.{most}
 use Rattle.aspa_top.specs.Outside.{Outside, all_of}
 use Rattle.aspa_top.specs.Performing.{Done, EndedEarly, IsStoppedBy}
-use Rattle.aspa_top.specs.Serving.{HasCache, TakesTable, with_cache}
+use Rattle.aspa_top.specs.Serving.{HasCache, TakesTable, TakesTimed, with_cache}
 use Rattle.aspa_top.specs.Standing.{AreSound, HasRoom, HoldsOr, IsBegun, StandsFor}
 use Rattle.aspa_top.specs.State.{State}
 use Rattle.aspa_top.specs.Tasks.{feeds_of}
@@ -57,6 +58,12 @@ serial_takes : (held : Option Versions) (session : ℕ) (parts : Parts) (new : V
     → new.current.serial < bound + 1
 serial_takes None session parts new bound few takes = omega (arith, takes.serial)
 serial_takes (Some old) session parts new bound few takes = serial_comes old new bound (few old refl) takes.comes
+
+serial_timed : (held : Option Versions) (session : ℕ) (timing : Timing) (parts : Parts) (new : Versions) (bound : ℕ) → ((cache : Versions) → held ≡ Some cache → cache.current.serial < bound)
+    → TakesTimed held session timing parts new → new.current.serial < bound + 1
+serial_timed held session timing parts new bound few takes =
+    let serial = serial_takes held session parts takes.taken bound few takes.takes in
+    let is = ap (λ (c : Versions). c.current.serial) takes.is in omega (arith, serial, is)
 
 -- there is room for one more update
 pub room_of : (held : Option Versions) (bound : ℕ) → bound < 2 ^ 32 - 1 → ((cache : Versions) → held ≡ Some cache → cache.current.serial < bound) → HasRoom held
@@ -104,14 +111,15 @@ module _ (working : Working) (old : Outside) (links : Links) (standings : List S
 -- ---- a line that serves
 
 module _ (working : Working) (place : List ℕ) (session count : ℕ) (cache : Versions) (old : Outside) (links : Links) (standings : List Standing) (faults : ℕ)
-    (written : Option (List ℕ)) (sink_faults : ℕ) (begun : IsBegun old working) (fits : FitsPdus working.progress.analyser.parts) (takes : TakesTable (cache_in working session) session working.progress.analyser.parts cache)
+    (written : Option (List ℕ)) (sink_faults : ℕ) (begun : IsBegun old working) (fits : FitsPdus working.progress.analyser.parts) (takes : TakesTimed (cache_in working session) session working.timing working.progress.analyser.parts cache)
     (others : Spares (λ other. other < length old.standings) old.links.wire links.wire old.standings standings) (broke : BreaksByFault old.link_faults faults old.standings standings) where
   -- the evaluation's cache is the one that is held
   abbrev has_cache : (state : State) → StandsFor old.files old.links working state → HasCache state session
   has_cache state stands = record {
     cache = cache;
-    takes = subst (λ (held : Option Versions). TakesTable held session state.analysis.parts cache) (stands.caches session)
-        (subst (λ (parts : Parts). TakesTable (cache_in working session) session parts cache) (λ i. (stands.analysis i).parts) takes);
+    takes = subst (λ (held : Option Versions). TakesTimed held session state.timing state.analysis.parts cache) (stands.caches session)
+        (subst (λ (timing : Timing). TakesTimed (cache_in working session) session timing state.analysis.parts cache) stands.timing
+        (subst (λ (parts : Parts). TakesTimed (cache_in working session) session working.timing parts cache) (λ i. (stands.analysis i).parts) takes));
   }
 
   fits_state : (state : State) → StandsFor old.files old.links working state → FitsPdus state.analysis.parts
@@ -169,6 +177,7 @@ module _ (working : Working) (place : List ℕ) (session count : ℕ) (cache : V
                 feeds = λ q. subst (λ f. HoldsFeed links.wire f (state.feeds q)) (sym (ap (λ (w : Working). feed_in w.feeds q) is))
                     (feeds_stand working old links standings (working.lines - 1) others begun.feeds state stands q);
                 caches = λ q. caches q ∙ ap (λ (o : Option Versions). cond (nat_eq session q) (Some cache) o) (stands.caches q);
+                timing = ap (λ (w : Working). w.timing) is ∙ stands.timing;
                 begun = stands.begun;
                 made = there.made state.made stands.made;
                 lines = lines ∙ stands.lines;
@@ -181,7 +190,7 @@ module _ (working : Working) (place : List ℕ) (session count : ℕ) (cache : V
           sound = IsSound-kept old.opened old.opened (working.lines - 1) next.lines working next (omega (arith, lines, begun.counted)) (omega arith) begun.sound
               (λ q. ap (λ (w : Working). dump_in w q) is) (omega (arith, passed)) (omega (arith, refused, few, within));
           caches = λ q other there. put_few (nat_eq session q) cache other (cache_in working q) next.lines
-              (let serial = serial_takes (cache_in working session) session working.progress.analyser.parts cache (working.lines - 1) (begun.caches session) takes in omega (arith, serial, lines, begun.counted))
+              (let serial = serial_timed (cache_in working session) session working.timing working.progress.analyser.parts cache (working.lines - 1) (begun.caches session) takes in omega (arith, serial, lines, begun.counted))
               (λ c had. let below = begun.caches q c had in omega (arith, below, lines)) (sym (caches q) ∙ there);
           feeds = feeds_kept standings (working.lines - 1) next.lines working next (omega (arith, lines)) (ap (λ (w : Working). w.feeds) is)
               (feeds_sound working old links standings (working.lines - 1) others begun.feeds);

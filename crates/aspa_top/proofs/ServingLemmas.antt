@@ -1,17 +1,20 @@
 -- A `serve` line has one outcome where the attempts are told, and one that ended early wrote a front of its text.
-use Rattle.std.proofs.Common.{◌≡◌, ℕ, ◌+◌, inl, inr, List, [], ◌∷◌, ◌++◌, Some, refl, sym, ap, subst, ◌∙◌, append_assoc}
+use Rattle.std.proofs.lemmas.Bool.{cases_lt}
+use Rattle.path_model.proofs.Decide.{Decided, decided_both}
+use Rattle.std.proofs.Common.{◌≡◌, ℕ, ◌+◌, ◌<◌, arith, inl, inr, List, [], ◌∷◌, ◌++◌, Some, refl, sym, ap, subst, ◌∙◌, append_assoc}
 use Rattle.std.specs.declared.option.Option.{Option}
 use Rattle.std.specs.declared.option.Option.TheVariants.{None}
 use Rattle.attestations.specs.CurrentTable.{Parts}
 use Rattle.report_text.specs.Served.{served_text}
-use Rattle.rtr_cache.specs.Cache.{AreRowsOf, Versions}
+use Rattle.rtr_pdu.specs.declared.timing.Timing.{Timing}
+use Rattle.rtr_cache.specs.Cache.{AreRowsOf, Versions, timed}
 use Rattle.av_base.specs.Connections.{Attempt}
 use Rattle.rtr_server.specs.declared.outcome.Outcome.{Outcome}
 use Rattle.rtr_server.specs.declared.routers.Served.{Served}
 use Rattle.rtr_server.specs.Outcomes.{outcome_text, outcomes_text, reached_text}
 use Rattle.rtr_server.specs.Routers.{ServesLine, attempts_in}
 use Rattle.aspa_top.specs.State.{State}
-use Rattle.aspa_top.specs.Serving.{TakesTable, HasCache, ServesAll, ServesTable, ServesSome, ServesUnsummed, ServesTablePart, serving_of, with_cache}
+use Rattle.aspa_top.specs.Serving.{TakesTable, TakesTimed, SetsTiming, HasCache, ServesAll, ServesTable, ServesSome, ServesUnsummed, ServesTablePart, serving_of, with_cache}
 use Rattle.aspa_top.specs.World.{World}
 use Rattle.rtr_server.proofs.FrontLemmas.{line_one, part_first}
 use Rattle.rtr_cache.proofs.ExchangeLemmas.{gets_table}
@@ -22,8 +25,12 @@ takes_one : (held : Option Versions) (session : ℕ) (parts : Parts) (one other 
 takes_one None session parts one other a b = made_one session parts one other a b
 takes_one (Some old) session parts one other a b = updated_one old parts one other a b
 
+timed_one : (held : Option Versions) (session : ℕ) (timing : Timing) (parts : Parts) (one other : Versions) → TakesTimed held session timing parts one → TakesTimed held session timing parts other → one ≡ other
+timed_one held session timing parts one other a b =
+    a.is ∙ ap (λ (c : Versions). timed c timing) (takes_one held session parts a.taken b.taken a.takes b.takes) ∙ sym b.is
+
 cache_one : (state : State) (session : ℕ) (a b : HasCache state session) → b.cache ≡ a.cache
-cache_one state session a b = takes_one (state.caches session) session state.analysis.parts b.cache a.cache b.takes a.takes
+cache_one state session a b = timed_one (state.caches session) session state.timing state.analysis.parts b.cache a.cache b.takes a.takes
 
 -- the text of some outcomes goes on with that of the others
 outcomes-append : (line : ℕ) (few more : List Outcome) → outcomes_text line (few ++ more) ≡ outcomes_text line few ++ outcomes_text line more
@@ -81,6 +88,23 @@ module _ (world : World) (attempts : List Attempt) (told : world.ends.attempts �
   table_front part text moved next (fits, inl some) (inr all) = some_front part text moved next some all.1
   table_front part text moved next (fits, inr unsummed) (inr all) = unsummed_front part text moved next unsummed all.1
 
+-- ---- times
+
+pub SetsTiming-unique : (state : State) (timing : Timing) (one other : List ℕ) (end last : State) → SetsTiming state timing one end → SetsTiming state timing other last → (one ≡ other) × (end ≡ last)
+SetsTiming-unique state timing one other end last (inl a) (inl b) = (a.1 ∙ sym b.1, a.2 ∙ sym b.2)
+SetsTiming-unique state timing one other end last (inl a) (inr b) = absurd (b.0 a.0)
+SetsTiming-unique state timing one other end last (inr a) (inl b) = absurd (a.0 b.0)
+SetsTiming-unique state timing one other end last (inr a) (inr b) = (a.1.0 ∙ sym b.1.0, a.1.1 ∙ sym b.1.1)
+
+is_below : (one other : ℕ) → Decided (one < other)
+is_below one other = elim (cases_lt one other) [ inl below ↦ inl below | inr above ↦ inr (λ below. let never : ⊥ = omega (arith, above, below) in never) ]
+
+pub some_timing : (state : State) (timing : Timing) → (text : List ℕ) × (next : State) × SetsTiming state timing text next
+some_timing state timing = elim (decided_both (is_below timing.refresh timing.expire) (is_below timing.retry timing.expire)) [
+  | inl lasts ↦ ([], record state { timing = timing }, inl (record { refresh = lasts.0; retry = lasts.1 }, refl, refl))
+  | inr not ↦ (_, _, inr ((λ lasts. not (lasts.refresh, lasts.retry)), (refl, refl)))
+]
+
 -- ---- routers
 
 -- the cache that took a table has its rows
@@ -88,6 +112,10 @@ takes_rows : (held : Option Versions) (session : ℕ) (parts : Parts) (cache : V
 takes_rows None session parts cache takes = takes.rows
 takes_rows (Some old) session parts cache takes = takes.rows
 
+timed_rows : (held : Option Versions) (session : ℕ) (timing : Timing) (parts : Parts) (cache : Versions) → TakesTimed held session timing parts cache → AreRowsOf parts cache.current.rows
+timed_rows held session timing parts cache takes =
+    subst (λ (c : Versions). AreRowsOf parts c.current.rows) (sym takes.is) (takes_rows held session parts takes.taken takes.takes)
+
 pub routers_get_table : ServedRoutersGetTheTable
 routers_get_table world state place session count text next fits serves router done may exchanges =
-    (gets_table serves.has.cache state.analysis.parts router done (takes_rows (state.caches session) session state.analysis.parts serves.has.cache serves.has.takes) fits may exchanges).1
+    (gets_table serves.has.cache state.analysis.parts router done (timed_rows (state.caches session) session state.timing state.analysis.parts serves.has.cache serves.has.takes) fits may exchanges).1

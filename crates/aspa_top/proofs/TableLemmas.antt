@@ -153,6 +153,7 @@ module _ (working : Working) (kind : FileKind) (file : List ℕ) (old : Outside)
                 dumps = λ q. subst (λ (d : Option HeldDump). HoldsOr files d (state.dumps q)) (sym (keeps.dumps q)) (stayed.dumps q);
                 feeds = subst (λ (held : Feeds). (q : List ℕ) → HoldsFeed old.links.wire (feed_in held q) (state.feeds q)) (sym keeps.feeds) stayed.feeds;
                 caches = λ q. keeps.caches q ∙ stayed.caches q;
+                timing = ap (λ (w : Working). w.timing) next_is ∙ ap (λ (w : Working). w.timing) mid_is ∙ stands.timing;
                 begun = stayed.begun;
                 made = stayed.made;
                 lines = keeps.lines ∙ stands.lines;

@@ -8,6 +8,7 @@ use Rattle.attestations.proofs.PartsLemmas.{table_is_current}
 use Rattle.path_model.proofs.LawLemmas.{some_right}
 use Rattle.av_base.specs.Connections.{Attempt}
 use Rattle.av_text.specs.VerdictText.{verdict_text}
+use Rattle.rtr_pdu.specs.declared.version.Version.{Version}
 use Rattle.rtr_client.specs.declared.telling.Telling.TheVariants.{NoName}
 use Rattle.rtr_client.specs.declared.working.Work.{Work}
 use Rattle.rtr_client.specs.declared.working.Work.TheVariants.{Take as TakePdus}
@@ -33,13 +34,13 @@ use Rattle.aspa_top.specs.declared.files.Amendment.{Amendment}
 use Rattle.aspa_top.specs.declared.files.Outcome.{Outcome}
 use Rattle.aspa_top.specs.declared.files.Outcome.TheVariants.{NoFile, Long as FileLong, Flawed, Good}
 use Rattle.aspa_top.specs.declared.task.Task.{Task}
-use Rattle.aspa_top.specs.declared.task.Task.TheVariants.{Idle, Happen, Clear, Judge, Explain, Sent, Say, Load, Open, Take, Until, Connect, OnFeed, Serve, Answer, Changes}
+use Rattle.aspa_top.specs.declared.task.Task.TheVariants.{Idle, Happen, Clear, Judge, Explain, Sent, Say, Load, Open, Take, Until, Connect, OnFeed, Serve, SetTiming, Answer, Changes}
 use Rattle.aspa_top.specs.Tasks.{State, MakesHappen, Holds, TakesFile, LoadsUnless, OpensNamed, TakesOpen, TakesNamed, TakesEarlierUnless, TakesUntilNamed, Works, ConnectsUnless, ShowsChanges, DoesTask, amended, is_stream, is_taken, with_name, asking_of, asking_on, feeds_of, with_feeds, taking_of, after_taking, most_units}
 use Rattle.aspa_top.specs.World.{World}
 use Rattle.aspa_top.proofs.JudgedLemmas.{ExplainsPath-unique, IsJudged-unique, ListsSent-unique, some_explanation, some_sent}
 use Rattle.aspa_top.proofs.OutcomeLemmas.{some_outcome, outcome_unique}
 use Rattle.aspa_top.proofs.QuestionLemmas.{replies_unique, some_reply}
-use Rattle.aspa_top.proofs.ServingLemmas.{ServesTable-unique}
+use Rattle.aspa_top.proofs.ServingLemmas.{ServesTable-unique, SetsTiming-unique, some_timing}
 
 -- ---- a text
 
@@ -138,7 +139,7 @@ some_judgement world state role neighbour path =
 
 -- the task connects no feed
 abbrev pub ConnectsNone : Task → Type 0
-ConnectsNone (Connect name place) = ⊥
+ConnectsNone (Connect name place said) = ⊥
 ConnectsNone (Serve place session count) = ⊥
 ConnectsNone other = Unit {0}
 
@@ -155,9 +156,10 @@ some_task world state (Load kind file) other none = some_load (is_taken state ki
 some_task world state (Open kind name file) other none = some_opening (state.sources name || is_stream state name) (world.named file) state kind name
 some_task world state (Take name count) other none = some_take (state.dumps name) world state name count (none name)
 some_task world state (Until name moment) other none = some_until_of (state.dumps name) state name moment
-some_task world state (Connect name place) other none = absurd other
+some_task world state (Connect name place said) other none = absurd other
 some_task world state (OnFeed name work) other none = some_work world state name work (none name)
 some_task world state (Serve place session count) other none = absurd other
+some_task world state (SetTiming timing) other none = some_timing state timing
 some_task world state (Answer question) other none = some_reply state question
 some_task world state Changes other none = some_changes state
 
@@ -234,11 +236,11 @@ Works-unique world attempts told state name work one other end last a b =
     let same = (one_outcome world.ends attempts told (asking_on state name) (feeds_of state)).works work one other a.after b.after a.does b.does in
     (same.0, a.left ∙ ap (with_feeds state) same.1 ∙ sym b.left)
 
-Connects-unique : (used : Bool) (world : World) (attempts : List Attempt) → world.ends.attempts ≡ Some attempts → (state : State) (name place one other : List ℕ) (end last : State)
-    → ConnectsUnless used world state name place one end → ConnectsUnless used world state name place other last → (one ≡ other) × (end ≡ last)
-Connects-unique true world attempts told state name place one other end last a b = both one other _ end last _ a b
-Connects-unique false world attempts told state name place one other end last a b =
-    let same = (one_outcome world.ends attempts told (asking_on state name) (feeds_of state)).connects place one other a.after b.after a.does b.does in
+Connects-unique : (used : Bool) (world : World) (attempts : List Attempt) → world.ends.attempts ≡ Some attempts → (state : State) (name place : List ℕ) (said : Option Version) (one other : List ℕ) (end last : State)
+    → ConnectsUnless used world state name place said one end → ConnectsUnless used world state name place said other last → (one ≡ other) × (end ≡ last)
+Connects-unique true world attempts told state name place said one other end last a b = both one other _ end last _ a b
+Connects-unique false world attempts told state name place said one other end last a b =
+    let same = (one_outcome world.ends attempts told (asking_on state name) (feeds_of state)).connects place said one other a.after b.after a.does b.does in
     (same.0, a.left ∙ ap (with_feeds state) same.1 ∙ sym b.left)
 
 Takes-unique : (dump : Option Dump) (world : World) (attempts : List Attempt) → world.ends.attempts ≡ Some attempts → (state : State) (name : List ℕ) (count : ℕ) (one other : List ℕ) (end last : State)
@@ -272,9 +274,10 @@ DoesTask-unique world attempts told state (Open kind name file) one other end la
     Opens-unique (state.sources name || is_stream state name) (world.named file) state kind name one other end last a b
 DoesTask-unique world attempts told state (Take name count) one other end last a b = Takes-unique (state.dumps name) world attempts told state name count one other end last a b
 DoesTask-unique world attempts told state (Until name moment) one other end last a b = TakesUntil-unique (state.dumps name) state name moment one other end last a b
-DoesTask-unique world attempts told state (Connect name place) one other end last a b =
-    Connects-unique (state.sources name || is_some (state.dumps name)) world attempts told state name place one other end last a b
+DoesTask-unique world attempts told state (Connect name place said) one other end last a b =
+    Connects-unique (state.sources name || is_some (state.dumps name)) world attempts told state name place said one other end last a b
 DoesTask-unique world attempts told state (OnFeed name work) one other end last a b = Works-unique world attempts told state name work one other end last a b
 DoesTask-unique world attempts told state (Serve place session count) one other end last a b = ServesTable-unique world attempts told state place session count one other end last a b
+DoesTask-unique world attempts told state (SetTiming timing) one other end last a b = SetsTiming-unique state timing one other end last a b
 DoesTask-unique world attempts told state (Answer question) one other end last a b = replies_unique state question one other end last a b
 DoesTask-unique world attempts told state Changes one other end last a b = ShowsChanges-unique state one other end last a b

@@ -7,6 +7,7 @@ use Rattle.path_model.specs.declared.verdict.Verdict.TheVariants.{Valid, Unknown
 use Rattle.av_text.specs.VerdictText.{verdict_text}
 use Rattle.av_text.specs.Spellings.{IsInLine}
 use Rattle.av_text.proofs.LackLemmas.{verdict_text-lacks}
+use Rattle.rtr_pdu.specs.declared.version.Version.{Version}
 use Rattle.rtr_client.specs.declared.telling.Telling.{Telling}
 use Rattle.rtr_client.specs.declared.working.Work.{Work}
 use Rattle.rtr_client.specs.declared.working.Work.TheVariants.{Take as TakePdus}
@@ -40,13 +41,14 @@ use Rattle.report_text.specs.Feeds.{feed_line}
 use Rattle.report_text.specs.Served.{served_line, served_text}
 use Rattle.report_text.proofs.RefusalLemmas.{feed_end_is_one_line, refusal_is_one_line, serve-in_line}
 use Rattle.report_text.proofs.AnswerLemmas.{served_is_one_line}
-use Rattle.aspa_top.specs.Serving.{ServesTable}
+use Rattle.rtr_pdu.specs.declared.timing.Timing.{Timing}
+use Rattle.aspa_top.specs.Serving.{ServesTable, SetsTiming}
 use Rattle.aspa_top.specs.declared.files.FileKind.{FileKind}
 use Rattle.aspa_top.specs.declared.files.Outcome.{Outcome}
 use Rattle.aspa_top.specs.declared.files.Outcome.TheVariants.{NoFile, Long as FileLong, Flawed, Good}
 use Rattle.aspa_top.specs.declared.task.Question.{Question}
 use Rattle.aspa_top.specs.declared.task.Task.{Task}
-use Rattle.aspa_top.specs.declared.task.Task.TheVariants.{Idle as Nothing, Happen, Clear, Judge as JudgePath, Explain as ExplainPath, Sent as ListSent, Say, Load, Open, Take, Until, Connect, OnFeed, Serve, Answer, Changes}
+use Rattle.aspa_top.specs.declared.task.Task.TheVariants.{Idle as Nothing, Happen, Clear, Judge as JudgePath, Explain as ExplainPath, Sent as ListSent, Say, Load, Open, Take, Until, Connect, OnFeed, Serve, SetTiming, Answer, Changes}
 use Rattle.aspa_top.specs.Files.{unit_name}
 use Rattle.aspa_top.specs.Tasks.{State, MakesHappen, Refuses, TakesFile, LoadsUnless, OpensNamed, TakesOpen, TakesNamed, TakesEarlierUnless, TakesUntilNamed, Works, ConnectsUnless, DoesTask, is_stream, is_taken, asking_of, asking_on, feeds_of, with_feeds, taking_of}
 use Rattle.aspa_top.specs.Answers.{AnswersUnless, Replies, refused_for}
@@ -165,10 +167,10 @@ Works-refused world state name work text next rest in_line works =
     told_counted state next (asking_on state name) works.does.tells text rest works.does.after works.after in_line works.does.text_is
     (Works-counted world.ends (feeds_of state) name work (state.feeds name) works.does.tells works.does.after works.does.done) works.does.left works.left
 
-Connects-refused : (used : Bool) (world : World) (state : State) (name place text : List ℕ) (next : State) (rest : List ℕ) → IsInLine name
-    → ConnectsUnless used world state name place text next → next.refused + refusals_in rest ≡ state.refused + refusals_in (text ++ rest)
-Connects-refused true world state name place text next rest in_line connects = Refuses-refused state of_line causes.NameTaken text next rest tt connects
-Connects-refused false world state name place text next rest in_line connects =
+Connects-refused : (used : Bool) (world : World) (state : State) (name place : List ℕ) (said : Option Version) (text : List ℕ) (next : State) (rest : List ℕ) → IsInLine name
+    → ConnectsUnless used world state name place said text next → next.refused + refusals_in rest ≡ state.refused + refusals_in (text ++ rest)
+Connects-refused true world state name place said text next rest in_line connects = Refuses-refused state of_line causes.NameTaken text next rest tt connects
+Connects-refused false world state name place said text next rest in_line connects =
     told_counted state next (asking_on state name) connects.does.tells text rest connects.does.after connects.after in_line connects.does.text_is
     (ap (λ (s : FeedState). s.refused) connects.does.done.left) connects.does.left connects.left
 
@@ -234,6 +236,11 @@ Replies-refused state question text next rest replies = by_cause (refused_for st
   by_cause (Some cause) refuses = Refuses-refused state of_line cause text next rest tt refuses
   by_cause None answers = answered state next text text rest refl (answers_counted text rest (answer_lines state question text answers.0)) (ap (λ (s : State). s.refused) answers.1)
 
+SetsTiming-refused : (state : State) (timing : Timing) (text : List ℕ) (next : State) (rest : List ℕ)
+    → SetsTiming state timing text next → next.refused + refusals_in rest ≡ state.refused + refusals_in (text ++ rest)
+SetsTiming-refused state timing text next rest (inl set) = silent text rest state.refused next.refused set.1 (ap (λ (s : State). s.refused) set.2)
+SetsTiming-refused state timing text next rest (inr refused) = Refuses-refused state of_line causes.Number text next rest tt refused.1
+
 DoesTask-refused : (world : World) (state : State) (task : Task) (text : List ℕ) (next : State) (rest : List ℕ) → IsNamedInLine task
     → DoesTask world state task text next → next.refused + refusals_in rest ≡ state.refused + refusals_in (text ++ rest)
 DoesTask-refused world state Nothing text next rest in_line does = silent text rest state.refused next.refused does.0 (ap (λ (s : State). s.refused) does.1)
@@ -255,10 +262,11 @@ DoesTask-refused world state (Load kind file) text next rest in_line does = Load
 DoesTask-refused world state (Open kind name file) text next rest in_line does = Opens-refused (state.sources name || is_stream state name) (world.named file) state kind name text next rest does
 DoesTask-refused world state (Take name count) text next rest in_line does = Takes-refused (state.dumps name) world state name count text next rest in_line does
 DoesTask-refused world state (Until name moment) text next rest in_line does = TakesUntil-refused (state.dumps name) state name moment text next rest in_line does
-DoesTask-refused world state (Connect name place) text next rest in_line does =
-    Connects-refused (state.sources name || is_some (state.dumps name)) world state name place text next rest in_line does
+DoesTask-refused world state (Connect name place said) text next rest in_line does =
+    Connects-refused (state.sources name || is_some (state.dumps name)) world state name place said text next rest in_line does
 DoesTask-refused world state (OnFeed name work) text next rest in_line does = Works-refused world state name work text next rest in_line does
 DoesTask-refused world state (Serve place session count) text next rest in_line does = ServesTable-refused world state place session count text next rest does
+DoesTask-refused world state (SetTiming timing) text next rest in_line does = SetsTiming-refused state timing text next rest does
 DoesTask-refused world state (Answer question) text next rest in_line does = Replies-refused state question text next rest does
 DoesTask-refused world state Changes text next rest in_line does =
     answered state next text (flat_map change_row does.changes) rest does.text_is (changes_counted does.changes rest) (ap (λ (s : State). s.refused) does.left)

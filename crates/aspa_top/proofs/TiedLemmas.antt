@@ -1,6 +1,7 @@
 -- The sources of feeds' names have the payloads of the feeds' sessions, behind all lines.
 use Rattle.std.proofs.Common.{ℕ, false, is_some, List, sym, ap, ◌∙◌, subst}
 use Rattle.std.specs.declared.option.Option.{Option}
+use Rattle.rtr_pdu.specs.declared.version.Version.{Version}
 use Rattle.rtr_client.specs.declared.working.Work.{Work}
 use Rattle.rtr_client.specs.Feeds.{Feed}
 use Rattle.rtr_client.specs.Laws.{HasItsPayloads, IsTied}
@@ -26,9 +27,9 @@ module _ (world : World) where
       let done = work_line_tied world.ends (asking_on state name) work text (feeds_of state) works.after tied works.does in
       subst AreTied (sym works.left) (record { each = done.each })
 
-  connects_tied : (state next : State) (name place text : List ℕ) → AreTied state → ConnectsUnless false world state name place text next → AreTied next
-  connects_tied state next name place text tied connects =
-      let done = connect_line_tied world.ends (asking_on state name) place text (feeds_of state) connects.after tied connects.does in
+  connects_tied : (state next : State) (name place : List ℕ) (said : Option Version) (text : List ℕ) → AreTied state → ConnectsUnless false world state name place said text next → AreTied next
+  connects_tied state next name place said text tied connects =
+      let done = connect_line_tied world.ends (asking_on state name) place said text (feeds_of state) connects.after tied connects.does in
       subst AreTied (sym connects.left) (record { each = done.each })
 
   tied_left : IsLeft world AreTied

@@ -4,6 +4,7 @@ use Rattle.std.specs.Io.KnownBytes.{append_known, prepend_known}
 use Rattle.std.specs.List.{All, Contains}
 use Rattle.std.specs.declared.option.Option.{Option}
 use Rattle.std.specs.declared.result.Result.TheVariants.{Ok}
+use Rattle.rtr_pdu.specs.declared.version.Version.{Version}
 use Rattle.script_lines.specs.declared.commands.Command.TheVariants.{Feed, Serve}
 use Rattle.script_lines.specs.Grammar.{IsReading}
 use Rattle.stream_lines.specs.Counts.{refusals_in}
@@ -42,7 +43,7 @@ NoScriptHasTwoTexts = (world : World) → AreTold world → (lines : List (List 
 
 -- the line is neither a `feed` line nor a `serve` line
 pub record NeedsNoAttempt (line : List ℕ) : Type 0 where
-  pub no_feed : (name place : List ℕ) → IsReading line (Ok (Feed name place)) → ⊥
+  pub no_feed : (name place : List ℕ) (said : Option Version) → IsReading line (Ok (Feed name place said)) → ⊥
   pub no_serve : (place : List ℕ) (session count : ℕ) → IsReading line (Ok (Serve place session count)) → ⊥
 
 -- each of the lines is neither
@@ -96,7 +97,7 @@ SourcesHaveFeedsPayloads = (world : World) (lines : List (List ℕ)) (text : Lis
 
 -- Where a line reports a feed as lost, nothing is to come on the feed's connection; and no `feed` line does.
 pub record LosesOnlyAtEnd (ends : Ends) (state : FeedState) : Type 0 where
-  pub connects : (name place : List ℕ) (tells : List Telling) (next : FeedState) → Connects ends state name place tells next → ¬ Contains tells (FeedEnds Lost)
+  pub connects : (name place : List ℕ) (said : Option Version) (tells : List Telling) (next : FeedState) → Connects ends state name place said tells next → ¬ Contains tells (FeedEnds Lost)
   pub works : (name : List ℕ) (work : Work) (tells : List Telling) (next : FeedState) → Works ends state name work tells next → Contains tells (FeedEnds Lost)
       → (feed : OneFeed) × (state.feeds name ≡ Some (Some feed)) × InEnd ends feed.link (λ t. t.to_come ≡ [])
 

@@ -1,12 +1,14 @@
--- What a `serve` line does: the cache of its session takes the current table, and routers are served with it at a place.
-use Rattle.std.specs.Prelude.{◌≡◌, ◌⊎◌, ℕ, ◌+◌, nat_eq, cond, List, ◌++◌, length}
+-- What a `serve` line does: the cache of its session takes the current table, and routers are served with it at a place. And the times that it
+-- gives them, which a `timing` line sets.
+use Rattle.std.specs.Prelude.{◌≡◌, ◌⊎◌, ℕ, ◌+◌, ◌<◌, nat_eq, cond, List, [], ◌++◌, length}
 use Rattle.std.specs.declared.option.Option.{Option}
 use Rattle.std.specs.declared.option.Option.TheVariants.{Some, None}
 use Rattle.attestations.specs.CurrentTable.{Parts}
 use Rattle.report_text.specs.declared.cause.Cause.TheVariants as causes
 use Rattle.report_text.specs.Refusals.{of_line}
 use Rattle.report_text.specs.Served.{served_text}
-use Rattle.rtr_cache.specs.Cache.{FitsPdus, IsMade, Updates, Versions}
+use Rattle.rtr_pdu.specs.declared.timing.Timing.{Timing}
+use Rattle.rtr_cache.specs.Cache.{FitsPdus, IsMade, Updates, Versions, timed}
 use Rattle.rtr_server.specs.declared.outcome.Outcome.{Outcome}
 use Rattle.rtr_server.specs.declared.routers.Served.{Served}
 use Rattle.rtr_server.specs.Outcomes.{outcomes_text}
@@ -22,6 +24,12 @@ abbrev pub TakesTable : Option Versions → ℕ → Parts → Versions → Type 
 TakesTable None session parts cache = IsMade session parts cache
 TakesTable (Some old) session parts cache = Updates old parts cache
 
+-- and gives these times from then on
+pub record TakesTimed (held : Option Versions) (session : ℕ) (timing : Timing) (parts : Parts) (cache : Versions) : Type 0 where
+  pub taken : Versions
+  pub takes : TakesTable held session parts taken
+  pub is : cache ≡ timed taken timing
+
 -- the caches with this one in its session
 abbrev pub with_cache : ℕ → Versions → (ℕ → Option Versions) → ℕ → Option Versions
 with_cache session cache caches other = cond (nat_eq session other) (Some cache) (caches other)
@@ -29,7 +37,7 @@ with_cache session cache caches other = cond (nat_eq session other) (Some cache)
 -- the cache with which a line serves, before its first attempt to accept a router
 pub record HasCache (state : State) (session : ℕ) : Type 0 where
   pub cache : Versions
-  pub takes : TakesTable (state.caches session) session state.analysis.parts cache
+  pub takes : TakesTimed (state.caches session) session state.timing state.analysis.parts cache
 
 -- ---- `serve PLACE SESSION N`
 
@@ -79,3 +87,16 @@ abbrev pub ServesTablePart : World → State → List ℕ → ℕ → ℕ → Li
 ServesTablePart world state place session count part next =
     FitsPdus state.analysis.parts
     × (ServesSome world state place session count part next ⊎ ServesUnsummed world state place session count part next)
+
+-- ---- `timing REFRESH RETRY EXPIRE`
+
+-- what a router has lasts longer than it waits until it asks (RFC 8210, section 6)
+pub record IsLasting (timing : Timing) : Type 0 where
+  pub refresh : timing.refresh < timing.expire
+  pub retry : timing.retry < timing.expire
+
+-- routers are given these times from then on; the line is refused where they don't last
+abbrev pub SetsTiming : State → Timing → List ℕ → State → Type 0
+SetsTiming state timing text next =
+    (IsLasting timing × (text ≡ []) × (next ≡ record state { timing = timing }))
+    ⊎ ((¬ IsLasting timing) × Refuses state of_line causes.Number text next)

@@ -34,6 +34,7 @@ pub record StandsFor (files : Option Files) (links : Links) (working : Working) 
   pub dumps : (name : List ℕ) → HoldsOr files (dump_in working name) (state.dumps name)
   pub feeds : (name : List ℕ) → HoldsFeed links.wire (feed_in working.feeds name) (state.feeds name)
   pub caches : (session : ℕ) → cache_in working session ≡ state.caches session
+  pub timing : working.timing ≡ state.timing
   pub begun : state.begun ≡ NoneMore
   pub made : (attempts : List Attempt) → links.attempts ≡ Some attempts → state.made ≡ length attempts
   pub lines : working.lines ≡ state.lines

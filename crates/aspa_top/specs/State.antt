@@ -10,6 +10,8 @@ use Rattle.otc_check.specs.Marks.{Marked}
 use Rattle.report_text.specs.declared.cause.Cause.{Cause}
 use Rattle.report_text.specs.Refusals.{AnyPlace, refusal_text}
 use Rattle.rib_store.specs.State.{State as Analysis, no_state}
+use Rattle.rtr_pdu.specs.declared.timing.Timing.{Timing}
+use Rattle.rtr_pdu.specs.Timing.{suggested}
 use Rattle.rtr_cache.specs.Cache.{Versions}
 use Rattle.rtr_server.specs.Routers.{Begun, NoneMore}
 use Rattle.stream_lines.specs.Streams.{Dump}
@@ -17,7 +19,7 @@ use Rattle.aspa_top.specs.World.{World}
 
 -- What some lines have left: the analysis, what the routes say of Only-to-Customer, the payloads of origin validation by source with a
 -- SLURM file's filters and assertions, which names are those of attestation sources, of dumps and of feeds (none where a session is
--- over), the caches that were served, by session, how many attempts to connect and to accept were made, how many lines, passed units and
+-- over), the caches that were served, by session, the times that routers are given from then on, how many attempts to connect and to accept were made, how many lines, passed units and
 -- refused lines there were, and how many judgements they may have cost; and, of a `serve` line that ended early, what its last attempt came
 -- to. A line of text that reports the end of a feed, or of a router, counts as refused.
 pub record State : Type 0 where
@@ -28,6 +30,7 @@ pub record State : Type 0 where
   pub dumps : List ℕ → Option Dump
   pub feeds : List ℕ → Option (Option Feed)
   pub caches : ℕ → Option Versions
+  pub timing : Timing
   pub begun : Begun
   pub made : ℕ
   pub lines : ℕ
@@ -45,6 +48,7 @@ start world = record {
   dumps = λ name. None;
   feeds = λ name. None;
   caches = λ session. None;
+  timing = suggested;
   begun = NoneMore;
   made = world.made;
   lines = 0;

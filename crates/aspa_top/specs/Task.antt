@@ -9,7 +9,7 @@ use Rattle.vap_table.specs.declared.change.TableChange.{TableChange}
 use Rattle.vap_table.specs.declared.change.TableChange.TheVariants.{At as SetMoment, Filter as FilterByHand, Unfilter as UnfilterByHand, Assert as AssertByHand, Unassert as UnassertByHand}
 use Rattle.analyser.specs.declared.event.Event.TheVariants.{Table as TableEvent, Role as RoleEvent, DefaultRole}
 use Rattle.script_lines.specs.declared.commands.Command.{Command}
-use Rattle.script_lines.specs.declared.commands.Command.TheVariants.{Idle, Aspa, Aspa64, Validated, Slurm, At, Filter, Unfilter, Assert, Unassert, Role as SetRole, RoleDefault, Open, Bmp, Take, Until, Feed, Ask, Sync, Serve, Judge, Clear, Changes, Details, Say, Why, Report, Origins, Leaks, Suspects, Peers, Sent, Explain, ExplainRoute, Attests, Neighbours, Routes, Silent, Summary}
+use Rattle.script_lines.specs.declared.commands.Command.TheVariants.{Idle, Aspa, Aspa64, Validated, Slurm, At, Filter, Unfilter, Assert, Unassert, Role as SetRole, RoleDefault, Open, Bmp, Take, Until, Feed, Ask, Sync, Serve, Timing, Judge, Clear, Changes, Details, Say, Why, Report, Origins, Leaks, Suspects, Peers, Sent, Explain, ExplainRoute, Attests, Neighbours, Routes, Silent, Summary}
 use Rattle.stream_lines.specs.declared.kind.DumpKind.{DumpKind}
 use Rattle.stream_lines.specs.declared.kind.DumpKind.TheVariants as kinds
 use Rattle.rtr_client.specs.declared.working.Work.TheVariants.{Ask as AskNow, Sync as SyncTo}
@@ -17,7 +17,7 @@ use Rattle.aspa_top.specs.declared.files.FileKind.TheVariants.{Source, Slurm as 
 use Rattle.aspa_top.specs.declared.files.Format.TheVariants.{Payloads, PayloadLines, Validated as ValidatedFile}
 use Rattle.aspa_top.specs.declared.task.Question.TheVariants as questions
 use Rattle.aspa_top.specs.declared.task.Task.{Task}
-use Rattle.aspa_top.specs.declared.task.Task.TheVariants.{Idle as Nothing, Happen, Clear as ClearAll, Judge as JudgePath, Explain as ExplainPath, Sent as ListSent, Say as SayWords, Load, Open as OpenDump, Take as TakeUnits, Until as TakeUntil, Connect, OnFeed, Serve as ServeRouters, Answer, Changes as ListChanges}
+use Rattle.aspa_top.specs.declared.task.Task.TheVariants.{Idle as Nothing, Happen, Clear as ClearAll, Judge as JudgePath, Explain as ExplainPath, Sent as ListSent, Say as SayWords, Load, Open as OpenDump, Take as TakeUnits, Until as TakeUntil, Connect, OnFeed, Serve as ServeRouters, SetTiming, Answer, Changes as ListChanges}
 
 -- the table changes
 abbrev pub table_event : TableChange → Task
@@ -45,10 +45,11 @@ task_of (Open name file writer) = OpenDump (kinds.Mrt writer) name file
 task_of (Bmp name file view writer) = OpenDump (kinds.Bmp view writer) name file
 task_of (Take name count) = TakeUnits name count
 task_of (Until name moment) = TakeUntil name moment
-task_of (Feed name place) = Connect name place
+task_of (Feed name place said) = Connect name place said
 task_of (Ask name) = OnFeed name AskNow
 task_of (Sync name count) = OnFeed name (SyncTo count)
 task_of (Serve place session count) = ServeRouters place session count
+task_of (Timing refresh retry expire) = SetTiming (record { refresh = refresh; retry = retry; expire = expire })
 task_of (Judge role neighbour path) = JudgePath role neighbour path
 task_of (Explain role neighbour path) = ExplainPath role neighbour path
 task_of (Sent role path) = ListSent role path
@@ -75,7 +76,7 @@ may_wait (Load kind file) = true
 may_wait (OpenDump kind name file) = true
 may_wait (TakeUnits name count) = true
 may_wait (TakeUntil name moment) = true
-may_wait (Connect name place) = true
+may_wait (Connect name place said) = true
 may_wait (ServeRouters place session count) = true
 may_wait (OnFeed name work) = true
 may_wait task = false

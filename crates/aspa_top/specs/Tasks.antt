@@ -19,6 +19,7 @@ use Rattle.analyser.specs.declared.event.Event.TheVariants.{Table as TableEvent}
 use Rattle.analyser.specs.Events.{Happens}
 use Rattle.analyser.specs.Touched.{Costs}
 use Rattle.av_text.specs.VerdictText.{verdict_text}
+use Rattle.rtr_pdu.specs.declared.version.Version.{Version}
 use Rattle.rtr_client.specs.declared.working.Work.{Work}
 use Rattle.rtr_client.specs.declared.working.Work.TheVariants.{Take as TakePdus}
 use Rattle.rtr_client.specs.Lines.{ConnectLine, ConnectPart, WorkLine, WorkPart}
@@ -42,10 +43,10 @@ use Rattle.aspa_top.specs.declared.files.FileKind.TheVariants.{Source, Slurm as 
 use Rattle.aspa_top.specs.declared.files.Outcome.{Outcome}
 use Rattle.aspa_top.specs.declared.files.Outcome.TheVariants.{NoFile, Long as FileLong, Flawed, Good}
 use Rattle.aspa_top.specs.declared.task.Task.{Task}
-use Rattle.aspa_top.specs.declared.task.Task.TheVariants.{Idle, Happen, Clear, Judge, Explain, Sent, Say, Load, Open, Take, Until, Connect, OnFeed, Serve, Answer, Changes}
+use Rattle.aspa_top.specs.declared.task.Task.TheVariants.{Idle, Happen, Clear, Judge, Explain, Sent, Say, Load, Open, Take, Until, Connect, OnFeed, Serve, SetTiming, Answer, Changes}
 use Rattle.aspa_top.specs.Answers.{Replies}
 use Rattle.aspa_top.specs.Files.{ComesOf, unit_name}
-use Rattle.aspa_top.specs.Serving.{ServesTable, ServesTablePart}
+use Rattle.aspa_top.specs.Serving.{ServesTable, ServesTablePart, SetsTiming}
 pub use Rattle.aspa_top.specs.Dumps.{new_dump, with_dump, OpensNamed, Opens, asking_of, taking_of, after_taking, TakesAll, TakesOpen, TakesEarlier, TakesEarlierUnless, TakesUntilNamed, TakesUpTo, most_units}
 pub use Rattle.aspa_top.specs.State.{State, start, same_name, is_stream, Refuses}
 use Rattle.aspa_top.specs.World.{World}
@@ -149,14 +150,14 @@ Works world state name work text next =
     OnFeeds state (WorkLine world.ends (asking_on state name) work (feeds_of state) text) next
 
 -- a feed is connected, unless a source or a dump has the name
-abbrev pub ConnectsUnless : Bool → World → State → List ℕ → List ℕ → List ℕ → State → Type 0
-ConnectsUnless true world state name place text next = Refuses state of_line causes.NameTaken text next
-ConnectsUnless false world state name place text next =
-    OnFeeds state (ConnectLine world.ends (asking_on state name) place (feeds_of state) text) next
+abbrev pub ConnectsUnless : Bool → World → State → List ℕ → List ℕ → Option Version → List ℕ → State → Type 0
+ConnectsUnless true world state name place said text next = Refuses state of_line causes.NameTaken text next
+ConnectsUnless false world state name place said text next =
+    OnFeeds state (ConnectLine world.ends (asking_on state name) place said (feeds_of state) text) next
 
-abbrev pub Connects : World → State → List ℕ → List ℕ → List ℕ → State → Type 0
-Connects world state name place text next =
-    ConnectsUnless (state.sources name || is_some (state.dumps name)) world state name place text next
+abbrev pub Connects : World → State → List ℕ → List ℕ → Option Version → List ℕ → State → Type 0
+Connects world state name place said text next =
+    ConnectsUnless (state.sources name || is_some (state.dumps name)) world state name place said text next
 
 -- ---- `take NAME N`
 
@@ -242,9 +243,10 @@ DoesTask world state (Load kind file) text next = Loads world state kind file te
 DoesTask world state (Open kind name file) text next = Opens world state kind name file text next
 DoesTask world state (Take name count) text next = Takes world state name count text next
 DoesTask world state (Until name moment) text next = TakesUpTo state name moment text next
-DoesTask world state (Connect name place) text next = Connects world state name place text next
+DoesTask world state (Connect name place said) text next = Connects world state name place said text next
 DoesTask world state (OnFeed name work) text next = Works world state name work text next
 DoesTask world state (Serve place session count) text next = ServesTable world state place session count text next
+DoesTask world state (SetTiming timing) text next = SetsTiming state timing text next
 DoesTask world state (Answer question) text next = Replies state question text next
 DoesTask world state Changes text next = ShowsChanges state text next
 
@@ -265,7 +267,7 @@ WorksPart world state name work next = OnFeeds state (WorkPart world.ends (askin
 -- What a line on a feed, or one that serves routers, had done and written when it ended early. One on a feed wrote nothing.
 abbrev pub Moves : World → State → Task → List ℕ → State → Type 0
 Moves world state (Take name count) part next = (part ≡ []) × (state.dumps name ≡ None) × WorksPart world state name (TakePdus count) next
-Moves world state (Connect name place) part next = (part ≡ []) × OnFeeds state (ConnectPart world.ends (asking_on state name) place (feeds_of state)) next
+Moves world state (Connect name place said) part next = (part ≡ []) × OnFeeds state (ConnectPart world.ends (asking_on state name) place said (feeds_of state)) next
 Moves world state (OnFeed name work) part next = (part ≡ []) × WorksPart world state name work next
 Moves world state (Serve place session count) part next = ServesTablePart world state place session count part next
 Moves world state task part next = ⊥

@@ -14,22 +14,24 @@ use av_base::{Links, Shelf, Sink, Stop};
 use path_model::Name;
 use report_text::{Cause, Place};
 use rtr_client::{Asker, Work, connect, work};
+use rtr_pdu::Version;
 use script_lines::Word;
 use std::alloc::Global;
 use std::sync::ledger::Ledger;
 
-/// Connects a feed under a name that no source and no dump has.
+/// Connects a feed under a name that no source and no dump has, in the version that is said, if one is.
 #[inline(never)]
 pub(crate) fn connect_feed<F: Shelf, K: Links, W: Sink, L: Ledger>(
     alloc: Global,
     mut working: Working,
     name: &Name,
     place: &Word,
+    said: Option<Version>,
     outside: &mut Outside<F, K, W, L>,
 ) -> Result<Working, Stop>
     requires begun { IsBegun (told F.Shelf K.Links W.Sink outside.old) working }
     ensures keeps { KeepsAll F.Shelf K.Links W.Sink outside.old outside.new }
-    ensures did { Did working (Ok (Connect name.now place.now))
+    ensures did { Did working (Ok (Connect name.now place.now said))
         (told F.Shelf K.Links W.Sink outside.old)
         (told F.Shelf K.Links W.Sink outside.new) result }
 {
@@ -46,6 +48,7 @@ pub(crate) fn connect_feed<F: Shelf, K: Links, W: Sink, L: Ledger>(
         alloc,
         asker,
         place.text(),
+        said,
         &mut working.feeds,
         &mut working.progress,
         outside.links,

@@ -16,7 +16,7 @@ use crate::feeds::{connect_feed, work_on};
 use crate::judged::{explain_path, list_sent};
 use crate::memory::{clear_routes, judge_path, let_happen, say};
 use crate::outside::Outside;
-use crate::routers::serve_routers;
+use crate::routers::{serve_routers, set_timing};
 use crate::tables::load;
 use crate::task::{Task, task_of};
 use crate::working::Working;
@@ -122,10 +122,13 @@ fn perform_task<F: Shelf, K: Links, W: Sink, L: Ledger>(
         Task::Open(kind, name, file) => { open(alloc, working, kind, name, &file, outside) }
         Task::Take(name, count) => { take(alloc, working, &name, count, outside) }
         Task::Until(name, moment) => { take_up_to(alloc, working, &name, moment, outside) }
-        Task::Connect(name, place) => { connect_feed(alloc, working, &name, &place, outside) }
+        Task::Connect(name, place, said) => {
+            connect_feed(alloc, working, &name, &place, said, outside)
+        }
         Task::Serve(place, session, count) => {
             serve_routers(alloc, working, &place, session, count, outside)
         }
+        Task::SetTiming(timing) => set_timing(working, timing, outside),
         Task::OnFeed(name, work) => { work_on(alloc, working, &name, work, outside) }
         Task::Answer(question) => { answer(alloc, working, question, outside) }
         Task::Changes => list_changes(working, outside),

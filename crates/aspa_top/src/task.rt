@@ -7,6 +7,7 @@ use analyser::Event;
 use conditions::Conditions;
 use path_model::{Addr, AsList, Key, Name, Peer, Prefix, Role};
 use rtr_client::Work;
+use rtr_pdu::{Timing, Version};
 use script_lines::{Command, Saying, Word};
 use stream_lines::DumpKind;
 use vap_table::TableChange;
@@ -36,10 +37,12 @@ pub(crate) enum Task {
     Take(Name, u32),
     /// It takes the records of the dump of that name up to the first whose time isn't below this one.
     Until(Name, u32),
-    /// It connects a feed under a name to a place.
-    Connect(Name, Word),
+    /// It connects a feed under a name to a place, in the version that is said, if one is.
+    Connect(Name, Word, Option<Version>),
     /// It serves so many routers at a place, as the cache of a session.
     Serve(Word, u16, u32),
+    /// Routers are given these times from then on.
+    SetTiming(Timing),
     /// It works on the feed of that name.
     OnFeed(Name, Work),
     /// It asks, and changes nothing.
@@ -55,10 +58,10 @@ impl Task {
     {
         match self {
             Task::Idle | Task::Happen(_) | Task::Clear | Task::Judge(_, _, _) => false,
-            Task::Explain(_, _, _) | Task::Sent(_, _) => false,
+            Task::Explain(_, _, _) | Task::Sent(_, _) | Task::SetTiming(_) => false,
             Task::Say(_) | Task::Answer(_) | Task::Changes => false,
             Task::Load(_, _) | Task::Open(_, _, _) | Task::Take(_, _) | Task::Until(_, _) => true,
-            Task::Connect(_, _) | Task::Serve(_, _, _) | Task::OnFeed(_, _) => true,
+            Task::Connect(_, _, _) | Task::Serve(_, _, _) | Task::OnFeed(_, _) => true,
         }
     }
 }
@@ -123,10 +126,15 @@ pub(crate) fn task_of(command: Command) -> Task
         }
         Command::Take(name, count) => Task::Take(name, count),
         Command::Until(name, moment) => Task::Until(name, moment),
-        Command::Feed(name, place) => Task::Connect(name, place),
+        Command::Feed(name, place, said) => Task::Connect(name, place, said),
         Command::Ask(name) => Task::OnFeed(name, Work::Ask),
         Command::Sync(name, count) => Task::OnFeed(name, Work::Sync(count)),
         Command::Serve(place, session, count) => Task::Serve(place, session, count),
+        Command::Timing(refresh, retry, expire) => Task::SetTiming(Timing {
+            refresh,
+            retry,
+            expire,
+        }),
         Command::Judge(role, neighbour, path) => { Task::Judge(role, neighbour, path) }
         Command::Explain(role, neighbour, path) => Task::Explain(role, neighbour, path),
         Command::Sent(role, path) => Task::Sent(role, path),

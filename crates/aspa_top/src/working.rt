@@ -10,6 +10,7 @@ use otc_check::Marks;
 use path_model::Name;
 use rtr_cache::Cache;
 use rtr_client::Feeds;
+use rtr_pdu::Timing;
 use std::alloc::Global;
 use std::collections::{BTreeMap, BTreeSet};
 use stream_lines::OpenDump;
@@ -27,6 +28,8 @@ pub(crate) struct Working {
     pub(crate) feeds: Feeds,
     /// The caches that were served, by session.
     pub(crate) caches: BTreeMap<u16, Cache>,
+    /// The times that routers are given by the next lines.
+    pub(crate) timing: Timing,
     /// How many lines there were.
     pub(crate) lines: u64,
 }
@@ -78,6 +81,7 @@ impl Working {
             dumps: BTreeMap::new(alloc),
             feeds: Feeds::new(alloc),
             caches: BTreeMap::new(alloc),
+            timing: Timing::suggested(),
             lines: 0,
         }
     }

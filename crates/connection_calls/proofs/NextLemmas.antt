@@ -4,6 +4,7 @@ use Rattle.std.proofs.lemmas.List.{append_cancel_left}
 use Rattle.std.specs.declared.option.Option.{Option}
 use Rattle.std.specs.declared.result.Result.{Result}
 use Rattle.av_base.specs.Connections.{Link}
+use Rattle.rtr_pdu.specs.declared.version.Version.{Version}
 use Rattle.rtr_pdu.specs.declared.pdu.Pdu.{Pdu}
 use Rattle.rtr_pdu.specs.declared.pdu.PduFault.{PduFault}
 use Rattle.rtr_pdu.specs.declared.pdu.PduFault.TheVariants.{NoMemory}
@@ -13,20 +14,20 @@ use Rattle.rtr_pdu.proofs.NextLemmas.{one_next}
 use Rattle.connection_calls.specs.Ends.{HasSent, LostAtSend}
 
 -- what is left of the received bytes, and how it begins
-pub record Shown (t : Link) (used : List ℕ) : Type 0 where
+pub record Shown (ver : Version) (t : Link) (used : List ℕ) : Type 0 where
   pub left : List ℕ
   pub rest : List ℕ
   pub answer : Result (Option Pdu) PduFault
   pub received : t.received ≡ used ++ left
   pub known : answer ≢ Err NoMemory
-  pub answers : Answers left rest answer
+  pub answers : Answers ver left rest answer
 
 pub no_err : (found : Option Pdu) → Ok found ≢ Err NoMemory
 no_err found = λ e. let none : ⊥ = cc in absurd none
 
 -- a PDU, a refused one, or less than one
-abbrev pub shown_pdu : (t : Link) (used bytes : List ℕ) (pdu : Pdu) → IsFrame bytes pdu × ((rest : List ℕ) × (t.received ≡ used ++ bytes ++ rest)) → Shown t used
-shown_pdu t used bytes pdu is = record {
+abbrev pub shown_pdu : (ver : Version) → (t : Link) (used bytes : List ℕ) (pdu : Pdu) → IsFrame ver bytes pdu × ((rest : List ℕ) × (t.received ≡ used ++ bytes ++ rest)) → Shown ver t used
+shown_pdu ver t used bytes pdu is = record {
   left = bytes ++ is.1.0;
   rest = is.1.0;
   answer = Ok (Some pdu);
@@ -35,8 +36,8 @@ shown_pdu t used bytes pdu is = record {
   answers = (bytes, refl, is.0);
 }
 
-abbrev pub shown_bad : (t : Link) (used left : List ℕ) (fault : PduFault) → IsRefused left fault × (fault ≢ NoMemory) × (t.received ≡ used ++ left) → Shown t used
-shown_bad t used left fault is = record {
+abbrev pub shown_bad : (ver : Version) → (t : Link) (used left : List ℕ) (fault : PduFault) → IsRefused ver left fault × (fault ≢ NoMemory) × (t.received ≡ used ++ left) → Shown ver t used
+shown_bad ver t used left fault is = record {
   left = left;
   rest = left;
   answer = Err fault;
@@ -45,8 +46,8 @@ shown_bad t used left fault is = record {
   answers = (is.0, refl);
 }
 
-abbrev pub shown_none : (t : Link) (used : List ℕ) → (left : List ℕ) × (t.received ≡ used ++ left) × IsPartial left → Shown t used
-shown_none t used is = record { left = is.0; rest = is.0; answer = Ok None; received = is.1; known = no_err None; answers = (is.2, refl) }
+abbrev pub shown_none : (ver : Version) → (t : Link) (used : List ℕ) → (left : List ℕ) × (t.received ≡ used ++ left) × IsPartial ver left → Shown ver t used
+shown_none ver t used is = record { left = is.0; rest = is.0; answer = Ok None; received = is.1; known = no_err None; answers = (is.2, refl) }
 
 -- both show the same bytes, and the same answer
 pub record SameShown (left other rest more : List ℕ) (one two : Result (Option Pdu) PduFault) : Type 0 where
@@ -54,12 +55,12 @@ pub record SameShown (left other rest more : List ℕ) (one two : Result (Option
   pub rests : rest ≡ more
   pub answers : one ≡ two
 
-pub same_shown : (t : Link) (used : List ℕ) (one two : Shown t used) → SameShown one.left two.left one.rest two.rest one.answer two.answer
-same_shown t used one two =
+pub same_shown : (ver : Version) → (t : Link) (used : List ℕ) (one two : Shown ver t used) → SameShown one.left two.left one.rest two.rest one.answer two.answer
+same_shown ver t used one two =
     let left = append_cancel_left used one.left two.left (sym one.received ∙ two.received) in
-    let next = one_next one.left in
+    let next = one_next ver one.left in
     let first = next.only one.rest one.answer (one.known, one.answers) in
-    let second = next.only two.rest two.answer (two.known, subst (λ (l : List ℕ). Answers l two.rest two.answer) (sym left) two.answers) in
+    let second = next.only two.rest two.answer (two.known, subst (λ (l : List ℕ). Answers ver l two.rest two.answer) (sym left) two.answers) in
     record { lefts = left; rests = first.0 ∙ sym second.0; answers = first.1 ∙ sym second.1 }
 
 -- bytes don't go whole on a connection that broke at them

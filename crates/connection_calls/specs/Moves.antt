@@ -4,6 +4,7 @@ use Rattle.std.specs.declared.option.Option.{Option}
 use Rattle.std.specs.declared.option.Option.TheVariants.{Some, None}
 use Rattle.av_base.specs.Connections.{Link, Later, IsUsable, IsOpen}
 use Rattle.av_base.specs.declared.standing.Standing.{Standing}
+use Rattle.rtr_pdu.specs.declared.version.Version.{Version}
 use Rattle.rtr_pdu.specs.declared.pdu.PduFault.{PduFault}
 use Rattle.rtr_pdu.specs.Pdus.{IsFrame}
 use Rattle.rtr_pdu.specs.Units.{IsPartial, IsRefused}
@@ -51,19 +52,19 @@ Grows held (Broke framer) = framer ≡ held
 pub record Asking (old now : Option (List Link)) (link : ℕ) (held_old held : List ℕ) : Type 0 where
   pub keeps : (used sent : List ℕ) → Now old link (Has (used ++ held_old) sent) → Now now link (Has (used ++ held) sent)
 
--- the next PDU was asked for: what follows the used bytes begins with it, or with a refused one, or less than a PDU is left
-abbrev pub Answers : Option (List Link) → ℕ → List ℕ → List ℕ → List ℕ → Asked → Type 0
-Answers wire link used sent held (Took pdu) = (bytes : List ℕ) × IsFrame bytes pdu × Now wire link (Has (used ++ bytes ++ held) sent)
-Answers wire link used sent held (Refused cause) = Now wire link (Has (used ++ held) sent)
-Answers wire link used sent held Ended = IsPartial held × Now wire link (λ t. Has (used ++ held) sent t × CameToEnd t)
-Answers wire link used sent held Lost = IsPartial held × Now wire link (λ t. Has (used ++ held) sent t × BrokeByReceive t)
+-- the next PDU of a version was asked for: what follows the used bytes begins with it, or with a refused one, or less than a PDU is left
+abbrev pub Answers : Version → Option (List Link) → ℕ → List ℕ → List ℕ → List ℕ → Asked → Type 0
+Answers version wire link used sent held (Took pdu) = (bytes : List ℕ) × IsFrame version bytes pdu × Now wire link (Has (used ++ bytes ++ held) sent)
+Answers version wire link used sent held (Refused cause) = Now wire link (Has (used ++ held) sent)
+Answers version wire link used sent held Ended = IsPartial version held × Now wire link (λ t. Has (used ++ held) sent t × CameToEnd t)
+Answers version wire link used sent held Lost = IsPartial version held × Now wire link (λ t. Has (used ++ held) sent t × BrokeByReceive t)
 
--- what is held is refused
-abbrev pub RefusesNow : List ℕ → Asked → Type 0
-RefusesNow held (Took pdu) = Unit {0}
-RefusesNow held (Refused cause) = (fault : PduFault) × IsRefused held fault × IsCauseOf fault cause
-RefusesNow held Ended = Unit {0}
-RefusesNow held Lost = Unit {0}
+-- what is held is refused in it
+abbrev pub RefusesNow : Version → List ℕ → Asked → Type 0
+RefusesNow version held (Took pdu) = Unit {0}
+RefusesNow version held (Refused cause) = (fault : PduFault) × IsRefused version held fault × IsCauseOf fault cause
+RefusesNow version held Ended = Unit {0}
+RefusesNow version held Lost = Unit {0}
 
 abbrev pub StaysUsable : List Standing → ℕ → Asked → Type 0
 StaysUsable stands link (Took pdu) = IsUsable stands link

@@ -8,7 +8,7 @@ ghost use Rattle.connection_calls.specs.Moves.{Answers, AnswersTurn, Grows, Keep
 use crate::refusing::refusal;
 use av_base::{Links, NoMemory, PIECE};
 use report_text::Cause;
-use rtr_pdu::{Framer, Pdu};
+use rtr_pdu::{Framer, Pdu, Version};
 
 /// What a connection answered that was asked for a PDU.
 #[derive(Drop)]
@@ -34,9 +34,10 @@ pub(crate) enum Turn {
     Broke(Framer),
 }
 
-/// Takes the next PDU that a connection gives (RFC 8210, section 5). Those that are held come before bytes are received, and at most one PDU
-/// and a piece of 65,536 bytes are held. Where memory runs out nothing was sent, and the connection may still be used.
+/// Takes the next PDU of this version that a connection gives (RFC 8210, section 5). Those that are held come before bytes are received,
+/// and at most one PDU and a piece of 65,536 bytes are held. Where memory runs out nothing was sent, and the connection may still be used.
 pub fn next_pdu<K: Links>(
+    version: Version,
     framer: Framer,
     link: u32,
     links: &mut K,
@@ -44,8 +45,8 @@ pub fn next_pdu<K: Links>(
     requires { IsUsable (K.standings links.old) link }
     ensures answer { IfOk result (λ r. (used sent : List ℕ)
         → Now (K.wire links.old) link (Has (used ++ framer) sent)
-        → Answers (K.wire links.new) link used sent r.0 r.1) }
-    ensures refused { IfOk result (λ r. RefusesNow r.0 r.1) }
+        → Answers version (K.wire links.new) link used sent r.0 r.1) }
+    ensures refused { IfOk result (λ r. RefusesNow version r.0 r.1) }
     ensures usable { IfOk result (λ r. StaysUsable (K.standings links.new) link r.1) }
     ensures err_usable { OnErr result (IsUsable (K.standings links.new) link) }
     ensures keeps { KeepsSent link (K.wire links.old) (K.wire links.new) }
@@ -57,7 +58,7 @@ pub fn next_pdu<K: Links>(
 {
     let mut framer = framer;
     'pieces: loop {
-        match framer.next() {
+        match framer.next(version) {
             Ok(Some(pdu)) => return Ok((framer, Asked::Pdu(pdu))),
             Ok(None) => match receive(framer, link, links)? {
                 Turn::More(more) => framer = more,

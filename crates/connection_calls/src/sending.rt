@@ -8,26 +8,26 @@ ghost use Rattle.connection_calls.specs.Moves.{Finishes, Only, Sends, SendsOrClo
 ghost use Rattle.connection_calls.specs.Refusals.{report_bytes};
 
 use av_base::{Links, NoMemory};
-use rtr_pdu::{Pdu, write};
+use rtr_pdu::{Pdu, Version, write};
 use std::alloc::Global;
 
-/// The bytes of the error report with this code, or none.
-pub fn spell_report(alloc: Global, code: Option<u16>) -> Result<Vec<u8>, NoMemory>
-    ensures { IfOk result (λ bytes. bytes.items ≡ report_bytes code) }
+/// The bytes of the error report of a version with this code, or none.
+pub fn spell_report(alloc: Global, version: Version, code: Option<u16>) -> Result<Vec<u8>, NoMemory>
+    ensures { IfOk result (λ bytes. bytes.items ≡ report_bytes version code) }
 {
     match code {
-        Some(code) => spell(alloc, Pdu::ErrorReport { code }),
+        Some(code) => spell(alloc, version, Pdu::ErrorReport { code }),
         None => Ok(Vec::new(alloc)),
     }
 }
 
-/// The bytes of a PDU.
-pub fn spell(alloc: Global, pdu: Pdu) -> Result<Vec<u8>, NoMemory>
-    requires { IsWritable pdu }
-    ensures { IfOk result (λ bytes. bytes.items ≡ spelled pdu) }
+/// The bytes of a PDU in a version.
+pub fn spell(alloc: Global, version: Version, pdu: Pdu) -> Result<Vec<u8>, NoMemory>
+    requires { IsWritable version pdu }
+    ensures { IfOk result (λ bytes. bytes.items ≡ spelled version pdu) }
 {
     let mut bytes = Vec::new(alloc);
-    write(&pdu, &mut bytes)?;
+    write(version, &pdu, &mut bytes)?;
     Ok(bytes)
 }
 

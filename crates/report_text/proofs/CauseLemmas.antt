@@ -1,7 +1,7 @@
 -- What each word of a cause passes; the words themselves stand in `specs/Causes`.
 use Rattle.std.proofs.Common.{◌≡◌, ℕ, Bool, true, false, cond, nat_eq, List, [], ◌∷◌, codes, reverse, refl}
 use Rattle.report_text.specs.declared.cause.Cause.{Cause}
-use Rattle.report_text.specs.declared.cause.Cause.TheVariants.{NotDer, PayloadVersion, NoProviders, Order, SelfProvider, Base64, Json, SlurmVersion, Member, SlurmNumber, PduVersion, PduLength, PduType, PduNoProviders, Unexpected, UnknownWithdrawal, SessionChanged, PeerReported, Attributes, Message, NoPath, TooLong, CutShort, Body, NoPeerTable, PeerIndex, LongLine, NoCommand, Words, Number, NameTaken, NoName, NoFile, StreamOver, NoRoute, FileLong, Moment, PrefixText, PrefixRecord, RowLong, BmpVersion, BmpLength, BmpBody}
+use Rattle.report_text.specs.declared.cause.Cause.TheVariants.{NotDer, PayloadVersion, NoProviders, Order, SelfProvider, Base64, Json, SlurmVersion, Member, SlurmNumber, PduVersion, PduLength, PduType, PduNoProviders, Unexpected, UnknownWithdrawal, SessionChanged, PeerReported, Attributes, Message, NoPath, TooLong, CutShort, Body, NoPeerTable, PeerIndex, LongLine, NoCommand, Words, Number, NameTaken, NoName, NoFile, StreamOver, NoRoute, FileLong, Moment, PrefixText, PrefixRecord, RowLong, BmpVersion, BmpLength, BmpBody, AnnouncedTwice}
 use Rattle.report_text.specs.Causes.{word_of}
 use Rattle.report_text.proofs.InLineLemmas.{is_clean}
 
@@ -60,3 +60,4 @@ word_passes RowLong = (refl, refl)
 word_passes BmpVersion = (refl, refl)
 word_passes BmpLength = (refl, refl)
 word_passes BmpBody = (refl, refl)
+word_passes AnnouncedTwice = (refl, refl)

@@ -1,7 +1,7 @@
 -- The causes for which input is refused, with the number and the word of each, which are part of what is printed.
 use Rattle.std.specs.Prelude.{ℕ, List, codes}
 use Rattle.report_text.specs.declared.cause.Cause.{Cause}
-use Rattle.report_text.specs.declared.cause.Cause.TheVariants.{NotDer, PayloadVersion, NoProviders, Order, SelfProvider, Base64, Json, SlurmVersion, Member, SlurmNumber, PduVersion, PduLength, PduType, PduNoProviders, Unexpected, UnknownWithdrawal, SessionChanged, PeerReported, Attributes, Message, NoPath, TooLong, CutShort, Body, NoPeerTable, PeerIndex, LongLine, NoCommand, Words, Number, NameTaken, NoName, NoFile, StreamOver, NoRoute, FileLong, Moment, PrefixText, PrefixRecord, RowLong, BmpVersion, BmpLength, BmpBody}
+use Rattle.report_text.specs.declared.cause.Cause.TheVariants.{NotDer, PayloadVersion, NoProviders, Order, SelfProvider, Base64, Json, SlurmVersion, Member, SlurmNumber, PduVersion, PduLength, PduType, PduNoProviders, Unexpected, UnknownWithdrawal, SessionChanged, PeerReported, Attributes, Message, NoPath, TooLong, CutShort, Body, NoPeerTable, PeerIndex, LongLine, NoCommand, Words, Number, NameTaken, NoName, NoFile, StreamOver, NoRoute, FileLong, Moment, PrefixText, PrefixRecord, RowLong, BmpVersion, BmpLength, BmpBody, AnnouncedTwice}
 
 abbrev pub listed : Cause → ℕ × List ℕ
 -- of files of payloads (draft-ietf-sidrops-aspa-profile)
@@ -56,6 +56,8 @@ listed RowLong = (44, codes "RowLong")
 listed BmpVersion = (45, codes "BmpVersion")
 listed BmpLength = (46, codes "BmpLength")
 listed BmpBody = (47, codes "BmpBody")
+-- of sessions of an RPKI cache whose version was said (RFC 8210)
+listed AnnouncedTwice = (48, codes "AnnouncedTwice")
 
 -- the number of a cause
 abbrev pub number_of : Cause → ℕ

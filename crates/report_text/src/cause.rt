@@ -28,7 +28,7 @@ pub enum Cause {
     /// 14: a number is out of its range.
     SlurmNumber,
     // of PDUs and sessions of an RPKI cache (RFC 8210)
-    /// 15: the PDU isn't of version 2.
+    /// 15: the PDU is of another version.
     PduVersion,
     /// 16: the PDU's length isn't one of its type.
     PduLength,
@@ -100,10 +100,13 @@ pub enum Cause {
     BmpLength,
     /// 47: the message's body isn't one of its type.
     BmpBody,
+    // of sessions of an RPKI cache whose version was said (RFC 8210)
+    /// 48: a prefix is announced that is there already.
+    AnnouncedTwice,
 }
 
 impl Cause {
-    /// Its number, from 5 to 47.
+    /// Its number, from 5 to 48.
     pub fn number(self) -> u16
         ensures { result ≡ number_of self }
     {
@@ -166,6 +169,7 @@ impl Cause {
             Cause::BmpVersion => (45, "BmpVersion"),
             Cause::BmpLength => (46, "BmpLength"),
             Cause::BmpBody => (47, "BmpBody"),
+            Cause::AnnouncedTwice => (48, "AnnouncedTwice"),
         }
     }
 }

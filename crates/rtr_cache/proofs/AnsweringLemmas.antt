@@ -7,6 +7,7 @@ use Rattle.std.specs.declared.result.Result.TheVariants.{Ok, Err}
 use Rattle.std.specs.Prelude.{IfOk, OnOk}
 use Rattle.std.proofs.lemmas.Bool.Decides.{eqb_tells, nat_tests}
 use Rattle.path_model.specs.Rows.{RowMap, PatchMap}
+use Rattle.rtr_pdu.specs.declared.timing.Timing.{Timing}
 use Rattle.rtr_pdu.specs.declared.pdu.Pdu.{Pdu}
 use Rattle.rtr_pdu.specs.declared.pdu.Pdu.TheVariants.{CacheReset, CacheResponse, EndOfData}
 use Rattle.rtr_cache.specs.declared.turn.Turn.{Turn}
@@ -16,21 +17,21 @@ use Rattle.rtr_cache.specs.Kept.{Appended, Gives, LeadsTo, TellsChanged, TellsRo
 use Rattle.rtr_cache.specs.Served.{GivesDifference, GivesRows, OnSerial, answer, rows_at, told_of}
 use Rattle.rtr_cache.proofs.TellingLemmas.{appended_both, difference}
 
-framed : (cache : Versions) (pdus : List Pdu) (old one two new : List ℕ) → Appended (CacheResponse cache.session ∷ []) old one → Appended pdus one two → Appended (EndOfData cache.session cache.current.serial ∷ []) two new → Appended (answer cache pdus) old new
+framed : (cache : Versions) (pdus : List Pdu) (old one two new : List ℕ) → Appended (CacheResponse cache.session ∷ []) old one → Appended pdus one two → Appended (EndOfData cache.session cache.current.serial cache.timing ∷ []) two new → Appended (answer cache pdus) old new
 framed cache pdus old one two new begins told ends =
-    appended_both (CacheResponse cache.session ∷ []) (pdus ++ EndOfData cache.session cache.current.serial ∷ []) old one new begins (appended_both pdus (EndOfData cache.session cache.current.serial ∷ []) one two new told ends)
+    appended_both (CacheResponse cache.session ∷ []) (pdus ++ EndOfData cache.session cache.current.serial cache.timing ∷ []) old one new begins (appended_both pdus (EndOfData cache.session cache.current.serial cache.timing ∷ []) one two new told ends)
 
-pub gives_rows : (cache : Versions) (old one two new : List ℕ) → Appended (CacheResponse cache.session ∷ []) old one → TellsRows cache.current.rows one two → Appended (EndOfData cache.session cache.current.serial ∷ []) two new → Gives (GivesRows cache) More old new
+pub gives_rows : (cache : Versions) (old one two new : List ℕ) → Appended (CacheResponse cache.session ∷ []) old one → TellsRows cache.current.rows one two → Appended (EndOfData cache.session cache.current.serial cache.timing ∷ []) two new → Gives (GivesRows cache) More old new
 gives_rows cache old one two new begins tells ends = record {
   pdus = answer cache tells.pdus;
   are = record { rows = tells.pdus; are_rows = tells.are; are = refl; stays = refl };
   appended = framed cache tells.pdus old one two new begins tells.appended ends;
 }
 
-pub gives_difference : (session serial : ℕ) (rows : RowMap) (backs : List PatchMap) (steps : ℕ) (patch : PatchMap) (old one two new : List ℕ) → LeadsTo rows (take steps backs) patch → Appended (CacheResponse session ∷ []) old one → TellsChanged rows patch one two
-    → Appended (EndOfData session serial ∷ []) two new → Gives (GivesDifference (versions_of session serial rows backs) (rows_after rows (take steps backs))) More old new
-gives_difference session serial rows backs steps patch old one two new leads begins tells ends =
-    let cache : Versions = versions_of session serial rows backs in
+pub gives_difference : (session : ℕ) (timing : Timing) (serial : ℕ) (rows : RowMap) (backs : List PatchMap) (steps : ℕ) (patch : PatchMap) (old one two new : List ℕ) → LeadsTo rows (take steps backs) patch → Appended (CacheResponse session ∷ []) old one → TellsChanged rows patch one two
+    → Appended (EndOfData session serial timing ∷ []) two new → Gives (GivesDifference (versions_of session timing serial rows backs) (rows_after rows (take steps backs))) More old new
+gives_difference session timing serial rows backs steps patch old one two new leads begins tells ends =
+    let cache : Versions = versions_of session timing serial rows backs in
     let told : List Pdu = told_of rows (changed rows tells.entries) in
     record {
       pdus = answer cache told;

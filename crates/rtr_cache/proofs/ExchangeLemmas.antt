@@ -12,6 +12,8 @@ use Rattle.std.proofs.lemmas.Map.Keys.{sorted_from_strictly_increasing}
 use Rattle.path_model.specs.Authority.{has}
 use Rattle.attestations.specs.CurrentTable.{Parts, IsCurrentRow}
 use Rattle.path_model.specs.Rows.{RowMap, PatchMap}
+use Rattle.rtr_pdu.specs.declared.version.Version.TheVariants.{Two}
+use Rattle.rtr_pdu.specs.declared.timing.Timing.{Timing}
 use Rattle.rtr_pdu.specs.declared.pdu.Pdu.{Pdu}
 use Rattle.rtr_pdu.specs.declared.pdu.Pdu.TheVariants.{CacheResponse, EndOfData, CacheReset}
 use Rattle.rtr_pdu.specs.Spelled.{IsWritable}
@@ -25,11 +27,11 @@ use Rattle.rtr_session.specs.declared.act.Query.TheVariants.{Reset, Serial}
 use Rattle.rtr_session.specs.State.{State, fresh}
 use Rattle.rtr_session.specs.Client.{Asks}
 use Rattle.rtr_cache.specs.declared.turn.Turn.{Turn}
-use Rattle.rtr_cache.specs.Cache.{Version, Versions, AreRowsOf, FitsPdus, IsMade, Updates}
+use Rattle.rtr_cache.specs.Cache.{Version, Versions, AreRowsOf, FitsPdus, IsMade, Updates, timed}
 use Rattle.rtr_cache.specs.Served.{AreRows, IsDifference, OnSerial, told, told_of, answer, rows_at, kept_rows}
 use Rattle.origin_model.specs.Vrp.{Payload}
 use Rattle.rtr_cache.specs.Kept.{RowsFit}
-use Rattle.rtr_cache.specs.Laws.{AsksAgain, Exchange, Exchanges, Happens, HoldsCurrent, MayAsk, Restart, Step, Takes, TakesReply, Update, last_parts, last_query}
+use Rattle.rtr_cache.specs.Laws.{AsksAgain, Exchange, Exchanges, Happens, HoldsCurrent, MayAsk, Restart, Retime, Step, Takes, TakesReply, Update, last_parts, last_query}
 use Rattle.rtr_cache.proofs.RouterLemmas.{AreGood, at, takes_told}
 use Rattle.rtr_cache.proofs.RowLemmas.{same_map}
 use Rattle.rtr_cache.proofs.TakingLemmas.{Takes-append, Takes-one, Takes-then, Takes-unique, no_query, nothings}
@@ -38,15 +40,15 @@ use Rattle.rtr_cache.proofs.UnitLemmas.{reply_taken}
 
 -- ---- what is served may be written
 
-all_writable : (rows : RowMap) (customers : List ℕ) → RowsFit rows → All IsWritable (told_of rows customers)
-all_writable rows [] fit = All-nil IsWritable
-all_writable rows (x ∷ more) fit = All-cons IsWritable (told x (map.get rows x)) (told_of rows more) (looked_writable rows x (map.get rows x) fit refl) (all_writable rows more fit)
+all_writable : (rows : RowMap) (customers : List ℕ) → RowsFit rows → All (IsWritable Two) (told_of rows customers)
+all_writable rows [] fit = All-nil (IsWritable Two)
+all_writable rows (x ∷ more) fit = All-cons (IsWritable Two) (told x (map.get rows x)) (told_of rows more) (looked_writable rows x (map.get rows x) fit refl) (all_writable rows more fit)
 
-answer_writable : (cache : Versions) (customers : List ℕ) → RowsFit cache.current.rows → All IsWritable (answer cache (told_of cache.current.rows customers))
+answer_writable : (cache : Versions) (customers : List ℕ) → RowsFit cache.current.rows → All (IsWritable Two) (answer cache (told_of cache.current.rows customers))
 answer_writable cache customers fit =
-    All-cons IsWritable (CacheResponse cache.session) (told_of cache.current.rows customers ++ EndOfData cache.session cache.current.serial ∷ []) tt
-    (All-append IsWritable (told_of cache.current.rows customers) (EndOfData cache.session cache.current.serial ∷ []) (all_writable cache.current.rows customers fit)
-    (All-cons IsWritable (EndOfData cache.session cache.current.serial) [] tt (All-nil IsWritable)))
+    All-cons (IsWritable Two) (CacheResponse cache.session) (told_of cache.current.rows customers ++ EndOfData cache.session cache.current.serial cache.timing ∷ []) tt
+    (All-append (IsWritable Two) (told_of cache.current.rows customers) (EndOfData cache.session cache.current.serial cache.timing ∷ []) (all_writable cache.current.rows customers fit)
+    (All-cons (IsWritable Two) (EndOfData cache.session cache.current.serial cache.timing) [] tt (All-nil (IsWritable Two))))
 
 -- ---- the runs
 
@@ -82,9 +84,9 @@ whole_run cache session serial rows changes vs cs pdus good are =
     subst (λ (list : List Pdu). Run cache (record { phase = AskedWhole; session = session; serial = serial; rows = rows; changes = changes; payloads = vs; payload_changes = cs }) (answer cache list)) (sym are.are) (record {
       acts = Nothing ∷ (nothings are.customers ++ Apply (Whole took.rows []) ∷ []);
       done = done;
-      takes = Takes-then start (at true cache.session serial map.empty map.empty []) done (CacheResponse cache.session) (told_of to are.customers ++ EndOfData cache.session cache.current.serial ∷ []) Nothing (nothings are.customers ++ Apply (Whole took.rows []) ∷ []) (record { act_is = refl; new_is = refl })
-          (Takes-append (told_of to are.customers) (EndOfData cache.session cache.current.serial ∷ []) (at true cache.session serial map.empty map.empty []) (at true cache.session serial took.rows took.named []) done (nothings are.customers) (Apply (Whole took.rows []) ∷ []) took.takes
-          (Takes-one (at true cache.session serial took.rows took.named []) done (EndOfData cache.session cache.current.serial) (Apply (Whole took.rows [])) (inl (refl, record { act_is = refl; new_is = refl }))));
+      takes = Takes-then start (at true cache.session serial map.empty map.empty []) done (CacheResponse cache.session) (told_of to are.customers ++ EndOfData cache.session cache.current.serial cache.timing ∷ []) Nothing (nothings are.customers ++ Apply (Whole took.rows []) ∷ []) (record { act_is = refl; new_is = refl })
+          (Takes-append (told_of to are.customers) (EndOfData cache.session cache.current.serial cache.timing ∷ []) (at true cache.session serial map.empty map.empty []) (at true cache.session serial took.rows took.named []) done (nothings are.customers) (Apply (Whole took.rows []) ∷ []) took.takes
+          (Takes-one (at true cache.session serial took.rows took.named []) done (EndOfData cache.session cache.current.serial cache.timing) (Apply (Whole took.rows [])) (inl (refl, record { act_is = refl; new_is = refl }))));
       quiet = no_query are.customers (Whole took.rows []);
       holds = record { ready = refl; session = refl; serial = refl; rows = all };
     })
@@ -100,9 +102,9 @@ changes_run cache serial rows changes vs cs pdus good are =
     subst (λ (list : List Pdu). Run cache (record { phase = AskedChanges; session = cache.session; serial = serial; rows = rows; changes = changes; payloads = vs; payload_changes = cs }) (answer cache list)) (sym are.are) (record {
       acts = Nothing ∷ (nothings are.customers ++ Apply (Part took.named []) ∷ []);
       done = done;
-      takes = Takes-then start (at false cache.session serial rows map.empty vs) done (CacheResponse cache.session) (told_of to are.customers ++ EndOfData cache.session cache.current.serial ∷ []) Nothing (nothings are.customers ++ Apply (Part took.named []) ∷ []) (inl (refl, record { act_is = refl; new_is = refl }))
-          (Takes-append (told_of to are.customers) (EndOfData cache.session cache.current.serial ∷ []) (at false cache.session serial rows map.empty vs) (at false cache.session serial took.rows took.named vs) done (nothings are.customers) (Apply (Part took.named []) ∷ []) took.takes
-          (Takes-one (at false cache.session serial took.rows took.named vs) done (EndOfData cache.session cache.current.serial) (Apply (Part took.named [])) (inl (refl, record { act_is = refl; new_is = refl }))));
+      takes = Takes-then start (at false cache.session serial rows map.empty vs) done (CacheResponse cache.session) (told_of to are.customers ++ EndOfData cache.session cache.current.serial cache.timing ∷ []) Nothing (nothings are.customers ++ Apply (Part took.named []) ∷ []) (inl (refl, record { act_is = refl; new_is = refl }))
+          (Takes-append (told_of to are.customers) (EndOfData cache.session cache.current.serial cache.timing ∷ []) (at false cache.session serial rows map.empty vs) (at false cache.session serial took.rows took.named vs) done (nothings are.customers) (Apply (Part took.named []) ∷ []) took.takes
+          (Takes-one (at false cache.session serial took.rows took.named vs) done (EndOfData cache.session cache.current.serial cache.timing) (Apply (Part took.named [])) (inl (refl, record { act_is = refl; new_is = refl }))));
       quiet = no_query are.customers (Part took.named []);
       holds = record { ready = refl; session = refl; serial = refl; rows = all };
     })
@@ -124,8 +126,8 @@ whole_exchange : (cache : Versions) (asked done : State) (acts : List Act) → S
 whole_exchange cache asked done acts serves phase t =
     let reply = t.replies.are in
     let rows = reply.are_rows in
-    let writable : All IsWritable t.replies.pdus =
-    subst (λ (pdus : List Pdu). All IsWritable pdus) (sym (reply.are ∙ ap (λ (list : List Pdu). answer cache list) rows.are)) (answer_writable cache rows.customers serves.fit) in
+    let writable : All (IsWritable Two) t.replies.pdus =
+    subst (λ (pdus : List Pdu). All (IsWritable Two) pdus) (sym (reply.are ∙ ap (λ (list : List Pdu). answer cache list) rows.are)) (answer_writable cache rows.customers serves.fit) in
     let start : record asked { phase = AskedWhole } ≡ asked = λ i. record asked { phase = sym phase i } in
     let run : Run cache asked t.replies.pdus = subst (λ (s : State). Run cache s t.replies.pdus) start
     (subst (λ (pdus : List Pdu). Run cache (record asked { phase = AskedWhole }) pdus) (sym reply.are) (whole_run cache asked.session asked.serial asked.rows asked.changes asked.payloads asked.payload_changes reply.rows serves.good rows)) in
@@ -136,9 +138,9 @@ abbrev Or_again : Versions → List Act → State → Type 0
 Or_again cache acts mid = ((last_query acts ≡ None) × HoldsCurrent cache mid) ⊎ ((last_query acts ≡ Some Reset) × (mid.phase ≡ AskedWhole))
 
 by_serial : (cache : Versions) (asked mid : State) (acts : List Act) (pdus : List Pdu) (turn : Turn) (from : Option RowMap) → Serves cache → asked.phase ≡ AskedChanges → asked.session ≡ cache.session
-    → ((rows : RowMap) → from ≡ Some rows → asked.rows ≡ rows) → OnSerial cache from pdus turn → (All IsWritable pdus → Takes asked pdus acts mid) → Or_again cache acts mid
+    → ((rows : RowMap) → from ≡ Some rows → asked.rows ≡ rows) → OnSerial cache from pdus turn → (All (IsWritable Two) pdus → Takes asked pdus acts mid) → Or_again cache acts mid
 by_serial cache asked mid acts pdus turn None serves phase session holds (are, stays) takes =
-    let writable : All IsWritable pdus = subst (λ (list : List Pdu). All IsWritable list) (sym are) (All-cons IsWritable CacheReset [] tt (All-nil IsWritable)) in
+    let writable : All (IsWritable Two) pdus = subst (λ (list : List Pdu). All (IsWritable Two) list) (sym are) (All-cons (IsWritable Two) CacheReset [] tt (All-nil (IsWritable Two))) in
     let start : record asked { phase = AskedChanges } ≡ asked = λ i. record asked { phase = sym phase i } in
     let own : Takes asked pdus (Send Reset ∷ []) (record asked { phase = AskedWhole }) =
     subst (λ (list : List Pdu). Takes asked list (Send Reset ∷ []) (record asked { phase = AskedWhole })) (sym are)
@@ -148,8 +150,8 @@ by_serial cache asked mid acts pdus turn None serves phase session holds (are, s
     inr (ap last_query same.0, ap (λ (s : State). s.phase) same.1)
 by_serial cache asked mid acts pdus turn (Some from) serves phase session holds gives takes =
     let reply = gives.is_difference in
-    let writable : All IsWritable pdus =
-    subst (λ (list : List Pdu). All IsWritable list) (sym (gives.are ∙ ap (λ (list : List Pdu). answer cache list) reply.are)) (answer_writable cache reply.customers serves.fit) in
+    let writable : All (IsWritable Two) pdus =
+    subst (λ (list : List Pdu). All (IsWritable Two) list) (sym (gives.are ∙ ap (λ (list : List Pdu). answer cache list) reply.are)) (answer_writable cache reply.customers serves.fit) in
     let start : record { phase = AskedChanges; session = cache.session; serial = asked.serial; rows = from; changes = asked.changes; payloads = asked.payloads; payload_changes = asked.payload_changes } ≡ asked =
     λ i. record { phase = sym phase i; session = sym session i; serial = asked.serial; rows = sym (holds from refl) i; changes = asked.changes; payloads = asked.payloads; payload_changes = asked.payload_changes } in
     let run : Run cache asked pdus = subst (λ (s : State). Run cache s pdus) start
@@ -276,6 +278,16 @@ knows_updated old new parts router u knows = record {
   no_later = λ ready. omega (arith, knows.no_later ready, updated_serial old new parts u);
 }
 
+-- other times change nothing that a router knows
+knows_timed : (cache : Versions) (timing : Timing) (router : State) → Knows cache router → Knows (timed cache timing) router
+knows_timed cache timing router knows = record {
+  may = elim knows.may [
+    | inl first ↦ inl first
+    | inr held ↦ inr (record { ready = held.ready; session = held.session; rows = held.rows })
+  ];
+  no_later = knows.no_later;
+}
+
 -- a router that starts anew
 knows_nothing : (cache : Versions) → Knows cache fresh
 knows_nothing cache = record { may = inl refl; no_later = λ ready. let never : ⊥ = cc in absurd never }
@@ -287,6 +299,8 @@ happened [] parts made cache start router done fits are knows h e =
     gets_table cache parts router done are_now fits (subst (λ (c : Versions). MayAsk c router) (sym h.0) (subst (λ (s : State). MayAsk made s) (sym h.1) knows.may)) e
 happened (Update other ∷ more) parts made cache start router done fits are knows h e =
     happened more other h.0 cache start router done h.1 h.2.rows (knows_updated made h.0 other start h.2 knows) h.3 e
+happened (Retime timing ∷ more) parts made cache start router done fits are knows h e =
+    happened more parts (timed made timing) cache start router done fits are (knows_timed made timing start knows) h e
 happened (Exchange ∷ more) parts made cache start router done fits are knows h e =
     happened more parts made cache h.0 router done fits are (knows_current made h.0 (exchanged made start h.0 (serves made parts are fits) knows.may h.1)) h.2 e
 happened (Restart ∷ more) parts made cache start router done fits are knows h e = happened more parts made cache fresh router done fits are (knows_nothing made) h e

@@ -14,6 +14,7 @@ use Rattle.std.proofs.lemmas.List.Elements.{All-append, All-nil}
 use Rattle.std.proofs.lemmas.Map.Keys.{IsStrictlyIncreasing-from_sorted}
 use Rattle.path_model.specs.Authority.{has}
 use Rattle.path_model.specs.Rows.{RowMap, PatchMap, PatchHasSets}
+use Rattle.rtr_pdu.specs.declared.version.Version.TheVariants.{Two}
 use Rattle.rtr_pdu.specs.declared.pdu.Pdu.{Pdu}
 use Rattle.rtr_pdu.specs.Spelled.{spelled, FitsFields, IsWritable}
 use Rattle.attestations.specs.Moves.{same_rows}
@@ -32,7 +33,7 @@ given_set patch x (Some row) sets is = sets.ascending x row is
 
 spelled_all-append : (pdus more : List Pdu) → spelled_all (pdus ++ more) ≡ spelled_all pdus ++ spelled_all more
 spelled_all-append [] more = refl
-spelled_all-append (pdu ∷ pdus) more = ap (λ (l : List ℕ). spelled pdu ++ l) (spelled_all-append pdus more) ∙ sym (append_assoc (spelled pdu) (spelled_all pdus) (spelled_all more))
+spelled_all-append (pdu ∷ pdus) more = ap (λ (l : List ℕ). spelled Two pdu ++ l) (spelled_all-append pdus more) ∙ sym (append_assoc (spelled Two pdu) (spelled_all pdus) (spelled_all more))
 
 pub appended_both : (pdus more : List Pdu) (old mid new : List ℕ) → Appended pdus old mid → Appended more mid new → Appended (pdus ++ more) old new
 appended_both pdus more old mid new a b = record {
@@ -241,12 +242,12 @@ leads_further rows backs back whole next leads visits q =
 pub leads_start : (rows : RowMap) (backs : List PatchMap) (whole : PatchMap) → whole ≡ finite.empty → LeadsTo rows (take 0 backs) whole
 leads_start rows backs whole none q = ap (λ (o : Option (Option (List ℕ))). patched_row o (finite.get rows q)) (sym (ap (λ (m : PatchMap). finite.get m q) none ∙ finite.get-empty nat_cmp q))
 
-pub row_writable : (x : ℕ) (row : List ℕ) → length row ≤ 65533 → IsWritable (told x (Some row))
-row_writable x [] fit = (omega arith, omega arith)
-row_writable x (y ∷ ys) fit = (omega arith, fit)
+pub row_writable : (x : ℕ) (row : List ℕ) → length row ≤ 65533 → IsWritable Two (told x (Some row))
+row_writable x [] fit = (refl, omega arith, omega arith)
+row_writable x (y ∷ ys) fit = (refl, omega arith, fit)
 
-pub looked_writable : (rows : RowMap) (x : ℕ) (row : Option (List ℕ)) → RowsFit rows → row ≡ finite.get rows x → IsWritable (told x row)
-looked_writable rows x None fit is = refl
+pub looked_writable : (rows : RowMap) (x : ℕ) (row : Option (List ℕ)) → RowsFit rows → row ≡ finite.get rows x → IsWritable Two (told x row)
+looked_writable rows x None fit is = (refl, refl)
 looked_writable rows x (Some row) fit is = row_writable x row (fit x row (sym is))
 
 pub one_further : (backs : List PatchMap) (i : ℕ) (back : PatchMap) → back ≡ get_or backs i back → i < length backs → take (i + 1) backs ≡ take i backs ++ back ∷ []

@@ -16,6 +16,7 @@ use Rattle.path_model.specs.Authority.{has}
 use Rattle.path_model.specs.Rows.{RowMap}
 use Rattle.path_model.proofs.AscendingLemmas.{ascending_sorted, has_ascending, same_members}
 use Rattle.path_model.proofs.MemberLemmas.{has-append}
+use Rattle.rtr_pdu.specs.declared.version.Version.TheVariants.{Two}
 use Rattle.rtr_pdu.specs.declared.pdu.Pdu.{Pdu}
 use Rattle.rtr_pdu.specs.declared.pdu.Pdu.TheVariants.{Notify, SerialQuery, ResetQuery, CacheResponse, Prefix, Passed, EndOfData, CacheReset, ErrorReport, Aspa}
 use Rattle.rtr_pdu.proofs.UnitLemmas.{its_units}
@@ -71,7 +72,7 @@ reply_unique cache (Notify session serial) one other turn next a b = (b.0 ∙ sy
 reply_unique cache (CacheResponse session) one other turn next a b = (b.0 ∙ sym a.0, b.1 ∙ sym a.1)
 reply_unique cache (Prefix announce v) one other turn next a b = (b.0 ∙ sym a.0, b.1 ∙ sym a.1)
 reply_unique cache (Passed kind) one other turn next a b = (b.0 ∙ sym a.0, b.1 ∙ sym a.1)
-reply_unique cache (EndOfData session serial) one other turn next a b = (b.0 ∙ sym a.0, b.1 ∙ sym a.1)
+reply_unique cache (EndOfData session serial timing) one other turn next a b = (b.0 ∙ sym a.0, b.1 ∙ sym a.1)
 reply_unique cache CacheReset one other turn next a b = (b.0 ∙ sym a.0, b.1 ∙ sym a.1)
 reply_unique cache (Aspa announce customer providers) one other turn next a b = (b.0 ∙ sym a.0, b.1 ∙ sym a.1)
 
@@ -187,7 +188,7 @@ some_reply cache (Notify session serial) = refused 3
 some_reply cache (CacheResponse session) = refused 3
 some_reply cache (Prefix announce v) = refused 3
 some_reply cache (Passed kind) = refused 3
-some_reply cache (EndOfData session serial) = refused 3
+some_reply cache (EndOfData session serial timing) = refused 3
 some_reply cache CacheReset = refused 3
 some_reply cache (Aspa announce customer providers) = refused 3
 
@@ -212,6 +213,6 @@ some_run (pdu ∷ more) old =
 
 pub is_taken : (cache : Versions) (asked : State) (query : Query) (bytes : List ℕ) (turn : Turn) → Replies cache (pdu_of query) bytes turn → IsTaken cache asked query bytes
 is_taken cache asked query bytes turn replies =
-    let division = its_units bytes in
+    let division = its_units Two bytes in
     let run = some_run division.one asked in
     record { acts = run.acts; done = run.done; takes = record { bytes = bytes; turn = turn; replies = replies; units = division.one; rest = division.its; are = division.is; takes = run.takes }; same = refl }

@@ -11,6 +11,7 @@ use Rattle.attestations.specs.CurrentTable.{Parts, IsCurrentRow}
 use Rattle.attestations.specs.ComputedTable.{table_of}
 use Rattle.path_model.specs.Rows.{RowMap, PatchMap}
 use Rattle.attestations.proofs.PartsLemmas.{table_is_current}
+use Rattle.rtr_pdu.specs.declared.timing.Timing.{Timing}
 use Rattle.rtr_cache.specs.Cache.{Version, AreRowsOf, FitsPdus, Updates}
 use Rattle.rtr_cache.specs.Kept.{IsKeptWell, LeadsBack, RowsFit, Visits, older_of, patched, patched_row, table_row, versions_of, visited}
 use Rattle.rtr_cache.proofs.RowLemmas.{same_map}
@@ -53,21 +54,21 @@ older_of-take zero serial rows backs = refl
 older_of-take (suc n) serial rows [] = refl
 older_of-take (suc n) serial rows (back ∷ more) = ap (λ (l : List Version). record { serial = serial - 1; rows = patched rows back } ∷ l) (older_of-take n (serial - 1) (patched rows back) more)
 
-pub updates_same : (session serial : ℕ) (rows : RowMap) (backs : List PatchMap) (parts : Parts) (back : PatchMap) → LeadsBack rows (table_of parts) back → back ≡ map.empty → Updates (versions_of session serial rows backs) parts (versions_of session serial rows backs)
-updates_same session serial rows backs parts back leads none = record {
+pub updates_same : (session : ℕ) (timing : Timing) (serial : ℕ) (rows : RowMap) (backs : List PatchMap) (parts : Parts) (back : PatchMap) → LeadsBack rows (table_of parts) back → back ≡ map.empty → Updates (versions_of session timing serial rows backs) parts (versions_of session timing serial rows backs)
+updates_same session timing serial rows backs parts back leads none = record {
   rows = are_rows rows parts (λ q. sym (leads.same q (ap (λ (m : PatchMap). map.get m q) none ∙ map.get-empty nat_cmp q)));
   comes = inl (refl, refl);
 }
 
-pub updates_next : (session serial : ℕ) (rows new : RowMap) (backs : List PatchMap) (parts : Parts) (back : PatchMap) → LeadsBack rows (table_of parts) back → ((q : ℕ) → map.get new q ≡ table_of parts q) → back ≢ map.empty
-    → Updates (versions_of session serial rows backs) parts (versions_of session (serial + 1) new (take 63 (back ∷ backs)))
-updates_next session serial rows new backs parts back leads is some =
+pub updates_next : (session : ℕ) (timing : Timing) (serial : ℕ) (rows new : RowMap) (backs : List PatchMap) (parts : Parts) (back : PatchMap) → LeadsBack rows (table_of parts) back → ((q : ℕ) → map.get new q ≡ table_of parts q) → back ≢ map.empty
+    → Updates (versions_of session timing serial rows backs) parts (versions_of session timing (serial + 1) new (take 63 (back ∷ backs)))
+updates_next session timing serial rows new backs parts back leads is some =
     let older : older_of (serial + 1) new (take 63 (back ∷ backs)) ≡ take 63 (record { serial = serial; rows = rows } ∷ older_of serial rows backs) =
     older_of-take 63 (serial + 1) new (back ∷ backs)
     ∙ (λ i. take 63 (record { serial = before i; rows = leads_to_old rows new (table_of parts) back leads is i } ∷ older_of (before i) (leads_to_old rows new (table_of parts) back leads is i) backs)) in
     record {
       rows = are_rows new parts is;
-      comes = inr (differ rows new (table_of parts) back leads is some, λ i. record { session = session; current = record { serial = serial + 1; rows = new }; older = older i });
+      comes = inr (differ rows new (table_of parts) back leads is some, λ i. record { session = session; timing = timing; current = record { serial = serial + 1; rows = new }; older = older i });
     }
   where
     before : serial + 1 - 1 ≡ serial

@@ -15,10 +15,11 @@ rows_are_one parts one other a b =
 pub made_one : (session : ℕ) (parts : Parts) (one other : Versions) → IsMade session parts one → IsMade session parts other → one ≡ other
 made_one session parts one other a b =
     let sessions = a.session_is ∙ sym b.session_is in
+    let timings = a.timing_is ∙ sym b.timing_is in
     let serials = a.serial ∙ sym b.serial in
     let rows = rows_are_one parts one.current.rows other.current.rows a.rows b.rows in
     let older = a.alone ∙ sym b.alone in
-    λ i. record { session = sessions i; current = record { serial = serials i; rows = rows i }; older = older i }
+    λ i. record { session = sessions i; timing = timings i; current = record { serial = serials i; rows = rows i }; older = older i }
 
 comes_one : (old one other : Versions) → one.current.rows ≡ other.current.rows → Comes old one → Comes old other → one ≡ other
 comes_one old one other rows (inl a) (inl b) = a.1 ∙ sym b.1

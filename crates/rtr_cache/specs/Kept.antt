@@ -10,6 +10,7 @@ use Rattle.std.specs.declared.option.Option.TheVariants.{Some, None}
 use Rattle.std.specs.FinMap as map
 use Rattle.path_model.specs.Authority.{Table}
 use Rattle.path_model.specs.Rows.{RowMap, PatchMap}
+use Rattle.rtr_pdu.specs.declared.timing.Timing.{Timing}
 use Rattle.rtr_pdu.specs.declared.pdu.Pdu.{Pdu}
 use Rattle.rtr_pdu.specs.Spelled.{FitsFields}
 use Rattle.attestations.specs.Moves.{same_rows}
@@ -37,8 +38,8 @@ abbrev pub older_of : ℕ → RowMap → List PatchMap → List Version
 older_of serial rows [] = []
 older_of serial rows (back ∷ more) = record { serial = serial - 1; rows = patched rows back } ∷ older_of (serial - 1) (patched rows back) more
 
-abbrev pub versions_of : ℕ → ℕ → RowMap → List PatchMap → Versions
-versions_of session serial rows back = record { session = session; current = record { serial = serial; rows = rows }; older = older_of serial rows back }
+abbrev pub versions_of : ℕ → Timing → ℕ → RowMap → List PatchMap → Versions
+versions_of session timing serial rows back = record { session = session; timing = timing; current = record { serial = serial; rows = rows }; older = older_of serial rows back }
 
 -- each row fits a PDU
 abbrev pub RowsFit : RowMap → Type 0
@@ -51,7 +52,7 @@ pub record IsKeptWell (serial : ℕ) (rows : RowMap) (back : List PatchMap) : Ty
 
 -- the versions that are kept so, and that they are kept well
 abbrev pub versions_in : KeptVersions → Versions
-versions_in kept = versions_of kept.session kept.serial kept.rows.now kept.back.now.items
+versions_in kept = versions_of kept.session kept.timing kept.serial kept.rows.now kept.back.now.items
 
 abbrev pub AreKeptWell : KeptVersions → Type 0
 AreKeptWell kept = IsKeptWell kept.serial kept.rows.now kept.back.now.items

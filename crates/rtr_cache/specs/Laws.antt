@@ -6,6 +6,8 @@ use Rattle.av_base.specs.One.{HasOnePair}
 use Rattle.path_model.specs.Rows.{RowMap}
 use Rattle.attestations.specs.CurrentTable.{Parts}
 use Rattle.held_bytes.specs.Units.{AreUnits}
+use Rattle.rtr_pdu.specs.declared.version.Version.TheVariants.{Two}
+use Rattle.rtr_pdu.specs.declared.timing.Timing.{Timing}
 use Rattle.rtr_pdu.specs.declared.pdu.Pdu.{Pdu}
 use Rattle.rtr_pdu.specs.declared.pdu.Pdu.TheVariants.{SerialQuery, ResetQuery}
 use Rattle.rtr_pdu.specs.Pdus.{IsFrame}
@@ -17,7 +19,7 @@ use Rattle.rtr_session.specs.declared.act.Query.TheVariants.{Reset, Serial}
 use Rattle.rtr_session.specs.State.{State, fresh}
 use Rattle.rtr_session.specs.Client.{Client, Asks}
 use Rattle.rtr_cache.specs.declared.turn.Turn.{Turn}
-use Rattle.rtr_cache.specs.Cache.{Versions, AreRowsOf, FitsPdus, IsMade, Updates}
+use Rattle.rtr_cache.specs.Cache.{Versions, AreRowsOf, FitsPdus, IsMade, Updates, timed}
 use Rattle.rtr_cache.specs.Served.{IsReply, kept_rows, Replies}
 
 -- each PDU has exactly one reply, and one turn behind it
@@ -43,7 +45,7 @@ pub record TakesReply (cache : Versions) (asked : State) (query : Query) (acts :
   pub replies : Replies cache (pdu_of query) bytes turn
   pub units : List Pdu
   pub rest : List ℕ
-  pub are : AreUnits IsFrame bytes units rest
+  pub are : AreUnits (IsFrame Two) bytes units rest
   pub takes : Takes asked units acts done
 
 -- the query that is sent on the last of these PDUs, if one is
@@ -95,9 +97,11 @@ RoutersGetTheTable =
 
 -- ---- a cache and a router from the start on
 
--- what may happen: the cache is updated by the current table of these parts; the router asks and takes what it gets; or it starts anew
+-- what may happen: the cache is updated by the current table of these parts, or given other times; the router asks and takes what it gets; or
+-- it starts anew
 pub data Step : Type 0 where
   Update : (parts : Parts) → Step
+  Retime : (timing : Timing) → Step
   Exchange : Step
   Restart : Step
 
@@ -106,6 +110,7 @@ abbrev pub Happens : List Step → Versions → State → Versions → State →
 Happens [] cache router then_cache then_router = (then_cache ≡ cache) × (then_router ≡ router)
 Happens (Update parts ∷ more) cache router then_cache then_router =
     (next : Versions) × FitsPdus parts × Updates cache parts next × Happens more next router then_cache then_router
+Happens (Retime timing ∷ more) cache router then_cache then_router = Happens more (timed cache timing) router then_cache then_router
 Happens (Exchange ∷ more) cache router then_cache then_router =
     (next : State) × Exchanges cache router next × Happens more cache next then_cache then_router
 Happens (Restart ∷ more) cache router then_cache then_router = Happens more cache fresh then_cache then_router
@@ -114,6 +119,7 @@ Happens (Restart ∷ more) cache router then_cache then_router = Happens more ca
 abbrev pub last_parts : Parts → List Step → Parts
 last_parts parts [] = parts
 last_parts parts (Update other ∷ more) = last_parts other more
+last_parts parts (Retime timing ∷ more) = last_parts parts more
 last_parts parts (Exchange ∷ more) = last_parts parts more
 last_parts parts (Restart ∷ more) = last_parts parts more
 

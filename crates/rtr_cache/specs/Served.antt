@@ -7,6 +7,7 @@ use Rattle.std.specs.declared.option.Option.TheVariants.{Some, None}
 use Rattle.std.specs.FinMap as finite
 use Rattle.path_model.specs.Authority.{has}
 use Rattle.path_model.specs.Rows.{RowMap}
+use Rattle.rtr_pdu.specs.declared.version.Version.TheVariants.{Two}
 use Rattle.rtr_pdu.specs.declared.pdu.Pdu.{Pdu}
 use Rattle.rtr_pdu.specs.declared.pdu.Pdu.TheVariants.{SerialQuery, ResetQuery, CacheResponse, EndOfData, CacheReset, ErrorReport, Aspa}
 use Rattle.rtr_pdu.specs.Spelled.{spelled, FitsFields}
@@ -47,9 +48,9 @@ pub record IsDifference (from to : RowMap) (pdus : List Pdu) : Type 0 where
 
 -- ---- the table of replies
 
--- an answer with these PDUs of rows
+-- an answer with these PDUs of rows, and the cache's times
 abbrev pub answer : Versions → List Pdu → List Pdu
-answer cache pdus = CacheResponse cache.session ∷ (pdus ++ EndOfData cache.session cache.current.serial ∷ [])
+answer cache pdus = CacheResponse cache.session ∷ (pdus ++ EndOfData cache.session cache.current.serial cache.timing ∷ [])
 
 -- the rows of the version of a serial, where it is kept
 abbrev pub rows_at : List Version → ℕ → Option RowMap
@@ -96,7 +97,7 @@ IsReply cache pdu pdus turn = Refuses 3 pdus turn
 
 abbrev pub spelled_all : List Pdu → List ℕ
 spelled_all [] = []
-spelled_all (pdu ∷ more) = spelled pdu ++ spelled_all more
+spelled_all (pdu ∷ more) = spelled Two pdu ++ spelled_all more
 
 -- the bytes are the spellings of the reply's PDUs one after another, and each number fits its field
 pub record Replies (cache : Versions) (pdu : Pdu) (bytes : List ℕ) (turn : Turn) : Type 0 where

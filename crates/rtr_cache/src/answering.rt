@@ -10,7 +10,7 @@ use crate::telling::{merged, put_difference, put_rows};
 use crate::turn::Turn;
 use av_base::NoMemory;
 use path_model::Patch;
-use rtr_pdu::{Pdu, write};
+use rtr_pdu::{Pdu, Timing, Version, write};
 use std::alloc::Global;
 use std::collections::VecDeque;
 
@@ -58,7 +58,7 @@ fn give_rows(alloc: Global, kept: KeptVersions<'_>, out: &mut Vec<u8>) -> Result
 {
     begin(kept.session, out)?;
     put_rows(alloc, kept.rows, out)?;
-    end(kept.session, kept.serial, out)?;
+    end(kept.session, kept.serial, kept.timing, out)?;
     Ok(Turn::More)
 }
 
@@ -98,7 +98,7 @@ fn give_difference(
     let patch = merged(alloc, kept.back, steps)?;
     begin(kept.session, out)?;
     put_difference(alloc, kept.rows, &patch, out)?;
-    end(kept.session, kept.serial, out)?;
+    end(kept.session, kept.serial, kept.timing, out)?;
     Ok(Turn::More)
 }
 
@@ -129,15 +129,21 @@ fn count(back: &VecDeque<Patch>) -> usize
 fn begin(session: u16, out: &mut Vec<u8>) -> Result<(), NoMemory>
     ensures { OnOk result (Appended (Begins session ∷ []) out.old.items out.new.items) }
 {
-    write(&Pdu::CacheResponse { session }, out)?;
+    write(Version::Two, &Pdu::CacheResponse { session }, out)?;
     Ok(())
 }
 
 // The PDU behind the rows.
-fn end(session: u16, serial: u32, out: &mut Vec<u8>) -> Result<(), NoMemory>
-    ensures { OnOk result (Appended (Ends session serial ∷ []) out.old.items out.new.items) }
+fn end(session: u16, serial: u32, timing: Timing, out: &mut Vec<u8>) -> Result<(), NoMemory>
+    ensures { OnOk result (Appended (Ends session serial timing ∷ [])
+        out.old.items out.new.items) }
 {
-    write(&Pdu::EndOfData { session, serial }, out)?;
+    let pdu = Pdu::EndOfData {
+        session,
+        serial,
+        timing,
+    };
+    write(Version::Two, &pdu, out)?;
     Ok(())
 }
 
@@ -146,7 +152,7 @@ fn reset(out: &mut Vec<u8>) -> Result<Turn, NoMemory>
     ensures more { IfOk result (λ turn. turn ≡ GoesOn) }
     ensures appended { OnOk result (Appended (Resets ∷ []) out.old.items out.new.items) }
 {
-    write(&Pdu::CacheReset, out)?;
+    write(Version::Two, &Pdu::CacheReset, out)?;
     Ok(Turn::More)
 }
 
@@ -155,6 +161,6 @@ fn refuse(code: u16, out: &mut Vec<u8>) -> Result<Turn, NoMemory>
     ensures close { IfOk result (λ turn. turn ≡ Closes) }
     ensures appended { OnOk result (Appended (Reports code ∷ []) out.old.items out.new.items) }
 {
-    write(&Pdu::ErrorReport { code }, out)?;
+    write(Version::Two, &Pdu::ErrorReport { code }, out)?;
     Ok(Turn::Close)
 }

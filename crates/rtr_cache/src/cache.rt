@@ -1,6 +1,6 @@
 //! A cache: the versions of a table, and what is answered to routers.
 ghost use Rattle.std.specs.Prelude.{◌≡◌, ◌-◌, ◌^◌, ◌<◌, IfOk, OnErr};
-ghost use Rattle.rtr_cache.specs.Cache.{FitsPdus, IsMade, Updates};
+ghost use Rattle.rtr_cache.specs.Cache.{FitsPdus, IsMade, Updates, timed};
 ghost use Rattle.rtr_cache.specs.Served.{Answers, Replies};
 
 use crate::answering::reply;
@@ -10,7 +10,7 @@ use crate::rows::is_none;
 use crate::turn::Turn;
 use av_base::NoMemory;
 use path_model::{Patch, Rows};
-use rtr_pdu::Pdu;
+use rtr_pdu::{Pdu, Timing};
 use std::alloc::Global;
 use std::collections::VecDeque;
 use std::marker::Model;
@@ -25,6 +25,8 @@ const OLDER: usize = 63;
 pub struct Cache {
     alloc: Global,
     session: u16,
+    // what each answer gives the router
+    timing: Timing,
     serial: u32,
     // the current rows
     rows: Rows,
@@ -40,13 +42,14 @@ impl Model for Cache {
 
     ghost coded = { coded_versions };
 
-    ghost view = { λ c. versions_of c.session c.serial c.rows c.back.items };
+    ghost view = { λ c. versions_of c.session c.timing c.serial c.rows c.back.items };
 
     ghost invariant = { λ c. IsKeptWell c.serial c.rows c.back.items };
 }
 
 impl Cache {
-    /// A cache of one version, the current table under the serial 0. Each row of the table must fit a PDU: 65,533 providers at most.
+    /// A cache of one version, the current table under the serial 0, with the times that RFC 8210 suggests. Each row of the table must fit a
+    /// PDU: 65,533 providers at most.
     pub fn new(alloc: Global, session: u16, table: &Vaps) -> Result<Cache, NoMemory>
         requires { FitsPdus table.now }
         ensures { IfOk result (λ cache. IsMade session table.now cache) }
@@ -55,6 +58,7 @@ impl Cache {
         Ok(Cache {
             alloc,
             session,
+            timing: Timing::suggested(),
             serial: 0,
             rows,
             back: VecDeque::new(alloc),
@@ -78,6 +82,14 @@ impl Cache {
         self.back.truncate(OLDER);
         self.serial += 1;
         Ok(self)
+    }
+
+    /// The same cache with these times in its answers from then on.
+    pub fn with_timing(mut self, timing: Timing) -> Cache
+        ensures { result ≡ timed self timing }
+    {
+        self.timing = timing;
+        self
     }
 
     /// The number of the session.
@@ -114,6 +126,7 @@ impl Cache {
         let mut bytes = Vec::new(self.alloc);
         let kept = KeptVersions {
             session: self.session,
+            timing: self.timing,
             serial: self.serial,
             rows: &self.rows,
             back: &self.back,

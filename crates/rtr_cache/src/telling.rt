@@ -4,6 +4,7 @@ ghost use Rattle.std.specs.List.{All};
 ghost use Rattle.std.specs.Option.{option_copied};
 ghost use Rattle.std.specs.FinMap as map;
 ghost use Rattle.path_model.specs.Rows.{RowMap};
+ghost use Rattle.rtr_pdu.specs.declared.version.Version.TheVariants.{Two};
 ghost use Rattle.rtr_pdu.specs.Spelled.{FitsFields, IsWritable};
 ghost use Rattle.attestations.specs.Moves.{same_rows};
 ghost use Rattle.vap_table.specs.Sources.{IsSetIfGiven};
@@ -13,7 +14,7 @@ ghost use Rattle.rtr_cache.specs.Served.{providers_told, told};
 use crate::rows::{is_same, set_none, set_row};
 use av_base::NoMemory;
 use path_model::{AsList, Patch, Rows};
-use rtr_pdu::{Pdu, write};
+use rtr_pdu::{Pdu, Version, write};
 use std::alloc::Global;
 use std::collections::VecDeque;
 
@@ -52,7 +53,7 @@ fn put_if_changed(
     row: Option<&AsList>,
     out: &mut Vec<u8>,
 ) -> Result<(), NoMemory>
-    requires { IsWritable (told customer (option_copied row)) }
+    requires { IsWritable Two (told customer (option_copied row)) }
     ensures { OnOk result (Appended
         (if same_rows (option_copied before.entry) (option_copied row.entry) then []
         else told customer (option_copied row.entry) ∷ []) out.old.items out.new.items) }
@@ -70,12 +71,12 @@ fn put_told(
     row: Option<&AsList>,
     out: &mut Vec<u8>,
 ) -> Result<(), NoMemory>
-    requires { IsWritable (told customer (option_copied row)) }
+    requires { IsWritable Two (told customer (option_copied row)) }
     ensures { OnOk result (Appended (told customer (option_copied row.entry) ∷ [])
         out.old.items out.new.items) }
 {
     let pdu = pdu_of(alloc, customer, row)?;
-    write(&pdu, out)?;
+    write(Version::Two, &pdu, out)?;
     Ok(())
 }
 

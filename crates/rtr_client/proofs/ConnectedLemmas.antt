@@ -1,6 +1,7 @@
 -- Which attempt made a feed's connection.
 use Rattle.std.proofs.Common.{◌≡◌, ℕ, zero, suc, ◌≤◌, inl, inr, Bool, true, false, cond, List, None, Some, refl, sym, ◌∙◌, ap, subst, arith}
 use Rattle.std.specs.declared.option.Option.{Option}
+use Rattle.rtr_pdu.specs.declared.version.Version.{Version}
 use Rattle.av_base.specs.Connections.{Attempt, Failed, Link, Made, Unaccepted}
 use Rattle.rtr_session.specs.declared.act.Act.{Act}
 use Rattle.rtr_session.specs.declared.act.Act.TheVariants.{Nothing, Send, Apply, End}
@@ -86,14 +87,14 @@ module _ (world : World) (first : ℕ) where
   connected_put : (old : State) (name : List ℕ) (slot : Option Feed) → AreConnectedFrom world first old → Owned (Some slot) → (other : List ℕ) → Owned (with_feed name slot old.feeds other)
   connected_put old name slot connected put other = owned_put (same_name name other) slot (old.feeds other) put (connected.each other)
 
-  starts_on : (place : List ℕ) (number : ℕ) (attempt : Attempt) (tells : List Telling) (slot : Option Feed) → first ≤ number → IsAttempt world number attempt → StartsBy world place attempt tells slot → Owned (Some slot)
-  starts_on place number (Made link) tells slot within made starts = owned_on link number slot within made (queries_on starts.t (starting link) Reset tells slot starts.so.1)
-  starts_on place number (Failed at) tells slot within made starts = λ feed is. let over : slot ≡ None = starts.2 in let none : ⊥ = cc in absurd none
-  starts_on place number (Unaccepted at) tells slot within made starts = absurd starts
+  starts_on : (place : List ℕ) (said : Option Version) (number : ℕ) (attempt : Attempt) (tells : List Telling) (slot : Option Feed) → first ≤ number → IsAttempt world number attempt → StartsBy world place said attempt tells slot → Owned (Some slot)
+  starts_on place said number (Made link) tells slot within made starts = owned_on link number slot within made (queries_on starts.t (starting link said) Reset tells slot starts.so.1)
+  starts_on place said number (Failed at) tells slot within made starts = λ feed is. let over : slot ≡ None = starts.2 in let none : ⊥ = cc in absurd none
+  starts_on place said number (Unaccepted at) tells slot within made starts = absurd starts
 
-  pub connects_connected : (old new : State) (name place : List ℕ) (tells : List Telling) → AreConnectedFrom world first old → Connects world old name place tells new → AreConnectedFrom world first new
-  connects_connected old new name place tells connected connects =
-      let put = starts_on place old.made connects.attempt tells connects.slot connected.later connects.attempted connects.starts in
+  pub connects_connected : (old new : State) (name place : List ℕ) (said : Option Version) (tells : List Telling) → AreConnectedFrom world first old → Connects world old name place said tells new → AreConnectedFrom world first new
+  connects_connected old new name place said tells connected connects =
+      let put = starts_on place said old.made connects.attempt tells connects.slot connected.later connects.attempted connects.starts in
       subst (AreConnectedFrom world first) (sym connects.left) (record { later = omega (arith, connected.later); each = connected_put old name connects.slot connected put })
 
   pub works_connected : (old new : State) (name : List ℕ) (work : Work) (held : Option (Option Feed)) (tells : List Telling) → old.feeds name ≡ held → AreConnectedFrom world first old → WorksBy world old name work held tells new

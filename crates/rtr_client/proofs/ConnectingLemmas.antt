@@ -3,6 +3,7 @@ use Rattle.std.proofs.Common.{◌≡◌, ◌≢◌, ℕ, ◌+◌, ◌≤◌, inl
 use Rattle.std.specs.Option.{option_map}
 use Rattle.std.specs.declared.option.Option.{Option}
 use Rattle.std.proofs.lemmas.Option.{slice_get_cases, slice_get_within}
+use Rattle.rtr_pdu.specs.declared.version.Version.{Version}
 use Rattle.av_base.specs.Connections.{Link, Attempt, AddsAttempt, Made, Failed, ToldLater, closes}
 use Rattle.av_base.specs.declared.standing.Standing.{Standing}
 use Rattle.rtr_session.specs.declared.act.Query.TheVariants.{Reset}
@@ -23,6 +24,7 @@ use Rattle.connection_calls.specs.World.{AddsAttempts, ComesTo, World}
 use Rattle.rtr_client.specs.Holding.{HoldsOr, IsNoFeeds, IsSound, StandsFor, feed_in}
 use Rattle.rtr_client.specs.Lines.{Closes, State, starting, with_feed}
 use Rattle.rtr_client.specs.Named.{ClosedAs, ConnectedNamed, IsApart, IsSlotFit, Puts, SessionStarts, StartedAs, WasHeld}
+use Rattle.rtr_client.specs.Speaking.{version_of}
 use Rattle.rtr_client.specs.Steps.{SlotFits}
 use Rattle.connection_calls.proofs.ConnectionLemmas.{Now-change, Now-map, Ever-closed, Ever-later, Ever-now, Spares-trans, Spares-weaker}
 use Rattle.connection_calls.proofs.GoingLemmas.{AddsAttempts-one, AddsAttempts-refl, AddsAttempts-trans, Now-later, in_end, is_attempt, one_more}
@@ -46,30 +48,31 @@ slot_fit stands most feeds name (Some (Some kept)) slot there was sound =
 
 -- ---- its session
 
-module _ (old new : Option (List Link)) (kept : OpenFeed) (bytes : List ℕ) (framer_is : kept.framer ≡ []) (session_is : kept.session ≡ (starting kept.link).session) (taken_is : kept.taken ≡ 0)
-    (spelled : bytes ≡ query_bytes Reset) (here : Now old kept.link (Has [] [])) where
-  stands_new : StandsFor old kept (starting kept.link)
+module _ (old new : Option (List Link)) (kept : OpenFeed) (bytes : List ℕ) (framer_is : kept.framer ≡ []) (session_is : kept.session ≡ (starting kept.link kept.said).session) (taken_is : kept.taken ≡ 0)
+    (spelled : bytes ≡ query_bytes (version_of kept.said) Reset) (here : Now old kept.link (Has [] [])) where
+  stands_new : StandsFor old kept (starting kept.link kept.said)
   stands_new = record {
     link = refl;
+    said = refl;
     taken = taken_is;
     session = session_is;
     now = subst (λ (f : List ℕ). Now old kept.link (Has ([] ++ f) [])) (sym framer_is) here;
   }
 
-  pub starts_whole : (whole : Bool) → whole ≡ true → ((got gave : List ℕ) → Now old kept.link (Has got gave) → SendsOrCloses new kept.link got gave bytes whole) → SessionStarts new kept.link (Some kept) None
+  pub starts_whole : (whole : Bool) → whole ≡ true → ((got gave : List ℕ) → Now old kept.link (Has got gave) → SendsOrCloses new kept.link got gave bytes whole) → SessionStarts new kept.link kept.said (Some kept) None
   starts_whole whole is asks =
-      let had = query_whole old new kept (starting kept.link) Reset bytes stands_new spelled whole is asks in
-      record { feed = Some (record (starting kept.link) { sent = [] ++ query_bytes Reset }); stands = had.0; done = had.1 }
+      let had = query_whole old new kept (starting kept.link kept.said) Reset bytes stands_new spelled whole is asks in
+      record { feed = Some (record (starting kept.link kept.said) { sent = [] ++ query_bytes (version_of kept.said) Reset }); stands = had.0; done = had.1 }
 
-  pub starts_lost : (whole : Bool) → whole ≡ false → ((got gave : List ℕ) → Now old kept.link (Has got gave) → SendsOrCloses new kept.link got gave bytes whole) → SessionStarts new kept.link None (Some (FeedEnds LostFeed))
-  starts_lost whole is asks = record { feed = None; stands = tt; done = query_lost old new kept (starting kept.link) Reset bytes stands_new spelled whole is asks }
+  pub starts_lost : (whole : Bool) → whole ≡ false → ((got gave : List ℕ) → Now old kept.link (Has got gave) → SendsOrCloses new kept.link got gave bytes whole) → SessionStarts new kept.link kept.said None (Some (FeedEnds LostFeed))
+  starts_lost whole is asks = record { feed = None; stands = tt; done = query_lost old new kept (starting kept.link kept.said) Reset bytes stands_new spelled whole is asks }
 
 -- ---- the attempt
 
-pub started_made : (attempts_old attempts_mid attempts_new : Option (List Attempt)) (wire_mid wire_new : Option (List Link)) (place : List ℕ) (link : ℕ) (slot : Option OpenFeed) (told : Option Telling)
+pub started_made : (attempts_old attempts_mid attempts_new : Option (List Attempt)) (wire_mid wire_new : Option (List Link)) (place : List ℕ) (said : Option Version) (link : ℕ) (slot : Option OpenFeed) (told : Option Telling)
     (wire_old : Option (List Link)) → ((links : List Link) → wire_old ≡ Some links → length links ≤ link) → AddsAttempt attempts_old attempts_mid (Made link) → attempts_new ≡ attempts_mid → Now wire_mid link (λ t. (t.place ≡ place) × Has [] [] t) → ToldLater wire_mid wire_new
-    → (Now wire_mid link (Has [] []) → SessionStarts wire_new link slot told) → StartedAs attempts_old attempts_new wire_old wire_new place slot told
-started_made attempts_old attempts_mid attempts_new wire_mid wire_new place link slot told wire_old from adds same here later starts =
+    → (Now wire_mid link (Has [] []) → SessionStarts wire_new link said slot told) → StartedAs attempts_old attempts_new wire_old wire_new place said slot told
+started_made attempts_old attempts_mid attempts_new wire_mid wire_new place said link slot told wire_old from adds same here later starts =
     let had = starts (Now-map (λ t h. h.1) here) in
     let one : AddsAttempt attempts_old attempts_new (Made link) = subst (λ (a : Option (List Attempt)). AddsAttempt attempts_old a (Made link)) (sym same) adds in
     record {
@@ -85,9 +88,9 @@ started_made attempts_old attempts_mid attempts_new wire_mid wire_new place link
       );
     }
 
-pub started_failed : (attempts_old attempts_new : Option (List Attempt)) (wire_old wire_new : Option (List Link)) (place : List ℕ) → AddsAttempt attempts_old attempts_new (Failed place)
-    → StartedAs attempts_old attempts_new wire_old wire_new place None (Some (FeedEnds Unreachable))
-started_failed attempts_old attempts_new wire_old wire_new place adds = record {
+pub started_failed : (attempts_old attempts_new : Option (List Attempt)) (wire_old wire_new : Option (List Link)) (place : List ℕ) (said : Option Version) → AddsAttempt attempts_old attempts_new (Failed place)
+    → StartedAs attempts_old attempts_new wire_old wire_new place said None (Some (FeedEnds Unreachable))
+started_failed attempts_old attempts_new wire_old wire_new place said adds = record {
   attempts = AddsAttempts-one (Failed place) (λ links told. tt) adds;
   one_more = one_more (Failed place) adds;
   feed = None;
@@ -97,7 +100,7 @@ started_failed attempts_old attempts_new wire_old wire_new place adds = record {
 
 -- ---- by its name
 
-module _ (attempts_old attempts_mid attempts_new : Option (List Attempt)) (wire_old wire_mid wire_new : Option (List Link)) (stood stands_mid stands : List Standing) (name place : List ℕ)
+module _ (attempts_old attempts_mid attempts_new : Option (List Attempt)) (wire_old wire_mid wire_new : Option (List Link)) (stood stands_mid stands : List Standing) (name place : List ℕ) (said : Option Version)
     (feeds_old mid feeds_new : Feeds) (was slot : Option OpenFeed) (most : ℕ) (sound : IsSound stood most feeds_old) (held : WasHeld (feed_in feeds_old name) was)
     (spares_old : Spares (IsApart was) wire_old wire_mid stood stands_mid) (spares_new : Spares (λ other. other ≢ length stands_mid) wire_mid wire_new stands_mid stands) where
   apart_old_at : (found : Option (Option OpenFeed)) → feed_in feeds_old name ≡ found → WasHeld found was → (q : List ℕ) (other : OpenFeed) → name ≢ q → feed_in feeds_old q ≡ Some (Some other) → IsApart was other.link
@@ -154,8 +157,8 @@ module _ (attempts_old attempts_mid attempts_new : Option (List Attempt)) (wire_
     puts_new : Puts feeds_old feeds_new name slot
     puts_new = Puts-twice feeds_old mid feeds_new name slot one two
 
-    pub connected_named : (told : Option Telling) → ClosedAs wire_old wire_mid was → attempts_mid ≡ attempts_old → StartedAs attempts_mid attempts_new wire_mid wire_new place slot told
-        → ConnectedNamed attempts_old attempts_new wire_old wire_new name place feeds_old feeds_new told
+    pub connected_named : (told : Option Telling) → ClosedAs wire_old wire_mid was → attempts_mid ≡ attempts_old → StartedAs attempts_mid attempts_new wire_mid wire_new place said slot told
+        → ConnectedNamed attempts_old attempts_new wire_old wire_new name place said feeds_old feeds_new told
     connected_named told closed same started = record {
       attempts = AddsAttempts-trans spares_old.later (AddsAttempts-refl wire_old attempts_old) (subst (λ (a : Option (List Attempt)). AddsAttempts wire_mid a attempts_new) same started.attempts);
       links = spares_both.later;

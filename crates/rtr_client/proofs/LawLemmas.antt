@@ -4,6 +4,7 @@ use Rattle.std.specs.Prelude.{slice_get, IfSome}
 use Rattle.std.proofs.lemmas.List.{append_cancel_right}
 use Rattle.std.specs.declared.option.Option.{Option}
 use Rattle.av_base.specs.Connections.{Link, Attempt, Made, Failed, Unaccepted}
+use Rattle.rtr_pdu.specs.declared.version.Version.{Version}
 use Rattle.rtr_pdu.specs.declared.pdu.Pdu.{Pdu}
 use Rattle.rtr_session.specs.declared.act.Act.{Act}
 use Rattle.rtr_session.specs.declared.act.Act.TheVariants.{Nothing, Send, Apply, End}
@@ -32,6 +33,7 @@ use Rattle.rtr_client.specs.declared.telling.Telling.{Telling}
 use Rattle.rtr_client.specs.declared.telling.Telling.TheVariants.{NoName, StreamOver, Pdu as PduRefused, End as FeedEnds}
 use Rattle.rtr_client.specs.declared.working.Work.{Work}
 use Rattle.rtr_client.specs.declared.working.Work.TheVariants.{Ask, Take, Sync}
+use Rattle.rtr_client.specs.Speaking.{is_strict, version_of}
 use Rattle.rtr_client.specs.Tellings.{Asking, tells_text}
 use Rattle.connection_calls.proofs.RefusedLemmas.{cause_unique}
 use Rattle.connection_calls.proofs.NextLemmas.{same_shown, shown_bad, shown_none, shown_pdu, whole_or_cut}
@@ -42,43 +44,43 @@ use Rattle.rtr_client.specs.Laws.{FeedLinesHaveOneOutcome, EachTellingIsOneLine}
 
 -- ---- what comes next
 
-same_coming : (t : Link) (used : List ℕ) (a b : Coming) → IsComing t used a → IsComing t used b → a ≡ b
-same_coming t used (OnePdu x p) (OnePdu y q) a b =
-    let one = shown_pdu t used x p a in
-    let two = shown_pdu t used y q b in
-    let same = same_shown t used one two in
+same_coming : (ver : Version) → (t : Link) (used : List ℕ) (a b : Coming) → IsComing ver t used a → IsComing ver t used b → a ≡ b
+same_coming ver t used (OnePdu x p) (OnePdu y q) a b =
+    let one = shown_pdu ver t used x p a in
+    let two = shown_pdu ver t used y q b in
+    let same = same_shown ver t used one two in
     let pdus : p ≡ q = (let e : Ok (Some p) ≡ Ok (Some q) = same.answers in cc) in
     let bytes = append_cancel_right x y a.1.0 (same.lefts ∙ ap (λ (l : List ℕ). y ++ l) (sym same.rests)) in
     λ i. OnePdu (bytes i) (pdus i)
-same_coming t used (OnePdu x p) (BadPdu l f) a b =
-    let e = (same_shown t used (shown_pdu t used x p a) (shown_bad t used l f b)).answers in
+same_coming ver t used (OnePdu x p) (BadPdu l f) a b =
+    let e = (same_shown ver t used (shown_pdu ver t used x p a) (shown_bad ver t used l f b)).answers in
     let none : ⊥ = cc in
     absurd none
-same_coming t used (OnePdu x p) NoMore a b =
-    let e = (same_shown t used (shown_pdu t used x p a) (shown_none t used b.0)).answers in
+same_coming ver t used (OnePdu x p) NoMore a b =
+    let e = (same_shown ver t used (shown_pdu ver t used x p a) (shown_none ver t used b.0)).answers in
     let none : ⊥ = cc in
     absurd none
-same_coming t used (BadPdu l f) (OnePdu y q) a b =
-    let e = (same_shown t used (shown_bad t used l f a) (shown_pdu t used y q b)).answers in
+same_coming ver t used (BadPdu l f) (OnePdu y q) a b =
+    let e = (same_shown ver t used (shown_bad ver t used l f a) (shown_pdu ver t used y q b)).answers in
     let none : ⊥ = cc in
     absurd none
-same_coming t used (BadPdu l f) (BadPdu k h) a b =
-    let same = same_shown t used (shown_bad t used l f a) (shown_bad t used k h b) in
+same_coming ver t used (BadPdu l f) (BadPdu k h) a b =
+    let same = same_shown ver t used (shown_bad ver t used l f a) (shown_bad ver t used k h b) in
     let faults : f ≡ h = (let e = same.answers in cc) in
     λ i. BadPdu (same.lefts i) (faults i)
-same_coming t used (BadPdu l f) NoMore a b =
-    let e = (same_shown t used (shown_bad t used l f a) (shown_none t used b.0)).answers in
+same_coming ver t used (BadPdu l f) NoMore a b =
+    let e = (same_shown ver t used (shown_bad ver t used l f a) (shown_none ver t used b.0)).answers in
     let none : ⊥ = cc in
     absurd none
-same_coming t used NoMore (OnePdu y q) a b =
-    let e = (same_shown t used (shown_none t used a.0) (shown_pdu t used y q b)).answers in
+same_coming ver t used NoMore (OnePdu y q) a b =
+    let e = (same_shown ver t used (shown_none ver t used a.0) (shown_pdu ver t used y q b)).answers in
     let none : ⊥ = cc in
     absurd none
-same_coming t used NoMore (BadPdu k h) a b =
-    let e = (same_shown t used (shown_none t used a.0) (shown_bad t used k h b)).answers in
+same_coming ver t used NoMore (BadPdu k h) a b =
+    let e = (same_shown ver t used (shown_none ver t used a.0) (shown_bad ver t used k h b)).answers in
     let none : ⊥ = cc in
     absurd none
-same_coming t used NoMore NoMore a b = refl
+same_coming ver t used NoMore NoMore a b = refl
 
 -- ---- one PDU
 
@@ -90,10 +92,10 @@ queries_unique : (t : Link) (feed : Feed) (query : Query) (one other : List Tell
 queries_unique t feed query one other slot last a b = elim a [
   | inl whole ↦ elim b [
     | inl again ↦ (whole.1 ∙ sym again.1, whole.2 ∙ sym again.2)
-    | inr cut ↦ absurd (whole_or_cut t feed.sent (query_bytes query) whole.0 cut.0)
+    | inr cut ↦ absurd (whole_or_cut t feed.sent (query_bytes (version_of feed.said) query) whole.0 cut.0)
   ]
   | inr cut ↦ elim b [
-    | inl whole ↦ absurd (whole_or_cut t feed.sent (query_bytes query) whole.0 cut.0)
+    | inl whole ↦ absurd (whole_or_cut t feed.sent (query_bytes (version_of feed.said) query) whole.0 cut.0)
     | inr again ↦ (cut.2 ∙ sym again.2, cut.3 ∙ sym again.3)
   ]
 ]
@@ -130,7 +132,7 @@ moves_unique t feed (End ending) one other slot last a b = (a.1 ∙ sym b.1, a.2
 pdu_unique : (t : Link) (name : List ℕ) (feed : Feed) (old : Taking) (bytes : List ℕ) (pdu : Pdu) (one other : List Telling) (end last : Taking) → TakesPdu t name feed old bytes pdu one end
     → TakesPdu t name feed old bytes pdu other last → (one ≡ other) × (end ≡ last)
 pdu_unique t name feed old bytes pdu one other end last a b =
-    let case = one_case feed.session pdu in
+    let case = one_taking (is_strict feed.said) feed.session pdu in
     let first = case.only a.act a.session a.client in
     let second = case.only b.act b.session b.client in
     let acts = second.0 ∙ sym first.0 in
@@ -150,7 +152,7 @@ coming_unique t name feed old NoMore one other end last a b = (a.2 ∙ sym b.2, 
 from_unique : (feed : Option Feed) (t : Link) (name : List ℕ) (old : Taking) (one other : List Telling) (end last : Taking) → TakesFrom feed t name old one end → TakesFrom feed t name old other last → (one ≡ other) × (end ≡ last)
 from_unique None t name old one other end last a b = both one other _ end last _ a b
 from_unique (Some feed) t name old one other end last a b =
-    let same = same_coming t feed.used b.coming a.coming b.comes a.comes in
+    let same = same_coming (version_of feed.said) t feed.used b.coming a.coming b.comes a.comes in
     coming_unique t name feed old a.coming one other end last a.takes (subst (λ (c : Coming). TakesComing t name feed old c other last) same b.takes)
 
 -- ---- several
@@ -203,22 +205,22 @@ works_unique world old name work (Some (Some feed)) one other end last a b =
     let same = does_unique a.does.t name work feed (taking_of feed old) one other a.end b.end a.does.so (subst (λ (t : Link). Does t name work feed (taking_of feed old) other b.end) link b.does.so) in
     (same.0, a.left ∙ ap (λ (k : Taking). with_taking name k old) same.1 ∙ sym b.left)
 
-starts_unique : (world : World) (place : List ℕ) (attempt : Attempt) (one other : List Telling) (slot last : Option Feed) → StartsBy world place attempt one slot → StartsBy world place attempt other last → (one ≡ other) × (slot ≡ last)
-starts_unique world place (Made link) one other slot last a b =
+starts_unique : (world : World) (place : List ℕ) (said : Option Version) (attempt : Attempt) (one other : List Telling) (slot last : Option Feed) → StartsBy world place said attempt one slot → StartsBy world place said attempt other last → (one ≡ other) × (slot ≡ last)
+starts_unique world place said (Made link) one other slot last a b =
     let same : b.t ≡ a.t = (let e = a.there in let f = b.there in cc) in
     queries_unique a.t _ Reset one other slot last a.so.1 (subst (λ (t : Link). Queries t _ Reset other last) same b.so.1)
-starts_unique world place (Failed at) one other slot last a b = (a.1 ∙ sym b.1, a.2 ∙ sym b.2)
-starts_unique world place (Unaccepted at) one other slot last a b = absurd a
+starts_unique world place said (Failed at) one other slot last a b = (a.1 ∙ sym b.1, a.2 ∙ sym b.2)
+starts_unique world place said (Unaccepted at) one other slot last a b = absurd a
 
 attempt_unique : (all : Option (List Attempt)) (attempts : List Attempt) (number : ℕ) (one other : Attempt) → all ≡ Some attempts → IfSome all (λ l. slice_get l number ≡ Some one) → IfSome all (λ l. slice_get l number ≡ Some other) → one ≡ other
 attempt_unique None attempts number one other told a b = let none : ⊥ = cc in absurd none
 attempt_unique (Some l) attempts number one other told a b = (let e : Some one ≡ Some other = sym a ∙ b in cc)
 
-connects_unique : (world : World) (attempts : List Attempt) → world.attempts ≡ Some attempts → (old : State) (name place : List ℕ) (one other : List Telling) (end last : State) → Connects world old name place one end
-    → Connects world old name place other last → (one ≡ other) × (end ≡ last)
-connects_unique world attempts told old name place one other end last a b =
+connects_unique : (world : World) (attempts : List Attempt) → world.attempts ≡ Some attempts → (old : State) (name place : List ℕ) (said : Option Version) (one other : List Telling) (end last : State) → Connects world old name place said one end
+    → Connects world old name place said other last → (one ≡ other) × (end ≡ last)
+connects_unique world attempts told old name place said one other end last a b =
     let attempt = attempt_unique world.attempts attempts old.made b.attempt a.attempt told b.attempted a.attempted in
-    let same = starts_unique world place a.attempt one other a.slot b.slot a.starts (subst (λ (at : Attempt). StartsBy world place at other b.slot) attempt b.starts) in
+    let same = starts_unique world place said a.attempt one other a.slot b.slot a.starts (subst (λ (at : Attempt). StartsBy world place said at other b.slot) attempt b.starts) in
     (same.0, a.left ∙ ap (λ (s : Option Feed). record old { feeds = with_feed name s old.feeds; made = old.made + 1 }) same.1 ∙ sym b.left)
 
 writes_unique : (asking : Asking) (does : List Telling → State → Type 0) (one other : List ℕ) (end last : State)
@@ -231,7 +233,7 @@ writes_unique asking does one other end last unique a b =
 
 pub one_outcome : FeedLinesHaveOneOutcome
 one_outcome world attempts told asking old = record {
-  connects = λ place one other end last a b. writes_unique asking (Connects world old asking.name place) one other end last (λ p q s t. connects_unique world attempts told old asking.name place p q s t) a b;
+  connects = λ place said one other end last a b. writes_unique asking (Connects world old asking.name place said) one other end last (λ p q s t. connects_unique world attempts told old asking.name place said p q s t) a b;
   works = λ work one other end last a b. writes_unique asking (Works world old asking.name work) one other end last (λ p q s t. works_unique world old asking.name work (old.feeds asking.name) p q s t) a b;
 }
 

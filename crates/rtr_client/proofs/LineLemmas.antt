@@ -2,6 +2,7 @@
 use Rattle.std.proofs.Common.{◌≡◌, inl, inr, ℕ, ◌+◌, List, [], ◌++◌, length, refl, sym, ◌∙◌, ap, subst, append-nil}
 use Rattle.std.specs.Option.{option_to_list}
 use Rattle.std.specs.declared.option.Option.{Option}
+use Rattle.rtr_pdu.specs.declared.version.Version.{Version}
 use Rattle.av_base.specs.Connections.{Agrees, Attempt, Link, ToldLater}
 use Rattle.av_base.specs.declared.standing.Standing.{Standing}
 use Rattle.av_base.proofs.LaterLemmas.{ToldLater-refl}
@@ -37,11 +38,11 @@ work_stays old mid next beside is =
 module _ (attempts_old attempts_new : Option (List Attempt)) (wire_old wire_new : Option (List Link)) (feeds_old : Feeds) (progress : Progress) (text_old text_new : List ℕ) (asking : Asking) where
   -- ---- connecting
 
-  module _ (place : List ℕ) (feeds_new : Feeds) (told : Option Telling) (connected : ConnectedNamed attempts_old attempts_new wire_old wire_new asking.name place feeds_old feeds_new told) where
+  module _ (place : List ℕ) (said : Option Version) (feeds_new : Feeds) (told : Option Telling) (connected : ConnectedNamed attempts_old attempts_new wire_old wire_new asking.name place said feeds_old feeds_new told) where
     pub connect_goes : (next : Progress) → text_new ≡ text_old ++ tells_text asking (option_to_list told)
         → next ≡ record progress { refused = next.refused } → next.refused ≡ progress.refused + length (option_to_list told)
         → Goes attempts_old attempts_new wire_old wire_new (Holds attempts_old wire_old feeds_old progress)
-        (λ old new. Holds attempts_new wire_new feeds_new next new × (new.judgements ≡ old.judgements)) text_old text_new (λ world old added new. ConnectLine world asking place old added new)
+        (λ old new. Holds attempts_new wire_new feeds_new next new × (new.judgements ≡ old.judgements)) text_old text_new (λ world old added new. ConnectLine world asking place said old added new)
     connect_goes next added is count = record {
       attempts = connected.attempts;
       links = connected.links;
@@ -66,7 +67,7 @@ module _ (attempts_old attempts_new : Option (List Attempt)) (wire_old wire_new 
     -- all but the text
     pub connect_unwritten : text_new ≡ text_old → (stands : List Standing) (most : ℕ) → Agrees wire_new stands → IsSound stands most feeds_new
         → Goes attempts_old attempts_new wire_old wire_new (Holds attempts_old wire_old feeds_old progress)
-        (λ old new. HasMoved attempts_new wire_new new × (new.judgements ≡ old.judgements)) text_old text_new (λ world old added new. ConnectPart world asking place old new)
+        (λ old new. HasMoved attempts_new wire_new new × (new.judgements ≡ old.judgements)) text_old text_new (λ world old added new. ConnectPart world asking place said old new)
     connect_unwritten same stands most agrees sound = record {
       attempts = connected.attempts;
       links = connected.links;
@@ -81,10 +82,10 @@ module _ (attempts_old attempts_new : Option (List Attempt)) (wire_old wire_new 
     }
 
   -- nothing was done
-  pub connect_nothing : (place : List ℕ) (stands : List Standing) (most : ℕ) → Agrees wire_old stands → IsSound stands most feeds_old → attempts_new ≡ attempts_old → wire_new ≡ wire_old → text_new ≡ text_old
+  pub connect_nothing : (place : List ℕ) (said : Option Version) (stands : List Standing) (most : ℕ) → Agrees wire_old stands → IsSound stands most feeds_old → attempts_new ≡ attempts_old → wire_new ≡ wire_old → text_new ≡ text_old
       → Goes attempts_old attempts_new wire_old wire_new (Holds attempts_old wire_old feeds_old progress)
-      (λ old new. HasMoved attempts_new wire_new new × (new.judgements ≡ old.judgements)) text_old text_new (λ world old added new. ConnectPart world asking place old new)
-  connect_nothing place stands most agrees sound same_attempts same_wire same = record {
+      (λ old new. HasMoved attempts_new wire_new new × (new.judgements ≡ old.judgements)) text_old text_new (λ world old added new. ConnectPart world asking place said old new)
+  connect_nothing place said stands most agrees sound same_attempts same_wire same = record {
     attempts = subst (λ (a : Option (List Attempt)). AddsAttempts wire_old attempts_old a) (sym same_attempts) (AddsAttempts-refl wire_old attempts_old);
     links = subst (λ (w : Option (List Link)). ToldLater wire_old w) (sym same_wire) (ToldLater-refl wire_old);
     text = [];

@@ -3,6 +3,8 @@ use Rattle.std.proofs.Common.{◌≡◌, ◌≢◌, ◌⊎◌, ℕ, zero, suc, i
 use Rattle.std.proofs.lemmas.List.Elements.{All-append, All-cons, All-contains, All-nil}
 use Rattle.std.specs.List.{All, Contains}
 use Rattle.std.specs.declared.option.Option.{Option}
+use Rattle.rtr_client.specs.Speaking.{version_of}
+use Rattle.rtr_pdu.specs.declared.version.Version.{Version}
 use Rattle.av_base.specs.Connections.{Attempt, Failed, Link, Made, Unaccepted}
 use Rattle.av_base.specs.declared.standing.Break.{Break}
 use Rattle.av_base.specs.declared.standing.Break.TheVariants.{BySend, ByRecv}
@@ -58,7 +60,7 @@ moves_lost t feed (Send query) tells slot moves = at_end t tells (queries_lost t
 moves_lost t feed (Apply delta) tells slot moves = inr (none tells moves.0)
 moves_lost t feed (End ending) tells slot moves = inr (only tells _ (λ e. let no : ⊥ = cc in absurd no) moves.1)
 
-coming_lost : (t : Link) (name : List ℕ) (feed : Feed) (old : Taking) (coming : Coming) (tells : List Telling) (new : Taking) → IsComing t feed.used coming → TakesComing t name feed old coming tells new
+coming_lost : (t : Link) (name : List ℕ) (feed : Feed) (old : Taking) (coming : Coming) (tells : List Telling) (new : Taking) → IsComing (version_of feed.said) t feed.used coming → TakesComing t name feed old coming tells new
     → IsAtEnd t ⊎ AreNotLost tells
 coming_lost t name feed old (OnePdu bytes pdu) tells new comes takes = moves_lost t _ takes.act tells new.feed takes.moves
 coming_lost t name feed old (BadPdu left fault) tells new comes takes = inr (only tells _ (λ e. let no : ⊥ = cc in absurd no) takes.tells_are)
@@ -114,22 +116,22 @@ works_lost world old new name work (Some (Some feed)) tells works has = (
   },
 )
 
-starts_lost : (world : World) (place : List ℕ) (made : ℕ) (attempt : Attempt) (tells : List Telling) (slot : Option Feed) → IsAttempt world made attempt → StartsBy world place attempt tells slot → Contains tells (FeedEnds Lost)
+starts_lost : (world : World) (place : List ℕ) (said : Option Version) (made : ℕ) (attempt : Attempt) (tells : List Telling) (slot : Option Feed) → IsAttempt world made attempt → StartsBy world place said attempt tells slot → Contains tells (FeedEnds Lost)
     → (link : ℕ) × IsAttempt world made (Made link) × InEnd world link (λ t. t.broken ≡ Some BySend)
-starts_lost world place made (Made link) tells slot is starts has = (
+starts_lost world place said made (Made link) tells slot is starts has = (
   link,
   is,
   record {
     t = starts.t;
     there = starts.there;
-    so = elim (queries_lost starts.t (starting link) Reset tells slot starts.so.1) [ inl broken ↦ broken | inr others ↦ absurd (not_lost tells others has) ];
+    so = elim (queries_lost starts.t (starting link said) Reset tells slot starts.so.1) [ inl broken ↦ broken | inr others ↦ absurd (not_lost tells others has) ];
   },
 )
-starts_lost world place made (Failed at) tells slot is starts has = absurd (not_lost tells (only tells (FeedEnds Unreachable) (λ e. let no : ⊥ = cc in absurd no) starts.1) has)
-starts_lost world place made (Unaccepted at) tells slot is starts has = absurd starts
+starts_lost world place said made (Failed at) tells slot is starts has = absurd (not_lost tells (only tells (FeedEnds Unreachable) (λ e. let no : ⊥ = cc in absurd no) starts.1) has)
+starts_lost world place said made (Unaccepted at) tells slot is starts has = absurd starts
 
 pub broke_or_ended : LostFeedsBrokeOrEnded
 broke_or_ended world old new name tells = record {
-  connects = λ place connects has. starts_lost world place old.made connects.attempt tells connects.slot connects.attempted connects.starts has;
+  connects = λ place said connects has. starts_lost world place said old.made connects.attempt tells connects.slot connects.attempted connects.starts has;
   works = λ work works has. works_lost world old new name work (old.feeds name) tells works has;
 }

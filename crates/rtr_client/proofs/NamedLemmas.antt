@@ -91,7 +91,7 @@ HoldsOr-spared spares (Some None) (Some (Some feed)) apart holds = absurd holds
 HoldsOr-spared spares (Some (Some kept)) None apart holds = absurd holds
 HoldsOr-spared spares (Some (Some kept)) (Some None) apart holds = absurd holds
 HoldsOr-spared spares (Some (Some kept)) (Some (Some feed)) apart holds =
-    record { link = holds.link; taken = holds.taken; session = holds.session; now = Now-spared kept.link spares (apart kept refl) holds.now }
+    record { link = holds.link; said = holds.said; taken = holds.taken; session = holds.session; now = Now-spared kept.link spares (apart kept refl) holds.now }
 
 HoldsOr-put : (b : Bool) (wire : Option (List Link)) (slot : Option OpenFeed) (feed : Option Feed) (found : Option (Option OpenFeed)) (held : Option (Option Feed))
     → StandsSlot wire slot feed → (b ≡ false → HoldsOr wire found held) → HoldsOr wire (cond b (Some slot) found) (cond b (Some feed) held)

@@ -9,7 +9,7 @@ use Rattle.rtr_session.specs.declared.act.Ending.{Ending}
 use Rattle.rtr_session.specs.declared.act.Phase.{Phase}
 use Rattle.rtr_session.specs.declared.act.Phase.TheVariants.{Fresh, AskedWhole, AskedChanges, ReceivingWhole, ReceivingChanges, Ready, Over}
 use Rattle.rtr_session.specs.State.{State as Session}
-use Rattle.rtr_session.specs.Client.{Client, Goes, OnNotify, OnResponse, OnAspa, OnPrefix, OnPassed, OnEnd, OnReset}
+use Rattle.rtr_session.specs.Client.{Client, Takes, Goes, OnNotify, OnResponse, OnAspa, OnPrefix, OnPassed, OnEnd, OnReset}
 use Rattle.rtr_client.specs.Steps.{IsNoEnd}
 
 -- ---- phases
@@ -98,14 +98,19 @@ on_prefix Ready false v old act new apart on is = ends old act new _ _ is on
 on_prefix Over false v old act new apart on is = ends old act new _ _ is on
 
 -- a session that goes on isn't over
-pub goes_on : (old : Session) (pdu : Pdu) (act : Act) (new : Session) → Client old pdu act new → old.phase ≢ Over → IsNoEnd act → new.phase ≢ Over
-goes_on old (Notify session serial) act new is apart on = on_notify old.phase session old act new apart on is
-goes_on old (SerialQuery session serial) act new is apart on = ends old act new _ _ is on
+client_on : (old : Session) (pdu : Pdu) (act : Act) (new : Session) → Client old pdu act new → old.phase ≢ Over → IsNoEnd act → new.phase ≢ Over
+client_on old (Notify session serial) act new is apart on = on_notify old.phase session old act new apart on is
+client_on old (SerialQuery session serial) act new is apart on = ends old act new _ _ is on
 goes_on old ResetQuery act new is apart on = ends old act new _ _ is on
-goes_on old (CacheResponse session) act new is apart on = on_response old.phase session old act new apart on is
-goes_on old (Prefix announce v) act new is apart on = on_prefix old.phase announce v old act new apart on is
-goes_on old (Passed kind) act new is apart on = on_passed old.phase old act new apart on is
-goes_on old (EndOfData session serial) act new is apart on = on_end old.phase session serial old act new apart on is
+client_on old (CacheResponse session) act new is apart on = on_response old.phase session old act new apart on is
+client_on old (Prefix announce v) act new is apart on = on_prefix old.phase announce v old act new apart on is
+client_on old (Passed kind) act new is apart on = on_passed old.phase old act new apart on is
+client_on old (EndOfData session serial timing) act new is apart on = on_end old.phase session serial old act new apart on is
 goes_on old CacheReset act new is apart on = on_reset old.phase old act new apart on is
-goes_on old (ErrorReport code) act new is apart on = ends old act new _ _ is on
-goes_on old (Aspa announce customer providers) act new is apart on = on_aspa old.phase announce customer providers old act new apart on is
+client_on old (ErrorReport code) act new is apart on = ends old act new _ _ is on
+client_on old (Aspa announce customer providers) act new is apart on = on_aspa old.phase announce customer providers old act new apart on is
+
+-- be it strict or not
+pub goes_on : (strict : Bool) (old : Session) (pdu : Pdu) (act : Act) (new : Session) → Takes strict old pdu act new → old.phase ≢ Over → IsNoEnd act → new.phase ≢ Over
+goes_on strict old pdu act new (inl twice) apart on = ends old act new _ _ twice.1 on
+goes_on strict old pdu act new (inr taken) apart on = client_on old pdu act new taken.1 apart on

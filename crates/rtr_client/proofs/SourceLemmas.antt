@@ -20,12 +20,12 @@ use Rattle.rtr_session.specs.declared.act.Act.TheVariants.{Nothing, Send, Apply,
 use Rattle.rtr_session.specs.declared.act.Delta.{Delta}
 use Rattle.rtr_session.specs.declared.act.Delta.TheVariants.{Whole, Part}
 use Rattle.rtr_session.specs.declared.act.Ending.{Ending}
-use Rattle.rtr_session.specs.declared.act.Ending.TheVariants.{Unexpected, UnknownWithdrawal, SessionChanged, PeerReported}
+use Rattle.rtr_session.specs.declared.act.Ending.TheVariants.{Unexpected, UnknownWithdrawal, SessionChanged, PeerReported, AnnouncedTwice}
 use Rattle.rtr_session.specs.declared.act.Phase.{Phase}
 use Rattle.rtr_session.specs.declared.act.Phase.TheVariants.{Fresh, AskedWhole, AskedChanges, ReceivingWhole, ReceivingChanges, Ready, Over}
 use Rattle.rtr_session.specs.declared.act.Query.{Query}
 use Rattle.rtr_session.specs.declared.act.Query.TheVariants.{Reset}
-use Rattle.rtr_session.specs.Client.{Announces, Asks, Client, Ends, Goes, OnAnnounce, OnEnd, OnNotify, OnPassed, OnPrefixAnnounce, OnPrefixWithdraw, OnReset, OnResponse, OnWithdraw, Stays, Withdraws, WithdrawsPrefix, ended, named, with_payload, without_payload}
+use Rattle.rtr_session.specs.Client.{Announces, Asks, Client, Ends, Goes, OnAnnounce, OnEnd, OnNotify, OnPassed, OnPrefixAnnounce, OnPrefixWithdraw, OnReset, OnResponse, OnWithdraw, Stays, Takes, Withdraws, WithdrawsPrefix, ended, named, with_payload, without_payload}
 use Rattle.rtr_session.specs.Laws.{AreInOrder}
 use Rattle.rtr_session.specs.State.{State as Session}
 use Rattle.rtr_client.specs.Laws.{HasItsPayloads, IsSourceAt}
@@ -193,25 +193,25 @@ module _ (old new : Session) (act : Act) (source : Option (List Payload)) (has_i
   ends_with serial payloads same = (same, record { in_order = has_its.in_order; source_is = ap Some same })
 
   -- a session takes a PDU
-  pub pdu_holds : (pdu : Pdu) → Client old pdu act new → Done
-  pdu_holds (Notify session serial) h = at_each (λ p. OnNotify p session old act new) old.phase refl h
+  client_holds : (pdu : Pdu) → Client old pdu act new → Done
+  client_holds (Notify session serial) h = at_each (λ p. OnNotify p session old act new) old.phase refl h
       (λ at g. stays g) (λ at g. stays g) (λ at g. stays g) (λ at g. stays g) (λ at g. stays g)
       (λ at g. elim g [ inl same ↦ stays same.1 | inr other ↦ ends SessionChanged other.1 ]) (λ at g. stays g)
-  pdu_holds (SerialQuery session serial) h = ends Unexpected h
+  client_holds (SerialQuery session serial) h = ends Unexpected h
   pdu_holds ResetQuery h = ends Unexpected h
-  pdu_holds (CacheResponse session) h = at_each (λ p. OnResponse p session old act new) old.phase refl h
+  client_holds (CacheResponse session) h = at_each (λ p. OnResponse p session old act new) old.phase refl h
       (unexpected Fresh) (λ at g. went Nothing _ (record { in_order = none_in_order; source_is = tt }) g)
       (λ at g. elim g [
         | inl same ↦ went Nothing _ (record { in_order = has_its.in_order; source_is = begins_changes at }) same.1
         | inr other ↦ ends SessionChanged other.1
       ])
       (unexpected ReceivingWhole) (unexpected ReceivingChanges) (unexpected Ready) (unexpected Over)
-  pdu_holds (Prefix true v) h = in_answer (λ p. OnPrefixAnnounce p v old act new) h (λ g. g) (λ g. g) (λ g. g) (λ g. g) (λ g. g)
+  client_holds (Prefix true v) h = in_answer (λ p. OnPrefixAnnounce p v old act new) h (λ g. g) (λ g. g) (λ g. g) (λ g. g) (λ g. g)
       (λ at g. went Nothing (with_payload old v) (announced_whole v at) g) (λ at g. went Nothing (with_payload old v) (announced_changes v at) g)
-  pdu_holds (Prefix false v) h = in_answer (λ p. OnPrefixWithdraw p v old act new) h (λ g. g) (λ g. g) (λ g. g) (λ g. g) (λ g. g)
+  client_holds (Prefix false v) h = in_answer (λ p. OnPrefixWithdraw p v old act new) h (λ g. g) (λ g. g) (λ g. g) (λ g. g) (λ g. g)
       (λ at g. withdraws_prefix v (withdrawn_whole v at) g) (λ at g. withdraws_prefix v (withdrawn_changes v at) g)
-  pdu_holds (Passed kind) h = in_answer (λ p. OnPassed p old act new) h (λ g. g) (λ g. g) (λ g. g) (λ g. g) (λ g. g) (λ at g. stays g) (λ at g. stays g)
-  pdu_holds (EndOfData session serial) h = in_answer (λ p. OnEnd p session serial old act new) h (λ g. g) (λ g. g) (λ g. g) (λ g. g) (λ g. g)
+  client_holds (Passed kind) h = in_answer (λ p. OnPassed p old act new) h (λ g. g) (λ g. g) (λ g. g) (λ g. g) (λ g. g) (λ at g. stays g) (λ at g. stays g)
+  client_holds (EndOfData session serial timing) h = in_answer (λ p. OnEnd p session serial old act new) h (λ g. g) (λ g. g) (λ g. g) (λ g. g) (λ g. g)
       (λ at g. elim g [
         | inl same ↦ went (Apply (Whole old.rows old.payloads)) (ended old serial) (λ payloads gives. ends_with serial payloads gives) same.1
         | inr other ↦ ends SessionChanged other.1
@@ -223,11 +223,16 @@ module _ (old new : Session) (act : Act) (source : Option (List Payload)) (has_i
   pdu_holds CacheReset h = at_each (λ p. OnReset p old act new) old.phase refl h (unexpected Fresh) (unexpected AskedWhole)
       (λ at g. went (Send Reset) (record old { phase = AskedWhole }) (record { in_order = has_its.in_order; source_is = tt }) g)
       (unexpected ReceivingWhole) (unexpected ReceivingChanges) (unexpected Ready) (unexpected Over)
-  pdu_holds (ErrorReport code) h = ends PeerReported h
-  pdu_holds (Aspa true customer providers) h = in_answer (λ p. OnAnnounce p customer providers old act new) h (λ g. g) (λ g. g) (λ g. g) (λ g. g) (λ g. g)
+  client_holds (ErrorReport code) h = ends PeerReported h
+  client_holds (Aspa true customer providers) h = in_answer (λ p. OnAnnounce p customer providers old act new) h (λ g. g) (λ g. g) (λ g. g) (λ g. g) (λ g. g)
       (λ at g. announces customer providers g) (λ at g. announces customer providers g)
-  pdu_holds (Aspa false customer providers) h = in_answer (λ p. OnWithdraw p customer old act new) h (λ g. g) (λ g. g) (λ g. g) (λ g. g) (λ g. g)
+  client_holds (Aspa false customer providers) h = in_answer (λ p. OnWithdraw p customer old act new) h (λ g. g) (λ g. g) (λ g. g) (λ g. g) (λ g. g)
       (λ at g. withdraws customer g) (λ at g. withdraws customer g)
+
+  -- be it strict or not
+  pub pdu_holds : (strict : Bool) (pdu : Pdu) → Takes strict old pdu act new → Done
+  pdu_holds strict pdu (inl twice) = ends AnnouncedTwice twice.1
+  pdu_holds strict pdu (inr taken) = client_holds pdu taken.1
 
 -- ---- a query by command
 

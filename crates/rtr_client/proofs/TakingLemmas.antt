@@ -8,14 +8,14 @@ use Rattle.std.specs.declared.result.Result.{Result}
 use Rattle.std.specs.declared.result.Result.TheVariants.{Ok, Err}
 use Rattle.av_base.specs.Connections.{Link, ToldLater, closes}
 use Rattle.rtr_pdu.specs.declared.pdu.Pdu.{Pdu}
-use Rattle.rtr_pdu.specs.Units.{IsPartial, IsReportFor, IsRefusedNow}
+use Rattle.rtr_pdu.specs.Units.{IsPartial, IsRefused, IsReportFor, IsRefusedNow, code_on_refusal}
 use Rattle.rtr_session.specs.declared.act.Act.{Act}
 use Rattle.rtr_session.specs.declared.act.Act.TheVariants.{Nothing, Send, Apply, End}
 use Rattle.rtr_session.specs.declared.act.Delta.{Delta}
 use Rattle.rtr_session.specs.declared.act.Ending.{Ending}
 use Rattle.rtr_session.specs.declared.act.Query.{Query}
 use Rattle.rtr_session.specs.State.{State as Session}
-use Rattle.rtr_session.specs.Client.{Client, code_on_end}
+use Rattle.rtr_session.specs.Client.{Takes as SessionTakes, code_on_end}
 use Rattle.report_text.specs.declared.feed.FeedEnd.TheVariants.{Lost as LostFeed}
 use Rattle.connection_calls.specs.declared.asking.Asked.{Asked}
 use Rattle.connection_calls.specs.declared.asking.Asked.TheVariants.{Pdu as Took, Refused, Ended as NoneCame, Lost}
@@ -34,6 +34,8 @@ use Rattle.rtr_client.specs.Feeds.{Feed, Taking, HasEnded, Queries, OnePdu, BadP
 use Rattle.connection_calls.specs.Ends.{IsClosed, LostAtSend}
 use Rattle.rtr_client.specs.Holding.{AreWithin, StandsFor}
 use Rattle.rtr_client.specs.Lines.{TakesSome}
+use Rattle.rtr_pdu.specs.declared.version.Version.{Version}
+use Rattle.rtr_client.specs.Speaking.{is_strict, version_of}
 use Rattle.rtr_client.specs.Steps.{Before, Halted, Made, MayDo, MovedAs, TookAs, going}
 use Rattle.connection_calls.proofs.RefusedLemmas.{known_of}
 use Rattle.connection_calls.proofs.ConnectionLemmas.{Now-change, Now-map, Ever-later, Ever-map, Ever-now, Ever-closed, finished}
@@ -71,22 +73,25 @@ Halted-with wire link known few more p r ever counts joins halted = record {
 
 -- ---- a query
 
-module _ (wire new : Option (List Link)) (kept : OpenFeed) (feed : Feed) (query : Query) (bytes : List ℕ) (stands : StandsFor wire kept feed) (spelled : bytes ≡ query_bytes query) where
+module _ (wire new : Option (List Link)) (kept : OpenFeed) (feed : Feed) (query : Query) (bytes : List ℕ) (stands : StandsFor wire kept feed) (spelled : bytes ≡ query_bytes (version_of kept.said) query) where
+  spelled_so : bytes ≡ query_bytes (version_of feed.said) query
+  spelled_so = spelled ∙ ap (λ (s : Option Version). query_bytes (version_of s) query) stands.said
+
   pub query_whole : (whole : Bool) → whole ≡ true → ((got gave : List ℕ) → Now wire kept.link (Has got gave) → SendsOrCloses new kept.link got gave bytes whole)
-      → StandsFor new kept (record feed { sent = feed.sent ++ query_bytes query }) × Ever new kept.link (λ t. Queries t feed query [] (Some (record feed { sent = feed.sent ++ query_bytes query })))
+      → StandsFor new kept (record feed { sent = feed.sent ++ query_bytes (version_of feed.said) query }) × Ever new kept.link (λ t. Queries t feed query [] (Some (record feed { sent = feed.sent ++ query_bytes (version_of feed.said) query })))
   query_whole whole is asks =
-      let after : Now new kept.link (Has (feed.used ++ kept.framer) (feed.sent ++ query_bytes query)) =
-      subst (λ (b : List ℕ). Now new kept.link (Has (feed.used ++ kept.framer) (feed.sent ++ b))) spelled
+      let after : Now new kept.link (Has (feed.used ++ kept.framer) (feed.sent ++ query_bytes (version_of feed.said) query)) =
+      subst (λ (b : List ℕ). Now new kept.link (Has (feed.used ++ kept.framer) (feed.sent ++ b))) spelled_so
       (subst (λ (w : Bool). SendsOrCloses new kept.link (feed.used ++ kept.framer) feed.sent bytes w) is (asks (feed.used ++ kept.framer) feed.sent stands.now)) in (
-        record { link = stands.link; taken = stands.taken; session = stands.session; now = after },
+        record { link = stands.link; said = stands.said; taken = stands.taken; session = stands.session; now = after },
         Ever-map (λ t sent. inl (sent, refl, refl)) (Ever-now (λ t u had later. (later.gone, later.sent ∙ ap (λ (l : List ℕ). l ++ later.gone) had.gave)) after),
       )
 
   pub query_lost : (whole : Bool) → whole ≡ false → ((got gave : List ℕ) → Now wire kept.link (Has got gave) → SendsOrCloses new kept.link got gave bytes whole)
       → Ever new kept.link (λ t. Queries t feed query lost None)
   query_lost whole is asks =
-      let after : Now new kept.link (λ t. (t.received ≡ feed.used ++ kept.framer) × LostAtSend t feed.sent (query_bytes query) × IsClosed t) =
-      subst (λ (b : List ℕ). Now new kept.link (λ t. (t.received ≡ feed.used ++ kept.framer) × LostAtSend t feed.sent b × IsClosed t)) spelled
+      let after : Now new kept.link (λ t. (t.received ≡ feed.used ++ kept.framer) × LostAtSend t feed.sent (query_bytes (version_of feed.said) query) × IsClosed t) =
+      subst (λ (b : List ℕ). Now new kept.link (λ t. (t.received ≡ feed.used ++ kept.framer) × LostAtSend t feed.sent b × IsClosed t)) spelled_so
       (subst (λ (w : Bool). SendsOrCloses new kept.link (feed.used ++ kept.framer) feed.sent bytes w) is (asks (feed.used ++ kept.framer) feed.sent stands.now)) in
       Ever-map (λ t had. inr (had.1, had.2, refl, refl)) (Ever-closed (λ t had. had.2) after)
 
@@ -100,21 +105,22 @@ module _ (wire : Option (List Link)) (kept : OpenFeed) (act : Act) (feed : Feed)
   moves_apply delta is = rw is (feed, stands, sym stands.link, λ links final told goes t there. (refl, refl))
 
   module _ (new : Option (List Link)) where
-    module _ (query : Query) (bytes : List ℕ) (whole : Bool) (is : act ≡ Send query) (spelled : bytes ≡ query_bytes query) (asks : (got gave : List ℕ) → Now wire kept.link (Has got gave) → SendsOrCloses new kept.link got gave bytes whole) where
+    module _ (query : Query) (bytes : List ℕ) (whole : Bool) (is : act ≡ Send query) (spelled : bytes ≡ query_bytes (version_of kept.said) query) (asks : (got gave : List ℕ) → Now wire kept.link (Has got gave) → SendsOrCloses new kept.link got gave bytes whole) where
       pub moves_sent : whole ≡ true → MovedAs new kept.link (λ t. Moves t feed act) (GoesOn kept)
       moves_sent went =
           let had = query_whole wire new kept feed query bytes stands spelled whole went asks in
-          rw is (record feed { sent = feed.sent ++ query_bytes query }, had.0, sym stands.link, had.1)
+          rw is (record feed { sent = feed.sent ++ query_bytes (version_of feed.said) query }, had.0, sym stands.link, had.1)
 
       pub moves_lost : whole ≡ false → MovedAs new kept.link (λ t. Moves t feed act) (Ended (FeedEnds LostFeed))
       moves_lost went = rw is (query_lost wire new kept feed query bytes stands spelled whole went asks)
 
-    pub moves_end : (ending : Ending) (code : Option ℕ) (bytes : List ℕ) (cause : Cause) (went : Bool) → act ≡ End ending → code ≡ code_on_end ending → bytes ≡ report_bytes code → cause ≡ cause_of_end ending
+    pub moves_end : (ending : Ending) (code : Option ℕ) (bytes : List ℕ) (cause : Cause) (went : Bool) → act ≡ End ending → code ≡ code_on_end ending → bytes ≡ report_bytes (version_of kept.said) code → cause ≡ cause_of_end ending
         → ((got gave : List ℕ) → Now wire kept.link (Has got gave) → Finishes new kept.link got gave bytes went)
         → MovedAs new kept.link (λ t. Moves t feed act) (Ended (PduRefused kept.taken cause))
     moves_end ending code bytes cause went is coded spelled caused finishes =
-        let whole : bytes ≡ report_bytes (code_on_end ending) = spelled ∙ ap report_bytes coded in
-        let done : Now new kept.link (λ t. (t.received ≡ feed.used ++ kept.framer) × ((t.sent ≡ feed.sent ++ report_bytes (code_on_end ending)) ⊎ LostAtSend t feed.sent (report_bytes (code_on_end ending))) × IsClosed t) =
+        let whole : bytes ≡ report_bytes (version_of feed.said) (code_on_end ending) =
+        spelled ∙ ap (report_bytes (version_of kept.said)) coded ∙ ap (λ (s : Option Version). report_bytes (version_of s) (code_on_end ending)) stands.said in
+        let done : Now new kept.link (λ t. (t.received ≡ feed.used ++ kept.framer) × ((t.sent ≡ feed.sent ++ report_bytes (version_of feed.said) (code_on_end ending)) ⊎ LostAtSend t feed.sent (report_bytes (version_of feed.said) (code_on_end ending))) × IsClosed t) =
         subst (λ (b : List ℕ). Now new kept.link (λ t. (t.received ≡ feed.used ++ kept.framer) × ((t.sent ≡ feed.sent ++ b) ⊎ LostAtSend t feed.sent b) × IsClosed t)) whole
         (finished new kept.link (feed.used ++ kept.framer) feed.sent bytes went (finishes (feed.used ++ kept.framer) feed.sent stands.now)) in
         rw (is, caused, stands.taken) (Ever-map (λ t had. ((had.1, had.2), refl, refl)) (Ever-closed (λ t had. had.2) done))
@@ -122,15 +128,19 @@ module _ (wire : Option (List Link)) (kept : OpenFeed) (act : Act) (feed : Feed)
 -- ---- what comes next
 
 -- a refused PDU is held
-pub refused_now : (held : List ℕ) (asked : Asked) (cause : Cause) → asked ≡ Refused cause → RefusesNow held asked → IsRefusedNow held
-refused_now held asked cause is refuses =
-    let one : RefusesNow held (Refused cause) = subst (RefusesNow held) is refuses in
+pub refused_now : (version : Version) (held : List ℕ) (asked : Asked) (cause : Cause) → asked ≡ Refused cause → RefusesNow version held asked → IsRefusedNow version held
+refused_now version held asked cause is refuses =
+    let one : RefusesNow version held (Refused cause) = subst (RefusesNow version held) is refuses in
     record { fault = one.0; known = known_of one.0 cause one.2; refused = one.1 }
 
 module _ (old wire new : Option (List Link)) (name : List ℕ) (kept : OpenFeed) (held : List ℕ) (asked : Asked) (feed : Feed) (stands : StandsFor old kept feed)
-    (answers : (used sent : List ℕ) → Now old kept.link (Has (used ++ kept.framer) sent) → Answers wire kept.link used sent held asked) where
+    (answers : (used sent : List ℕ) → Now old kept.link (Has (used ++ kept.framer) sent) → Answers (version_of kept.said) wire kept.link used sent held asked) where
+  -- in the feed's version
+  answered : (used sent : List ℕ) → Now old kept.link (Has (used ++ kept.framer) sent) → Answers (version_of feed.said) wire kept.link used sent held asked
+  answered used sent now = subst (λ (s : Option Version). Answers (version_of s) wire kept.link used sent held asked) stands.said (answers used sent now)
+
   -- no more bytes come
-  next_over : IsPartial held → Now wire kept.link (λ t. Has (feed.used ++ held) feed.sent t × HasEnded t) → new ≡ option_map (closes kept.link) wire
+  next_over : IsPartial (version_of feed.said) held → Now wire kept.link (λ t. Has (feed.used ++ held) feed.sent t × HasEnded t) → new ≡ option_map (closes kept.link) wire
       → MovedAs new kept.link (λ t. Before None (TakesNext t name feed)) (Ended (FeedEnds LostFeed))
   next_over partial now closed =
       let done : Now new kept.link (λ t. (t.received ≡ feed.used ++ held) × (t.sent ≡ feed.sent) × HasEnded t × IsClosed t) =
@@ -139,40 +149,43 @@ module _ (old wire new : Option (List Link)) (name : List ℕ) (kept : OpenFeed)
 
   pub next_ended : asked ≡ NoneCame → new ≡ option_map (closes kept.link) wire → MovedAs new kept.link (λ t. Before None (TakesNext t name feed)) (Ended (FeedEnds LostFeed))
   next_ended is closed =
-      let answer : Answers wire kept.link feed.used feed.sent held NoneCame = subst (Answers wire kept.link feed.used feed.sent held) is (answers feed.used feed.sent stands.now) in
+      let answer : Answers (version_of feed.said) wire kept.link feed.used feed.sent held NoneCame = subst (Answers (version_of feed.said) wire kept.link feed.used feed.sent held) is (answered feed.used feed.sent stands.now) in
       next_over answer.0 (Now-map (λ t had. (had.0, inr had.1.1)) answer.1) closed
 
   pub next_lost : asked ≡ Lost → new ≡ option_map (closes kept.link) wire → MovedAs new kept.link (λ t. Before None (TakesNext t name feed)) (Ended (FeedEnds LostFeed))
   next_lost is closed =
-      let answer : Answers wire kept.link feed.used feed.sent held Lost = subst (Answers wire kept.link feed.used feed.sent held) is (answers feed.used feed.sent stands.now) in
+      let answer : Answers (version_of feed.said) wire kept.link feed.used feed.sent held Lost = subst (Answers (version_of feed.said) wire kept.link feed.used feed.sent held) is (answered feed.used feed.sent stands.now) in
       next_over answer.0 (Now-map (λ t had. (had.0, inl had.1)) answer.1) closed
 
-  pub next_refused : (cause : Cause) (code : Option ℕ) (bytes : List ℕ) (went : Bool) → asked ≡ Refused cause → RefusesNow held asked → IsReportFor held code → bytes ≡ report_bytes code
+  pub next_refused : (cause : Cause) (code : Option ℕ) (bytes : List ℕ) (went : Bool) → asked ≡ Refused cause → RefusesNow (version_of kept.said) held asked → IsReportFor (version_of kept.said) held code
+      → bytes ≡ report_bytes (version_of kept.said) code
       → ((got gave : List ℕ) → Now wire kept.link (Has got gave) → Finishes new kept.link got gave bytes went)
       → MovedAs new kept.link (λ t. Before None (TakesNext t name feed)) (Ended (PduRefused (kept.taken + 1) cause))
   next_refused cause code bytes went is refuses reports spelled finishes =
-      let answer : Answers wire kept.link feed.used feed.sent held (Refused cause) = subst (Answers wire kept.link feed.used feed.sent held) is (answers feed.used feed.sent stands.now) in
-      let one : RefusesNow held (Refused cause) = subst (RefusesNow held) is refuses in
+      let answer : Answers (version_of feed.said) wire kept.link feed.used feed.sent held (Refused cause) = subst (Answers (version_of feed.said) wire kept.link feed.used feed.sent held) is (answered feed.used feed.sent stands.now) in
+      let one : RefusesNow (version_of kept.said) held (Refused cause) = subst (RefusesNow (version_of kept.said) held) is refuses in
       let known = known_of one.0 cause one.2 in
-      let whole = spelled ∙ ap report_bytes (reports one.0 known one.1) in
+      let whole = spelled ∙ ap (report_bytes (version_of kept.said)) (reports one.0 known one.1)
+      ∙ ap (λ (s : Option Version). report_bytes (version_of s) (code_on_refusal (version_of s) held one.0)) stands.said in
+      let bad = subst (λ (s : Option Version). IsRefused (version_of s) held one.0) stands.said one.1 in
       let done = subst (λ (b : List ℕ). Now new kept.link (λ t. (t.received ≡ feed.used ++ held) × ((t.sent ≡ feed.sent ++ b) ⊎ LostAtSend t feed.sent b) × IsClosed t)) whole
       (finished new kept.link (feed.used ++ held) feed.sent bytes went (finishes (feed.used ++ held) feed.sent answer)) in
       rw stands.taken
       (Ever-map
       (λ t had before after over stays. record {
         coming = BadPdu held one.0;
-        comes = (one.1, known, had.0);
+        comes = (bad, known, had.0);
         takes = record { cause = cause; cause_is = one.2; reports = (had.1, had.2); tells_are = refl; over = over; stays = stays };
       })
       (Ever-closed (λ t had. had.2) done))
 
-  pub next_pdu : (pdu : Pdu) (act : Act) (session : Session) (outcome : Outcome) (change : Option SourceChange) → ToldLater wire new → asked ≡ Took pdu → Client kept.session pdu act session → change ≡ change_due name act
-      → ((now : Feed) → StandsFor wire (record { framer = held; session = session; taken = kept.taken + 1; link = kept.link }) now → MovedAs new kept.link (λ t. Moves t now act) outcome)
+  pub next_pdu : (pdu : Pdu) (act : Act) (session : Session) (outcome : Outcome) (change : Option SourceChange) → ToldLater wire new → asked ≡ Took pdu → SessionTakes (is_strict kept.said) kept.session pdu act session → change ≡ change_due name act
+      → ((now : Feed) → StandsFor wire (record { framer = held; session = session; taken = kept.taken + 1; link = kept.link; said = kept.said }) now → MovedAs new kept.link (λ t. Moves t now act) outcome)
       → MovedAs new kept.link (λ t. Before change (TakesNext t name feed)) outcome
   next_pdu pdu act session outcome change later is client due moves =
-      let answer : Answers wire kept.link feed.used feed.sent held (Took pdu) = subst (Answers wire kept.link feed.used feed.sent held) is (answers feed.used feed.sent stands.now) in
+      let answer : Answers (version_of feed.said) wire kept.link feed.used feed.sent held (Took pdu) = subst (Answers (version_of feed.said) wire kept.link feed.used feed.sent held) is (answered feed.used feed.sent stands.now) in
       let now = after_pdu feed answer.0 session in
-      let moved = moves now (record { link = stands.link; taken = ap (λ n. n + 1) stands.taken; session = refl; now = answer.2 }) in
+      let moved = moves now (record { link = stands.link; said = stands.said; taken = ap (λ n. n + 1) stands.taken; session = refl; now = answer.2 }) in
       let came : Ever wire kept.link (λ t. (rest : List ℕ) × (t.received ≡ feed.used ++ answer.0 ++ rest)) =
       Ever-now (λ t u had later. (held ++ later.arrived, later.received ∙ ap (λ (l : List ℕ). l ++ later.arrived) had.got ∙ append_assoc (feed.used ++ answer.0) held later.arrived)) answer.2 in
       MovedAs-with new kept.link (λ t. (rest : List ℕ) × (t.received ≡ feed.used ++ answer.0 ++ rest)) (λ t. Moves t now act) (λ t. Before change (TakesNext t name feed)) outcome
@@ -183,7 +196,8 @@ module _ (old wire new : Option (List Link)) (name : List ℕ) (kept : OpenFeed)
         takes = record {
           act = act;
           session = session;
-          client = subst (λ (s : Session). Client s pdu act session) stands.session client;
+          client = subst (λ (s : Option Version). SessionTakes (is_strict s) feed.session pdu act session) stands.said
+              (subst (λ (s : Session). SessionTakes (is_strict kept.said) s pdu act session) stands.session client);
           moves = subst (λ (f : Option Feed). Moves t now act tells f) (sym is_slot) moves;
           follows = subst (λ (c : Option SourceChange). Follows c before after) due follows;
         };

@@ -5,12 +5,13 @@ use Rattle.av_base.specs.Connections.{Attempt, Failed, Link, Made, Unaccepted}
 use Rattle.origin_model.specs.Current.{Parts}
 use Rattle.origin_model.specs.Vrp.{Payload}
 use Rattle.origin_validation.specs.Records.{source_of, with_source}
+use Rattle.rtr_pdu.specs.declared.version.Version.{Version}
 use Rattle.rtr_pdu.specs.declared.pdu.Pdu.{Pdu}
 use Rattle.rtr_session.specs.declared.act.Act.{Act}
 use Rattle.rtr_session.specs.declared.act.Act.TheVariants.{Nothing, Send, Apply, End}
 use Rattle.rtr_session.specs.declared.act.Delta.{Delta}
 use Rattle.rtr_session.specs.declared.act.Delta.TheVariants.{Whole, Part}
-use Rattle.rtr_session.specs.declared.act.Ending.TheVariants.{Unexpected, UnknownWithdrawal, SessionChanged, PeerReported}
+use Rattle.rtr_session.specs.declared.act.Ending.TheVariants.{Unexpected, UnknownWithdrawal, SessionChanged, PeerReported, AnnouncedTwice}
 use Rattle.rtr_session.specs.declared.act.Phase.{Phase}
 use Rattle.rtr_session.specs.declared.act.Query.{Query}
 use Rattle.rtr_session.specs.declared.act.Query.TheVariants.{Reset}
@@ -20,6 +21,7 @@ use Rattle.rtr_client.specs.declared.telling.Telling.{Telling}
 use Rattle.rtr_client.specs.declared.working.Work.{Work}
 use Rattle.rtr_client.specs.declared.working.Work.TheVariants.{Ask, Take, Sync}
 use Rattle.rtr_client.specs.Feeds.{AsksBy, BadPdu, ChangesPayloads, Coming, Feed, Follows, Moves, NoMore, OnePdu, Queries, Stays, TakesComing, TakesFrom, TakesPdu, TakesPdus, Taking, after_pdu, asked_of, change_due, is_enough_at}
+use Rattle.rtr_client.specs.Speaking.{is_strict}
 use Rattle.rtr_client.specs.Laws.{FeedsHaveTheirPayloads, HasItsPayloads, IsSourceAt, IsTied}
 use Rattle.rtr_client.specs.Lines.{ConnectLine, Connects, Does, StartsBy, State, WorkLine, WorksBy, same_name, starting, taking_of, with_feed}
 use Rattle.rtr_client.specs.Tellings.{Asking}
@@ -57,6 +59,7 @@ follows_others name (Apply (Part patch said)) old new changes = changes_others n
 follows_others name (End Unexpected) old new stays = same_parts name old.parts new.parts (ap (λ (k : Taking). k.parts) stays)
 follows_others name (End UnknownWithdrawal) old new stays = same_parts name old.parts new.parts (ap (λ (k : Taking). k.parts) stays)
 follows_others name (End SessionChanged) old new changes = changes_others name (ReplacePayloads []) old.parts new.parts changes.payloads
+follows_others name (End AnnouncedTwice) old new stays = same_parts name old.parts new.parts (ap (λ (k : Taking). k.parts) stays)
 follows_others name (End PeerReported) old new stays = same_parts name old.parts new.parts (ap (λ (k : Taking). k.parts) stays)
 
 -- the source of the name has what is handed out, or what that makes of it
@@ -109,7 +112,7 @@ coming_tied : (t : Link) (name : List ℕ) (feed : Feed) (old : Taking) (coming 
     → TakesComing t name feed old coming tells new → Leaves name old new
 coming_tied t name feed old (OnePdu bytes pdu) tells new has_its takes = record {
   slot = moves_tied t name (after_pdu feed bytes takes.session) takes.act tells old new takes.moves takes.follows
-      (pdu_holds feed.session takes.session takes.act (of_name name old.parts) has_its pdu takes.client);
+      (pdu_holds feed.session takes.session takes.act (of_name name old.parts) has_its (is_strict feed.said) pdu takes.client);
   others = follows_others name takes.act old new takes.follows;
 }
 coming_tied t name feed old (BadPdu left fault) tells new has_its takes = record {
@@ -183,15 +186,15 @@ module _ (old : State) (name : List ℕ) (slot : Option Feed) (parts : Parts) (t
   put_tied : (other : List ℕ) → IsHeldTied (of_name other parts) (with_feed name slot old.feeds other)
   put_tied other = put_by other (same_name name other) refl
 
-starts_tied : (world : World) (place : List ℕ) (attempt : Attempt) (tells : List Telling) (slot : Option Feed) (source : Source) → StartsBy world place attempt tells slot → IsSlotTied source slot
-starts_tied world place (Made link) tells slot source starts =
-    queries_tied starts.t (starting link) Reset tells slot source (record { in_order = none_in_order; source_is = tt }) starts.so.1
-starts_tied world place (Failed at) tells slot source starts = none_tied source slot starts.2
-starts_tied world place (Unaccepted at) tells slot source starts = absurd starts
+starts_tied : (world : World) (place : List ℕ) (said : Option Version) (attempt : Attempt) (tells : List Telling) (slot : Option Feed) (source : Source) → StartsBy world place said attempt tells slot → IsSlotTied source slot
+starts_tied world place said (Made link) tells slot source starts =
+    queries_tied starts.t (starting link said) Reset tells slot source (record { in_order = none_in_order; source_is = tt }) starts.so.1
+starts_tied world place said (Failed at) tells slot source starts = none_tied source slot starts.2
+starts_tied world place said (Unaccepted at) tells slot source starts = absurd starts
 
-connects_tied : (world : World) (old new : State) (name place : List ℕ) (tells : List Telling) → IsTied old → Connects world old name place tells new → IsTied new
-connects_tied world old new name place tells tied connects =
-    let here = starts_tied world place connects.attempt tells connects.slot (of_name name old.parts) connects.starts in
+connects_tied : (world : World) (old new : State) (name place : List ℕ) (said : Option Version) (tells : List Telling) → IsTied old → Connects world old name place said tells new → IsTied new
+connects_tied world old new name place said tells tied connects =
+    let here = starts_tied world place said connects.attempt tells connects.slot (of_name name old.parts) connects.starts in
     subst IsTied (sym connects.left) (record { each = put_tied old name connects.slot old.parts tied here (λ other differ. refl) })
 
 works_tied : (world : World) (old new : State) (name : List ℕ) (work : Work) (held : Option (Option Feed)) (tells : List Telling) → old.feeds name ≡ held → IsTied old
@@ -204,9 +207,9 @@ works_tied world old new name work (Some (Some feed)) tells there tied works =
 
 -- ---- lines
 
-pub connect_line_tied : (world : World) (asking : Asking) (place text : List ℕ) (old new : State) → IsTied old → ConnectLine world asking place old text new → IsTied new
-connect_line_tied world asking place text old new tied line =
-    let done = connects_tied world old line.after asking.name place line.tells tied line.done in
+pub connect_line_tied : (world : World) (asking : Asking) (place : List ℕ) (said : Option Version) (text : List ℕ) (old new : State) → IsTied old → ConnectLine world asking place said old text new → IsTied new
+connect_line_tied world asking place said text old new tied line =
+    let done = connects_tied world old line.after asking.name place said line.tells tied line.done in
     subst IsTied (sym line.left) (record { each = done.each })
 
 pub work_line_tied : (world : World) (asking : Asking) (work : Work) (text : List ℕ) (old new : State) → IsTied old → WorkLine world asking work old text new → IsTied new
@@ -218,7 +221,7 @@ work_line_tied world asking work text old new tied line =
 end_replaces : (t : Link) (name : List ℕ) (feed : Feed) (old new : Taking) (bytes : List ℕ) (pdu : Pdu) (tells : List Telling) → HasItsPayloads feed.session (source_of old.parts.sources name)
     → (takes : TakesPdu t name feed old bytes pdu tells new) (delta : Delta) → takes.act ≡ Apply delta → new.parts ≡ with_source old.parts name takes.session.payloads
 end_replaces t name feed old new bytes pdu tells has_its takes delta is =
-    let holds = subst (λ a. HoldsAfter a takes.session (of_name name old.parts)) is (pdu_holds feed.session takes.session takes.act (of_name name old.parts) has_its pdu takes.client) in
+    let holds = subst (λ a. HoldsAfter a takes.session (of_name name old.parts)) is (pdu_holds feed.session takes.session takes.act (of_name name old.parts) has_its (is_strict feed.said) pdu takes.client) in
     let put = puts name delta old new (subst (λ a. Follows (change_due name a) old new) is takes.follows) in
     put.puts ∙ ap (with_source old.parts name) (holds put.payloads put.gives).0
 

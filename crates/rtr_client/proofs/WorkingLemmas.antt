@@ -22,6 +22,7 @@ use Rattle.connection_calls.specs.Moves.{KeepsSent, SendsOrCloses}
 use Rattle.rtr_client.specs.Feeds.{AsksFeed, Feed, Taking, TakesPdus, asked_of, is_enough_at, query_bytes, short_of}
 use Rattle.rtr_client.specs.Holding.{AreWithin, StandsFor}
 use Rattle.rtr_client.specs.Lines.{Begins, Does, TakesSome}
+use Rattle.rtr_client.specs.Speaking.{version_of}
 use Rattle.rtr_client.specs.Steps.{Halted, LeftAs, Made, TookAs, WorkedAs, going, told_at, work_at}
 use Rattle.connection_calls.proofs.ConnectionLemmas.{Now-map, Ever-map}
 use Rattle.connection_calls.proofs.StandingLemmas.{still_open}
@@ -74,33 +75,33 @@ told_reached true phase told is = λ e. short_reached (is_enough_at true phase) 
 
 module _ (wire new : Option (List Link)) (kept : OpenFeed) (session : Session) (query : Option Query) (asks : AsksSession kept.session.phase kept.session session query) (feed : Feed) (stands : StandsFor wire kept feed) where
   -- the feed with the session then
-  stands_then : StandsFor wire (record { framer = kept.framer; session = session; taken = kept.taken; link = kept.link }) (record feed { session = session })
-  stands_then = record { link = stands.link; taken = stands.taken; session = refl; now = stands.now }
+  stands_then : StandsFor wire (record { framer = kept.framer; session = session; taken = kept.taken; link = kept.link; said = kept.said }) (record feed { session = session })
+  stands_then = record { link = stands.link; said = stands.said; taken = stands.taken; session = refl; now = stands.now }
 
   asks_then : (one : Option Query) → query ≡ one → AsksSession feed.session.phase feed.session session one
   asks_then one is =
       subst (λ (s : Session). AsksSession s.phase s session one) stands.session (subst (λ (q : Option Query). AsksSession kept.session.phase kept.session session q) is asks)
 
-  pub asked_nothing : query ≡ None → LeftAs wire kept.link (λ t. AsksFeed t feed) (Some (record { framer = kept.framer; session = session; taken = kept.taken; link = kept.link })) None
+  pub asked_nothing : query ≡ None → LeftAs wire kept.link (λ t. AsksFeed t feed) (Some (record { framer = kept.framer; session = session; taken = kept.taken; link = kept.link; said = kept.said })) None
   asked_nothing is = record {
     feed = Some (record feed { session = session });
     stands = stands_then;
     done = λ links final told goes t there. record { query = None; session = session; asks = asks_then None is; sends = (refl, refl) };
   }
 
-  module _ (one : Query) (bytes : List ℕ) (whole : Bool) (is : query ≡ Some one) (spelled : bytes ≡ query_bytes one) (sends : (got gave : List ℕ) → Now wire kept.link (Has got gave) → SendsOrCloses new kept.link got gave bytes whole) where
-    pub asked_whole : whole ≡ true → LeftAs new kept.link (λ t. AsksFeed t feed) (Some (record { framer = kept.framer; session = session; taken = kept.taken; link = kept.link })) None
+  module _ (one : Query) (bytes : List ℕ) (whole : Bool) (is : query ≡ Some one) (spelled : bytes ≡ query_bytes (version_of kept.said) one) (sends : (got gave : List ℕ) → Now wire kept.link (Has got gave) → SendsOrCloses new kept.link got gave bytes whole) where
+    pub asked_whole : whole ≡ true → LeftAs new kept.link (λ t. AsksFeed t feed) (Some (record { framer = kept.framer; session = session; taken = kept.taken; link = kept.link; said = kept.said })) None
     asked_whole went =
-        let had = query_whole wire new (record { framer = kept.framer; session = session; taken = kept.taken; link = kept.link }) (record feed { session = session }) one bytes stands_then spelled whole went sends in
+        let had = query_whole wire new (record { framer = kept.framer; session = session; taken = kept.taken; link = kept.link; said = kept.said }) (record feed { session = session }) one bytes stands_then spelled whole went sends in
         record {
-          feed = Some (record feed { session = session; sent = feed.sent ++ query_bytes one });
+          feed = Some (record feed { session = session; sent = feed.sent ++ query_bytes (version_of feed.said) one });
           stands = had.0;
           done = Ever-map (λ t q. record { query = Some one; session = session; asks = asks_then (Some one) is; sends = q }) had.1;
         }
 
     pub asked_lost : whole ≡ false → LeftAs new kept.link (λ t. AsksFeed t feed) None (Some (FeedEnds LostFeed))
     asked_lost went =
-        let had = query_lost wire new (record { framer = kept.framer; session = session; taken = kept.taken; link = kept.link }) (record feed { session = session }) one bytes stands_then spelled whole went sends in
+        let had = query_lost wire new (record { framer = kept.framer; session = session; taken = kept.taken; link = kept.link; said = kept.said }) (record feed { session = session }) one bytes stands_then spelled whole went sends in
         record { feed = None; stands = tt; done = Ever-map (λ t q. record { query = Some one; session = session; asks = asks_then (Some one) is; sends = q }) had }
 
 module _ {E : Type 0} (old new : Option (List Link)) (name : List ℕ) (kept : OpenFeed) (state : Made) (steps : ℕ) where

@@ -5,6 +5,8 @@ use Rattle.std.specs.declared.option.Option.TheVariants.{Some, None}
 use Rattle.std.specs.FinMap as map
 use Rattle.av_base.specs.Connections.{Link}
 use Rattle.av_base.specs.declared.standing.Break.TheVariants.{ByRecv}
+use Rattle.rtr_pdu.specs.declared.version.Version.{Version}
+use Rattle.rtr_client.specs.Speaking.{is_strict, version_of}
 use Rattle.rtr_pdu.specs.declared.pdu.Pdu.{Pdu}
 use Rattle.rtr_pdu.specs.declared.pdu.Pdu.TheVariants.{SerialQuery, ResetQuery}
 use Rattle.rtr_pdu.specs.declared.pdu.PduFault.{PduFault}
@@ -22,7 +24,7 @@ use Rattle.rtr_session.specs.declared.act.Ending.TheVariants.{SessionChanged}
 use Rattle.rtr_session.specs.declared.act.Act.{Act}
 use Rattle.rtr_session.specs.declared.act.Act.TheVariants.{Nothing, Send, Apply, End}
 use Rattle.rtr_session.specs.State.{State as Session}
-use Rattle.rtr_session.specs.Client.{Asks, Client, code_on_end}
+use Rattle.rtr_session.specs.Client.{Asks, Takes as SessionTakes, code_on_end}
 use Rattle.attestations.specs.Terms.{terms_of}
 use Rattle.origin_model.specs.Current.{Parts}
 use Rattle.origin_validation.specs.Records.{PatchesSource, with_source}
@@ -42,10 +44,11 @@ use Rattle.rtr_client.specs.declared.telling.Telling.{Telling}
 use Rattle.rtr_client.specs.declared.telling.Telling.TheVariants.{Pdu as PduRefused, End as FeedEnds}
 use Rattle.rtr_client.specs.Tellings.{cause_of_end}
 
--- A feed whose session goes on: the number of its connection, the bytes sent on it, the bytes of the PDUs taken, how many those were,
--- and the session.
+-- A feed whose session goes on: the number of its connection, what its line said of the version, the bytes sent on it, the bytes of the PDUs
+-- taken, how many those were, and the session.
 pub record Feed : Type 0 where
   pub link : ℕ
+  pub said : Option Version
   pub sent : List ℕ
   pub used : List ℕ
   pub taken : ℕ
@@ -66,8 +69,8 @@ abbrev pub pdu_of : Query → Pdu
 pdu_of Reset = ResetQuery
 pdu_of (Serial session serial) = SerialQuery session serial
 
-abbrev pub query_bytes : Query → List ℕ
-query_bytes query = spelled (pdu_of query)
+abbrev pub query_bytes : Version → Query → List ℕ
+query_bytes version query = spelled version (pdu_of query)
 
 -- a feed's end, which is reported: the connection was lost
 abbrev pub lost : List Telling
@@ -76,12 +79,12 @@ lost = FeedEnds Lost ∷ []
 -- A query is sent whole, and the feed goes on; or the connection broke at it and was closed.
 abbrev pub Queries : Link → Feed → Query → List Telling → Option Feed → Type 0
 Queries t feed query tells slot =
-    (HasSent t feed.sent (query_bytes query) × (tells ≡ []) × (slot ≡ Some (record feed { sent = feed.sent ++ query_bytes query })))
-    ⊎ (LostAtSend t feed.sent (query_bytes query) × IsClosed t × (tells ≡ lost) × (slot ≡ None))
+    (HasSent t feed.sent (query_bytes (version_of feed.said) query) × (tells ≡ []) × (slot ≡ Some (record feed { sent = feed.sent ++ query_bytes (version_of feed.said) query })))
+    ⊎ (LostAtSend t feed.sent (query_bytes (version_of feed.said) query) × IsClosed t × (tells ≡ lost) × (slot ≡ None))
 
 -- an error report is the last that was sent, whole or as far as it went before the connection broke, and then it was closed
-abbrev pub Reports : Link → List ℕ → Option ℕ → Type 0
-Reports t sent code = ((t.sent ≡ sent ++ report_bytes code) ⊎ LostAtSend t sent (report_bytes code)) × IsClosed t
+abbrev pub Reports : Version → Link → List ℕ → Option ℕ → Type 0
+Reports version t sent code = ((t.sent ≡ sent ++ report_bytes version code) ⊎ LostAtSend t sent (report_bytes version code)) × IsClosed t
 
 -- ---- what comes next
 
@@ -95,11 +98,11 @@ pub data Coming : Type 0 where
 abbrev pub HasEnded : Link → Type 0
 HasEnded t = (t.broken ≡ Some ByRecv) ⊎ (t.to_come ≡ [])
 
--- what follows the PDUs taken, among the bytes received
-abbrev pub IsComing : Link → List ℕ → Coming → Type 0
-IsComing t used (OnePdu bytes pdu) = IsFrame bytes pdu × ((rest : List ℕ) × (t.received ≡ used ++ bytes ++ rest))
-IsComing t used (BadPdu left fault) = IsRefused left fault × (fault ≢ NoMemory) × (t.received ≡ used ++ left)
-IsComing t used NoMore = ((left : List ℕ) × (t.received ≡ used ++ left) × IsPartial left) × HasEnded t
+-- what follows the PDUs taken, among the bytes received, in this version
+abbrev pub IsComing : Version → Link → List ℕ → Coming → Type 0
+IsComing version t used (OnePdu bytes pdu) = IsFrame version bytes pdu × ((rest : List ℕ) × (t.received ≡ used ++ bytes ++ rest))
+IsComing version t used (BadPdu left fault) = IsRefused version left fault × (fault ≢ NoMemory) × (t.received ≡ used ++ left)
+IsComing version t used NoMore = ((left : List ℕ) × (t.received ≡ used ++ left) × IsPartial version left) × HasEnded t
 
 -- ---- one PDU
 
@@ -126,7 +129,7 @@ Moves t feed Nothing tells slot = (tells ≡ []) × (slot ≡ Some feed)
 Moves t feed (Send query) tells slot = Queries t feed query tells slot
 Moves t feed (Apply delta) tells slot = (tells ≡ []) × (slot ≡ Some feed)
 Moves t feed (End ending) tells slot =
-    Reports t feed.sent (code_on_end ending) × (tells ≡ PduRefused feed.taken (cause_of_end ending) ∷ []) × (slot ≡ None)
+    Reports (version_of feed.said) t feed.sent (code_on_end ending) × (tells ≡ PduRefused feed.taken (cause_of_end ending) ∷ []) × (slot ≡ None)
 
 -- what becomes of the payloads that the source of a name has in the origin records
 abbrev pub ChangesPayloads : List ℕ → PayloadsChange → Parts → Parts → Type 0
@@ -154,7 +157,7 @@ Follows (Some change) old new = Changes old change new
 pub record TakesPdu (t : Link) (name : List ℕ) (feed : Feed) (old : Taking) (bytes : List ℕ) (pdu : Pdu) (tells : List Telling) (new : Taking) : Type 0 where
   pub act : Act
   pub session : Session
-  pub client : Client feed.session pdu act session
+  pub client : SessionTakes (is_strict feed.said) feed.session pdu act session
   pub moves : Moves t (after_pdu feed bytes session) act tells new.feed
   pub follows : Follows (change_due name act) old new
 
@@ -162,7 +165,7 @@ pub record TakesPdu (t : Link) (name : List ℕ) (feed : Feed) (old : Taking) (b
 pub record RefusesPdu (t : Link) (feed : Feed) (old : Taking) (left : List ℕ) (fault : PduFault) (tells : List Telling) (new : Taking) : Type 0 where
   pub cause : Cause
   pub cause_is : IsCauseOf fault cause
-  pub reports : Reports t feed.sent (code_on_refusal left fault)
+  pub reports : Reports (version_of feed.said) t feed.sent (code_on_refusal (version_of feed.said) left fault)
   pub tells_are : tells ≡ PduRefused (feed.taken + 1) cause ∷ []
   pub over : new.feed ≡ None
   pub stays : Stays old new
@@ -176,7 +179,7 @@ TakesComing t name feed old NoMore tells new =
 -- a line asks for the next PDU of this feed
 pub record TakesNext (t : Link) (name : List ℕ) (feed : Feed) (old : Taking) (tells : List Telling) (new : Taking) : Type 0 where
   pub coming : Coming
-  pub comes : IsComing t feed.used coming
+  pub comes : IsComing (version_of feed.said) t feed.used coming
   pub takes : TakesComing t name feed old coming tells new
 
 -- ---- several PDUs

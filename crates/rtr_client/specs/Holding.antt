@@ -26,6 +26,7 @@ use Rattle.rtr_client.specs.Lines.{State}
 -- what was sent on it is what the feed has sent.
 pub record StandsFor (wire : Option (List Link)) (kept : OpenFeed) (feed : Feed) : Type 0 where
   pub link : kept.link ≡ feed.link
+  pub said : kept.said ≡ feed.said
   pub taken : kept.taken ≡ feed.taken
   pub session : kept.session ≡ feed.session
   pub now : Now wire kept.link (Has (feed.used ++ kept.framer) feed.sent)

@@ -8,6 +8,7 @@ use Rattle.av_text.specs.Spellings.{IsInLine}
 use Rattle.origin_model.specs.Vrp.{Payload}
 use Rattle.origin_model.specs.VrpChanges.{Patches}
 use Rattle.origin_validation.specs.Records.{or_none, source_of, with_source}
+use Rattle.rtr_pdu.specs.declared.version.Version.{Version}
 use Rattle.rtr_pdu.specs.declared.pdu.Pdu.{Pdu}
 use Rattle.rtr_session.specs.declared.act.Act.TheVariants.{Apply}
 use Rattle.rtr_session.specs.declared.act.Delta.{Delta}
@@ -27,7 +28,7 @@ use Rattle.rtr_client.specs.Tellings.{Asking, telling_text}
 
 -- On the same connections, with attempts that are told, a line has no two texts, and leaves no two states.
 pub record HaveOneOutcome (world : World) (asking : Asking) (old : State) : Type 0 where
-  pub connects : (place one other : List ℕ) (end last : State) → ConnectLine world asking place old one end → ConnectLine world asking place old other last
+  pub connects : (place : List ℕ) (said : Option Version) (one other : List ℕ) (end last : State) → ConnectLine world asking place said old one end → ConnectLine world asking place said old other last
       → (one ≡ other) × (end ≡ last)
   pub works : (work : Work) (one other : List ℕ) (end last : State) → WorkLine world asking work old one end → WorkLine world asking work old other last
       → (one ≡ other) × (end ≡ last)
@@ -46,7 +47,7 @@ EachTellingIsOneLine = (asking : Asking) (telling : Telling) → IsInLine asking
 
 -- Where a line reports a feed as lost, its connection broke at a send, or nothing more is to come on it unless it is broken.
 pub record BrokeOrEnded (world : World) (old new : State) (name : List ℕ) (tells : List Telling) : Type 0 where
-  pub connects : (place : List ℕ) → Connects world old name place tells new → Contains tells (FeedEnds Lost)
+  pub connects : (place : List ℕ) (said : Option Version) → Connects world old name place said tells new → Contains tells (FeedEnds Lost)
       → (link : ℕ) × IsAttempt world old.made (Made link) × InEnd world link (λ t. t.broken ≡ Some BySend)
   pub works : (work : Work) → Works world old name work tells new → Contains tells (FeedEnds Lost)
       → (feed : Feed) × (old.feeds name ≡ Some (Some feed)) × InEnd world feed.link (λ t. t.broken ≡ None → t.to_come ≡ [])
@@ -85,7 +86,7 @@ pub record IsTied (state : State) : Type 0 where
 -- session keeps then. So where a session is ready the source has exactly its payloads.
 pub record FeedsHaveTheirPayloads : Type 0 where
   pub none : (state : State) → ((name : List ℕ) → state.feeds name ≡ None) → IsTied state
-  pub connects : (world : World) (asking : Asking) (place text : List ℕ) (old new : State) → IsTied old → ConnectLine world asking place old text new → IsTied new
+  pub connects : (world : World) (asking : Asking) (place : List ℕ) (said : Option Version) (text : List ℕ) (old new : State) → IsTied old → ConnectLine world asking place said old text new → IsTied new
   pub works : (world : World) (asking : Asking) (work : Work) (text : List ℕ) (old new : State) → IsTied old → WorkLine world asking work old text new → IsTied new
   pub replaces : (t : Link) (name : List ℕ) (feed : Feed) (old new : Taking) (bytes : List ℕ) (pdu : Pdu) (tells : List Telling)
       → HasItsPayloads feed.session (source_of old.parts.sources name) → (takes : TakesPdu t name feed old bytes pdu tells new) (delta : Delta) → takes.act ≡ Apply delta

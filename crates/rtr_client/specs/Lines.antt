@@ -4,6 +4,7 @@ use Rattle.std.specs.Cmp.Lexicographic.{pointwise}
 use Rattle.std.specs.declared.option.Option.{Option}
 use Rattle.std.specs.declared.option.Option.TheVariants.{Some, None}
 use Rattle.av_base.specs.Connections.{Link, Attempt, Made, Failed, Unaccepted}
+use Rattle.rtr_pdu.specs.declared.version.Version.{Version}
 use Rattle.rtr_session.specs.declared.act.Phase.TheVariants.{AskedWhole}
 use Rattle.rtr_session.specs.declared.act.Query.TheVariants.{Reset}
 use Rattle.rtr_session.specs.State.{fresh}
@@ -37,11 +38,11 @@ same_name name other = pointwise nat_eq name other
 abbrev pub with_feed : List ℕ → Option Feed → (List ℕ → Option (Option Feed)) → List ℕ → Option (Option Feed)
 with_feed name slot feeds other = cond (same_name name other) (Some slot) (feeds other)
 
--- ---- `feed NAME PLACE`
+-- ---- `feed NAME PLACE`, `feed NAME PLACE VERSION`
 
 -- a feed that starts on a new connection: its session asked for everything
-abbrev pub starting : ℕ → Feed
-starting link = record { link = link; sent = []; used = []; taken = 0; session = record fresh { phase = AskedWhole } }
+abbrev pub starting : ℕ → Option Version → Feed
+starting link said = record { link = link; said = said; sent = []; used = []; taken = 0; session = record fresh { phase = AskedWhole } }
 
 -- an old connection was closed with what was sent on it
 abbrev pub Closes : World → Option (Option Feed) → Type 0
@@ -50,17 +51,17 @@ Closes world (Some None) = Unit {0}
 Closes world (Some (Some feed)) = InEnd world feed.link (λ t. (t.sent ≡ feed.sent) × IsClosed t)
 
 -- the attempt made a connection to the place, on which everything is asked for; or it failed. It was none to accept a caller.
-abbrev pub StartsBy : World → List ℕ → Attempt → List Telling → Option Feed → Type 0
-StartsBy world place (Made link) tells slot = InEnd world link (λ t. (t.place ≡ place) × Queries t (starting link) Reset tells slot)
-StartsBy world place (Failed at) tells slot = (at ≡ place) × (tells ≡ FeedEnds Unreachable ∷ []) × (slot ≡ None)
-StartsBy world place (Unaccepted at) tells slot = ⊥
+abbrev pub StartsBy : World → List ℕ → Option Version → Attempt → List Telling → Option Feed → Type 0
+StartsBy world place said (Made link) tells slot = InEnd world link (λ t. (t.place ≡ place) × Queries t (starting link said) Reset tells slot)
+StartsBy world place said (Failed at) tells slot = (at ≡ place) × (tells ≡ FeedEnds Unreachable ∷ []) × (slot ≡ None)
+StartsBy world place said (Unaccepted at) tells slot = ⊥
 
-pub record Connects (world : World) (old : State) (name place : List ℕ) (tells : List Telling) (new : State) : Type 0 where
+pub record Connects (world : World) (old : State) (name place : List ℕ) (said : Option Version) (tells : List Telling) (new : State) : Type 0 where
   pub closes : Closes world (old.feeds name)
   pub attempt : Attempt
   pub attempted : IsAttempt world old.made attempt
   pub slot : Option Feed
-  pub starts : StartsBy world place attempt tells slot
+  pub starts : StartsBy world place said attempt tells slot
   pub left : new ≡ record old { feeds = with_feed name slot old.feeds; made = old.made + 1 }
 
 -- ---- `ask NAME`, `take NAME N`, `sync NAME N`
@@ -110,8 +111,8 @@ pub record Writes (asking : Asking) (does : List Telling → State → Type 0) (
   pub text_is : text ≡ tells_text asking tells
   pub left : new ≡ record after { refused = after.refused + length tells }
 
-abbrev pub ConnectLine : World → Asking → List ℕ → State → List ℕ → State → Type 0
-ConnectLine world asking place old text new = Writes asking (Connects world old asking.name place) text new
+abbrev pub ConnectLine : World → Asking → List ℕ → Option Version → State → List ℕ → State → Type 0
+ConnectLine world asking place said old text new = Writes asking (Connects world old asking.name place said) text new
 
 abbrev pub WorkLine : World → Asking → Work → State → List ℕ → State → Type 0
 WorkLine world asking work old text new = Writes asking (Works world old asking.name work) text new
@@ -139,8 +140,8 @@ pub record BeginsOn (world : World) (old : State) (name : List ℕ) (work : Work
   pub left : new ≡ with_taking name end old
 
 -- all of the line's moves were made, though its text wasn't written, or some first of them
-abbrev pub ConnectPart : World → Asking → List ℕ → State → State → Type 0
-ConnectPart world asking place old new = ((text : List ℕ) × ConnectLine world asking place old text new) ⊎ (new ≡ old)
+abbrev pub ConnectPart : World → Asking → List ℕ → Option Version → State → State → Type 0
+ConnectPart world asking place said old new = ((text : List ℕ) × ConnectLine world asking place said old text new) ⊎ (new ≡ old)
 
 abbrev pub WorkPart : World → Asking → Work → State → State → Type 0
 WorkPart world asking work old new = ((text : List ℕ) × WorkLine world asking work old text new) ⊎ BeginsOn world old asking.name work new

@@ -3,6 +3,7 @@ use Rattle.std.specs.Prelude.{◌≡◌, ◌≢◌, ℕ, ◌+◌, cond, List, le
 use Rattle.std.specs.Option.{option_to_list}
 use Rattle.std.specs.declared.option.Option.{Option}
 use Rattle.std.specs.declared.option.Option.TheVariants.{None}
+use Rattle.rtr_pdu.specs.declared.version.Version.{Version}
 use Rattle.av_base.specs.Connections.{Link, Attempt, ToldLater}
 use Rattle.av_base.specs.declared.standing.Standing.{Standing}
 use Rattle.rtr_session.specs.declared.act.Query.TheVariants.{Reset}
@@ -69,27 +70,27 @@ ClosedAs wire_old wire_new None = Unit {0}
 ClosedAs wire_old wire_new (Some kept) = (feed : Feed) → StandsFor wire_old kept feed → Ever wire_new feed.link (λ t. (t.sent ≡ feed.sent) × IsClosed t)
 
 -- everything was asked for, on a new connection
-pub record SessionStarts (wire : Option (List Link)) (link : ℕ) (slot : Option OpenFeed) (told : Option Telling) : Type 0 where
+pub record SessionStarts (wire : Option (List Link)) (link : ℕ) (said : Option Version) (slot : Option OpenFeed) (told : Option Telling) : Type 0 where
   pub feed : Option Feed
   pub stands : StandsSlot wire slot feed
-  pub done : Ever wire link (λ t. Queries t (starting link) Reset (option_to_list told) feed)
+  pub done : Ever wire link (λ t. Queries t (starting link said) Reset (option_to_list told) feed)
 
 -- an attempt was made, and everything asked for where it made a connection
-pub record StartedAs (attempts_old attempts_new : Option (List Attempt)) (wire_old wire_new : Option (List Link)) (place : List ℕ)
+pub record StartedAs (attempts_old attempts_new : Option (List Attempt)) (wire_old wire_new : Option (List Link)) (place : List ℕ) (said : Option Version)
     (slot : Option OpenFeed) (told : Option Telling) : Type 0 where
   pub attempts : AddsAttempts wire_old attempts_old attempts_new
   pub one_more : (now : List Attempt) → attempts_new ≡ Some now → (before : List Attempt) × (attempts_old ≡ Some before) × (length now ≡ length before + 1)
   pub feed : Option Feed
   pub stands : StandsSlot wire_new slot feed
   pub done : (made : ℕ) → ((now : List Attempt) → attempts_old ≡ Some now → made ≡ length now) → (world : World) → ComesTo attempts_new wire_new world
-      → (attempt : Attempt) × IsAttempt world made attempt × StartsBy world place attempt (option_to_list told) feed
+      → (attempt : Attempt) × IsAttempt world made attempt × StartsBy world place said attempt (option_to_list told) feed
 
 -- the feed of a name was connected, from any state that was held
-pub record ConnectedNamed (attempts_old attempts_new : Option (List Attempt)) (wire_old wire_new : Option (List Link)) (name place : List ℕ)
+pub record ConnectedNamed (attempts_old attempts_new : Option (List Attempt)) (wire_old wire_new : Option (List Link)) (name place : List ℕ) (said : Option Version)
     (feeds_old feeds_new : Feeds) (told : Option Telling) : Type 0 where
   pub attempts : AddsAttempts wire_old attempts_old attempts_new
   pub links : ToldLater wire_old wire_new
   pub goes : (old : State) → HoldsFeeds attempts_old wire_old feeds_old old
       → (new : State) × HoldsFeeds attempts_new wire_new feeds_new new × (made_of new ≡ made_of old) × (new.refused ≡ old.refused)
       × (new.judgements ≡ old.judgements)
-      × ((world : World) → ComesTo attempts_new wire_new world → Connects world old name place (option_to_list told) new)
+      × ((world : World) → ComesTo attempts_new wire_new world → Connects world old name place said (option_to_list told) new)

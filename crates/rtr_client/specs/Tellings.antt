@@ -1,9 +1,9 @@
 -- What a line on a feed reports, and the line of text for each.
 use Rattle.std.specs.Prelude.{ℕ, List, [], ◌∷◌, ◌++◌}
 use Rattle.rtr_session.specs.declared.act.Ending.{Ending}
-use Rattle.rtr_session.specs.declared.act.Ending.TheVariants.{Unexpected as EndsUnexpected, UnknownWithdrawal as EndsUnknown, SessionChanged as EndsChanged, PeerReported as EndsReported}
+use Rattle.rtr_session.specs.declared.act.Ending.TheVariants.{Unexpected as EndsUnexpected, UnknownWithdrawal as EndsUnknown, SessionChanged as EndsChanged, PeerReported as EndsReported, AnnouncedTwice as EndsTwice}
 use Rattle.report_text.specs.declared.cause.Cause.{Cause}
-use Rattle.report_text.specs.declared.cause.Cause.TheVariants.{Unexpected, UnknownWithdrawal, SessionChanged, PeerReported, NoName as NameIsNone, StreamOver as StreamIsOver}
+use Rattle.report_text.specs.declared.cause.Cause.TheVariants.{Unexpected, UnknownWithdrawal, SessionChanged, PeerReported, AnnouncedTwice, NoName as NameIsNone, StreamOver as StreamIsOver}
 use Rattle.report_text.specs.Feeds.{feed_text}
 use Rattle.report_text.specs.Refusals.{of_line, of_unit, refusal_text}
 use Rattle.rtr_client.specs.declared.telling.Asker.{Asker}
@@ -24,6 +24,7 @@ cause_of_end EndsUnexpected = Unexpected
 cause_of_end EndsUnknown = UnknownWithdrawal
 cause_of_end EndsChanged = SessionChanged
 cause_of_end EndsReported = PeerReported
+cause_of_end EndsTwice = AnnouncedTwice
 
 -- one line of text
 abbrev pub telling_text : Asking → Telling → List ℕ

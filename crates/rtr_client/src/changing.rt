@@ -74,6 +74,7 @@ pub(crate) fn clearing(
         Ending::Unexpected => Ok(None),
         Ending::UnknownWithdrawal => Ok(None),
         Ending::PeerReported => Ok(None),
+        Ending::AnnouncedTwice => Ok(None),
     }
 }
 

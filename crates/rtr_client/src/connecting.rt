@@ -9,10 +9,11 @@ ghost use Rattle.connection_calls.specs.Moves.{Only};
 ghost use Rattle.rtr_client.specs.Feeds.{query_bytes};
 ghost use Rattle.rtr_client.specs.Holding.{IsCounted, IsNoFeeds, IsSound};
 ghost use Rattle.rtr_client.specs.Named.{ClosedAs, ConnectedNamed, IsApart, IsSlotFit, SessionStarts, StartedAs};
+ghost use Rattle.rtr_client.specs.Speaking.{version_of};
 ghost use Rattle.rtr_client.specs.Steps.{SlotFits};
 ghost use Rattle.rtr_session.specs.declared.act.Query.TheVariants.{Reset};
 
-use crate::feed::{Feeds, OpenFeed};
+use crate::feed::{Feeds, OpenFeed, version_of};
 use crate::named::{give, hold};
 use crate::spelling::spell_query;
 use crate::telling::Telling;
@@ -20,7 +21,7 @@ use av_base::{Links, NoMemory};
 use connection_calls::send_or_close;
 use path_model::Name;
 use report_text::FeedEnd;
-use rtr_pdu::Framer;
+use rtr_pdu::{Framer, Version};
 use rtr_session::{Query, Session};
 use std::alloc::Global;
 
@@ -29,13 +30,14 @@ pub(crate) fn connect_named<K: Links>(
     alloc: Global,
     name: &Name,
     place: &str,
+    said: Option<Version>,
     feeds: &mut Feeds,
     links: &mut K,
 ) -> Result<Option<Telling>, NoMemory>
     requires sound { IsSound (K.standings links.old) (2 ^ 61) feeds.old }
     ensures connects { IfOk result (λ told. ConnectedNamed
         (K.attempts links.old) (K.attempts links.new) (K.wire links.old) (K.wire links.new)
-        name.now place.now feeds.old feeds.new told) }
+        name.now place.now said feeds.old feeds.new told) }
     ensures err { OnErr result (links.new ≡ links.old) }
     ensures others { Spares (IsNoFeeds (K.standings links.old) feeds.old)
         (K.wire links.old) (K.wire links.new) (K.standings links.old) (K.standings links.new) }
@@ -47,10 +49,10 @@ pub(crate) fn connect_named<K: Links>(
     ensures broke { BreaksByFault (K.faults links.old) (K.faults links.new)
         (K.standings links.old) (K.standings links.new) }
 {
-    let query = spell_query(alloc, Query::Reset)?;
+    let query = spell_query(alloc, version_of(said), Query::Reset)?;
     let old = hold(feeds, name)?;
     close(old, links);
-    let (slot, told) = start(alloc, query.as_slice(), place, links);
+    let (slot, told) = start(alloc, query.as_slice(), place, said, links);
     give(feeds, name, slot);
     Ok(told)
 }
@@ -76,12 +78,13 @@ fn start<K: Links>(
     alloc: Global,
     query: &[u8],
     place: &str,
+    said: Option<Version>,
     links: &mut K,
 ) -> (Option<OpenFeed>, Option<Telling>)
-    requires { query.now ≡ query_bytes Reset }
+    requires { query.now ≡ query_bytes (version_of said) Reset }
     ensures starts { StartedAs (K.attempts links.old) (K.attempts links.new)
         (K.wire links.old) (K.wire links.new)
-        place.now result.0 result.1 }
+        place.now said result.0 result.1 }
     ensures fits { SlotFits (K.standings links.new) (length (K.standings links.old)) 0 result.0 }
     ensures spares { Spares (λ other. other ≢ length (K.standings links.old))
         (K.wire links.old) (K.wire links.new) (K.standings links.old) (K.standings links.new) }
@@ -90,7 +93,7 @@ fn start<K: Links>(
         (K.standings links.old) (K.standings links.new) }
 {
     match links.connect(place) {
-        Ok(link) => start_session(alloc, query, link, links),
+        Ok(link) => start_session(alloc, query, said, link, links),
         Err(_) => (None, Some(Telling::End(FeedEnd::Unreachable))),
     }
 }
@@ -99,13 +102,14 @@ fn start<K: Links>(
 fn start_session<K: Links>(
     alloc: Global,
     query: &[u8],
+    said: Option<Version>,
     link: u32,
     links: &mut K,
 ) -> (Option<OpenFeed>, Option<Telling>)
     requires usable { IsUsable (K.standings links.old) link }
-    requires query { query.now ≡ query_bytes Reset }
+    requires query { query.now ≡ query_bytes (version_of said) Reset }
     ensures starts { Now (K.wire links.old) link (Has [] [])
-        → SessionStarts (K.wire links.new) link result.0 result.1 }
+        → SessionStarts (K.wire links.new) link said result.0 result.1 }
     ensures fits { SlotFits (K.standings links.new) link 0 result.0 }
     ensures only { Only link (K.wire links.old) (K.wire links.new)
         (K.standings links.old) (K.standings links.new) }
@@ -121,6 +125,7 @@ fn start_session<K: Links>(
             session,
             taken: 0,
             link,
+            said,
         };
         return (Some(feed), None);
     }

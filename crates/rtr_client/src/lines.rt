@@ -17,15 +17,18 @@ use crate::telling::{Asker, Telling, put_telling};
 use crate::working::Work;
 use analyser::Progress;
 use av_base::{Links, NoMemory, Steps};
+use rtr_pdu::Version;
 use std::alloc::Global;
 use std::sync::ledger::Ledger;
 
-/// Performs `feed NAME PLACE`: closes the feed's old connection, if it has one, connects, starts a session, and asks for everything. The
-/// name is in use from then on, and its session is over where there is no connection to be had or it was lost. The text is held.
+/// Performs `feed NAME PLACE`, or `feed NAME PLACE VERSION` where a version is said: closes the feed's old connection, if it has one,
+/// connects, starts a session, and asks for everything. The name is in use from then on, and its session is over where there is no
+/// connection to be had or it was lost. The text is held.
 pub fn connect<K: Links>(
     alloc: Global,
     asker: Asker<'_>,
     place: &str,
+    said: Option<Version>,
     feeds: &mut Feeds,
     progress: &mut Progress,
     links: &mut K,
@@ -42,7 +45,7 @@ pub fn connect<K: Links>(
         × (new.judgements ≡ old.judgements))
         text.old.items text.new.items
         (λ world old added new. ConnectLine world (asking_by asker.entry)
-        place.now old added new)) }
+        place.now said old added new)) }
 
     // Where memory ran out: all of its moves, but for the text, or none.
     ensures part { OnErr result (Goes
@@ -52,7 +55,7 @@ pub fn connect<K: Links>(
         × (new.judgements ≡ old.judgements))
         text.old.items text.new.items
         (λ world old added new. ConnectPart world (asking_by asker.entry)
-        place.now old new)) }
+        place.now said old new)) }
     ensures err { OnErr result (text.new.items ≡ text.old.items) }
 
     // Whatever is told: what it reports, and that a connection which wasn't to be had was a fault. Of the progress it may change
@@ -72,7 +75,7 @@ pub fn connect<K: Links>(
     ensures broke { BreaksByFault (K.faults links.old) (K.faults links.new)
         (K.standings links.old) (K.standings links.new) }
 {
-    let told = connect_named(alloc, asker.name, place, feeds, links)?;
+    let told = connect_named(alloc, asker.name, place, said, feeds, links)?;
     report(asker, told, progress, text)?;
     Ok(())
 }

@@ -10,7 +10,7 @@ ghost use Rattle.rtr_client.specs.Lines.{TakesSome};
 ghost use Rattle.rtr_client.specs.Steps.{Before, Halted, IsFit, IsNoEnd, MayDo, MovedAs, OutcomeFits, StaysBeside, TookAs, going, made_in};
 
 use crate::changing::{SourceChange, change_of, clearing, follow};
-use crate::feed::OpenFeed;
+use crate::feed::{OpenFeed, is_strict, version_of};
 use crate::spelling::spell_query;
 use crate::telling::{Telling, cause_of_end};
 use analyser::Progress;
@@ -163,8 +163,10 @@ fn move_feed<K: Links>(
         session,
         taken,
         link,
+        said,
     } = feed;
-    let (framer, asked) = next_pdu(framer, link, links)?;
+    let version = version_of(said);
+    let (framer, asked) = next_pdu(version, framer, link, links)?;
     match asked {
         Asked::Ended => {
             links.close(link);
@@ -175,18 +177,19 @@ fn move_feed<K: Links>(
             Ok((Outcome::Ended(Telling::End(FeedEnd::Lost)), None))
         }
         Asked::Refused(cause) => {
-            let report = spell_report(alloc, framer.report())?;
+            let report = spell_report(alloc, version, framer.report(version))?;
             finish(report.as_slice(), link, links);
             let number = taken + 1;
             Ok((Outcome::Ended(Telling::Pdu { number, cause }), None))
         }
         Asked::Pdu(pdu) => {
-            let (session, act) = session.on(pdu)?;
+            let (session, act) = session.take(is_strict(said), pdu)?;
             let after = OpenFeed {
                 framer,
                 session,
                 taken: taken + 1,
                 link,
+                said,
             };
             let (outcome, change) = perform(alloc, name, after, act, links)?;
             Ok((outcome, change))
@@ -224,7 +227,7 @@ fn perform<K: Links>(
             Ok((Outcome::Open(feed), Some(change)))
         }
         Act::Send(query) => {
-            let bytes = spell_query(alloc, query)?;
+            let bytes = spell_query(alloc, version_of(feed.said), query)?;
             if send_or_close(bytes.as_slice(), feed.link, links) {
                 return Ok((Outcome::Open(feed), None));
             }
@@ -232,7 +235,7 @@ fn perform<K: Links>(
         }
         Act::End(ending) => {
             let change = clearing(alloc, name, ending)?;
-            let report = spell_report(alloc, ending.report())?;
+            let report = spell_report(alloc, version_of(feed.said), ending.report())?;
             finish(report.as_slice(), feed.link, links);
             let telling = Telling::Pdu {
                 number: feed.taken,

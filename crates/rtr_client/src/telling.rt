@@ -38,6 +38,7 @@ pub(crate) fn cause_of_end(ending: Ending) -> Cause
         Ending::UnknownWithdrawal => Cause::UnknownWithdrawal,
         Ending::SessionChanged => Cause::SessionChanged,
         Ending::PeerReported => Cause::PeerReported,
+        Ending::AnnouncedTwice => Cause::AnnouncedTwice,
     }
 }
 

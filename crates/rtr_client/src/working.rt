@@ -10,7 +10,7 @@ ghost use Rattle.rtr_client.specs.Holding.{AreWithin, StandsFor};
 ghost use Rattle.rtr_client.specs.Lines.{Begins, Does, units_of};
 ghost use Rattle.rtr_client.specs.Steps.{Halted, IsFit, LeftAs, SlotFits, StaysBeside, WorkedAs, going, made_in, told_at, work_of};
 
-use crate::feed::OpenFeed;
+use crate::feed::{OpenFeed, version_of};
 use crate::spelling::spell_query;
 use crate::taking::{Outcome, Wanted, is_enough, take_pdus};
 use crate::telling::Telling;
@@ -110,6 +110,7 @@ fn ask_feed<K: Links>(
         session,
         taken,
         link,
+        said,
     } = feed;
     let (session, query) = session.ask();
     let feed = OpenFeed {
@@ -117,11 +118,12 @@ fn ask_feed<K: Links>(
         session,
         taken,
         link,
+        said,
     };
     match query {
         None => Ok((Some(feed), None)),
         Some(query) => {
-            let bytes = spell_query(alloc, query)?;
+            let bytes = spell_query(alloc, version_of(said), query)?;
             if send_or_close(bytes.as_slice(), link, links) {
                 return Ok((Some(feed), None));
             }

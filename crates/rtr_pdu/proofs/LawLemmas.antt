@@ -8,6 +8,7 @@ use Rattle.path_model.specs.declared.addr.Addr.TheVariants.{V4, V6}
 use Rattle.path_model.specs.Prefix.{Subnet}
 use Rattle.origin_model.specs.Vrp.{payload_of}
 use Rattle.origin_model.proofs.CoverLemmas.{some_is}
+use Rattle.rtr_pdu.specs.declared.version.Version.{Version}
 use Rattle.rtr_pdu.specs.declared.kind.Kind.{Kind}
 use Rattle.rtr_pdu.specs.declared.kind.Kind.TheVariants.{SerialNotify, SerialQuery as SerialQueryKind, ResetQuery as ResetQueryKind, CacheResponse as CacheResponseKind, Ipv4Prefix, Ipv6Prefix, EndOfData as EndOfDataKind, CacheReset as CacheResetKind, RouterKey, ErrorReport as ErrorReportKind, Aspa as AspaKind}
 use Rattle.rtr_pdu.specs.declared.pdu.Pdu.{Pdu}
@@ -16,7 +17,7 @@ use Rattle.rtr_pdu.specs.declared.pdu.PduFault.{PduFault}
 use Rattle.rtr_pdu.specs.declared.pdu.PduFault.TheVariants.{PduVersion, PduLength, PduType, NoProviders, PrefixRecord, NoMemory}
 use Rattle.rtr_pdu.specs.Pdus.{IsHeader, IsFrame, IsPrefixPdu, Announces, Withdraws, Says, announces_prefix, u32_at, u128_at, length_in}
 use Rattle.rtr_pdu.specs.Units.{IsRefused, HasWhole, HasVersion}
-use Rattle.rtr_pdu.proofs.FrameLemmas.{u32_at-append}
+use Rattle.rtr_pdu.proofs.FrameLemmas.{some_byte, u32_at-append}
 use Rattle.rtr_pdu.proofs.KindLemmas.{kind_at}
 use Rattle.rtr_pdu.proofs.NumberLemmas.{AreNumbers-unique}
 
@@ -38,61 +39,61 @@ IsPrefixPdu-unique addr asn bytes p q a b =
     let same : a.prefix ≡ b.prefix = some_is a.prefix b.prefix (sym a.front ∙ b.front) in
     a.is ∙ ap (λ (s : Subnet). Prefix (announces_prefix bytes) (payload_of s (slice_index bytes 10) asn)) same ∙ sym b.is
 
-Says-unique : (kind : Kind) (bytes : List ℕ) (p q : Pdu) → Says kind bytes p → Says kind bytes q → p ≡ q
-Says-unique SerialNotify bytes p q a b = a ∙ sym b
-Says-unique SerialQueryKind bytes p q a b = a ∙ sym b
-Says-unique ResetQueryKind bytes p q a b = a ∙ sym b
-Says-unique CacheResponseKind bytes p q a b = a ∙ sym b
-Says-unique Ipv4Prefix bytes p q a b = IsPrefixPdu-unique (V4 (u32_at bytes 12)) (u32_at bytes 16) bytes p q a b
-Says-unique Ipv6Prefix bytes p q a b = IsPrefixPdu-unique (V6 (u128_at bytes 12)) (u32_at bytes 28) bytes p q a b
-Says-unique EndOfDataKind bytes p q a b = a ∙ sym b
-Says-unique CacheResetKind bytes p q a b = a ∙ sym b
-Says-unique RouterKey bytes p q a b = a ∙ sym b
-Says-unique ErrorReportKind bytes p q a b = a.1 ∙ sym b.1
-Says-unique AspaKind bytes p q a b = Aspa-unique bytes p q a b
+Says-unique : (ver : Version) → (kind : Kind) (bytes : List ℕ) (p q : Pdu) → Says ver kind bytes p → Says ver kind bytes q → p ≡ q
+Says-unique ver SerialNotify bytes p q a b = a ∙ sym b
+Says-unique ver SerialQueryKind bytes p q a b = a ∙ sym b
+Says-unique ver ResetQueryKind bytes p q a b = a ∙ sym b
+Says-unique ver CacheResponseKind bytes p q a b = a ∙ sym b
+Says-unique ver Ipv4Prefix bytes p q a b = IsPrefixPdu-unique (V4 (u32_at bytes 12)) (u32_at bytes 16) bytes p q a b
+Says-unique ver Ipv6Prefix bytes p q a b = IsPrefixPdu-unique (V6 (u128_at bytes 12)) (u32_at bytes 28) bytes p q a b
+Says-unique ver EndOfDataKind bytes p q a b = a ∙ sym b
+Says-unique ver CacheResetKind bytes p q a b = a ∙ sym b
+Says-unique ver RouterKey bytes p q a b = a ∙ sym b
+Says-unique ver ErrorReportKind bytes p q a b = a.1 ∙ sym b.1
+Says-unique ver AspaKind bytes p q a b = Aspa-unique bytes p q a b
 
-IsFrame-unique : (bytes : List ℕ) (p q : Pdu) → IsFrame bytes p → IsFrame bytes q → p ≡ q
-IsFrame-unique bytes p q a b =
-    let same : a.kind ≡ b.kind = kind_at a.kind b.kind (sym a.header.code ∙ b.header.code) in
-    Says-unique b.kind bytes p q (subst (λ (k : Kind). Says k bytes p) same a.says) b.says
+IsFrame-unique : (ver : Version) → (bytes : List ℕ) (p q : Pdu) → IsFrame ver bytes p → IsFrame ver bytes q → p ≡ q
+IsFrame-unique ver bytes p q a b =
+    let same : a.kind ≡ b.kind = kind_at ver a.kind b.kind (slice_index bytes 1) a.header.code b.header.code in
+    Says-unique ver b.kind bytes p q (subst (λ (k : Kind). Says ver k bytes p) same a.says) b.says
 
 -- two headers of one stream belong to the same bytes
-pub same_front : (one other more rest : List ℕ) (k l : Kind) → IsHeader one k (length one) → IsHeader other l (length other) → one ++ more ≡ other ++ rest → one ≡ other
-same_front one other more rest k l a b same =
+pub same_front : (ver : Version) → (one other more rest : List ℕ) (k l : Kind) → IsHeader ver one k (length one) → IsHeader ver other l (length other) → one ++ more ≡ other ++ rest → one ≡ other
+same_front ver one other more rest k l a b same =
     let long : length one ≡ length other =
     sym a.says ∙ sym (u32_at-append one more 4 (omega (arith, a.long))) ∙ ap length_in same ∙ u32_at-append other rest 4 (omega (arith, b.long)) ∙ b.says in
     sym (take-append_seam one more) ∙ ap (λ n. take n (one ++ more)) long ∙ ap (take (length other)) same ∙ take-append_seam other rest
 
-pub prefix_free : (one other more rest : List ℕ) (p q : Pdu) → IsFrame one p → IsFrame other q → one ++ more ≡ other ++ rest → (one ≡ other) × (p ≡ q) × (more ≡ rest)
-prefix_free one other more rest p q a b same =
-    let equal : one ≡ other = same_front one other more rest a.kind b.kind a.header b.header same in
+pub prefix_free : (ver : Version) → (one other more rest : List ℕ) (p q : Pdu) → IsFrame ver one p → IsFrame ver other q → one ++ more ≡ other ++ rest → (one ≡ other) × (p ≡ q) × (more ≡ rest)
+prefix_free ver one other more rest p q a b same =
+    let equal : one ≡ other = same_front ver one other more rest a.kind b.kind a.header b.header same in
     let left : more ≡ rest = sym (drop-append_seam one more) ∙ ap (λ (l : List ℕ). drop (length l) (one ++ more)) equal ∙ ap (drop (length other)) same ∙ drop-append_seam other rest in
-    (equal, IsFrame-unique other p q (subst (λ (l : List ℕ). IsFrame l p) equal a) b, left)
+    (equal, IsFrame-unique ver other p q (subst (λ (l : List ℕ). IsFrame ver l p) equal a) b, left)
 
-HasVersion-more : (held more : List ℕ) → HasVersion held → HasVersion (held ++ more)
-HasVersion-more held more h = record { long = omega (arith, length-append held more, h.long); version = get_or_append_left held more 0 0 (omega (arith, h.long)) ∙ h.version }
+HasVersion-more : (ver : Version) → (held more : List ℕ) → HasVersion ver held → HasVersion ver (held ++ more)
+HasVersion-more ver held more h = record { long = omega (arith, length-append held more, h.long); number = get_or_append_left held more 0 0 (omega (arith, h.long)) ∙ h.number }
 
-HasWhole-more : (held more : List ℕ) (kind : Kind) → HasWhole held kind → HasWhole (held ++ more) kind
-HasWhole-more held more kind h = record { bytes = h.bytes; rest = h.rest ++ more; whole = ap (λ (l : List ℕ). l ++ more) h.whole ∙ append_assoc h.bytes h.rest more; header = h.header }
+HasWhole-more : (ver : Version) → (held more : List ℕ) (kind : Kind) → HasWhole ver held kind → HasWhole ver (held ++ more) kind
+HasWhole-more ver held more kind h = record { bytes = h.bytes; rest = h.rest ++ more; whole = ap (λ (l : List ℕ). l ++ more) h.whole ∙ append_assoc h.bytes h.rest more; header = h.header }
 
 length_same : (held more : List ℕ) → 8 ≤ length held → length_in (held ++ more) ≡ length_in held
 length_same held more long = u32_at-append held more 4 (omega arith)
 
-pub stays_refused : (held more : List ℕ) (fault : PduFault) → IsRefused held fault → IsRefused (held ++ more) fault
+pub stays_refused : (ver : Version) → (held more : List ℕ) (fault : PduFault) → IsRefused ver held fault → IsRefused ver (held ++ more) fault
 unfolding HasWhole-more
-stays_refused held more PduVersion h = (omega (arith, length-append held more, h.0), λ same. h.1 (sym (get_or_append_left held more 0 0 (omega (arith, h.0))) ∙ same))
-stays_refused held more PduLength (inl h) =
+stays_refused ver held more PduVersion h = (omega (arith, length-append held more, h.0), λ same. h.1 (sym (get_or_append_left held more 0 0 (omega (arith, h.0))) ∙ same))
+stays_refused ver held more PduLength (inl h) =
     let same = length_same held more h.0.long in
     inl (
-      HasVersion-more held more h.0,
+      HasVersion-more ver held more h.0,
       elim h.1 [
         | inl never ↦ inl (rw same never)
-        | inr wrong ↦ inr (wrong.0, get_or_append_left held more 0 1 (omega (arith, h.0.long)) ∙ wrong.1, rw same wrong.2)
+        | inr wrong ↦ inr (wrong.0, ap some_byte (get_or_append_left held more 0 1 (omega (arith, h.0.long))) ∙ wrong.1, rw same wrong.2)
       ],
     )
-stays_refused held more PduLength (inr h) = inr (HasWhole-more held more ErrorReportKind h.0, h.1)
-stays_refused held more PduType h = (HasVersion-more held more h.0, rw (length_same held more h.0.long) h.1, λ kind same. h.2 kind (sym (get_or_append_left held more 0 1 (omega (arith, h.0.long))) ∙ same))
-stays_refused held more NoProviders h = (HasWhole-more held more AspaKind h.0, h.1, h.2)
-stays_refused held more PrefixRecord (inl h) = inl (HasWhole-more held more Ipv4Prefix h.0, h.1)
-stays_refused held more PrefixRecord (inr h) = inr (HasWhole-more held more Ipv6Prefix h.0, h.1)
-stays_refused held more NoMemory h = tt
+stays_refused ver held more PduLength (inr h) = inr (HasWhole-more ver held more ErrorReportKind h.0, h.1)
+stays_refused ver held more PduType h = (HasVersion-more ver held more h.0, rw (length_same held more h.0.long) h.1, λ kind same. h.2 kind (ap some_byte (sym (get_or_append_left held more 0 1 (omega (arith, h.0.long)))) ∙ same))
+stays_refused ver held more NoProviders h = (HasWhole-more ver held more AspaKind h.0, h.1, h.2)
+stays_refused ver held more PrefixRecord (inl h) = inl (HasWhole-more ver held more Ipv4Prefix h.0, h.1)
+stays_refused ver held more PrefixRecord (inr h) = inr (HasWhole-more ver held more Ipv6Prefix h.0, h.1)
+stays_refused ver held more NoMemory h = tt

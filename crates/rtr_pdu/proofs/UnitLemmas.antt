@@ -6,6 +6,7 @@ use Rattle.av_base.specs.One.{HasOnePair}
 use Rattle.held_bytes.proofs.UnitLemmas.{one_division}
 use Rattle.held_bytes.specs.Divided.{BeginsOrNot, Divides}
 use Rattle.held_bytes.specs.Units.{AreUnits, Begins}
+use Rattle.rtr_pdu.specs.declared.version.Version.{Version}
 use Rattle.rtr_pdu.specs.declared.pdu.Pdu.{Pdu}
 use Rattle.rtr_pdu.specs.declared.pdu.PduFault.{PduFault}
 use Rattle.rtr_pdu.specs.declared.pdu.PduFault.TheVariants.{NoMemory}
@@ -14,23 +15,23 @@ use Rattle.rtr_pdu.specs.Units.{Answers}
 use Rattle.rtr_pdu.proofs.LawLemmas.{prefix_free}
 use Rattle.rtr_pdu.proofs.NextLemmas.{refusal, some_next, partial_none, refused_none}
 
-begins_or_not : (stream left : List ℕ) (answer : Result (Option Pdu) PduFault) → answer ≢ refusal NoMemory → Answers stream left answer → BeginsOrNot IsFrame stream
-begins_or_not stream left (Ok None) known is = inr (partial_none stream is.0)
-begins_or_not stream left (Ok (Some pdu)) known is = inl (pdu, left, record { front = is.0; spelled = is.2; whole = is.1 })
-begins_or_not stream left (Err fault) known is = inr (refused_none stream fault known is.0)
+begins_or_not : (ver : Version) → (stream left : List ℕ) (answer : Result (Option Pdu) PduFault) → answer ≢ refusal NoMemory → Answers ver stream left answer → BeginsOrNot (IsFrame ver) stream
+begins_or_not ver stream left (Ok None) known is = inr (partial_none ver stream is.0)
+begins_or_not ver stream left (Ok (Some pdu)) known is = inl (pdu, left, record { front = is.0; spelled = is.2; whole = is.1 })
+begins_or_not ver stream left (Err fault) known is = inr (refused_none ver stream fault known is.0)
 
-alone : (bytes : List ℕ) (one other : Pdu) (rest more : List ℕ) → Begins IsFrame bytes one rest → Begins IsFrame bytes other more → (one ≡ other) × (rest ≡ more)
-alone bytes one other rest more a b =
-    let same = prefix_free a.front b.front rest more one other a.spelled b.spelled (sym a.whole ∙ b.whole) in
+alone : (ver : Version) → (bytes : List ℕ) (one other : Pdu) (rest more : List ℕ) → Begins (IsFrame ver) bytes one rest → Begins (IsFrame ver) bytes other more → (one ≡ other) × (rest ≡ more)
+alone ver bytes one other rest more a b =
+    let same = prefix_free ver a.front b.front rest more one other a.spelled b.spelled (sym a.whole ∙ b.whole) in
     (same.1, same.2)
 
 -- PDUs divide each stream in one way
-pdus_divide : Divides IsFrame
-pdus_divide = record {
+pdus_divide : (ver : Version) → Divides (IsFrame ver)
+pdus_divide ver = record {
   some = λ bytes pdu is. omega (arith, is.header.long);
-  alone = alone;
-  told = λ stream. (let first = some_next stream in begins_or_not stream first.left first.answer first.known first.is);
+  alone = alone ver;
+  told = λ stream. (let first = some_next ver stream in begins_or_not ver stream first.left first.answer first.known first.is);
 }
 
-pub its_units : (stream : List ℕ) → HasOnePair (AreUnits IsFrame stream)
-its_units stream = one_division IsFrame pdus_divide stream
+pub its_units : (ver : Version) → (stream : List ℕ) → HasOnePair (AreUnits (IsFrame ver) stream)
+its_units ver stream = one_division (IsFrame ver) (pdus_divide ver) stream

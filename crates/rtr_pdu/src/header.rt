@@ -5,6 +5,7 @@ ghost use Rattle.rtr_pdu.specs.Units.{IsRefused};
 
 use crate::kind::Kind;
 use crate::pdu::PduFault;
+use crate::version::Version;
 use byteorder::{BigEndian, ByteOrder};
 
 /// How many bytes a header has.
@@ -41,23 +42,23 @@ pub(crate) fn u128_at(bytes: &[u8], place: usize) -> u128
     BigEndian::read_u128(field)
 }
 
-/// Reads the header of the first PDU that is held: its type, and its length in bytes.
-pub(crate) fn read_header(held: &[u8]) -> Result<(Kind, usize), PduFault>
+/// Reads the header of the first PDU that is held, of this version: its type, and its length in bytes.
+pub(crate) fn read_header(version: Version, held: &[u8]) -> Result<(Kind, usize), PduFault>
     requires { 8 ≤ length held.now }
-    ensures ok { IfOk result (λ header. IsHeader held.now header.0 header.1) }
-    ensures err { IfErr result (λ fault. IsRefused held.now fault × (fault ≢ PduFault.NoMemory)) }
+    ensures ok { IfOk result (λ header. IsHeader version held.now header.0 header.1) }
+    ensures err { IfErr result (λ fault. IsRefused version held.now fault × (fault ≢ PduFault.NoMemory)) }
 {
-    if held[0] != 2 {
+    if held[0] != version.number() {
         return Err(PduFault::PduVersion);
     }
     let length = u32_at(held, 4);
     if length < HEADER as u32 || length > LONGEST {
         return Err(PduFault::PduLength);
     }
-    let Some(kind) = Kind::named(held[1]) else {
+    let Some(kind) = Kind::named(version, held[1]) else {
         return Err(PduFault::PduType);
     };
-    if !kind.fits(length) {
+    if !kind.fits(version, length) {
         return Err(PduFault::PduLength);
     }
     Ok((kind, length as usize))

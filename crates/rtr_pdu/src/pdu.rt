@@ -2,13 +2,14 @@
 ghost use Rattle.std.specs.Prelude.{◌≡◌};
 ghost use Rattle.rtr_pdu.specs.declared.pdu.PduFault.TheVariants.{NoMemory as OutOfMemory};
 
+use crate::timing::Timing;
 use av_base::NoMemory;
 use origin_model::Vrp;
 use path_model::AsList;
 use std::error::Error;
 use std::fmt;
 
-/// A PDU of version 2 (draft-ietf-sidrops-8210bis, section 5).
+/// A PDU (draft-ietf-sidrops-8210bis, section 5; of older versions RFC 8210 and RFC 6810).
 #[derive(Debug, Drop)]
 pub enum Pdu {
     /// Type 0: the cache has the data of this serial.
@@ -32,14 +33,16 @@ pub enum Pdu {
         announce: bool,
         vrp: Vrp,
     },
-    /// Type 9: a router key, of which nothing is read.
+    /// Type 9, from version 1 on: a router key, of which nothing is read.
     Passed {
         kind: u8,
     },
-    /// Type 7: the answer is whole, and the data are those of this serial. Its timers are read and not kept.
+    /// Type 7: the answer is whole, and the data are those of this serial. In version 0, which has no times, they are those that
+    /// RFC 8210 suggests.
     EndOfData {
         session: u16,
         serial: u32,
+        timing: Timing,
     },
     /// Type 8: the cache can't say what changed.
     CacheReset,
@@ -47,7 +50,7 @@ pub enum Pdu {
     ErrorReport {
         code: u16,
     },
-    /// Type 11: a customer attests these providers in place of all earlier ones, or attests nothing any more.
+    /// Type 11, in version 2: a customer attests these providers in place of all earlier ones, or attests nothing any more.
     /// The providers stand as they are written; where it doesn't announce there are none.
     Aspa {
         announce: bool,
@@ -59,7 +62,7 @@ pub enum Pdu {
 /// Why the bytes that are held are refused, in the order in which it is tested.
 #[derive(Clone, Copy, Debug, PartialEq, Eq)]
 pub enum PduFault {
-    /// Cause 15: the version isn't 2.
+    /// Cause 15: it is of another version.
     PduVersion,
     /// Cause 16: the length is allowed for no PDU or not for this type, or an error report's two lengths don't fill it.
     PduLength,
@@ -84,7 +87,7 @@ impl From<NoMemory> for PduFault {
 impl fmt::Display for PduFault {
     fn fmt<W: fmt::Write>(&self, f: &mut fmt::Formatter<W>) -> fmt::Result {
         f.write_str(match self {
-            PduFault::PduVersion => "the version isn't 2",
+            PduFault::PduVersion => "it is of another version",
             PduFault::PduLength => "the length isn't one of a PDU of this type",
             PduFault::PduType => "there is no such type of PDU",
             PduFault::NoProviders => "an ASPA is announced without providers",

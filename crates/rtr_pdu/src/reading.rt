@@ -2,20 +2,28 @@
 ghost use Rattle.std.specs.Prelude.{◌≡◌, ℕ, ◌*◌, ◌≤◌, ◌↔◌, length, IfOk, IfErr, IfSome, IfNone, IsTrue};
 ghost use Rattle.path_model.specs.Prefix.{bits_of};
 ghost use Rattle.rtr_pdu.specs.Bodies.{IsBodyRefused};
-ghost use Rattle.rtr_pdu.specs.Pdus.{AreNumbers, HasLengths, IsFrame, IsHeader, IsPrefixPdu, IsReport};
+ghost use Rattle.rtr_pdu.specs.Pdus.{AreNumbers, HasLengths, IsFrame, IsHeader, IsPrefixPdu, IsReport, timing_at, timing_in};
+ghost use Rattle.rtr_pdu.specs.Versions.{end_length};
 
 use crate::header::{u16_at, u32_at, u128_at};
 use crate::kind::Kind;
 use crate::pdu::{Pdu, PduFault};
+use crate::timing::Timing;
+use crate::version::Version;
 use av_base::NoMemory;
 use origin_model::Vrp;
 use path_model::{Addr, AsList, Prefix};
 use std::alloc::Global;
 
-/// Reads a whole PDU of this type, whose header was read.
-pub(crate) fn read_pdu(alloc: Global, kind: Kind, bytes: &[u8]) -> Result<Pdu, PduFault>
-    requires { IsHeader bytes.now kind (length bytes.now) }
-    ensures ok { IfOk result (λ pdu. IsFrame bytes.now pdu) }
+/// Reads a whole PDU of this version and type, whose header was read.
+pub(crate) fn read_pdu(
+    alloc: Global,
+    version: Version,
+    kind: Kind,
+    bytes: &[u8],
+) -> Result<Pdu, PduFault>
+    requires { IsHeader version bytes.now kind (length bytes.now) }
+    ensures ok { IfOk result (λ pdu. IsFrame version bytes.now pdu) }
     ensures err { IfErr result (λ fault. IsBodyRefused bytes.now kind fault) }
 {
     match kind {
@@ -31,23 +39,47 @@ pub(crate) fn read_pdu(alloc: Global, kind: Kind, bytes: &[u8]) -> Result<Pdu, P
         Kind::CacheResponse => Ok(Pdu::CacheResponse {
             session: u16_at(bytes, 2),
         }),
-        Kind::Ipv4Prefix => read_four(bytes),
-        Kind::Ipv6Prefix => read_six(bytes),
+        Kind::Ipv4Prefix => read_four(version, bytes),
+        Kind::Ipv6Prefix => read_six(version, bytes),
         Kind::EndOfData => Ok(Pdu::EndOfData {
             session: u16_at(bytes, 2),
             serial: u32_at(bytes, 8),
+            timing: timing_in(version, bytes),
         }),
         Kind::CacheReset => Ok(Pdu::CacheReset),
         Kind::RouterKey => Ok(Pdu::Passed { kind: 9 }),
-        Kind::ErrorReport => read_report(bytes),
-        Kind::Aspa => read_aspa(alloc, bytes),
+        Kind::ErrorReport => read_report(version, bytes),
+        Kind::Aspa => read_aspa(alloc, version, bytes),
+    }
+}
+
+// The times of an End of Data; version 0 has none.
+fn timing_in(version: Version, bytes: &[u8]) -> Timing
+    requires { end_length version ≤ length bytes.now }
+    ensures { result ≡ timing_in version bytes.now }
+{
+    match version {
+        Version::Zero => Timing::suggested(),
+        Version::One | Version::Two => timing_at(bytes),
+    }
+}
+
+// Those of one that has them.
+fn timing_at(bytes: &[u8]) -> Timing
+    requires { 24 ≤ length bytes.now }
+    ensures { result ≡ timing_at bytes.now }
+{
+    Timing {
+        refresh: u32_at(bytes, 12),
+        retry: u32_at(bytes, 16),
+        expire: u32_at(bytes, 20),
     }
 }
 
 // An IPv4 prefix.
-fn read_four(bytes: &[u8]) -> Result<Pdu, PduFault>
-    requires { IsHeader bytes.now Kind.Ipv4Prefix (length bytes.now) }
-    ensures ok { IfOk result (λ pdu. IsFrame bytes.now pdu) }
+fn read_four(version: Version, bytes: &[u8]) -> Result<Pdu, PduFault>
+    requires { IsHeader version bytes.now Kind.Ipv4Prefix (length bytes.now) }
+    ensures ok { IfOk result (λ pdu. IsFrame version bytes.now pdu) }
     ensures err { IfErr result (λ fault. IsBodyRefused bytes.now Kind.Ipv4Prefix fault) }
 {
     let addr = Addr::V4(u32_at(bytes, 12));
@@ -56,9 +88,9 @@ fn read_four(bytes: &[u8]) -> Result<Pdu, PduFault>
 }
 
 // An IPv6 prefix.
-fn read_six(bytes: &[u8]) -> Result<Pdu, PduFault>
-    requires { IsHeader bytes.now Kind.Ipv6Prefix (length bytes.now) }
-    ensures ok { IfOk result (λ pdu. IsFrame bytes.now pdu) }
+fn read_six(version: Version, bytes: &[u8]) -> Result<Pdu, PduFault>
+    requires { IsHeader version bytes.now Kind.Ipv6Prefix (length bytes.now) }
+    ensures ok { IfOk result (λ pdu. IsFrame version bytes.now pdu) }
     ensures err { IfErr result (λ fault. IsBodyRefused bytes.now Kind.Ipv6Prefix fault) }
 {
     let addr = Addr::V6(u128_at(bytes, 12));
@@ -79,9 +111,9 @@ fn read_prefix(bytes: &[u8], addr: Addr, asn: u32) -> Option<Pdu>
 }
 
 // An error report.
-fn read_report(bytes: &[u8]) -> Result<Pdu, PduFault>
-    requires { IsHeader bytes.now Kind.ErrorReport (length bytes.now) }
-    ensures ok { IfOk result (λ pdu. IsFrame bytes.now pdu) }
+fn read_report(version: Version, bytes: &[u8]) -> Result<Pdu, PduFault>
+    requires { IsHeader version bytes.now Kind.ErrorReport (length bytes.now) }
+    ensures ok { IfOk result (λ pdu. IsFrame version bytes.now pdu) }
     ensures err { IfErr result (λ fault. IsBodyRefused bytes.now Kind.ErrorReport fault) }
 {
     if is_report(bytes) {
@@ -107,9 +139,9 @@ fn is_report(bytes: &[u8]) -> bool
 }
 
 // The first of the two bytes is the flags, of which bit 0 is the announcement; the second isn't tested.
-fn read_aspa(alloc: Global, bytes: &[u8]) -> Result<Pdu, PduFault>
-    requires { IsHeader bytes.now Kind.Aspa (length bytes.now) }
-    ensures ok { IfOk result (λ pdu. IsFrame bytes.now pdu) }
+fn read_aspa(alloc: Global, version: Version, bytes: &[u8]) -> Result<Pdu, PduFault>
+    requires { IsHeader version bytes.now Kind.Aspa (length bytes.now) }
+    ensures ok { IfOk result (λ pdu. IsFrame version bytes.now pdu) }
     ensures err { IfErr result (λ fault. IsBodyRefused bytes.now Kind.Aspa fault) }
 {
     let customer = u32_at(bytes, 8);

@@ -4,6 +4,8 @@ use Rattle.std.specs.declared.option.Option.{Option}
 use Rattle.std.specs.declared.option.Option.TheVariants.{Some, None}
 use Rattle.std.specs.FinMap as map
 use Rattle.path_model.specs.Rows.{RowMap}
+use Rattle.rtr_pdu.specs.declared.version.Version.TheVariants.{Two}
+use Rattle.rtr_pdu.specs.declared.timing.Timing.{Timing}
 use Rattle.rtr_pdu.specs.declared.pdu.Pdu.{Pdu}
 use Rattle.rtr_pdu.specs.declared.pdu.Pdu.TheVariants.{Notify, SerialQuery, ResetQuery, CacheResponse, Prefix, Passed, EndOfData, CacheReset, ErrorReport, Aspa}
 use Rattle.rtr_pdu.specs.Spelled.{spelled}
@@ -21,9 +23,9 @@ answers_told : (rows : RowMap) (xs : List ℕ) (more : List Pdu) → answers_in 
 answers_told rows [] more = refl
 answers_told rows (x ∷ xs) more = one_told x (map.get rows x) (told_of rows xs ++ more) ∙ answers_told rows xs more
 
-some_bytes : (session serial : ℕ) (pdus : List Pdu) → 1 ≤ length (spelled_all (pdus ++ EndOfData session serial ∷ []))
-some_bytes session serial [] = omega arith
-some_bytes session serial (pdu ∷ more) = omega (arith, length-append (spelled pdu) (spelled_all (more ++ EndOfData session serial ∷ [])), some_bytes session serial more)
+some_bytes : (session serial : ℕ) (timing : Timing) (pdus : List Pdu) → 1 ≤ length (spelled_all (pdus ++ EndOfData session serial timing ∷ []))
+some_bytes session serial timing [] = omega arith
+some_bytes session serial timing (pdu ∷ more) = omega (arith, length-append (spelled Two pdu) (spelled_all (more ++ EndOfData session serial timing ∷ [])), some_bytes session serial timing more)
 
 -- a reply whose turn is More: an answer, or a Cache Reset
 Counted : List ℕ → List Pdu → Type 0
@@ -32,12 +34,12 @@ Counted reply pdus = ((8 < length reply) × (answers_in pdus ≡ 1)) ⊎ ((lengt
 of_answer : (cache : Versions) (rows : RowMap) (xs : List ℕ) (pdus told_pdus : List Pdu) (reply : List ℕ) → pdus ≡ answer cache told_pdus → told_pdus ≡ told_of rows xs → reply ≡ spelled_all pdus → Counted reply pdus
 unfolding Counted
 of_answer cache rows xs pdus told_pdus reply are are_told written =
-    let head : length (spelled (CacheResponse cache.session)) ≡ 8 = refl in
+    let head : length (spelled Two (CacheResponse cache.session)) ≡ 8 = refl in
     let long : 8 < length (spelled_all (answer cache told_pdus)) =
-    omega (arith, head, length-append (spelled (CacheResponse cache.session)) (spelled_all (told_pdus ++ EndOfData cache.session cache.current.serial ∷ [])), some_bytes cache.session cache.current.serial told_pdus) in
+    omega (arith, head, length-append (spelled Two (CacheResponse cache.session)) (spelled_all (told_pdus ++ EndOfData cache.session cache.current.serial cache.timing ∷ [])), some_bytes cache.session cache.current.serial cache.timing told_pdus) in
     inl (
       omega (arith, long, ap length written, ap (λ (l : List Pdu). length (spelled_all l)) are),
-      ap answers_in are ∙ ap (λ (l : List Pdu). answers_in (l ++ EndOfData cache.session cache.current.serial ∷ [])) are_told ∙ answers_told rows xs (EndOfData cache.session cache.current.serial ∷ []),
+      ap answers_in are ∙ ap (λ (l : List Pdu). answers_in (l ++ EndOfData cache.session cache.current.serial cache.timing ∷ [])) are_told ∙ answers_told rows xs (EndOfData cache.session cache.current.serial cache.timing ∷ []),
     )
 
 of_serial : (cache : Versions) (kept : Option RowMap) (pdus : List Pdu) (reply : List ℕ) (turn : Turn) → OnSerial cache kept pdus turn → reply ≡ spelled_all pdus → Counted reply pdus
@@ -58,7 +60,7 @@ of_reply cache (Notify session serial) pdus reply turn more is written = refused
 of_reply cache (CacheResponse session) pdus reply turn more is written = refused turn reply pdus more is.1
 of_reply cache (Prefix announce v) pdus reply turn more is written = refused turn reply pdus more is.1
 of_reply cache (Passed kind) pdus reply turn more is written = refused turn reply pdus more is.1
-of_reply cache (EndOfData session serial) pdus reply turn more is written = refused turn reply pdus more is.1
+of_reply cache (EndOfData session serial timing) pdus reply turn more is written = refused turn reply pdus more is.1
 of_reply cache CacheReset pdus reply turn more is written = refused turn reply pdus more is.1
 of_reply cache (Aspa announce customer providers) pdus reply turn more is written = refused turn reply pdus more is.1
 

@@ -5,6 +5,7 @@ use Rattle.std.proofs.lemmas.Bool.{cases_lt}
 use Rattle.std.proofs.lemmas.List.{append_cancel_left, append_cancel_right}
 use Rattle.std.specs.declared.option.Option.{Option}
 use Rattle.std.specs.declared.result.Result.{Result}
+use Rattle.rtr_pdu.specs.declared.version.Version.TheVariants.{Two}
 use Rattle.rtr_pdu.specs.declared.pdu.Pdu.{Pdu}
 use Rattle.rtr_pdu.specs.declared.pdu.PduFault.{PduFault}
 use Rattle.rtr_pdu.specs.declared.pdu.PduFault.TheVariants.{PduVersion as BadVersion, PduLength as BadLength, PduType as BadType, NoProviders as HasNoProviders, PrefixRecord as BadPrefix, NoMemory}
@@ -38,7 +39,7 @@ record Shown (t : Link) (used : List ℕ) : Type 0 where
   answer : Result (Option Pdu) PduFault
   received : t.received ≡ used ++ left
   known : answer ≢ Err NoMemory
-  answers : Answers left rest answer
+  answers : Answers Two left rest answer
 
 no_err : (found : Option Pdu) → Ok found ≢ Err NoMemory
 no_err found = λ e. let none : ⊥ = cc in absurd none
@@ -81,7 +82,7 @@ record SameShown (left other rest more : List ℕ) (one two : Result (Option Pdu
 same_shown : (t : Link) (used : List ℕ) (one two : Shown t used) → SameShown one.left two.left one.rest two.rest one.answer two.answer
 same_shown t used one two =
     let left = append_cancel_left used one.left two.left (sym one.received ∙ two.received) in
-    let next = one_next one.left in
+    let next = one_next Two one.left in
     let first = next.only one.rest one.answer (one.known, one.answers) in
     let second = next.only two.rest two.answer (two.known, subst (λ (l : List ℕ). Answers l two.rest two.answer) (sym left) two.answers) in
     record { lefts = left; rests = first.0 ∙ sym second.0; answers = first.1 ∙ sym second.1 }

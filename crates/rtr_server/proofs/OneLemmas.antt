@@ -3,6 +3,7 @@ use Rattle.std.proofs.Common.{◌≡◌, ℕ, zero, suc, ◌+◌, inl, inr, List
 use Rattle.std.proofs.lemmas.List.{append_cancel_right}
 use Rattle.std.specs.declared.option.Option.TheVariants.{Some, None}
 use Rattle.av_base.specs.Connections.{Link}
+use Rattle.rtr_pdu.specs.declared.version.Version.TheVariants.{Two}
 use Rattle.rtr_pdu.specs.declared.pdu.Pdu.{Pdu}
 use Rattle.rtr_pdu.specs.declared.pdu.PduFault.{PduFault}
 use Rattle.rtr_pdu.specs.Units.{IsPartial}
@@ -23,17 +24,17 @@ use Rattle.rtr_server.specs.Serving.{AfterReply, AnswersPdu, BadPdu, CallFailed,
 
 module _ (t : Link) (used : List ℕ) where
   pdu_bad : (x : List ℕ) (p : Pdu) (l : List ℕ) (f : PduFault) → IsComing t used (OnePdu x p) → IsComing t used (BadPdu l f) → ⊥
-  pdu_bad x p l f a b = let e = (same_shown t used (shown_pdu t used x p a) (shown_bad t used l f b)).answers in let none : ⊥ = cc in none
+  pdu_bad x p l f a b = let e = (same_shown Two t used (shown_pdu Two t used x p a) (shown_bad Two t used l f b)).answers in let none : ⊥ = cc in none
 
-  pdu_none : (x : List ℕ) (p : Pdu) → IsComing t used (OnePdu x p) → (left : List ℕ) × (t.received ≡ used ++ left) × IsPartial left → ⊥
-  pdu_none x p a b = let e = (same_shown t used (shown_pdu t used x p a) (shown_none t used b)).answers in let none : ⊥ = cc in none
+  pdu_none : (x : List ℕ) (p : Pdu) → IsComing t used (OnePdu x p) → (left : List ℕ) × (t.received ≡ used ++ left) × IsPartial Two left → ⊥
+  pdu_none x p a b = let e = (same_shown Two t used (shown_pdu Two t used x p a) (shown_none Two t used b)).answers in let none : ⊥ = cc in none
 
-  bad_none : (l : List ℕ) (f : PduFault) → IsComing t used (BadPdu l f) → (left : List ℕ) × (t.received ≡ used ++ left) × IsPartial left → ⊥
-  bad_none l f a b = let e = (same_shown t used (shown_bad t used l f a) (shown_none t used b)).answers in let none : ⊥ = cc in none
+  bad_none : (l : List ℕ) (f : PduFault) → IsComing t used (BadPdu l f) → (left : List ℕ) × (t.received ≡ used ++ left) × IsPartial Two left → ⊥
+  bad_none l f a b = let e = (same_shown Two t used (shown_bad Two t used l f a) (shown_none Two t used b)).answers in let none : ⊥ = cc in none
 
   same_coming : (a b : Coming) → IsComing t used a → IsComing t used b → a ≡ b
   same_coming (OnePdu x p) (OnePdu y q) a b =
-      let same = same_shown t used (shown_pdu t used x p a) (shown_pdu t used y q b) in
+      let same = same_shown Two t used (shown_pdu Two t used x p a) (shown_pdu Two t used y q b) in
       let pdus : p ≡ q = (let e : Ok (Some p) ≡ Ok (Some q) = same.answers in cc) in
       let bytes = append_cancel_right x y a.1.0 (same.lefts ∙ ap (λ (l : List ℕ). y ++ l) (sym same.rests)) in
       λ i. OnePdu (bytes i) (pdus i)
@@ -42,7 +43,7 @@ module _ (t : Link) (used : List ℕ) where
   same_coming (OnePdu x p) CallFailed a b = absurd (pdu_none x p a b.0)
   same_coming (BadPdu l f) (OnePdu y q) a b = absurd (pdu_bad y q l f b a)
   same_coming (BadPdu l f) (BadPdu k h) a b =
-      let same = same_shown t used (shown_bad t used l f a) (shown_bad t used k h b) in
+      let same = same_shown Two t used (shown_bad Two t used l f a) (shown_bad Two t used k h b) in
       let faults : f ≡ h = (let e = same.answers in cc) in
       λ i. BadPdu (same.lefts i) (faults i)
   same_coming (BadPdu l f) NoMore a b = absurd (bad_none l f a b.0)

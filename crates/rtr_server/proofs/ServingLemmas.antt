@@ -8,6 +8,7 @@ use Rattle.std.specs.Prelude.{IfOk, OnErr}
 use Rattle.std.specs.Option.{option_map}
 use Rattle.av_base.specs.Connections.{Agrees, IsUsable, Link, LinkLater, ToldLater, closes}
 use Rattle.av_base.specs.declared.standing.Standing.{Standing}
+use Rattle.rtr_pdu.specs.declared.version.Version.TheVariants.{Two}
 use Rattle.rtr_pdu.specs.declared.pdu.Pdu.{Pdu}
 use Rattle.rtr_pdu.specs.Pdus.{IsFrame}
 use Rattle.rtr_pdu.specs.Units.{IsPartial, IsRefusedNow, IsReportFor, code_on_refusal}
@@ -38,14 +39,14 @@ closes_now p q keeps closed is now = Ever-closed closed (Now-change (λ t. recor
 
 module _ (cache : Versions) (old : Serving) (count : ℕ) where
   -- the bytes came to their end, or a receive failed
-  pub over_ended : {wire new : Option (List Link)} {link : ℕ} (held : List ℕ) → IsPartial held → Now wire link (λ t. Has (old.used ++ held) old.sent t × CameToEnd t) → new ≡ option_map (closes link) wire
+  pub over_ended : {wire new : Option (List Link)} {link : ℕ} (held : List ℕ) → IsPartial Two held → Now wire link (λ t. Has (old.used ++ held) old.sent t × CameToEnd t) → new ≡ option_map (closes link) wire
       → Ever new link (λ t. ServesNext t cache old (Serves t cache count) (record { answers = old.answers; refused = None; end = None }))
   over_ended held partial now closed =
       Ever-map {p = λ t. (t.received ≡ old.used ++ held) × (t.sent ≡ old.sent) × CameToEnd t × IsClosed t} {q = λ t. ServesNext t cache old (Serves t cache count) (record { answers = old.answers; refused = None; end = None })}
       (λ t h. record { coming = NoMore; comes = ((held, h.0, partial), h.2); does = record { gave = h.1; closed = h.3; unbroken = h.2.0; same = refl } })
       (closes_now (λ t. Has (old.used ++ held) old.sent t × CameToEnd t) (λ t. (t.received ≡ old.used ++ held) × (t.sent ≡ old.sent) × CameToEnd t × IsClosed t) (λ t h. (h.0.got, h.0.gave, h.1, refl)) (λ t h. h.3) closed now)
 
-  pub over_failed : {wire new : Option (List Link)} {link : ℕ} (held : List ℕ) → IsPartial held → Now wire link (λ t. Has (old.used ++ held) old.sent t × BrokeByReceive t) → new ≡ option_map (closes link) wire
+  pub over_failed : {wire new : Option (List Link)} {link : ℕ} (held : List ℕ) → IsPartial Two held → Now wire link (λ t. Has (old.used ++ held) old.sent t × BrokeByReceive t) → new ≡ option_map (closes link) wire
       → Ever new link (λ t. ServesNext t cache old (Serves t cache count) (record { answers = old.answers; refused = None; end = Some Lost }))
   over_failed held partial now closed =
       Ever-map {p = λ t. (t.received ≡ old.used ++ held) × (t.sent ≡ old.sent) × BrokeByReceive t × IsClosed t} {q = λ t. ServesNext t cache old (Serves t cache count) (record { answers = old.answers; refused = None; end = Some Lost })}
@@ -53,7 +54,7 @@ module _ (cache : Versions) (old : Serving) (count : ℕ) where
       (closes_now (λ t. Has (old.used ++ held) old.sent t × BrokeByReceive t) (λ t. (t.received ≡ old.used ++ held) × (t.sent ≡ old.sent) × BrokeByReceive t × IsClosed t) (λ t h. (h.0.got, h.0.gave, h.1, refl)) (λ t h. h.3) closed now)
 
   -- a reply with the turn Close was sent whole
-  pub over_closed : {wire new : Option (List Link)} {link : ℕ} (stands : List Standing) → Agrees wire stands → IsUsable stands link → (framer bytes reply : List ℕ) (pdu : Pdu) (turn : Turn) (answers : ℕ) (replies : Replies cache pdu reply turn) → turn ≡ Close → IsFrame bytes pdu → answers ≡ old.answers + answers_in replies.pdus
+  pub over_closed : {wire new : Option (List Link)} {link : ℕ} (stands : List Standing) → Agrees wire stands → IsUsable stands link → (framer bytes reply : List ℕ) (pdu : Pdu) (turn : Turn) (answers : ℕ) (replies : Replies cache pdu reply turn) → turn ≡ Close → IsFrame Two bytes pdu → answers ≡ old.answers + answers_in replies.pdus
       → Now wire link (Has (old.used ++ bytes ++ framer) (old.sent ++ reply)) → new ≡ option_map (closes link) wire → Ever new link (λ t. ServesNext t cache old (Serves t cache count) (record { answers = answers; refused = None; end = None }))
   over_closed stands agrees usable framer bytes reply pdu turn answers replies close frame counted now closed =
       Ever-map {p = λ t. (t.received ≡ old.used ++ bytes ++ framer) × (t.sent ≡ old.sent ++ reply) × (t.broken ≡ None) × IsClosed t} {q = λ t. ServesNext t cache old (Serves t cache count) (record { answers = answers; refused = None; end = None })}
@@ -75,7 +76,7 @@ module _ (cache : Versions) (old : Serving) (count : ℕ) where
       (λ t h. (h.0.got, h.0.gave, h.1, refl)) (λ t h. h.3) closed (Now-usable _ stands _ agrees usable now))
 
   -- the connection broke at a reply, and was closed
-  pub over_lost : {new : Option (List Link)} {link : ℕ} (framer bytes reply : List ℕ) (pdu : Pdu) (turn : Turn) (replies : Replies cache pdu reply turn) → IsFrame bytes pdu
+  pub over_lost : {new : Option (List Link)} {link : ℕ} (framer bytes reply : List ℕ) (pdu : Pdu) (turn : Turn) (replies : Replies cache pdu reply turn) → IsFrame Two bytes pdu
       → Now new link (λ t. (t.received ≡ old.used ++ bytes ++ framer) × LostAtSend t old.sent reply × IsClosed t) → Ever new link (λ t. ServesNext t cache old (Serves t cache count) (record { answers = old.answers; refused = None; end = Some Lost }))
   over_lost framer bytes reply pdu turn replies frame now =
       Ever-map {p = λ t. (t.received ≡ old.used ++ bytes ++ framer) × LostAtSend t old.sent reply × IsClosed t} {q = λ t. ServesNext t cache old (Serves t cache count) (record { answers = old.answers; refused = None; end = Some Lost })}
@@ -165,47 +166,47 @@ if_ok (Ok a) f p = f a p
 if_ok (Err e) f p = tt
 
 -- a whole reply, and then its turn
-pub more_goes_on : (wire : Option (List Link)) (link : ℕ) (cache : Versions) (old : Serving) (framer bytes reply : List ℕ) (pdu : Pdu) (turn : Turn) (answers : ℕ) (replies : Replies cache pdu reply turn) → turn ≡ More → IsFrame bytes pdu
+pub more_goes_on : (wire : Option (List Link)) (link : ℕ) (cache : Versions) (old : Serving) (framer bytes reply : List ℕ) (pdu : Pdu) (turn : Turn) (answers : ℕ) (replies : Replies cache pdu reply turn) → turn ≡ More → IsFrame Two bytes pdu
     → answers ≡ old.answers + answers_in replies.pdus → Now wire link (Has (old.used ++ bytes ++ framer) (old.sent ++ reply)) → GoesOn wire link cache old framer answers
 more_goes_on wire link cache old framer bytes reply pdu More answers replies is frame counted now = record { bytes = bytes; pdu = pdu; frame = frame; reply = reply; replies = replies; counted = counted; now = now }
 more_goes_on wire link cache old framer bytes reply pdu Close answers replies is frame counted now = let never : ⊥ = cc in absurd never
 
 -- what was asked for was a PDU
-pub asked_pdu : (wire : Option (List Link)) (link : ℕ) (used sent held : List ℕ) (pdu : Pdu) (asked : Asked) → asked ≡ Took pdu → Answers wire link used sent held asked → (bytes : List ℕ) × IsFrame bytes pdu × Now wire link (Has (used ++ bytes ++ held) sent)
-asked_pdu wire link used sent held pdu asked is answers = subst (λ (a : Asked). Answers wire link used sent held a) is answers
+pub asked_pdu : (wire : Option (List Link)) (link : ℕ) (used sent held : List ℕ) (pdu : Pdu) (asked : Asked) → asked ≡ Took pdu → Answers Two wire link used sent held asked → (bytes : List ℕ) × IsFrame Two bytes pdu × Now wire link (Has (used ++ bytes ++ held) sent)
+asked_pdu wire link used sent held pdu asked is answers = subst (λ (a : Asked). Answers Two wire link used sent held a) is answers
 
 pub pdu_stepped : (wire mid new : Option (List Link)) (link : ℕ) (cache : Versions) (framer held : List ℕ) (pdu : Pdu) (taken answers : ℕ) (asked : Asked) (step : Step) → asked ≡ Took pdu
-    → ((used sent : List ℕ) → Now wire link (Has (used ++ framer) sent) → Answers mid link used sent held asked)
-    → ((used sent bytes : List ℕ) (number : ℕ) → IsFrame bytes pdu → Now mid link (Has (used ++ bytes ++ held) sent) → SteppedAs new link cache (record { used = used; sent = sent; taken = number; answers = answers }) step)
+    → ((used sent : List ℕ) → Now wire link (Has (used ++ framer) sent) → Answers Two mid link used sent held asked)
+    → ((used sent bytes : List ℕ) (number : ℕ) → IsFrame Two bytes pdu → Now mid link (Has (used ++ bytes ++ held) sent) → SteppedAs new link cache (record { used = used; sent = sent; taken = number; answers = answers }) step)
     → (used sent : List ℕ) → Now wire link (Has (used ++ framer) sent) → SteppedAs new link cache (record { used = used; sent = sent; taken = taken; answers = answers }) step
 pdu_stepped wire mid new link cache framer held pdu taken answers asked step is ask does =
     λ used sent now. let got = asked_pdu mid link used sent held pdu asked is (ask used sent now) in does used sent got.0 taken got.1 got.2
 
 pub refused_stepped : {E : Type 0} (wire mid new : Option (List Link)) (link : ℕ) (cache : Versions) (framer held : List ℕ) (cause : Cause) (taken answers : ℕ) (asked : Asked) (r : Result Step E) → asked ≡ Refused cause
-    → ((used sent : List ℕ) → Now wire link (Has (used ++ framer) sent) → Answers mid link used sent held asked)
+    → ((used sent : List ℕ) → Now wire link (Has (used ++ framer) sent) → Answers Two mid link used sent held asked)
     → IfOk r (λ step. (other : Versions) (used sent : List ℕ) → Now mid link (Has (used ++ held) sent) → SteppedAs new link other (record { used = used; sent = sent; taken = taken; answers = answers }) step)
     → IfOk r (λ step. (used sent : List ℕ) → Now wire link (Has (used ++ framer) sent) → SteppedAs new link cache (record { used = used; sent = sent; taken = taken; answers = answers }) step)
 refused_stepped wire mid new link cache framer held cause taken answers asked r is ask done =
-    if_ok r (λ step does used sent now. does cache used sent (subst (λ (a : Asked). Answers mid link used sent held a) is (ask used sent now))) done
+    if_ok r (λ step does used sent now. does cache used sent (subst (λ (a : Asked). Answers Two mid link used sent held a) is (ask used sent now))) done
 
-pub asked_ended : (wire : Option (List Link)) (link : ℕ) (used sent held : List ℕ) (asked : Asked) → asked ≡ AskedEnd → Answers wire link used sent held asked → IsPartial held × Now wire link (λ t. Has (used ++ held) sent t × CameToEnd t)
-asked_ended wire link used sent held asked is answers = subst (λ (a : Asked). Answers wire link used sent held a) is answers
+pub asked_ended : (wire : Option (List Link)) (link : ℕ) (used sent held : List ℕ) (asked : Asked) → asked ≡ AskedEnd → Answers Two wire link used sent held asked → IsPartial Two held × Now wire link (λ t. Has (used ++ held) sent t × CameToEnd t)
+asked_ended wire link used sent held asked is answers = subst (λ (a : Asked). Answers Two wire link used sent held a) is answers
 
-pub asked_lost : (wire : Option (List Link)) (link : ℕ) (used sent held : List ℕ) (asked : Asked) → asked ≡ AskedLost → Answers wire link used sent held asked → IsPartial held × Now wire link (λ t. Has (used ++ held) sent t × BrokeByReceive t)
-asked_lost wire link used sent held asked is answers = subst (λ (a : Asked). Answers wire link used sent held a) is answers
+pub asked_lost : (wire : Option (List Link)) (link : ℕ) (used sent held : List ℕ) (asked : Asked) → asked ≡ AskedLost → Answers Two wire link used sent held asked → IsPartial Two held × Now wire link (λ t. Has (used ++ held) sent t × BrokeByReceive t)
+asked_lost wire link used sent held asked is answers = subst (λ (a : Asked). Answers Two wire link used sent held a) is answers
 
-pub refused_now : (held : List ℕ) (cause : Cause) (asked : Asked) → asked ≡ Refused cause → RefusesNow held asked → IsRefusedBy held cause
-refused_now held cause asked is refuses = let r = subst (λ (a : Asked). RefusesNow held a) is refuses in record { fault = r.0; refused = r.1; cause_is = r.2 }
+pub refused_now : (held : List ℕ) (cause : Cause) (asked : Asked) → asked ≡ Refused cause → RefusesNow Two held asked → IsRefusedBy held cause
+refused_now held cause asked is refuses = let r = subst (λ (a : Asked). RefusesNow Two held a) is refuses in record { fault = r.0; refused = r.1; cause_is = r.2 }
 
-pub refused_known : (held : List ℕ) (cause : Cause) → IsRefusedBy held cause → IsRefusedNow held
+pub refused_known : (held : List ℕ) (cause : Cause) → IsRefusedBy held cause → IsRefusedNow Two held
 refused_known held cause r = record { fault = r.fault; known = known_of r.fault cause r.cause_is; refused = r.refused }
 
 -- a refused PDU was reported, whole or not
-pub over_refused : (cache : Versions) (wire : Option (List Link)) (link : ℕ) (used sent held report : List ℕ) (code : Option ℕ) (cause : Cause) (taken answers : ℕ) (whole : Bool) (end : Option RouterEnd) → IsRefusedBy held cause → IsReportFor held code → report ≡ report_bytes code
+pub over_refused : (cache : Versions) (wire : Option (List Link)) (link : ℕ) (used sent held report : List ℕ) (code : Option ℕ) (cause : Cause) (taken answers : ℕ) (whole : Bool) (end : Option RouterEnd) → IsRefusedBy held cause → IsReportFor Two held code → report ≡ report_bytes Two code
     → Finishes wire link (used ++ held) sent report whole → end ≡ cond whole None (Some Lost) → (count : ℕ)
     → Ever wire link (λ t. ServesNext t cache (record { used = used; sent = sent; taken = taken; answers = answers }) (Serves t cache count) (record { answers = answers; refused = Some (record { number = taken + 1; cause = cause }); end = end }))
 over_refused cache wire link used sent held report code cause taken answers true end r for is done ends count =
-    let bytes : report ≡ report_bytes (code_on_refusal held r.fault) = is ∙ ap report_bytes (for r.fault (known_of r.fault cause r.cause_is) r.refused) in
+    let bytes : report ≡ report_bytes Two (code_on_refusal Two held r.fault) = is ∙ ap (report_bytes Two) (for r.fault (known_of r.fault cause r.cause_is) r.refused) in
     Ever-map {p = λ t. (t.received ≡ used ++ held) × (t.sent ≡ sent ++ report) × IsClosed t × (t.broken ≡ None)}
     (λ t h. record {
       coming = BadPdu held r.fault;
@@ -214,7 +215,7 @@ over_refused cache wire link used sent held report code cause taken answers true
     })
     (Ever-closed (λ t h. h.2) done)
 over_refused cache wire link used sent held report code cause taken answers false end r for is done ends count =
-    let bytes : report ≡ report_bytes (code_on_refusal held r.fault) = is ∙ ap report_bytes (for r.fault (known_of r.fault cause r.cause_is) r.refused) in
+    let bytes : report ≡ report_bytes Two (code_on_refusal Two held r.fault) = is ∙ ap (report_bytes Two) (for r.fault (known_of r.fault cause r.cause_is) r.refused) in
     Ever-map {p = λ t. (t.received ≡ used ++ held) × LostAtSend t sent report × IsClosed t}
     (λ t h. record {
       coming = BadPdu held r.fault;

@@ -2,6 +2,7 @@
 use Rattle.std.specs.Prelude.{◌≡◌, ◌≢◌, ℕ, zero, suc, ◌+◌, ◌⊎◌, List, [], ◌∷◌, ◌++◌}
 use Rattle.std.specs.declared.option.Option.TheVariants.{Some, None}
 use Rattle.av_base.specs.Connections.{Link}
+use Rattle.rtr_pdu.specs.declared.version.Version.TheVariants.{Two}
 use Rattle.rtr_pdu.specs.declared.pdu.Pdu.{Pdu}
 use Rattle.rtr_pdu.specs.declared.pdu.Pdu.TheVariants.{EndOfData}
 use Rattle.rtr_pdu.specs.declared.pdu.PduFault.{PduFault}
@@ -40,17 +41,17 @@ pub data Coming : Type 0 where
 
 -- what follows the PDUs taken, among the bytes received
 abbrev pub IsComing : Link → List ℕ → Coming → Type 0
-IsComing t used (OnePdu bytes pdu) = IsFrame bytes pdu × ((rest : List ℕ) × (t.received ≡ used ++ bytes ++ rest))
-IsComing t used (BadPdu left fault) = IsRefused left fault × (fault ≢ NoMemory) × (t.received ≡ used ++ left)
-IsComing t used NoMore = ((left : List ℕ) × (t.received ≡ used ++ left) × IsPartial left) × CameToEnd t
-IsComing t used CallFailed = ((left : List ℕ) × (t.received ≡ used ++ left) × IsPartial left) × BrokeByReceive t
+IsComing t used (OnePdu bytes pdu) = IsFrame Two bytes pdu × ((rest : List ℕ) × (t.received ≡ used ++ bytes ++ rest))
+IsComing t used (BadPdu left fault) = IsRefused Two left fault × (fault ≢ NoMemory) × (t.received ≡ used ++ left)
+IsComing t used NoMore = ((left : List ℕ) × (t.received ≡ used ++ left) × IsPartial Two left) × CameToEnd t
+IsComing t used CallFailed = ((left : List ℕ) × (t.received ≡ used ++ left) × IsPartial Two left) × BrokeByReceive t
 
 -- ---- one PDU
 
 -- how many answers a reply is: one where it has an End of Data
 abbrev pub answers_in : List Pdu → ℕ
 answers_in [] = 0
-answers_in (EndOfData session serial ∷ more) = 1 + answers_in more
+answers_in (EndOfData session serial timing ∷ more) = 1 + answers_in more
 answers_in (pdu ∷ more) = answers_in more
 
 abbrev pub after_reply : Serving → List ℕ → List ℕ → List Pdu → Serving
@@ -81,8 +82,8 @@ pub record RefusesPdu (t : Link) (old : Serving) (left : List ℕ) (fault : PduF
   pub refusal : Refusal
   pub number : refusal.number ≡ old.taken + 1
   pub cause : IsCauseOf fault refusal.cause
-  pub reports : Ends t (old.sent ++ report_bytes (code_on_refusal left fault)) (record { answers = old.answers; refused = Some refusal; end = None }) out
-      ⊎ (LostAtSend t old.sent (report_bytes (code_on_refusal left fault)) × IsClosed t × (out ≡ record { answers = old.answers; refused = Some refusal; end = Some Lost }))
+  pub reports : Ends t (old.sent ++ report_bytes Two (code_on_refusal Two left fault)) (record { answers = old.answers; refused = Some refusal; end = None }) out
+      ⊎ (LostAtSend t old.sent (report_bytes Two (code_on_refusal Two left fault)) × IsClosed t × (out ≡ record { answers = old.answers; refused = Some refusal; end = Some Lost }))
 
 -- behind the end of the bytes nothing is reported
 abbrev pub OnComing : Link → Versions → Serving → Coming → (Serving → Outcome → Type 0) → Outcome → Type 0
@@ -103,7 +104,7 @@ pub record ServesNext (t : Link) (cache : Versions) (old : Serving) (goes_on : S
 pub record ServesOne (t : Link) (cache : Versions) (old new : Serving) : Type 0 where
   pub bytes : List ℕ
   pub pdu : Pdu
-  pub frame : IsFrame bytes pdu
+  pub frame : IsFrame Two bytes pdu
   pub came : (rest : List ℕ) × (t.received ≡ old.used ++ bytes ++ rest)
   pub reply : List ℕ
   pub replies : Replies cache pdu reply More

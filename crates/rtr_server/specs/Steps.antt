@@ -5,6 +5,7 @@ use Rattle.std.specs.declared.option.Option.{Option}
 use Rattle.std.specs.declared.option.Option.TheVariants.{Some, None}
 use Rattle.av_base.specs.Connections.{Attempt, IsUsable, Link, Unaccepted}
 use Rattle.av_base.specs.declared.standing.Standing.{Standing}
+use Rattle.rtr_pdu.specs.declared.version.Version.TheVariants.{Two}
 use Rattle.rtr_pdu.specs.declared.pdu.Pdu.{Pdu}
 use Rattle.rtr_pdu.specs.declared.pdu.PduFault.{PduFault}
 use Rattle.rtr_pdu.specs.Pdus.{IsFrame}
@@ -33,7 +34,7 @@ serving_at count used sent = record { used = used; sent = sent; taken = count.ta
 pub record GoesOn (wire : Option (List Link)) (link : ℕ) (cache : Versions) (old : Serving) (framer : List ℕ) (answers : ℕ) : Type 0 where
   pub bytes : List ℕ
   pub pdu : Pdu
-  pub frame : IsFrame bytes pdu
+  pub frame : IsFrame Two bytes pdu
   pub reply : List ℕ
   pub replies : Replies cache pdu reply More
   pub counted : answers ≡ old.answers + answers_in replies.pdus
@@ -60,7 +61,7 @@ pub record SoFar (wire : Option (List Link)) (link : ℕ) (cache : Versions) (fr
 -- these bytes are refused for this cause
 pub record IsRefusedBy (held : List ℕ) (cause : Cause) : Type 0 where
   pub fault : PduFault
-  pub refused : IsRefused held fault
+  pub refused : IsRefused Two held fault
   pub cause_is : IsCauseOf fault cause
 
 -- there was no memory: some first PDUs were answered whole, and nothing more was sent

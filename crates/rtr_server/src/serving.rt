@@ -2,6 +2,7 @@
 ghost use Rattle.std.specs.Prelude.{◌≡◌, ℕ, ◌+◌, ◌<◌, ◌≤◌, ◌++◌, [], List, None, Some, if◌then◌else◌, IfOk, OnErr};
 ghost use Rattle.av_base.specs.Connections.{IsUsable};
 ghost use Rattle.rtr_pdu.specs.Pdus.{IsFrame};
+ghost use Rattle.rtr_pdu.specs.declared.version.Version.TheVariants.{Two};
 ghost use Rattle.rtr_pdu.specs.declared.pdu.Pdu.{Pdu as PduOf};
 ghost use Rattle.rtr_cache.specs.Cache.{Versions};
 ghost use Rattle.rtr_cache.specs.Served.{Replies};
@@ -18,7 +19,7 @@ use av_base::{Links, NoMemory};
 use connection_calls::{Asked, finish, next_pdu, send_or_close, spell_report};
 use report_text::Cause;
 use rtr_cache::{Cache, Turn};
-use rtr_pdu::{Framer, Pdu};
+use rtr_pdu::{Framer, Pdu, Version};
 use std::alloc::Global;
 
 // How many PDUs are taken from one router.
@@ -104,7 +105,7 @@ fn serve_pdu<K: Links>(
     ensures broke { BreaksByFault (K.faults links.old) (K.faults links.new)
         (K.standings links.old) (K.standings links.new) }
 {
-    let (held, asked) = next_pdu(framer, link, links)?;
+    let (held, asked) = next_pdu(Version::Two, framer, link, links)?;
     match asked {
         Asked::Pdu(pdu) => {
             let (turn, reply) = reply_of(alloc, cache, &pdu)?;
@@ -134,7 +135,7 @@ fn answer<K: Links>(
     requires usable { IsUsable (K.standings links.old) link }
     requires few { answers < 65536 }
     ensures steps { (cache : Versions) (used sent bytes : List ℕ) (pdu : PduOf) (taken : ℕ)
-        (replies : Replies cache pdu reply.now.items turn) → IsFrame bytes pdu
+        (replies : Replies cache pdu reply.now.items turn) → IsFrame Two bytes pdu
         → Now (K.wire links.old) link (Has (used ++ bytes ++ framer) sent)
         → SteppedAs (K.wire links.new) link cache
         (record { used = used; sent = sent; taken = taken; answers = answers }) result }
@@ -156,7 +157,7 @@ fn answer<K: Links>(
 fn after_reply<K: Links>(turn: Turn, framer: Framer, answers: u64, link: u32, links: &mut K) -> Step
     requires usable { IsUsable (K.standings links.old) link }
     ensures steps { (cache : Versions) (used sent bytes reply : List ℕ) (pdu : PduOf) (taken before : ℕ)
-        (replies : Replies cache pdu reply turn) → IsFrame bytes pdu
+        (replies : Replies cache pdu reply turn) → IsFrame Two bytes pdu
         → answers ≡ before + answers_of replies.pdus
         → Now (K.wire links.old) link (Has (used ++ bytes ++ framer) (sent ++ reply))
         → SteppedAs (K.wire links.new) link cache
@@ -223,7 +224,7 @@ fn refuse<K: Links>(
     ensures broke { BreaksByFault (K.faults links.old) (K.faults links.new)
         (K.standings links.old) (K.standings links.new) }
 {
-    let report = spell_report(alloc, held.report())?;
+    let report = spell_report(alloc, Version::Two, held.report(Version::Two))?;
     let whole = finish(report.as_slice(), link, links);
     Ok(Step::Over(Outcome {
         answers: count.answers,

@@ -10,6 +10,7 @@ use Rattle.std.specs.FinMap as map
 use Rattle.std.proofs.lemmas.Bool.Decides.{nat_tests}
 use Rattle.path_model.specs.Rows.{RowMap, PatchMap}
 use Rattle.origin_model.specs.Vrp.{Payload}
+use Rattle.rtr_pdu.specs.declared.timing.Timing.{Timing}
 use Rattle.rtr_pdu.specs.declared.pdu.Pdu.{Pdu}
 use Rattle.rtr_pdu.specs.declared.pdu.Pdu.TheVariants.{Notify, SerialQuery, ResetQuery, CacheResponse, Prefix, Passed, EndOfData, CacheReset, ErrorReport, Aspa}
 use Rattle.rtr_session.specs.declared.act.Act.{Act}
@@ -144,7 +145,7 @@ step old next (Prefix true v) at h = at_phase (λ p. OnPrefixAnnounce p v old No
     (λ g. more_payloads old next (with_payload old v).payloads (with_payload old v).payload_changes g.new_is) (λ g. more_payloads old next (with_payload old v).payloads (with_payload old v).payload_changes g.new_is)
 step old next (Prefix false v) at h = at_phase (λ p. OnPrefixWithdraw p v old Nothing next) (Does old next (λ q. ⊥)) old.phase at h (prefix_withdrawn old next v) (prefix_withdrawn old next v)
 step old next (Passed kind) at h = at_phase (λ p. OnPassed p old Nothing next) (Does old next (λ q. ⊥)) old.phase at h (λ g. unnamed old next g.new_is) (λ g. unnamed old next g.new_is)
-step old next (EndOfData session serial) at h = at_phase (λ p. OnEnd p session serial old Nothing next) (Does old next (λ q. ⊥)) old.phase at h
+step old next (EndOfData session serial timing) at h = at_phase (λ p. OnEnd p session serial old Nothing next) (Does old next (λ q. ⊥)) old.phase at h
     (λ g. elim g [ inl is ↦ absurd (nothing_else is.1 (λ e. let never : ⊥ = cc in never)) | inr not ↦ not_nothing _ not.1 ])
     (λ g. elim g [ inl is ↦ absurd (nothing_else is.1 (λ e. let never : ⊥ = cc in never)) | inr not ↦ not_nothing _ not.1 ])
 step old next CacheReset at h = at_phase (λ p. OnReset p old Nothing next) (Does old next (λ q. ⊥)) old.phase at h (λ g. not_nothing _ g) (λ g. not_nothing _ g)
@@ -196,7 +197,7 @@ gives old next ResetQuery q at h names = absurd names
 gives old next (CacheResponse session) q at h names = absurd names
 gives old next (Prefix announce v) q at h names = absurd names
 gives old next (Passed kind) q at h names = absurd names
-gives old next (EndOfData session serial) q at h names = absurd names
+gives old next (EndOfData session serial timing) q at h names = absurd names
 gives old next CacheReset q at h names = absurd names
 gives old next (ErrorReport code) q at h names = absurd names
 gives old next (Aspa true k providers) q at h names = at_phase (λ p. OnAnnounce p k providers old Nothing next) (GivesRow (Aspa true k providers) (map.get next.rows q)) old.phase at h (gives_announced old next k q providers names) (gives_announced old next k q providers names)
@@ -248,9 +249,9 @@ pub record Ended {A B : Type 0} (given held : A) (given_payloads held_payloads :
   pub kept_rows : done.rows ≡ whole.rows
   pub kept_payloads : done.payloads ≡ whole.payloads
 
-pub ended_changes : (whole done : State) (session serial : ℕ) (patch : PatchMap) (changes : List (Payload × Bool)) → whole.phase ≡ ReceivingChanges → Client whole (EndOfData session serial) (Apply (Part patch changes)) done
+pub ended_changes : (whole done : State) (session serial : ℕ) (timing : Timing) (patch : PatchMap) (changes : List (Payload × Bool)) → whole.phase ≡ ReceivingChanges → Client whole (EndOfData session serial timing) (Apply (Part patch changes)) done
     → Ended patch whole.changes changes whole.payload_changes whole done
-ended_changes whole done session serial patch changes phase h = elim (subst (λ (p : Phase). OnEnd p session serial whole (Apply (Part patch changes)) done) phase h) [
+ended_changes whole done session serial timing patch changes phase h = elim (subst (λ (p : Phase). OnEnd p session serial whole (Apply (Part patch changes)) done) phase h) [
   | inl is ↦ let same = part_same is.1.act_is in record {
     handed = same.first;
     payloads = same.payloads;
@@ -272,7 +273,7 @@ unfolding IsReceiving
 patch_named asked done pdus patch changes a =
     let begun = begun_changes asked a.begun a.session a.phase a.begins in
     let does = received pdus a.begun a.whole (inr begun.phase) a.comes in
-    let ended = ended_changes a.whole done a.last_session a.serial patch changes (does.phase ∙ begun.phase) a.ends in
+    let ended = ended_changes a.whole done a.last_session a.serial a.timing patch changes (does.phase ∙ begun.phase) a.ends in
     let start : Tracks asked.rows a.begun = (λ q. ap (λ (m : RowMap). map.get m q) begun.rows ∙ ap (λ (o : Option (Option (List ℕ))). patched o (map.get asked.rows q)) (sym (no_change a.begun q begun.changes))) in
     let now : (q : ℕ) → map.get done.rows q ≡ patched (map.get patch q) (map.get asked.rows q) = (λ q.
     ap (λ (m : RowMap). map.get m q) ended.kept_rows ∙ does.tracks asked.rows start q ∙ ap (λ (m : PatchMap). patched (map.get m q) (map.get asked.rows q)) (sym ended.handed)) in
@@ -295,9 +296,9 @@ begun_whole asked begun session phase h =
     let goes = subst (λ (p : Phase). OnResponse p session asked Nothing begun) phase h in
     record { phase = ap (λ (s : State). s.phase) goes.new_is; rows = ap (λ (s : State). s.rows) goes.new_is; payloads = ap (λ (s : State). s.payloads) goes.new_is }
 
-pub ended_whole : (whole done : State) (session serial : ℕ) (rows : RowMap) (payloads : List Payload) → whole.phase ≡ ReceivingWhole → Client whole (EndOfData session serial) (Apply (Whole rows payloads)) done
+pub ended_whole : (whole done : State) (session serial : ℕ) (timing : Timing) (rows : RowMap) (payloads : List Payload) → whole.phase ≡ ReceivingWhole → Client whole (EndOfData session serial timing) (Apply (Whole rows payloads)) done
     → Ended rows whole.rows payloads whole.payloads whole done
-ended_whole whole done session serial rows payloads phase h = elim (subst (λ (p : Phase). OnEnd p session serial whole (Apply (Whole rows payloads)) done) phase h) [
+ended_whole whole done session serial timing rows payloads phase h = elim (subst (λ (p : Phase). OnEnd p session serial whole (Apply (Whole rows payloads)) done) phase h) [
   | inl is ↦ let same = whole_same is.1.act_is in record {
     handed = same.first;
     payloads = same.payloads;
@@ -313,7 +314,7 @@ whole_announced asked done pdus rows payloads a =
     let begun = begun_whole asked a.begun a.session a.phase a.begins in
     let at : IsReceiving a.begun.phase = inl begun.phase in
     let does = received pdus a.begun a.whole at a.comes in
-    let ended = ended_whole a.whole done a.last_session a.serial rows payloads (does.phase ∙ begun.phase) a.ends in
+    let ended = ended_whole a.whole done a.last_session a.serial a.timing rows payloads (does.phase ∙ begun.phase) a.ends in
     record {
       kept_is = ended.kept_rows ∙ sym ended.handed;
       each = λ q last is. subst (λ (m : RowMap). GivesRow last (map.get m q)) (sym ended.handed)

@@ -14,13 +14,14 @@ use Rattle.rtr_pdu.specs.declared.pdu.Pdu.TheVariants.{Notify, SerialQuery, Rese
 use Rattle.rtr_session.specs.declared.act.Act.{Act}
 use Rattle.rtr_session.specs.declared.act.Act.TheVariants.{Nothing, Send, Apply, End}
 use Rattle.rtr_session.specs.declared.act.Delta.TheVariants.{Whole, Part}
-use Rattle.rtr_session.specs.declared.act.Ending.TheVariants.{Unexpected, UnknownWithdrawal, SessionChanged, PeerReported}
+use Rattle.rtr_session.specs.declared.act.Ending.TheVariants.{Unexpected, UnknownWithdrawal, SessionChanged, PeerReported, AnnouncedTwice}
 use Rattle.rtr_session.specs.declared.act.Phase.{Phase}
 use Rattle.rtr_session.specs.declared.act.Phase.TheVariants.{Fresh, AskedWhole, AskedChanges, ReceivingWhole, ReceivingChanges, Ready, Over}
 use Rattle.rtr_session.specs.declared.act.Query.{Query}
 use Rattle.rtr_session.specs.declared.act.Query.TheVariants.{Reset, Serial}
 use Rattle.rtr_session.specs.State.{State}
-use Rattle.rtr_session.specs.Client.{Announces, Asks, BySession, Client, Goes, OnAnnounce, OnEnd, OnNotify, OnPassed, OnPrefixAnnounce, OnPrefixWithdraw, OnReset, OnResponse, OnWithdraw, Withdraws, WithdrawsPrefix, ended, named, with_payload, without_payload, without_zero}
+use Rattle.rtr_session.specs.Client.{Announces, Asks, BySession, Client, Goes, IsTwice, Takes, is_receiving, OnAnnounce, OnEnd, OnNotify, OnPassed, OnPrefixAnnounce, OnPrefixWithdraw, OnReset, OnResponse, OnWithdraw, Withdraws, WithdrawsPrefix, ended, named, with_payload, without_payload, without_zero}
+use Rattle.path_model.proofs.Decide.{Decided, decided_both, decided_true}
 use Rattle.rtr_session.proofs.SetLemmas.{IsSetOf-unique, some_set}
 
 goes : (old : State) (does : Act) (to : State) → HasOnePair (λ act new. Goes old act new does to)
@@ -188,7 +189,7 @@ some_case old (CacheResponse session) = on_response old.phase session old
 some_case old (Prefix true v) = on_prefix_announce old.phase v old
 some_case old (Prefix false v) = on_prefix_withdraw old.phase v old
 some_case old (Passed kind) = on_passed old.phase old
-some_case old (EndOfData session serial) = on_end old.phase session serial old
+some_case old (EndOfData session serial timing) = on_end old.phase session serial old
 some_case old CacheReset = on_reset old.phase old
 some_case old (ErrorReport code) = goes old (End PeerReported) (record old { phase = Over })
 some_case old (Aspa true customer providers) = on_announce old.phase customer providers old
@@ -196,6 +197,38 @@ some_case old (Aspa false customer providers) = on_withdraw old.phase customer o
 
 pub one_case : (old : State) (pdu : Pdu) → HasOnePair (Client old pdu)
 one_case old pdu = some_case old pdu
+
+-- ---- strictly
+
+-- whether a PDU announces what is there
+decided_twice : (strict : Bool) (old : State) (pdu : Pdu) → Decided (IsTwice strict old pdu)
+decided_twice strict old (Notify session serial) = inr (λ no. no)
+decided_twice strict old (SerialQuery session serial) = inr (λ no. no)
+decided_twice strict old ResetQuery = inr (λ no. no)
+decided_twice strict old (CacheResponse session) = inr (λ no. no)
+decided_twice strict old (Prefix announce v) =
+    decided_both (decided_true strict) (decided_both (decided_true announce) (decided_both (decided_true (is_receiving old.phase)) (decided_true (has old.payloads v))))
+decided_twice strict old (Passed kind) = inr (λ no. no)
+decided_twice strict old (EndOfData session serial timing) = inr (λ no. no)
+decided_twice strict old CacheReset = inr (λ no. no)
+decided_twice strict old (ErrorReport code) = inr (λ no. no)
+decided_twice strict old (Aspa announce customer providers) = inr (λ no. no)
+
+pub one_taking : (strict : Bool) (old : State) (pdu : Pdu) → HasOnePair (Takes strict old pdu)
+one_taking strict old pdu = elim (decided_twice strict old pdu) [
+  | inl twice ↦ record {
+    one = End AnnouncedTwice;
+    its = record old { phase = Over };
+    is = inl (twice, record { act_is = refl; new_is = refl });
+    only = λ act new h. elim h [ inl is ↦ (is.1.act_is, is.1.new_is) | inr not ↦ absurd (not.0 twice) ];
+  }
+  | inr not ↦ let case = one_case old pdu in record {
+    one = case.one;
+    its = case.its;
+    is = inr (not, case.is);
+    only = λ act new h. elim h [ inl is ↦ absurd (not is.0) | inr taken ↦ case.only act new taken.1 ];
+  }
+]
 
 -- ---- asking
 

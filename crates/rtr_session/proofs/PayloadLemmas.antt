@@ -84,7 +84,7 @@ leaves old next (Prefix true v) at h = at_phase (λ p. OnPrefixAnnounce p v old 
 leaves old next (Prefix false v) at h = at_phase (λ p. OnPrefixWithdraw p v old Nothing next) (Leaves old next (Prefix false v)) old.phase at h (withdrawn old next v) (withdrawn old next v)
 leaves old next (Passed kind) at h = at_phase (λ p. OnPassed p old Nothing next) (Leaves old next (Passed kind)) old.phase at h
     (λ g. kept_by old next (Passed kind) g.new_is) (λ g. kept_by old next (Passed kind) g.new_is)
-leaves old next (EndOfData session serial) at h = at_phase (λ p. OnEnd p session serial old Nothing next) (Leaves old next (EndOfData session serial)) old.phase at h
+leaves old next (EndOfData session serial timing) at h = at_phase (λ p. OnEnd p session serial old Nothing next) (Leaves old next (EndOfData session serial timing)) old.phase at h
     (λ g. elim g [ inl is ↦ absurd (nothing_else is.1 (λ e. let never : ⊥ = cc in never)) | inr not ↦ not_nothing _ not.1 ])
     (λ g. elim g [ inl is ↦ absurd (nothing_else is.1 (λ e. let never : ⊥ = cc in never)) | inr not ↦ not_nothing _ not.1 ])
 leaves old next CacheReset at h = at_phase (λ p. OnReset p old Nothing next) (Leaves old next CacheReset) old.phase at h (λ g. not_nothing _ g) (λ g. not_nothing _ g)
@@ -177,7 +177,7 @@ whole_payloads asked done pdus rows payloads a =
     let begun = begun_whole asked a.begun a.session a.phase a.begins in
     let at : IsReceiving a.begun.phase = inl begun.phase in
     let does = received pdus a.begun a.whole at a.comes in
-    let ended = ended_whole a.whole done a.last_session a.serial rows payloads (does.phase ∙ begun.phase) a.ends in
+    let ended = ended_whole a.whole done a.last_session a.serial a.timing rows payloads (does.phase ∙ begun.phase) a.ends in
     record {
       kept_is = ended.kept_payloads ∙ sym ended.payloads;
       are = payloads_of [] a.begun a.whole pdus payloads at begun.payloads none_sorted a.comes ended.payloads;
@@ -190,7 +190,7 @@ changed_payloads asked done pdus patch changes sorted a =
     let begun = begun_changes asked a.begun a.session a.phase a.begins in
     let at : IsReceiving a.begun.phase = inr begun.phase in
     let does = received pdus a.begun a.whole at a.comes in
-    let ended = ended_changes a.whole done a.last_session a.serial patch changes (does.phase ∙ begun.phase) a.ends in
+    let ended = ended_changes a.whole done a.last_session a.serial a.timing patch changes (does.phase ∙ begun.phase) a.ends in
     payloads_of asked.payloads a.begun a.whole pdus done.payloads at begun.payloads sorted a.comes ended.kept_payloads
 
 pub payloads_announced : PayloadsAreWhatWasAnnounced
@@ -202,5 +202,5 @@ payload_changes_named asked done pdus patch changes sorted a =
     let begun = begun_changes asked a.begun a.session a.phase a.begins in
     let at : IsReceiving a.begun.phase = inr begun.phase in
     let does = received pdus a.begun a.whole at a.comes in
-    let ended = ended_changes a.whole done a.last_session a.serial patch changes (does.phase ∙ begun.phase) a.ends in
+    let ended = ended_changes a.whole done a.last_session a.serial a.timing patch changes (does.phase ∙ begun.phase) a.ends in
     payload_changes_of asked.payloads a.begun a.whole pdus done.payloads at begun.payloads sorted a.comes ended.kept_payloads changes ended.payloads begun.payload_changes

@@ -17,7 +17,7 @@ use Rattle.rtr_session.specs.declared.act.Query.{Query}
 use Rattle.rtr_session.specs.declared.act.Query.TheVariants.{Reset, Serial}
 use Rattle.rtr_session.specs.declared.act.Delta.TheVariants.{Whole, Part}
 use Rattle.rtr_session.specs.declared.act.Ending.{Ending}
-use Rattle.rtr_session.specs.declared.act.Ending.TheVariants.{Unexpected, UnknownWithdrawal, SessionChanged, PeerReported}
+use Rattle.rtr_session.specs.declared.act.Ending.TheVariants.{Unexpected, UnknownWithdrawal, SessionChanged, PeerReported, AnnouncedTwice}
 use Rattle.rtr_session.specs.declared.act.Act.{Act}
 use Rattle.rtr_session.specs.declared.act.Act.TheVariants.{Nothing, Send, Apply, End}
 use Rattle.rtr_session.specs.State.{State}
@@ -28,6 +28,7 @@ code_on_end Unexpected = Some 0
 code_on_end UnknownWithdrawal = Some 6
 code_on_end SessionChanged = Some 0
 code_on_end PeerReported = None
+code_on_end AnnouncedTwice = Some 7
 
 -- the providers that are written, less 0
 abbrev pub without_zero : List ℕ → List ℕ
@@ -156,10 +157,34 @@ Client old ResetQuery act new = Ends Unexpected old act new
 Client old (CacheResponse session) act new = OnResponse old.phase session old act new
 Client old (Prefix announce v) act new = OnPrefix old.phase announce v old act new
 Client old (Passed kind) act new = OnPassed old.phase old act new
-Client old (EndOfData session serial) act new = OnEnd old.phase session serial old act new
+Client old (EndOfData session serial timing) act new = OnEnd old.phase session serial old act new
 Client old CacheReset act new = OnReset old.phase old act new
 Client old (ErrorReport code) act new = Ends PeerReported old act new
 Client old (Aspa announce customer providers) act new = OnAspa old.phase announce customer providers old act new
+
+-- ---- a session that takes no payload twice
+
+-- an answer is received
+abbrev pub is_receiving : Phase → Bool
+is_receiving Fresh = false
+is_receiving AskedWhole = false
+is_receiving AskedChanges = false
+is_receiving ReceivingWhole = true
+is_receiving ReceivingChanges = true
+is_receiving Ready = false
+is_receiving Over = false
+
+-- the PDU announces a payload that is pending already, where the session is to be strict (RFC 8210, section 5.6)
+abbrev pub IsTwice : Bool → State → Pdu → Type 0
+IsTwice strict old (Prefix announce v) =
+    (strict ≡ true) × (announce ≡ true) × (is_receiving old.phase ≡ true) × (has old.payloads v ≡ true)
+IsTwice strict old pdu = ⊥
+
+-- such a PDU ends the session; any other is taken as the table says
+abbrev pub Takes : Bool → State → Pdu → Act → State → Type 0
+Takes strict old pdu act new =
+    (IsTwice strict old pdu × Ends AnnouncedTwice old act new)
+    ⊎ ((IsTwice strict old pdu → ⊥) × Client old pdu act new)
 
 -- ---- asking
 

@@ -10,19 +10,20 @@ use Rattle.path_model.specs.Sets.{IsSetOf}
 use Rattle.origin_model.specs.Vrp.{Payload, payload_cmp}
 use Rattle.origin_model.specs.VrpChanges.{Patches, said}
 use Rattle.origin_model.specs.VrpSet.{has}
+use Rattle.rtr_pdu.specs.declared.timing.Timing.{Timing}
 use Rattle.rtr_pdu.specs.declared.pdu.Pdu.{Pdu}
 use Rattle.rtr_pdu.specs.declared.pdu.Pdu.TheVariants.{CacheResponse, Prefix, EndOfData, Aspa}
 use Rattle.rtr_session.specs.declared.act.Act.TheVariants.{Nothing, Apply}
 use Rattle.rtr_session.specs.declared.act.Delta.TheVariants.{Whole, Part}
 use Rattle.rtr_session.specs.declared.act.Phase.TheVariants.{AskedWhole, AskedChanges}
 use Rattle.rtr_session.specs.State.{State}
-use Rattle.rtr_session.specs.Client.{Client, Asks, without_zero}
+use Rattle.rtr_session.specs.Client.{Client, Takes, Asks, without_zero}
 
 -- ---- one case
 
--- each PDU has one case in each state: one act, and one state behind it
+-- each PDU has one case in each state, be the session strict or not: one act, and one state behind it
 abbrev pub EachPduHasOneCase : Type 0
-EachPduHasOneCase = (old : State) (pdu : Pdu) → HasOnePair (Client old pdu)
+EachPduHasOneCase = (strict : Bool) (old : State) (pdu : Pdu) → HasOnePair (Takes strict old pdu)
 
 -- each state has one query or none, and one state behind it
 abbrev pub EachStateHasOneQuery : Type 0
@@ -65,7 +66,8 @@ pub record AnswersChanges (asked : State) (pdus : List Pdu) (patch : PatchMap) (
   pub comes : Receives begun pdus whole
   pub last_session : ℕ
   pub serial : ℕ
-  pub ends : Client whole (EndOfData last_session serial) (Apply (Part patch changes)) done
+  pub timing : Timing
+  pub ends : Client whole (EndOfData last_session serial timing) (Apply (Part patch changes)) done
 
 abbrev pub PatchIsWhatWasNamed : Type 0
 PatchIsWhatWasNamed = (asked done : State) (pdus : List Pdu) (patch : PatchMap) (changes : List (Payload × Bool)) → AnswersChanges asked pdus patch changes done
@@ -81,7 +83,8 @@ pub record AnswersWhole (asked : State) (pdus : List Pdu) (rows : RowMap) (paylo
   pub comes : Receives begun pdus whole
   pub last_session : ℕ
   pub serial : ℕ
-  pub ends : Client whole (EndOfData last_session serial) (Apply (Whole rows payloads)) done
+  pub timing : Timing
+  pub ends : Client whole (EndOfData last_session serial timing) (Apply (Whole rows payloads)) done
 
 -- the last of these PDUs that names the customer
 pub record IsLast (pdus : List Pdu) (customer : ℕ) (last : Pdu) : Type 0 where

@@ -55,6 +55,8 @@ pub enum Ending {
     SessionChanged,
     /// Cause 22: the cache sent an Error Report.
     PeerReported,
+    /// Cause 48: a payload is announced that is there already, and the session doesn't take that.
+    AnnouncedTwice,
 }
 
 /// What is to be done on a PDU.
@@ -77,6 +79,7 @@ impl Ending {
             Ending::UnknownWithdrawal => Some(6),
             Ending::SessionChanged => Some(0),
             Ending::PeerReported => None,
+            Ending::AnnouncedTwice => Some(7),
         }
     }
 }
@@ -88,6 +91,7 @@ impl fmt::Display for Ending {
             Ending::UnknownWithdrawal => "what isn't there is withdrawn",
             Ending::SessionChanged => "the cache's session changed",
             Ending::PeerReported => "the cache reported an error",
+            Ending::AnnouncedTwice => "what is there is announced again",
         })
     }
 }

@@ -1,7 +1,7 @@
 //! Laws of the client: the contract of each function is the law, and its body does nothing.
 ghost use Rattle.rtr_session.specs.Laws.{EachPduHasOneCase, EachStateHasOneQuery, PatchIsWhatWasNamed, PayloadChangesAreWhatWasNamed, PayloadsAreWhatWasAnnounced, WholeAnswerIsWhatWasAnnounced};
 
-/// Every PDU has exactly one case in every state: one act, and one state behind it.
+/// Every PDU has exactly one case in every state, be the session strict or not: one act, and one state behind it.
 pub fn each_pdu_has_one_case()
     ensures { EachPduHasOneCase }
 {}

@@ -3,7 +3,7 @@ ghost use Rattle.std.specs.Prelude.{◌≡◌, ◌≢◌, ◌↔◌, IfOk, IsSom
 ghost use Rattle.std.specs.FinMap as map;
 ghost use Rattle.rtr_session.specs.State.{fresh};
 ghost use Rattle.rtr_session.specs.Laws.{AreInOrder};
-ghost use Rattle.rtr_session.specs.Client.{Announces, Asks, Client, Ends, Goes, OnAnnounce, OnEnd, OnNotify, OnPassed, OnPrefixAnnounce, OnPrefixWithdraw, OnReset, OnResponse, OnWithdraw, Withdraws, WithdrawsPrefix, with_payload};
+ghost use Rattle.rtr_session.specs.Client.{Announces, Asks, Client, Ends, Goes, OnAnnounce, OnEnd, OnNotify, OnPassed, OnPrefixAnnounce, OnPrefixWithdraw, OnReset, OnResponse, OnWithdraw, IsTwice, Takes, Withdraws, WithdrawsPrefix, is_receiving, with_payload};
 
 use crate::act::{Act, Delta, Ending, Phase, Query};
 use crate::providers::without_zero;
@@ -110,7 +110,11 @@ impl Session {
                 }
             }
             Pdu::Passed { .. } => Ok(self.on_passed()),
-            Pdu::EndOfData { session, serial } => self.on_end(session, serial),
+            Pdu::EndOfData {
+                session,
+                serial,
+                ..
+            } => self.on_end(session, serial),
             Pdu::CacheReset => Ok(self.on_reset()),
             Pdu::ErrorReport { .. } => Ok(self.end(Ending::PeerReported)),
             Pdu::Aspa {
@@ -124,6 +128,40 @@ impl Session {
                     self.on_withdraw(customer)
                 }
             }
+        }
+    }
+
+    /// The same of a session that is strict, or isn't: a strict one ends where a payload is announced that is pending already (RFC 8210,
+    /// section 5.6).
+    pub fn take(self, strict: bool, pdu: Pdu) -> Result<(Session, Act), NoMemory>
+        requires { self.phase ≢ Phase.Over }
+        ensures { IfOk result (λ r. Takes strict self pdu r.1 r.0) }
+    {
+        if self.is_twice(strict, &pdu) {
+            return Ok(self.end(Ending::AnnouncedTwice));
+        }
+        self.on(pdu)
+    }
+
+    // Whether the PDU announces a payload that is pending already, and the session is to be strict.
+    fn is_twice(&self, strict: bool, pdu: &Pdu) -> bool
+        ensures { IsTrue result ↔ IsTwice strict self.now pdu.now }
+    {
+        match pdu {
+            Pdu::Prefix { announce, vrp } => {
+                strict && *announce && self.is_receiving() && self.payloads.contains(vrp)
+            }
+            _ => false,
+        }
+    }
+
+    // Whether an answer is received.
+    fn is_receiving(&self) -> bool
+        ensures { result ≡ is_receiving self.now.phase }
+    {
+        match self.phase {
+            Phase::ReceivingWhole | Phase::ReceivingChanges => true,
+            _ => false,
         }
     }
 

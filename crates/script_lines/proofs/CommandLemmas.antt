@@ -9,8 +9,8 @@ use Rattle.av_text.proofs.WordLemmas.{length-words_of}
 use Rattle.script_lines.specs.declared.commands.Command.{Command}
 use Rattle.script_lines.specs.declared.commands.Command.TheVariants.{Aspa, Aspa64, Validated, Open, Bmp, Take, Until, Feed, Ask, Sync, Serve, Judge, Sent, Explain, Say}
 use Rattle.script_lines.specs.declared.commands.CommandName.{CommandName}
-use Rattle.script_lines.specs.declared.commands.CommandName.TheVariants.{Aspa as AspaName, Aspa64 as Aspa64Name, Validated as ValidatedName, Slurm as SlurmName, Filter as FilterName, Unfilter as UnfilterName, Assert as AssertName, Unassert as UnassertName, At as AtName, Role as RoleName, Open as OpenName, Bmp as BmpName, Take as TakeName, Until as UntilName, Feed as FeedName, Ask as AskName, Sync as SyncName, Serve as ServeName, Judge as JudgeName, Clear as ClearName, Changes as ChangesName, Why as WhyName, Details as DetailsName, Say as SayName, Report as ReportName, Origins as OriginsName, Leaks as LeaksName, Suspects as SuspectsName, Peers as PeersName, Sent as SentName, Explain as ExplainName, Attests as AttestsName, Neighbours as NeighboursName, Routes as RoutesName, Silent as SilentName, Summary as SummaryName}
-use Rattle.script_lines.specs.Kinds.{WordKind, NAME, TEXT, ROLE, VIEW, WRITER, VERDICT, ADDRESS, PREFIX, NUMBER, WHOM, ValueOf, Spells}
+use Rattle.script_lines.specs.declared.commands.CommandName.TheVariants.{Aspa as AspaName, Aspa64 as Aspa64Name, Validated as ValidatedName, Slurm as SlurmName, Filter as FilterName, Unfilter as UnfilterName, Assert as AssertName, Unassert as UnassertName, At as AtName, Role as RoleName, Open as OpenName, Bmp as BmpName, Take as TakeName, Until as UntilName, Feed as FeedName, Ask as AskName, Sync as SyncName, Serve as ServeName, Timing as TimingName, Judge as JudgeName, Clear as ClearName, Changes as ChangesName, Why as WhyName, Details as DetailsName, Say as SayName, Report as ReportName, Origins as OriginsName, Leaks as LeaksName, Suspects as SuspectsName, Peers as PeersName, Sent as SentName, Explain as ExplainName, Attests as AttestsName, Neighbours as NeighboursName, Routes as RoutesName, Silent as SilentName, Summary as SummaryName}
+use Rattle.script_lines.specs.Kinds.{WordKind, NAME, TEXT, ROLE, VIEW, VERSION, WRITER, VERDICT, ADDRESS, PREFIX, NUMBER, WHOM, ValueOf, Spells}
 use Rattle.script_lines.specs.Forms.{Form, end, ases, texts, optional, ◌then◌, ◌or◌, conditions, sentence, Builds, IsSpelled}
 use Rattle.conditions.specs.declared.asked.Conditions.{Conditions}
 use Rattle.script_lines.specs.Commands.{form_of, sets_role, made_by}
@@ -27,7 +27,7 @@ IsBounded words (Open name file writer) = IsName name
 IsBounded words (Bmp name file view writer) = IsName name
 IsBounded words (Take name count) = IsName name × (count ≤ 100000000)
 IsBounded words (Until name seconds) = IsName name
-IsBounded words (Feed name place) = IsName name
+IsBounded words (Feed name place said) = IsName name
 IsBounded words (Ask name) = IsName name
 IsBounded words (Sync name count) = IsName name × (count ≤ 100000000)
 IsBounded words (Serve place session count) = (session ≤ 65535) × (count ≤ 100000000)
@@ -44,6 +44,7 @@ IsValue TEXT text = Unit {0}
 IsValue ROLE role = Unit {0}
 IsValue VIEW view = Unit {0}
 IsValue WRITER writer = Unit {0}
+IsValue VERSION version = Unit {0}
 IsValue VERDICT verdict = Unit {0}
 IsValue ADDRESS addr = Unit {0}
 IsValue PREFIX prefix = Unit {0}
@@ -56,6 +57,7 @@ spelled_value TEXT word text is = tt
 spelled_value ROLE word role is = tt
 spelled_value VIEW word view is = tt
 spelled_value WRITER word writer is = tt
+spelled_value VERSION word version is = tt
 spelled_value VERDICT word verdict is = tt
 spelled_value ADDRESS word addr is = tt
 spelled_value PREFIX word prefix is = tt
@@ -92,10 +94,11 @@ makes_bounded words OpenName = λ name is file any writer. is
 makes_bounded words BmpName = λ name is file any view other writer else_. is
 makes_bounded words TakeName = λ name is count within. (is, within)
 makes_bounded words UntilName = λ name is seconds within. is
-makes_bounded words FeedName = λ name is place any. is
+makes_bounded words FeedName = λ name is place any said. is
 makes_bounded words AskName = λ name is. is
 makes_bounded words SyncName = λ name is count within. (is, within)
 makes_bounded words ServeName = λ place any session most count within. (most, within)
+makes_bounded words TimingName = λ refresh fast retry again expire last. tt
 makes_bounded words JudgeName = λ role any neighbour other path some few. few
 makes_bounded words ClearName = tt
 makes_bounded words ChangesName = tt

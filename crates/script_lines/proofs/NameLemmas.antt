@@ -3,7 +3,7 @@ use Rattle.std.proofs.Common.{◌≡◌, ℕ, List, [], ◌∷◌, refl}
 use Rattle.path_model.proofs.Decide.{Decided}
 use Rattle.av_text.proofs.SpellingLemmas.{value_among, found_injective, found_or_none}
 use Rattle.script_lines.specs.declared.commands.CommandName.{CommandName}
-use Rattle.script_lines.specs.declared.commands.CommandName.TheVariants.{Aspa as AspaName, Aspa64 as Aspa64Name, Validated as ValidatedName, Slurm as SlurmName, Filter as FilterName, Unfilter as UnfilterName, Assert as AssertName, Unassert as UnassertName, At as AtName, Role as RoleName, Open as OpenName, Bmp as BmpName, Take as TakeName, Until as UntilName, Feed as FeedName, Ask as AskName, Sync as SyncName, Serve as ServeName, Judge as JudgeName, Clear as ClearName, Changes as ChangesName, Why as WhyName, Details as DetailsName, Say as SayName, Report as ReportName, Origins as OriginsName, Leaks as LeaksName, Suspects as SuspectsName, Peers as PeersName, Sent as SentName, Explain as ExplainName, Attests as AttestsName, Neighbours as NeighboursName, Routes as RoutesName, Silent as SilentName, Summary as SummaryName}
+use Rattle.script_lines.specs.declared.commands.CommandName.TheVariants.{Aspa as AspaName, Aspa64 as Aspa64Name, Validated as ValidatedName, Slurm as SlurmName, Filter as FilterName, Unfilter as UnfilterName, Assert as AssertName, Unassert as UnassertName, At as AtName, Role as RoleName, Open as OpenName, Bmp as BmpName, Take as TakeName, Until as UntilName, Feed as FeedName, Ask as AskName, Sync as SyncName, Serve as ServeName, Timing as TimingName, Judge as JudgeName, Clear as ClearName, Changes as ChangesName, Why as WhyName, Details as DetailsName, Say as SayName, Report as ReportName, Origins as OriginsName, Leaks as LeaksName, Suspects as SuspectsName, Peers as PeersName, Sent as SentName, Explain as ExplainName, Attests as AttestsName, Neighbours as NeighboursName, Routes as RoutesName, Silent as SilentName, Summary as SummaryName}
 use Rattle.script_lines.specs.Commands.{name_text}
 use Rattle.script_lines.specs.Commands.{IsCommandName}
 
@@ -11,7 +11,7 @@ use Rattle.script_lines.specs.Commands.{IsCommandName}
 name_of : List ℕ → CommandName
 name_of = value_among name_text JudgeName
     (AspaName ∷ Aspa64Name ∷ ValidatedName ∷ SlurmName ∷ FilterName ∷ UnfilterName ∷ AssertName ∷ UnassertName
-    ∷ AtName ∷ RoleName ∷ OpenName ∷ BmpName ∷ TakeName ∷ UntilName ∷ FeedName ∷ AskName ∷ SyncName ∷ ServeName ∷ ClearName ∷ ChangesName ∷ WhyName
+    ∷ AtName ∷ RoleName ∷ OpenName ∷ BmpName ∷ TakeName ∷ UntilName ∷ FeedName ∷ AskName ∷ SyncName ∷ ServeName ∷ TimingName ∷ ClearName ∷ ChangesName ∷ WhyName
     ∷ DetailsName ∷ SayName
     ∷ ReportName ∷ OriginsName ∷ LeaksName ∷ SuspectsName ∷ PeersName ∷ SentName ∷ ExplainName ∷ AttestsName ∷ NeighboursName ∷ RoutesName ∷ SilentName ∷ SummaryName ∷ [])
 
@@ -35,6 +35,7 @@ name_of-name_text FeedName = refl
 name_of-name_text AskName = refl
 name_of-name_text SyncName = refl
 name_of-name_text ServeName = refl
+name_of-name_text TimingName = refl
 name_of-name_text JudgeName = refl
 name_of-name_text ClearName = refl
 name_of-name_text ChangesName = refl

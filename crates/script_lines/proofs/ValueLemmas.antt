@@ -22,8 +22,10 @@ use Rattle.av_text.specs.VerdictText.{verdict_text}
 use Rattle.av_text.proofs.AnySpellingLemmas.{addr_or_none, prefix_or_none, prefix_text_injective, peer_text_injective}
 use Rattle.av_text.proofs.NumberLemmas.{number_or_none, no_number-other}
 use Rattle.av_text.proofs.SpellingLemmas.{value_among, found_injective, found_or_none, decided_text, role_text_injective, decided_role}
+use Rattle.rtr_pdu.specs.declared.version.Version.{Version}
+use Rattle.rtr_pdu.specs.declared.version.Version.TheVariants.{Zero, One, Two}
 use Rattle.script_lines.specs.Word.{IsVisible}
-use Rattle.script_lines.specs.Kinds.{view_text, writer_text, WordKind, NAME, TEXT, ROLE, VIEW, WRITER, VERDICT, ADDRESS, PREFIX, NUMBER, WHOM, ValueOf, Spells, HasForm, LacksNumber}
+use Rattle.script_lines.specs.Kinds.{version_text, view_text, writer_text, WordKind, NAME, TEXT, ROLE, VIEW, VERSION, WRITER, VERDICT, ADDRESS, PREFIX, NUMBER, WHOM, ValueOf, Spells, HasForm, LacksNumber}
 use Rattle.script_lines.proofs.KindLemmas.{one_number, lacks-none, lacks-outside, lacks-whom}
 
 -- a spelling has the form
@@ -33,6 +35,7 @@ spelled-form TEXT word value is = (value, is)
 spelled-form ROLE word value is = (value, is)
 spelled-form VIEW word value is = (value, is)
 spelled-form WRITER word value is = (value, is)
+spelled-form VERSION word value is = (value, is)
 spelled-form VERDICT word value is = (value, is)
 spelled-form ADDRESS word value is = (value, is)
 spelled-form PREFIX word value is = (value, is)
@@ -109,6 +112,24 @@ writer_text_injective = found_injective writer_text writer_of writer_of-writer_t
 decided_writer : (word : List ℕ) → Decided ((writer : Writer) × (word ≡ writer_text writer))
 decided_writer = found_or_none writer_text writer_of writer_of-writer_text
 
+-- the version that a word could name
+version_of : List ℕ → Version
+version_of = value_among version_text Two (Zero ∷ One ∷ [])
+
+version_of-version_text : (version : Version) → version_of (version_text version) ≡ version
+unfolding version_of value_among
+version_of-version_text Zero = refl
+version_of-version_text One = refl
+version_of-version_text Two = refl
+
+-- two versions with one word are equal
+version_text_injective : (one other : Version) → version_text one ≡ version_text other → one ≡ other
+version_text_injective = found_injective version_text version_of version_of-version_text
+
+-- whether a word names a version
+decided_version : (word : List ℕ) → Decided ((version : Version) × (word ≡ version_text version))
+decided_version = found_or_none version_text version_of version_of-version_text
+
 -- the verdict that a word could name
 verdict_of : List ℕ → Verdict
 verdict_of = value_among verdict_text Invalid (Valid ∷ Unknown ∷ [])
@@ -144,6 +165,7 @@ decided_kind TEXT word = decided_itself (All IsVisible word) word (decided_all I
 decided_kind ROLE word = decided_role word
 decided_kind VIEW word = decided_view word
 decided_kind WRITER word = decided_writer word
+decided_kind VERSION word = decided_version word
 decided_kind VERDICT word = decided_verdict word
 decided_kind ADDRESS word = decided_spelling IsAddr addr_text word (addr_or_none word)
 decided_kind PREFIX word = decided_spelling IsSubnet prefix_text word (prefix_or_none word)
@@ -157,6 +179,7 @@ value_or_lacks TEXT word form = inr form
 value_or_lacks ROLE word form = inr form
 value_or_lacks VIEW word form = inr form
 value_or_lacks WRITER word form = inr form
+value_or_lacks VERSION word form = inr form
 value_or_lacks VERDICT word form = inr form
 value_or_lacks ADDRESS word form = inr form
 value_or_lacks PREFIX word form = inr form
@@ -201,6 +224,7 @@ one_value TEXT word one other a b = a.1 ∙ sym b.1
 one_value ROLE word one other a b = role_text_injective one other (sym a ∙ b)
 one_value VIEW word one other a b = view_text_injective one other (sym a ∙ b)
 one_value WRITER word one other a b = writer_text_injective one other (sym a ∙ b)
+one_value VERSION word one other a b = version_text_injective one other (sym a ∙ b)
 one_value VERDICT word one other a b = verdict_text_injective one other (sym a ∙ b)
 one_value ADDRESS word one other a b = one_addr word one other a b
 one_value PREFIX word one other a b = prefix_text_injective one other a.0 b.0 (sym a.1 ∙ b.1)
@@ -214,6 +238,7 @@ no_lack TEXT word value is lacks = lacks
 no_lack ROLE word value is lacks = lacks
 no_lack VIEW word value is lacks = lacks
 no_lack WRITER word value is lacks = lacks
+no_lack VERSION word value is lacks = lacks
 no_lack VERDICT word value is lacks = lacks
 no_lack ADDRESS word value is lacks = lacks
 no_lack PREFIX word value is lacks = lacks

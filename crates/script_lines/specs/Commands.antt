@@ -5,10 +5,10 @@ use Rattle.std.specs.declared.option.Option.TheVariants.{Some, None}
 use Rattle.dialects.specs.declared.writer.Writer.TheVariants.{Plain}
 use Rattle.path_model.specs.declared.role.Role.{Role as RoleOf}
 use Rattle.script_lines.specs.declared.commands.Command.{Command}
-use Rattle.script_lines.specs.declared.commands.Command.TheVariants.{Aspa, Aspa64, Validated, Slurm, Filter, Unfilter, Assert, Unassert, At, Role, RoleDefault, Open, Bmp, Take, Until, Feed, Ask, Sync, Serve, Judge, Clear, Changes, Why, Details, Say, Report, Origins, Leaks, Suspects, Peers, Sent, Explain, ExplainRoute, Attests, Neighbours, Routes, Silent, Summary}
+use Rattle.script_lines.specs.declared.commands.Command.TheVariants.{Aspa, Aspa64, Validated, Slurm, Filter, Unfilter, Assert, Unassert, At, Role, RoleDefault, Open, Bmp, Take, Until, Feed, Ask, Sync, Serve, Timing, Judge, Clear, Changes, Why, Details, Say, Report, Origins, Leaks, Suspects, Peers, Sent, Explain, ExplainRoute, Attests, Neighbours, Routes, Silent, Summary}
 use Rattle.script_lines.specs.declared.commands.CommandName.{CommandName}
-use Rattle.script_lines.specs.declared.commands.CommandName.TheVariants.{Aspa as AspaName, Aspa64 as Aspa64Name, Validated as ValidatedName, Slurm as SlurmName, Filter as FilterName, Unfilter as UnfilterName, Assert as AssertName, Unassert as UnassertName, At as AtName, Role as RoleName, Open as OpenName, Bmp as BmpName, Take as TakeName, Until as UntilName, Feed as FeedName, Ask as AskName, Sync as SyncName, Serve as ServeName, Judge as JudgeName, Clear as ClearName, Changes as ChangesName, Why as WhyName, Details as DetailsName, Say as SayName, Report as ReportName, Origins as OriginsName, Leaks as LeaksName, Suspects as SuspectsName, Peers as PeersName, Sent as SentName, Explain as ExplainName, Attests as AttestsName, Neighbours as NeighboursName, Routes as RoutesName, Silent as SilentName, Summary as SummaryName}
-use Rattle.script_lines.specs.Kinds.{NAME, TEXT, ROLE, VIEW, WRITER, VERDICT, ADDRESS, PREFIX, WHOM, AS, MOMENT, IDENTIFIER, COUNT, SESSION}
+use Rattle.script_lines.specs.declared.commands.CommandName.TheVariants.{Aspa as AspaName, Aspa64 as Aspa64Name, Validated as ValidatedName, Slurm as SlurmName, Filter as FilterName, Unfilter as UnfilterName, Assert as AssertName, Unassert as UnassertName, At as AtName, Role as RoleName, Open as OpenName, Bmp as BmpName, Take as TakeName, Until as UntilName, Feed as FeedName, Ask as AskName, Sync as SyncName, Serve as ServeName, Timing as TimingName, Judge as JudgeName, Clear as ClearName, Changes as ChangesName, Why as WhyName, Details as DetailsName, Say as SayName, Report as ReportName, Origins as OriginsName, Leaks as LeaksName, Suspects as SuspectsName, Peers as PeersName, Sent as SentName, Explain as ExplainName, Attests as AttestsName, Neighbours as NeighboursName, Routes as RoutesName, Silent as SilentName, Summary as SummaryName}
+use Rattle.script_lines.specs.Kinds.{NAME, TEXT, ROLE, VIEW, VERSION, WRITER, VERDICT, ADDRESS, PREFIX, WHOM, AS, MOMENT, IDENTIFIER, COUNT, SESSION, REFRESH, RETRY, EXPIRE}
 use Rattle.script_lines.specs.Conditions.{none_given}
 use Rattle.script_lines.specs.Forms.{Form, end, ases, texts, optional, ◌then◌, ◌or◌, conditions, Builds, IsSpelled}
 
@@ -39,10 +39,11 @@ row OpenName = record { word = codes "open"; form = NAME then TEXT then optional
 row BmpName = record { word = codes "bmp"; form = NAME then TEXT then VIEW then optional WRITER; made = λ name file view writer. Bmp name file view (unwrap_or writer Plain) }
 row TakeName = record { word = codes "take"; form = NAME then COUNT then end; made = λ name count. Take name count }
 row UntilName = record { word = codes "until"; form = NAME then MOMENT then end; made = λ name seconds. Until name seconds }
-row FeedName = record { word = codes "feed"; form = NAME then TEXT then end; made = λ name place. Feed name place }
+row FeedName = record { word = codes "feed"; form = NAME then TEXT then optional VERSION; made = λ name place said. Feed name place said }
 row AskName = record { word = codes "ask"; form = NAME then end; made = λ name. Ask name }
 row SyncName = record { word = codes "sync"; form = NAME then COUNT then end; made = λ name count. Sync name count }
 row ServeName = record { word = codes "serve"; form = TEXT then SESSION then COUNT then end; made = λ place session count. Serve place session count }
+row TimingName = record { word = codes "timing"; form = REFRESH then RETRY then EXPIRE then end; made = λ refresh retry expire. Timing refresh retry expire }
 row JudgeName = record { word = codes "judge"; form = ROLE then AS then ases 0; made = λ role neighbour path. Judge role neighbour path }
 row ClearName = record { word = codes "clear"; form = end; made = Clear }
 row ChangesName = record { word = codes "changes"; form = end; made = Changes }

@@ -16,6 +16,8 @@ use Rattle.av_text.specs.PrefixText.{IsPrefixText}
 use Rattle.av_text.specs.RoleText.{role_text}
 use Rattle.av_text.specs.VerdictText.{verdict_text}
 use Rattle.av_text.specs.Number.{IsNumber}
+use Rattle.rtr_pdu.specs.declared.version.Version.{Version}
+use Rattle.rtr_pdu.specs.declared.version.Version.TheVariants.{Zero, One, Two}
 use Rattle.script_lines.specs.Word.{IsVisible}
 
 -- the one spelling of a view of a router's routes: what it received, before its inbound policy or behind it (RFC 7854, section 4.2), or what it uses
@@ -34,13 +36,20 @@ writer_text Frr = codes "frr"
 writer_text OpenBgpd = codes "openbgpd"
 writer_text GoBgp = codes "gobgp"
 
--- NAME, a text such as FILE or PLACE, ROLE, VIEW, WRITER, VERDICT, ADDRESS, PREFIX, a number from a least one to a most, and whom a role is given: an AS or all others
+-- the one spelling of a version of the RPKI to Router protocol
+abbrev pub version_text : Version → List ℕ
+version_text Zero = codes "0"
+version_text One = codes "1"
+version_text Two = codes "2"
+
+-- NAME, a text such as FILE or PLACE, ROLE, VIEW, WRITER, VERSION, VERDICT, ADDRESS, PREFIX, a number from a least one to a most, and whom a role is given: an AS or all others
 pub data WordKind : Type 0 where
   NAME : WordKind
   TEXT : WordKind
   ROLE : WordKind
   VIEW : WordKind
   WRITER : WordKind
+  VERSION : WordKind
   VERDICT : WordKind
   ADDRESS : WordKind
   PREFIX : WordKind
@@ -63,6 +72,17 @@ COUNT = NUMBER 1 100000000
 abbrev pub SESSION : WordKind
 SESSION = NUMBER 0 65535
 
+-- how long a router waits after an answer until it asks again, how long after a query that failed, and how long it keeps what it has where no
+-- query succeeds, in seconds (RFC 8210, section 6)
+abbrev pub REFRESH : WordKind
+REFRESH = NUMBER 1 86400
+
+abbrev pub RETRY : WordKind
+RETRY = NUMBER 1 7200
+
+abbrev pub EXPIRE : WordKind
+EXPIRE = NUMBER 600 172800
+
 -- what such a word stands for
 abbrev pub ValueOf : WordKind → Type 0
 ValueOf NAME = List ℕ
@@ -70,6 +90,7 @@ ValueOf TEXT = List ℕ
 ValueOf ROLE = Role
 ValueOf VIEW = View
 ValueOf WRITER = Writer
+ValueOf VERSION = Version
 ValueOf VERDICT = Verdict
 ValueOf ADDRESS = Addr
 ValueOf PREFIX = Subnet
@@ -88,6 +109,7 @@ Spells TEXT word text = All IsVisible word × (text ≡ word)
 Spells ROLE word role = word ≡ role_text role
 Spells VIEW word view = word ≡ view_text view
 Spells WRITER word writer = word ≡ writer_text writer
+Spells VERSION word version = word ≡ version_text version
 Spells VERDICT word verdict = word ≡ verdict_text verdict
 Spells ADDRESS word addr = IsAddrText word addr
 Spells PREFIX word prefix = IsPrefixText word prefix
@@ -101,6 +123,7 @@ HasForm TEXT word = (text : List ℕ) × Spells TEXT word text
 HasForm ROLE word = (role : Role) × Spells ROLE word role
 HasForm VIEW word = (view : View) × Spells VIEW word view
 HasForm WRITER word = (writer : Writer) × Spells WRITER word writer
+HasForm VERSION word = (version : Version) × Spells VERSION word version
 HasForm VERDICT word = (verdict : Verdict) × Spells VERDICT word verdict
 HasForm ADDRESS word = (addr : Addr) × Spells ADDRESS word addr
 HasForm PREFIX word = (prefix : Subnet) × Spells PREFIX word prefix
@@ -114,6 +137,7 @@ LacksNumber TEXT word = ⊥
 LacksNumber ROLE word = ⊥
 LacksNumber VIEW word = ⊥
 LacksNumber WRITER word = ⊥
+LacksNumber VERSION word = ⊥
 LacksNumber VERDICT word = ⊥
 LacksNumber ADDRESS word = ⊥
 LacksNumber PREFIX word = ⊥

@@ -8,8 +8,9 @@ use crate::condition_words::ConditionWords;
 use crate::fault::LineFault;
 use crate::fields::{Ases, End, Fields, OneOf, Optional, Or, Texts, Then};
 use crate::kinds::{
-    AddressWord, AsWord, CountWord, IdentifierWord, MomentWord, NameWord, PrefixWord, RoleWord,
-    SessionWord, TextWord, VerdictWord, ViewWord, WhomWord, WriterWord,
+    AddressWord, AsWord, CountWord, ExpireWord, IdentifierWord, MomentWord, NameWord, PrefixWord,
+    RefreshWord, RetryWord, RoleWord, SessionWord, TextWord, VerdictWord, VersionWord, ViewWord,
+    WhomWord, WriterWord,
 };
 use crate::saying::Saying;
 use crate::word::Word;
@@ -17,6 +18,7 @@ use av_text::Words;
 use conditions::Conditions;
 use dialects::{View, Writer};
 use path_model::{Addr, AsList, Name, Prefix, Role, Verdict};
+use rtr_pdu::Version;
 use std::alloc::Global;
 
 /// What a line of a script asks for. ASes and providers stand in the order written, with repeats.
@@ -57,8 +59,9 @@ pub enum Command {
     /// `until NAME SECONDS`: the records of the dump up to the first whose time, in seconds since 1970-01-01 00:00 UTC, isn't below this one
     /// (RFC 6396, section 2); that one stays.
     Until(Name, u32),
-    /// `feed NAME PLACE`: a new connection to the place is the feed of that name, and its cache is asked for all that it has.
-    Feed(Name, Word),
+    /// `feed NAME PLACE` or `feed NAME PLACE VERSION`: a new connection to the place is the feed of that name, and its cache is asked for
+    /// all that it has; in that version of the protocol, if one is said.
+    Feed(Name, Word, Option<Version>),
     /// `ask NAME`: the feed's cache is asked for what is new.
     Ask(Name),
     /// `sync NAME N`: PDUs of the feed until it is up to date or over, and at most so many, 1 to 100,000,000.
@@ -66,6 +69,9 @@ pub enum Command {
     /// `serve PLACE SESSION N`: so many routers are served at the place, 1 to 100,000,000 of them, one after another, as by a cache of that
     /// session (RFC 8210, section 5.1).
     Serve(Word, u16, u32),
+    /// `timing REFRESH RETRY EXPIRE`: what routers are told from then on of how often they ask and how long they keep what they have, in
+    /// seconds (RFC 8210, section 6).
+    Timing(u32, u32, u32),
     /// `judge ROLE NEIGHBOUR AS..`: the verdict of the path, written neighbour first.
     Judge(Role, u32, AsList),
     /// `clear`: all routes go, in one event.
@@ -129,6 +135,7 @@ pub(crate) enum CommandName {
     Ask,
     Sync,
     Serve,
+    Timing,
     Judge,
     Clear,
     Changes,
@@ -173,6 +180,7 @@ pub(crate) fn command_name(word: &[u8]) -> Option<CommandName>
         b"ask" => Some(CommandName::Ask),
         b"sync" => Some(CommandName::Sync),
         b"serve" => Some(CommandName::Serve),
+        b"timing" => Some(CommandName::Timing),
         b"judge" => Some(CommandName::Judge),
         b"clear" => Some(CommandName::Clear),
         b"changes" => Some(CommandName::Changes),
@@ -270,8 +278,11 @@ pub(crate) fn read_fields(
             Ok(Command::Until(name, seconds))
         }
         CommandName::Feed => {
-            let (name, (place, ())) = <Then<NameWord, Then<TextWord, End>>>::read(alloc, words)?;
-            Ok(Command::Feed(name, place))
+            let (name, (place, said)) = <Then<
+                NameWord,
+                Then<TextWord, Optional<VersionWord>>,
+            >>::read(alloc, words)?;
+            Ok(Command::Feed(name, place, said))
         }
         CommandName::Ask => {
             let (name, ()) = <Then<NameWord, End>>::read(alloc, words)?;
@@ -287,6 +298,13 @@ pub(crate) fn read_fields(
                 Then<SessionWord, Then<CountWord, End>>,
             >>::read(alloc, words)?;
             Ok(Command::Serve(place, session, count))
+        }
+        CommandName::Timing => {
+            let (refresh, (retry, (expire, ()))) = <Then<
+                RefreshWord,
+                Then<RetryWord, Then<ExpireWord, End>>,
+            >>::read(alloc, words)?;
+            Ok(Command::Timing(refresh, retry, expire))
         }
         CommandName::Judge => {
             let (role, (neighbour, path)) = <Then<RoleWord, Then<AsWord, Ases<0>>>>::read(

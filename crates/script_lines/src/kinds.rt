@@ -4,13 +4,15 @@ ghost use Rattle.dialects.specs.declared.view.View.{View as AnyView};
 ghost use Rattle.dialects.specs.declared.writer.Writer.{Writer as AnyWriter};
 ghost use Rattle.path_model.specs.declared.verdict.Verdict.{Verdict as AnyVerdict};
 ghost use Rattle.av_text.specs.VerdictText.{verdict_text};
-ghost use Rattle.script_lines.specs.Kinds.{ADDRESS, NAME, NUMBER, PREFIX, ROLE, SESSION, TEXT, VERDICT, VIEW, WHOM, WRITER, view_text, writer_text};
+ghost use Rattle.script_lines.specs.Kinds.{ADDRESS, NAME, NUMBER, PREFIX, ROLE, SESSION, TEXT, VERDICT, VERSION, VIEW, WHOM, version_text, WRITER, view_text, writer_text};
+ghost use Rattle.rtr_pdu.specs.declared.version.Version.{Version as AnyVersion};
 
 use crate::fault::LineFault;
 use crate::word::Word;
 use av_text::{read_addr, read_name, read_prefix, read_role, read_u32};
 use dialects::{View, Writer};
 use path_model::{Addr, Name, Prefix, Role, Verdict};
+use rtr_pdu::Version;
 use std::alloc::Global;
 
 /// A kind of word.
@@ -149,6 +151,37 @@ fn read_writer(word: &[u8]) -> Option<Writer>
     }
 }
 
+/// A VERSION of the RPKI to Router protocol.
+pub(crate) struct VersionWord;
+
+impl Kind for VersionWord {
+    type Value = Version;
+
+    ghost kind = { VERSION };
+
+    ghost value = { λ version. version };
+
+    fn read(_alloc: Global, word: &[u8]) -> Result<Version, LineFault> {
+        match read_version(word) {
+            Some(version) => Ok(version),
+            None => Err(LineFault::Words),
+        }
+    }
+}
+
+// Reads a word as a version.
+fn read_version(word: &[u8]) -> Option<Version>
+    ensures spelled { IfSome result (λ version. word.now ≡ version_text version) }
+    ensures none { IfNone result ((version : AnyVersion) → word.now ≢ version_text version) }
+{
+    match word {
+        b"0" => Some(Version::Zero),
+        b"1" => Some(Version::One),
+        b"2" => Some(Version::Two),
+        _ => None,
+    }
+}
+
 /// A VERDICT.
 pub(crate) struct VerdictWord;
 
@@ -230,6 +263,15 @@ pub(crate) type IdentifierWord = NumberWord<0, 4_294_967_295>;
 
 /// How many units of a stream are taken, or routers are served.
 pub(crate) type CountWord = NumberWord<1, 100_000_000>;
+
+/// How long a router waits after an answer until it asks again, in seconds (RFC 8210, section 6).
+pub(crate) type RefreshWord = NumberWord<1, 86_400>;
+
+/// How long it waits after a query that failed.
+pub(crate) type RetryWord = NumberWord<1, 7_200>;
+
+/// How long it keeps what it has, where no query succeeds.
+pub(crate) type ExpireWord = NumberWord<600, 172_800>;
 
 #[tactic(auto, using(crate::proofs::KindLemmas::number_steps))]
 impl<const LEAST: u32, const MOST: u32> Kind for NumberWord<LEAST, MOST> {

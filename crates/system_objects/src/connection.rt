@@ -5,18 +5,20 @@ ghost use Rattle.av_base.specs.Connections.{new_standing};
 ghost use Rattle.av_base.specs.declared.standing.Break.TheVariants.{BySend, ByRecv};
 ghost use Rattle.system_objects.specs.Known.{new_known};
 
-use crate::again::{read_again, write_again};
+use crate::again::{read_again, read_in_time, write_again};
 use av_base::{Break, Fault};
 use std::io::{Read, Write};
 use std::marker::Model;
 use std::net::{OpenStream, Shutdown};
-use std::time::Clock;
+use std::time::{Clock, Instant};
 
 /// A connection: its stream until it is closed, and the call by which it broke. It is closed where its stream is dropped.
 #[derive(Drop)]
 pub struct Connection<S: Read + Write + OpenStream> {
     stream: Option<S>,
     broken: Option<Break>,
+    // since when the other end may have been silent, where that has a limit
+    since: Option<Instant>,
 }
 
 /// A contract sees how it stands, and the bytes that its stream knows.
@@ -33,13 +35,15 @@ impl<S: Read + Write + OpenStream> Model for Connection<S> {
 }
 
 impl<S: Read + Write + OpenStream + Drop> Connection<S> {
-    /// The connection over this stream.
-    pub fn new(stream: S) -> Connection<S>
+    /// The connection over this stream. Where a moment is given, a receive waits no longer than for the limit behind it, or behind the last
+    /// bytes that were sent.
+    pub fn new(stream: S, since: Option<Instant>) -> Connection<S>
         ensures { result ≡ new_known (S.remaining stream) (S.contents stream) }
     {
         Connection {
             stream: Some(stream),
             broken: None,
+            since,
         }
     }
 
@@ -60,7 +64,12 @@ impl<S: Read + Write + OpenStream + Drop> Connection<S> {
             return Err(Fault);
         };
         match write_again(stream, clock, buf) {
-            Ok(count) => Ok(count),
+            Ok(count) => {
+                if self.since.is_some() {
+                    self.since = Instant::now(clock).ok();
+                }
+                Ok(count)
+            }
             Err(Fault) => {
                 self.broken = Some(Break::BySend);
                 Err(Fault)
@@ -68,8 +77,8 @@ impl<S: Read + Write + OpenStream + Drop> Connection<S> {
         }
     }
 
-    /// Receives bytes into the front of the buffer, and answers how many: 0 only where nothing is to come. It waits for the
-    /// first of them. A fault breaks the connection.
+    /// Receives bytes into the front of the buffer, and answers how many: 0 only where nothing is to come, also because it waited for the
+    /// first of them as long as it may. A fault breaks the connection.
     pub fn recv<C: Clock>(&mut self, clock: &C, buf: &mut [u8]) -> Result<usize, Fault>
         requires some_room { 0 < length buf.old }
         requires usable { self.old.standing ≡ new_standing }
@@ -84,7 +93,7 @@ impl<S: Read + Write + OpenStream + Drop> Connection<S> {
         let Some(stream) = &mut self.stream else {
             return Err(Fault);
         };
-        match read_again(stream, clock, buf) {
+        match read_by(stream, clock, self.since, buf) {
             Ok(count) => Ok(count),
             Err(Fault) => {
                 self.broken = Some(Break::ByRecv);
@@ -102,5 +111,22 @@ impl<S: Read + Write + OpenStream + Drop> Connection<S> {
             let _ = stream.shutdown(Shutdown::Both);
         }
         self.stream = None;
+    }
+}
+
+// Reads, with a limit where a moment is given.
+fn read_by<S: Read + OpenStream, C: Clock>(
+    stream: &mut S,
+    clock: &C,
+    since: Option<Instant>,
+    buf: &mut [u8],
+) -> Result<usize, Fault>
+    requires some_room { 0 < length buf.old }
+    ensures bound { IfOk result (λ n. n ≤ length buf.new) }
+    ensures known { ReadConsumes (S.remaining stream.old) (S.remaining stream.new) result buf.new }
+{
+    match since {
+        Some(since) => read_in_time(stream, clock, since, buf),
+        None => read_again(stream, clock, buf),
     }
 }

@@ -1,11 +1,12 @@
 //! Connections to a listener of the test's own: both ends speak in turn over the system's buffers.
 ghost use Rattle.av_base.specs.Connections.{IsUsable};
 
+use crate::again::read_in_time;
 use crate::tcp_links::{TcpLinks, dial_any};
 use av_base::{Fault, Links};
 use std::io::{self, ErrorKind, Read, Write};
 use std::net::{OpenStream, Shutdown, TcpListener, TcpStream};
-use std::time::Instant;
+use std::time::{Duration, Instant};
 
 // What the other end hears, what this one hears then, and how many bytes each call moved: the last meets the other's end.
 type Heard = ([u8; 4], [u8; 4], [usize; 3]);
@@ -71,6 +72,23 @@ fn an_accepted_connection_carries_bytes_both_ways(rt: HostRuntime) -> io::Result
     }
     assert_eq!(rt; links.accept("no such place"), Err(Fault));
     assert_eq!(rt; links.accept("127.0.0.1"), Err(Fault));
+    Ok(())
+}
+
+// Behind its time a silent end reads as one that has gone, once what had come by then is read.
+#[test]
+fn a_silent_end_reads_as_gone(rt: HostRuntime) -> io::Result<()> {
+    let listener = TcpListener::bind(&rt, "127.0.0.1:0")?;
+    let mut other = TcpStream::connect(&rt, listener.local_addr()?)?;
+    let (mut stream, _) = listener.accept()?;
+    let Some(since) = Instant::now(&rt)?.checked_sub(Duration::from_secs(60)) else {
+        return Ok(());
+    };
+    let _ = other.write(b"ping")?;
+    let mut heard = [0u8; 4];
+    assert_eq!(rt; read_in_time(&mut stream, &rt, since, &mut heard), Ok(4));
+    assert_eq!(rt; heard, *b"ping");
+    assert_eq!(rt; read_in_time(&mut stream, &rt, since, &mut heard), Ok(0));
     Ok(())
 }
 

@@ -24,8 +24,8 @@ const LIMIT: u64 = 30;
 
 /// TCP connections of the system as links, to places that `read_host_port` reads: a host is a name, an IPv4 address, or an IPv6 address
 /// in brackets. Another place is a fault, and the system isn't asked. They count each error as a fault, and each attempt that takes over
-/// 30 seconds; a receive waits, and so does an accept. As links they tell how the connections stand, and no bytes and no attempts; what a
-/// call does to bytes that a stream knows is said by its own clause.
+/// 30 seconds; an accept waits, and so does a receive, but for 60 seconds at most on a connection that was accepted. As links they tell how
+/// the connections stand, and no bytes and no attempts; what a call does to bytes that a stream knows is said by its own clause.
 #[derive(Drop)]
 pub struct TcpLinks<R: Net + Clock> {
     runtime: R,
@@ -66,7 +66,11 @@ impl<R: Net + Clock> TcpLinks<R> {
 
     /// What an attempt came to: the number of the connection over this stream. A failed attempt is a fault, and so is one over the
     /// 4,294,967,295th connection and one for which there is no memory.
-    pub fn answer(&mut self, made: io::Result<R::Stream>) -> Result<u32, Fault>
+    pub fn answer(
+        &mut self,
+        made: io::Result<R::Stream>,
+        since: Option<Instant>,
+    ) -> Result<u32, Fault>
         ensures number { IfOk result (λ link. link ≡ length self.old.links) }
         ensures room { OnOk result (length self.old.links < 2 ^ 32 - 1) }
         ensures kept { IfOk made (λ stream. OnOk result (self.new.links ≡ self.old.links
@@ -76,7 +80,7 @@ impl<R: Net + Clock> TcpLinks<R> {
         ensures cause { HasCause self.old.faults self.new.faults result }
     {
         if let Ok(stream) = made {
-            if let Some(link) = self.keep(stream) {
+            if let Some(link) = self.keep(stream, since) {
                 return Ok(link);
             }
         }
@@ -86,7 +90,7 @@ impl<R: Net + Clock> TcpLinks<R> {
 
     // Keeps a stream, and answers its number. There is none where as many connections were made as have numbers, or where there is no
     // memory: the connection ends then.
-    fn keep(&mut self, stream: R::Stream) -> Option<u32>
+    fn keep(&mut self, stream: R::Stream, since: Option<Instant>) -> Option<u32>
         ensures number { IfSome result (λ link. link ≡ length self.old.links) }
         ensures room { OnSome result (length self.old.links < 2 ^ 32 - 1) }
         ensures kept { OnSome result (self.new.links ≡ self.old.links
@@ -100,7 +104,7 @@ impl<R: Net + Clock> TcpLinks<R> {
         if link == u32::MAX {
             return None;
         }
-        match self.links.push(Connection::new(stream)) {
+        match self.links.push(Connection::new(stream, since)) {
             Ok(()) => Some(link),
             Err(_) => None,
         }
@@ -132,7 +136,7 @@ impl<R: Net + Clock> Links for TcpLinks<R> {
         ensures no_place { IsNoHostPort place.now → IsErr result }
     {
         let made = reach(self.alloc, &self.runtime, place);
-        self.answer(made)
+        self.answer(made, None)
     }
 
     #[tactic(auto, using(av_base::proofs::LaterLemmas::link_steps))]
@@ -149,7 +153,8 @@ impl<R: Net + Clock> Links for TcpLinks<R> {
         ensures no_place { IsNoHostPort place.now → IsErr result }
     {
         let made = admit(&mut self.listeners, &self.runtime, place);
-        self.answer(made)
+        let since = Instant::now(&self.runtime).ok();
+        self.answer(made, since)
     }
 
     #[tactic(auto, using(av_base::proofs::LaterLemmas::link_steps))]

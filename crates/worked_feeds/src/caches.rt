@@ -3,7 +3,7 @@ use attestations::Terms;
 use av_base::NoMemory;
 use path_model::{AsList, Name, Rows};
 use rtr_cache::{Cache, Turn, fits_pdus};
-use rtr_pdu::Pdu;
+use rtr_pdu::{Pdu, Timing};
 use std::alloc::Global;
 use vap_table::{TableChange, Vaps};
 
@@ -35,6 +35,7 @@ fn pdu(alloc: Global, sent: Sent) -> Pdu {
         Sent::End => Pdu::EndOfData {
             session: 7,
             serial: 1,
+            timing: Timing::suggested(),
         },
         Sent::Reset => Pdu::CacheReset,
         Sent::Withdrawal => Pdu::Aspa {

@@ -1,7 +1,7 @@
 //! Tests of router feeds: the PDUs of an RPKI cache, the router's side of a session, and the cache's.
 //!
-//! Each table has its expected values worked out by hand; what of PDUs is refused is said by the contracts alone. `pdus` and
-//! `prefix_pdus` read and write PDUs, `sessions` and `answers` play an RPKI cache, and `caches` plays routers.
+//! Each table has its expected values worked out by hand; what of PDUs is refused is said by the contracts alone. `pdus` and `prefix_pdus`
+//! read and write PDUs, `versions` those of older versions, `sessions` and `answers` play an RPKI cache, and `caches` plays routers.
 #![tactic(auto)]
 
 #[cfg(test)]
@@ -14,3 +14,5 @@ mod pdus;
 mod prefix_pdus;
 #[cfg(test)]
 mod sessions;
+#[cfg(test)]
+mod versions;

@@ -3,7 +3,7 @@ ghost use Rattle.std.specs.Prelude.{◌<◌, ◌≤◌, length};
 
 use av_base::NoMemory;
 use path_model::{Addr, AsList};
-use rtr_pdu::{Framer, Pdu, PduFault, write};
+use rtr_pdu::{Framer, Pdu, PduFault, Timing, Version, write};
 use std::alloc::Global;
 
 /// A Cache Response, an announcement of the provider 64497 by 64496, and an End of Data, all of session 7.
@@ -23,7 +23,7 @@ pub(crate) enum Said {
     Four(bool, u32, u8, u8, u32),
     Six(bool, u128, u8, u8, u32),
     Passed(u8),
-    EndOfData(u16, u32),
+    EndOfData(u16, u32, Timing),
     CacheReset,
     ErrorReport(u16),
     Announce(u32, usize, u64),
@@ -52,7 +52,11 @@ fn said_by(pdu: &Pdu) -> Said {
             }
         }
         Pdu::Passed { kind } => Said::Passed(*kind),
-        Pdu::EndOfData { session, serial } => Said::EndOfData(*session, *serial),
+        Pdu::EndOfData {
+            session,
+            serial,
+            timing,
+        } => Said::EndOfData(*session, *serial, *timing),
         Pdu::CacheReset => Said::CacheReset,
         Pdu::ErrorReport { code } => Said::ErrorReport(*code),
         Pdu::Aspa {
@@ -69,18 +73,23 @@ fn said_by(pdu: &Pdu) -> Said {
     }
 }
 
-// What the next unit says, or `None` where none is whole.
-pub(crate) fn next(framer: &mut Framer) -> Option<Said> {
-    match framer.next() {
+// What the next unit of a version says, or `None` where none is whole.
+pub(crate) fn next(version: Version, framer: &mut Framer) -> Option<Said> {
+    match framer.next(version) {
         Ok(Some(pdu)) => Some(said_by(&pdu)),
         _ => None,
     }
 }
 
-/// Whether these bytes are one unit that says this.
-pub(crate) fn is_unit(alloc: Global, bytes: &[u8], said: Said) -> Result<bool, NoMemory> {
+/// Whether these bytes are one unit of a version that says this.
+pub(crate) fn is_unit(
+    alloc: Global,
+    version: Version,
+    bytes: &[u8],
+    said: Said,
+) -> Result<bool, NoMemory> {
     let mut framer = Framer::new(alloc).feed(bytes)?;
-    Ok(next(&mut framer) == Some(said) && next(&mut framer).is_none())
+    Ok(next(version, &mut framer) == Some(said) && next(version, &mut framer).is_none())
 }
 
 const UNITS: [(&[u8], Said); 14] = [
@@ -133,25 +142,39 @@ const UNITS: [(&[u8], Said); 14] = [
     ),
     (
         &[
-            2, 7, 0, 7, 0, 0, 0, 24, 0, 0, 0, 1, 0, 0, 0, 0, 0, 0, 0, 0, 0, 0, 0, 0,
+            2, 7, 0, 7, 0, 0, 0, 24, 0, 0, 0, 1, 0, 0, 0, 2, 0, 0, 0, 3, 0, 0, 0, 4,
         ],
-        Said::EndOfData(7, 1),
+        Said::EndOfData(
+            7,
+            1,
+            Timing {
+                refresh: 2,
+                retry: 3,
+                expire: 4,
+            },
+        ),
     ),
 ];
 
 #[test]
 fn reads_single_units(rt: HostRuntime) -> Result<(), NoMemory> {
     for (bytes, said) in UNITS {
-        assert!(rt; is_unit(rt.alloc(), bytes, said)?);
+        assert!(rt; is_unit(rt.alloc(), Version::Two, bytes, said)?);
     }
     Ok(())
 }
 
-// The report on a unit of another version.
-fn reported(alloc: Global, bytes: &[u8]) -> Result<Option<u16>, NoMemory> {
+/// The report on a unit of another version, or of no type or length that this one has.
+pub(crate) fn reported(
+    alloc: Global,
+    version: Version,
+    bytes: &[u8],
+) -> Result<Option<u16>, NoMemory> {
     let mut framer = Framer::new(alloc).feed(bytes)?;
-    match framer.next() {
-        Err(PduFault::PduVersion) => Ok(framer.report()),
+    match framer.next(version) {
+        Err(PduFault::PduVersion) => Ok(framer.report(version)),
+        Err(PduFault::PduType) => Ok(framer.report(version)),
+        Err(PduFault::PduLength) => Ok(framer.report(version)),
         _ => Ok(None),
     }
 }
@@ -159,15 +182,29 @@ fn reported(alloc: Global, bytes: &[u8]) -> Result<Option<u16>, NoMemory> {
 // On an error report no report is sent.
 #[test]
 fn reports_another_version(rt: HostRuntime) -> Result<(), NoMemory> {
-    assert_eq!(rt; reported(rt.alloc(), &[1, 3, 0, 7, 0, 0, 0, 8])?, Some(8));
-    assert_eq!(rt; reported(rt.alloc(), &[1, 10, 0, 0, 0, 0, 0, 16])?, None);
+    assert_eq!(rt;
+        reported(rt.alloc(), Version::Two, &[1, 3, 0, 7, 0, 0, 0, 8])?,
+        Some(8)
+    );
+    assert_eq!(rt;
+        reported(rt.alloc(), Version::Two, &[1, 10, 0, 0, 0, 0, 0, 16])?,
+        None
+    );
     Ok(())
 }
 
 const IN_STREAM: [Said; 3] = [
     Said::CacheResponse(7),
     Said::Announce(64_496, 1, 64_497),
-    Said::EndOfData(7, 1),
+    Said::EndOfData(
+        7,
+        1,
+        Timing {
+            refresh: 3600,
+            retry: 600,
+            expire: 7200,
+        },
+    ),
 ];
 
 // The stream, 334 times.
@@ -191,7 +228,7 @@ fn fed(alloc: Global, stream: &[u8], size: usize) -> Result<Framer, NoMemory> {
 // How many units are these, again and again, up to the first that isn't.
 fn count(mut framer: Framer, units: &[Said; 3]) -> usize {
     for place in 0..2_000usize {
-        if next(&mut framer) != Some(units[place % 3]) {
+        if next(Version::Two, &mut framer) != Some(units[place % 3]) {
             return place;
         }
     }
@@ -213,7 +250,7 @@ fn written(alloc: Global, pdu: &Pdu) -> Option<Vec<u8>> {
     match pdu {
         Pdu::Passed { .. } => None,
         Pdu::Aspa { .. } => None,
-        _ => match write(pdu, &mut out) {
+        _ => match write(Version::Two, pdu, &mut out) {
             Ok(()) => Some(out),
             Err(NoMemory) => None,
         },
@@ -223,7 +260,7 @@ fn written(alloc: Global, pdu: &Pdu) -> Option<Vec<u8>> {
 /// The bytes of a unit other than an ASPA PDU that is read and written again.
 pub(crate) fn rewritten(alloc: Global, bytes: &[u8]) -> Result<Option<Vec<u8>>, NoMemory> {
     let mut framer = Framer::new(alloc).feed(bytes)?;
-    match framer.next() {
+    match framer.next(Version::Two) {
         Ok(Some(pdu)) => Ok(written(alloc, &pdu)),
         _ => Ok(None),
     }
@@ -237,7 +274,7 @@ const WRITTEN: [&[u8]; 7] = [
     &[2, 1, 0, 7, 0, 0, 0, 12, 0, 0, 0, 1],
     &[2, 10, 0, 8, 0, 0, 0, 16, 0, 0, 0, 0, 0, 0, 0, 0],
     &[
-        2, 7, 0, 7, 0, 0, 0, 24, 0, 0, 0, 1, 0, 0, 14, 16, 0, 0, 2, 88, 0, 0, 28, 32,
+        2, 7, 0, 7, 0, 0, 0, 24, 0, 0, 0, 1, 0, 1, 81, 128, 0, 0, 28, 32, 0, 2, 163, 0,
     ],
 ];
 
@@ -261,7 +298,7 @@ fn announcement(alloc: Global, customer: u32, providers: &[u32]) -> Result<Vec<u
         customer,
         providers: AsList::from_slice(alloc, providers)?,
     };
-    write(&pdu, &mut out)?;
+    write(Version::Two, &pdu, &mut out)?;
     Ok(out)
 }
 
@@ -273,7 +310,7 @@ fn withdrawal(alloc: Global, customer: u32) -> Result<Vec<u8>, NoMemory> {
         customer,
         providers: AsList::new(alloc),
     };
-    write(&pdu, &mut out)?;
+    write(Version::Two, &pdu, &mut out)?;
     Ok(out)
 }
 
@@ -314,7 +351,14 @@ fn numbers() -> [u32; 300] {
 #[test]
 fn three_hundred_providers(rt: HostRuntime) -> Result<(), NoMemory> {
     let bytes = three_hundred(rt.alloc())?;
-    assert!(rt; is_unit(rt.alloc(), &bytes, Said::Announce(64_496, 300, 45_150))?);
+    assert!(rt;
+        is_unit(
+            rt.alloc(),
+            Version::Two,
+            &bytes,
+            Said::Announce(64_496, 300, 45_150)
+        )?
+    );
     let out = announcement(rt.alloc(), 64_496, &numbers())?;
     assert_eq!(rt; out.as_slice(), bytes.as_slice());
     Ok(())

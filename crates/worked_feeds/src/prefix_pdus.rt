@@ -1,6 +1,7 @@
 //! Prefix PDUs: what they say, and what is written.
 use crate::pdus::{Said, is_unit, rewritten};
 use av_base::NoMemory;
+use rtr_pdu::Version;
 
 const UNITS: [(&[u8], Said); 5] = [
     (
@@ -41,7 +42,7 @@ const UNITS: [(&[u8], Said); 5] = [
 #[test]
 fn reads_prefixes(rt: HostRuntime) -> Result<(), NoMemory> {
     for (bytes, said) in UNITS {
-        assert!(rt; is_unit(rt.alloc(), bytes, said)?);
+        assert!(rt; is_unit(rt.alloc(), Version::Two, bytes, said)?);
     }
     Ok(())
 }

@@ -2,7 +2,7 @@
 use av_base::NoMemory;
 use origin_model::Vrp;
 use path_model::{Addr, AsList, Prefix};
-use rtr_pdu::Pdu;
+use rtr_pdu::{Pdu, Timing};
 use rtr_session::{Act, Delta, Ending, Phase, Query, Session};
 use std::alloc::Global;
 
@@ -63,7 +63,11 @@ fn pdu(alloc: Global, sent: Sent) -> Result<Option<Pdu>, NoMemory> {
         Sent::ResetQuery => Some(Pdu::ResetQuery),
         Sent::Response(session) => Some(Pdu::CacheResponse { session }),
         Sent::Passed => Some(Pdu::Passed { kind: 9 }),
-        Sent::End(session) => Some(Pdu::EndOfData { session, serial: 2 }),
+        Sent::End(session) => Some(Pdu::EndOfData {
+            session,
+            serial: 2,
+            timing: Timing::suggested(),
+        }),
         Sent::Reset => Some(Pdu::CacheReset),
         Sent::Report => Some(Pdu::ErrorReport { code: 2 }),
         Sent::Row(customer, providers) => Some(aspa(alloc, customer, providers)?),
@@ -82,6 +86,19 @@ pub(crate) fn take(session: Session, pdu: Pdu) -> Result<(Session, Act), NoMemor
         Phase::ReceivingWhole => session.on(pdu),
         Phase::ReceivingChanges => session.on(pdu),
         Phase::Ready => session.on(pdu),
+    }
+}
+
+// The same of a strict session.
+fn take_strictly(session: Session, pdu: Pdu) -> Result<(Session, Act), NoMemory> {
+    match session.phase() {
+        Phase::Over => Ok((session, Act::Nothing)),
+        Phase::Fresh => session.take(true, pdu),
+        Phase::AskedWhole => session.take(true, pdu),
+        Phase::AskedChanges => session.take(true, pdu),
+        Phase::ReceivingWhole => session.take(true, pdu),
+        Phase::ReceivingChanges => session.take(true, pdu),
+        Phase::Ready => session.take(true, pdu),
     }
 }
 
@@ -170,8 +187,8 @@ const WITHDRAW_PREFIX: Sent = Sent::Payload(false, 24, 64_496);
 
 const WITHDRAW_UNKNOWN_PREFIX: Sent = Sent::Payload(false, 25, 64_496);
 
-// What is done, as a letter: nothing, all is asked for, a whole answer and one with changes, and four ends: unexpected, an unknown
-// withdrawal, another session, and an error report.
+// What is done, as a letter: nothing, all is asked for, a whole answer and one with changes, and five ends: unexpected, an unknown
+// withdrawal, another session, an error report, and a payload that is announced twice.
 fn letter(act: &Act) -> u8 {
     match act {
         Act::Nothing => b'.',
@@ -182,6 +199,7 @@ fn letter(act: &Act) -> u8 {
         Act::End(Ending::UnknownWithdrawal) => b'W',
         Act::End(Ending::SessionChanged) => b'S',
         Act::End(Ending::PeerReported) => b'R',
+        Act::End(Ending::AnnouncedTwice) => b'T',
     }
 }
 
@@ -226,6 +244,41 @@ fn does_what_the_table_says(rt: HostRuntime) -> Result<(), NoMemory> {
     Ok(())
 }
 
+// The payload of AS 64496 is there where the answer has changes. One that is announced and withdrawn isn't there.
+const STRICT: [(&[Sent], Sent, u8); 6] = [
+    (&RECEIVING_WHOLE, ANNOUNCE_PREFIX, b'.'),
+    (&ONE_ANNOUNCED, ANNOUNCE_PREFIX, b'T'),
+    (&ONE_WITHDRAWN, ANNOUNCE_PREFIX, b'.'),
+    (&RECEIVING_CHANGES, Sent::Payload(true, 24, 64_496), b'T'),
+    (&RECEIVING_CHANGES, ANNOUNCE_PREFIX, b'.'),
+    (&READY, Sent::Payload(true, 24, 64_496), b'U'),
+];
+
+const ONE_ANNOUNCED: [Sent; 3] = [Sent::Ask, Sent::Response(7), ANNOUNCE_PREFIX];
+
+const ONE_WITHDRAWN: [Sent; 4] = [
+    Sent::Ask,
+    Sent::Response(7),
+    ANNOUNCE_PREFIX,
+    Sent::Payload(false, 24, 64_500),
+];
+
+// What a strict session does on the last PDU behind all of these.
+fn strict_letter(alloc: Global, script: &[Sent], last: Sent) -> Result<u8, NoMemory> {
+    match pdu(alloc, last)? {
+        Some(pdu) => Ok(letter(&take_strictly(replayed(alloc, script)?, pdu)?.1)),
+        None => Ok(b'?'),
+    }
+}
+
+#[test]
+fn a_strict_session_takes_a_payload_once(rt: HostRuntime) -> Result<(), NoMemory> {
+    for (script, last, want) in STRICT {
+        assert_eq!(rt; strict_letter(rt.alloc(), script, last)?, want);
+    }
+    Ok(())
+}
+
 // The query that is asked behind all of these.
 fn query(alloc: Global, script: &[Sent]) -> Result<Option<Query>, NoMemory> {
     Ok(replayed(alloc, script)?.ask().1)
@@ -258,4 +311,5 @@ fn each_ending_has_its_report(rt: HostRuntime) {
     assert_eq!(rt; Ending::UnknownWithdrawal.report(), Some(6));
     assert_eq!(rt; Ending::SessionChanged.report(), Some(0));
     assert_eq!(rt; Ending::PeerReported.report(), None);
+    assert_eq!(rt; Ending::AnnouncedTwice.report(), Some(7));
 }

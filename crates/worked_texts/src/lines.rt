@@ -2,6 +2,7 @@
 //! and in a number.
 use dialects::{View, Writer};
 use path_model::{Role, Verdict};
+use rtr_pdu::Version;
 use script_lines::LineFault;
 
 /// What a line is read as.
@@ -24,11 +25,14 @@ pub(crate) enum Reading {
     Bmp(&'static str, &'static str, View, Writer),
     Take(&'static str, u32),
     Until(&'static str, u32),
-    Feed(&'static str, &'static str),
+    // at this place, and in this version, if one is said
+    Feed(&'static str, &'static str, Option<Version>),
     Ask(&'static str),
     Sync(&'static str, u32),
     // at this place, in this session, so many routers
     Serve(&'static str, u16, u32),
+    // refresh, retry and expire
+    Timing(u32, u32, u32),
     Judge(Role, u32, &'static [u32]),
     Report,
     Origins,
@@ -176,9 +180,27 @@ pub(crate) const DUMPS: [Row; 23] = [
     (b"report now", Reading::Refused(LineFault::Words)),
 ];
 
-pub(crate) const FEEDS: [Row; 16] = [
-    (b"feed c cache:323", Reading::Feed("c", "cache:323")),
-    (b"feed c-1\t[::1]:8282", Reading::Feed("c-1", "[::1]:8282")),
+pub(crate) const FEEDS: [Row; 22] = [
+    (b"feed c cache:323", Reading::Feed("c", "cache:323", None)),
+    (
+        b"feed c-1\t[::1]:8282",
+        Reading::Feed("c-1", "[::1]:8282", None),
+    ),
+    (
+        b"feed c cache:323 0",
+        Reading::Feed("c", "cache:323", Some(Version::Zero)),
+    ),
+    (
+        b"feed c cache:323\t1 ",
+        Reading::Feed("c", "cache:323", Some(Version::One)),
+    ),
+    (
+        b"feed c cache:323 2",
+        Reading::Feed("c", "cache:323", Some(Version::Two)),
+    ),
+    (b"feed c cache:323 3", Reading::Refused(LineFault::Words)),
+    (b"feed c cache:323 01", Reading::Refused(LineFault::Words)),
+    (b"feed c cache:323 1 1", Reading::Refused(LineFault::Words)),
     (b"feed c", Reading::Refused(LineFault::Words)),
     (b"feed c cache 323", Reading::Refused(LineFault::Words)),
     (b"feed c:1 cache:323", Reading::Refused(LineFault::Words)),
@@ -195,12 +217,35 @@ pub(crate) const FEEDS: [Row; 16] = [
     (b"Sync c 1", Reading::Refused(LineFault::Command)),
 ];
 
-pub(crate) const SERVINGS: [Row; 13] = [
+pub(crate) const SERVINGS: [Row; 24] = [
     (b"serve here 7 1", Reading::Serve("here", 7, 1)),
     (b"serve\t[::]:323 0 1 ", Reading::Serve("[::]:323", 0, 1)),
     (
         b"serve here 65535 100000000",
         Reading::Serve("here", 65_535, 100_000_000),
+    ),
+    (b"timing 3600 600 7200", Reading::Timing(3_600, 600, 7_200)),
+    (b"timing 1 1 600", Reading::Timing(1, 1, 600)),
+    (
+        b"timing\t86400 7200 172800 ",
+        Reading::Timing(86_400, 7_200, 172_800),
+    ),
+    (b"timing 3600 600", Reading::Refused(LineFault::Words)),
+    (b"timing 1 2 700 4", Reading::Refused(LineFault::Words)),
+    (b"timing 0 600 7200", Reading::Refused(LineFault::Number)),
+    (
+        b"timing 86401 600 172800",
+        Reading::Refused(LineFault::Number),
+    ),
+    (b"timing 3600 0 7200", Reading::Refused(LineFault::Number)),
+    (
+        b"timing 3600 7201 172800",
+        Reading::Refused(LineFault::Number),
+    ),
+    (b"timing 60 60 599", Reading::Refused(LineFault::Number)),
+    (
+        b"timing 3600 600 172801",
+        Reading::Refused(LineFault::Number),
     ),
     (b"serve here 7", Reading::Refused(LineFault::Words)),
     (b"serve here 7 1 1", Reading::Refused(LineFault::Words)),

@@ -46,8 +46,8 @@ fn is_read_so(read: &Result<Command, LineFault>, reading: Reading) -> bool {
         (Ok(Command::Until(name, seconds)), Reading::Until(called, wanted)) => {
             name.text() == called && *seconds == wanted
         }
-        (Ok(Command::Feed(name, place)), Reading::Feed(called, of)) => {
-            name.text() == called && place.text() == of
+        (Ok(Command::Feed(name, place, said)), Reading::Feed(called, of, wanted)) => {
+            name.text() == called && place.text() == of && *said == wanted
         }
         (Ok(Command::Ask(name)), Reading::Ask(called)) => name.text() == called,
         (Ok(Command::Sync(name, count)), Reading::Sync(called, wanted)) => {
@@ -55,6 +55,9 @@ fn is_read_so(read: &Result<Command, LineFault>, reading: Reading) -> bool {
         }
         (Ok(Command::Serve(place, session, count)), Reading::Serve(at, of, wanted)) => {
             place.text() == at && *session == of && *count == wanted
+        }
+        (Ok(Command::Timing(refresh, retry, expire)), Reading::Timing(fast, again, last)) => {
+            *refresh == fast && *retry == again && *expire == last
         }
         (Ok(Command::Report), Reading::Report) => true,
         (Ok(Command::Origins), Reading::Origins) => true,

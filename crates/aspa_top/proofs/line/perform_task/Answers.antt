@@ -54,6 +54,9 @@ returns-in-Connect-clause-did g c = rw c.in-Connect.is c.connect_feed.ensures.di
 pub returns-in-OnFeed-clause-did : goal.returns-in-OnFeed-clause-did
 returns-in-OnFeed-clause-did g c = rw c.in-OnFeed.is c.work_on.ensures.did
 
+pub returns-in-SetTiming-clause-did : goal.returns-in-SetTiming-clause-did
+returns-in-SetTiming-clause-did g c = rw c.in-SetTiming.is c.set_timing.ensures.did
+
 pub returns-in-Answer-clause-did : goal.returns-in-Answer-clause-did
 returns-in-Answer-clause-did g c = rw c.in-Answer.is c.answer.ensures.did
 

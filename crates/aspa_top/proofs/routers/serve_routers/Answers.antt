@@ -4,7 +4,7 @@ use Rattle.attestations.specs.CurrentTable.{Parts}
 use Rattle.rib_store.specs.State.{State as Analysis}
 use Rattle.rtr_cache.specs.Cache.{FitsPdus}
 use Rattle.av_base.specs.declared.stop.Stop.TheVariants as stops
-use Rattle.aspa_top.specs.Serving.{TakesTable}
+use Rattle.aspa_top.specs.Serving.{TakesTimed}
 use Rattle.aspa_top.specs.Working.{cache_in}
 use Rattle.aspa_top.proofs.DidLemmas.{did_err, nothing}
 use Rattle.aspa_top.proofs.KeepLemmas.{keeps_all, keeps_talk}
@@ -48,7 +48,7 @@ returns-in_err-cache g c = record {
 pub returns-in_err-served : goal.returns-in_err-served
 returns-in_err-served g c =
     let fits : FitsPdus c.args.working.progress.analyser.parts = subst FitsPdus (c.table.ensures ∙ ap (λ (s : Analysis). s.parts) c.store.ensures) (c.if-not-fits_pdus.ensures.0 refl) in
-    let takes = subst (λ (parts : Parts). TakesTable (cache_in c.args.working c.args.session) c.args.session parts c.in_ok-cache.cache)
+    let takes = subst (λ (parts : Parts). TakesTimed (cache_in c.args.working c.args.session) c.args.session c.args.working.timing parts c.in_ok-cache.cache)
     (c.table-table.ensures ∙ ap (λ (s : Analysis). s.parts) c.store-2.ensures) c.in_ok-cache.ensures.takes in
     record {
       keeps = record { lent = refl; keeps = keeps_talk _ _ _ _ _ _ _ _ (record { attempts = c.serve.ensures.attempts; wire = c.serve.ensures.others.later }) c.serve.ensures.broke c.serve.ensures.grows c.serve.ensures.sink_faults };
@@ -61,7 +61,7 @@ returns-in_err-served g c =
 pub returns-in_err-keep : goal.returns-in_err-keep
 returns-in_err-keep g c =
     let fits : FitsPdus c.args.working.progress.analyser.parts = subst FitsPdus (c.table.ensures ∙ ap (λ (s : Analysis). s.parts) c.store.ensures) (c.if-not-fits_pdus.ensures.0 refl) in
-    let takes = subst (λ (parts : Parts). TakesTable (cache_in c.args.working c.args.session) c.args.session parts c.in_ok-cache.cache)
+    let takes = subst (λ (parts : Parts). TakesTimed (cache_in c.args.working c.args.session) c.args.session c.args.working.timing parts c.in_ok-cache.cache)
     (c.table-table.ensures ∙ ap (λ (s : Analysis). s.parts) c.store-2.ensures) c.in_ok-cache.ensures.takes in
     record {
       keeps = record { lent = refl; keeps = keeps_talk _ _ _ _ _ _ _ _ (record { attempts = c.serve.ensures.attempts; wire = c.serve.ensures.others.later }) c.serve.ensures.broke c.serve.ensures.grows c.serve.ensures.sink_faults };
@@ -72,7 +72,7 @@ returns-in_err-keep g c =
 pub returns-in_err-put_served : goal.returns-in_err-put_served
 returns-in_err-put_served g c =
     let fits : FitsPdus c.args.working.progress.analyser.parts = subst FitsPdus (c.table.ensures ∙ ap (λ (s : Analysis). s.parts) c.store.ensures) (c.if-not-fits_pdus.ensures.0 refl) in
-    let takes = subst (λ (parts : Parts). TakesTable (cache_in c.args.working c.args.session) c.args.session parts c.in_ok-cache.cache)
+    let takes = subst (λ (parts : Parts). TakesTimed (cache_in c.args.working c.args.session) c.args.session c.args.working.timing parts c.in_ok-cache.cache)
     (c.table-table.ensures ∙ ap (λ (s : Analysis). s.parts) c.store-2.ensures) c.in_ok-cache.ensures.takes in
     record {
       keeps = record { lent = refl; keeps = keeps_talk _ _ _ _ _ _ _ _ (record { attempts = c.serve.ensures.attempts; wire = c.serve.ensures.others.later }) c.serve.ensures.broke c.serve.ensures.grows c.serve.ensures.sink_faults };
@@ -83,7 +83,7 @@ returns-in_err-put_served g c =
 pub returns : goal.returns
 returns g c =
     let fits : FitsPdus c.args.working.progress.analyser.parts = subst FitsPdus (c.table.ensures ∙ ap (λ (s : Analysis). s.parts) c.store.ensures) (c.if-not-fits_pdus.ensures.0 refl) in
-    let takes = subst (λ (parts : Parts). TakesTable (cache_in c.args.working c.args.session) c.args.session parts c.in_ok-cache.cache)
+    let takes = subst (λ (parts : Parts). TakesTimed (cache_in c.args.working c.args.session) c.args.session c.args.working.timing parts c.in_ok-cache.cache)
     (c.table-table.ensures ∙ ap (λ (s : Analysis). s.parts) c.store-2.ensures) c.in_ok-cache.ensures.takes in
     record {
       keeps = record { lent = refl; keeps = keeps_talk _ _ _ _ _ _ _ _ (record { attempts = c.serve.ensures.attempts; wire = c.serve.ensures.others.later }) c.serve.ensures.broke c.serve.ensures.grows c.serve.ensures.sink_faults };

@@ -16,7 +16,7 @@ pub returns-clause-connects : goal.returns-clause-connects
 returns-clause-connects g c =
     connected_named (g.K.Links.attempts c.args.links.now) (g.K.Links.attempts c.close.new.links) (g.K.Links.attempts c.start-slot.new.links)
     (g.K.Links.wire c.args.links.now) (g.K.Links.wire c.close.new.links) (g.K.Links.wire c.start-slot.new.links)
-    (g.K.Links.standings c.args.links.now) (g.K.Links.standings c.close.new.links) (g.K.Links.standings c.start-slot.new.links) c.args.name.now c.args.place.now
+    (g.K.Links.standings c.args.links.now) (g.K.Links.standings c.close.new.links) (g.K.Links.standings c.start-slot.new.links) c.args.name.now c.args.place.now c.args.said
     c.args.feeds.now c.hold.new.feeds c.give.new.feeds c.in_ok-old.old c.start-slot.result.0 (2 ^ 61) c.requires.sound c.in_ok-old.ensures.was
     c.close.ensures.spares c.start-slot.ensures.spares c.in_ok-old.ensures.now c.give.ensures c.start-slot.result.1 c.close.ensures.closed c.close.ensures.attempts c.start-slot.ensures.starts
 
@@ -24,7 +24,7 @@ pub returns-clause-sound : goal.returns-clause-sound
 returns-clause-sound g c = λ most sound.
     connected_sound (g.K.Links.attempts c.args.links.now) (g.K.Links.attempts c.close.new.links) (g.K.Links.attempts c.start-slot.new.links)
     (g.K.Links.wire c.args.links.now) (g.K.Links.wire c.close.new.links) (g.K.Links.wire c.start-slot.new.links)
-    (g.K.Links.standings c.args.links.now) (g.K.Links.standings c.close.new.links) (g.K.Links.standings c.start-slot.new.links) c.args.name.now c.args.place.now
+    (g.K.Links.standings c.args.links.now) (g.K.Links.standings c.close.new.links) (g.K.Links.standings c.start-slot.new.links) c.args.name.now c.args.place.now c.args.said
     c.args.feeds.now c.hold.new.feeds c.give.new.feeds c.in_ok-old.old c.start-slot.result.0 (2 ^ 61) c.requires.sound c.in_ok-old.ensures.was
     c.close.ensures.spares c.start-slot.ensures.spares c.in_ok-old.ensures.now c.give.ensures most sound c.start-slot.ensures.fits
 
@@ -38,7 +38,7 @@ pub returns-clause-others : goal.returns-clause-others
 returns-clause-others g c =
     connected_others (g.K.Links.attempts c.args.links.now) (g.K.Links.attempts c.close.new.links) (g.K.Links.attempts c.start-slot.new.links)
     (g.K.Links.wire c.args.links.now) (g.K.Links.wire c.close.new.links) (g.K.Links.wire c.start-slot.new.links)
-    (g.K.Links.standings c.args.links.now) (g.K.Links.standings c.close.new.links) (g.K.Links.standings c.start-slot.new.links) c.args.name.now c.args.place.now
+    (g.K.Links.standings c.args.links.now) (g.K.Links.standings c.close.new.links) (g.K.Links.standings c.start-slot.new.links) c.args.name.now c.args.place.now c.args.said
     c.args.feeds.now c.hold.new.feeds c.give.new.feeds c.in_ok-old.old c.start-slot.result.0 (2 ^ 61) c.requires.sound c.in_ok-old.ensures.was
     c.close.ensures.spares c.start-slot.ensures.spares
 

@@ -13,7 +13,7 @@ start_session-requires-clause-usable g c = usable_new (g.K.Links.standings c.arg
 pub returns-in-Ok-clause-starts : goal.returns-in-Ok-clause-starts
 returns-in-Ok-clause-starts g c =
     started_made (g.K.Links.attempts c.args.links.now) (g.K.Links.attempts c.connect.new.self) (g.K.Links.attempts c.start_session.new.links) (g.K.Links.wire c.connect.new.self) (g.K.Links.wire c.start_session.new.links)
-    c.args.place.now c.in-Ok.link c.start_session.result.0 c.start_session.result.1 (g.K.Links.wire c.args.links.now)
+    c.args.place.now c.args.said c.in-Ok.link c.start_session.result.0 c.start_session.result.1 (g.K.Links.wire c.args.links.now)
     (new_number _ _ c.in-Ok.link (g.met.K.Links.agrees c.args.links.now) c.in-Ok.ensures.number) c.in-Ok.ensures.made c.start_session.ensures.attempts
     (new_now _ _ (g.K.Links.standings c.args.links.now) c.args.place.now c.in-Ok.link c.in-Ok.ensures.ok (g.met.K.Links.agrees c.args.links.now) c.in-Ok.ensures.number)
     c.start_session.ensures.only.later c.start_session.ensures.starts
@@ -28,7 +28,7 @@ returns-in-Ok-clause-spares g c =
     (subst (λ k. Only k (g.K.Links.wire c.connect.new.self) (g.K.Links.wire c.start_session.new.links) (g.K.Links.standings c.connect.new.self) (g.K.Links.standings c.start_session.new.links)) c.in-Ok.ensures.number c.start_session.ensures.only)
 
 pub returns-in-Err-clause-starts : goal.returns-in-Err-clause-starts
-returns-in-Err-clause-starts g c = started_failed _ _ _ _ c.args.place.now c.in-Err.ensures.failed
+returns-in-Err-clause-starts g c = started_failed _ _ _ _ c.args.place.now c.args.said c.in-Err.ensures.failed
 
 pub returns-in-Err-clause-spares : goal.returns-in-Err-clause-spares
 returns-in-Err-clause-spares g c = spares_same _ _ _ _ _ c.connect.ensures.later c.in-Err.ensures.err c.in-Err.ensures.err_standings

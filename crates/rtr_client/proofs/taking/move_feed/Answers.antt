@@ -1,6 +1,7 @@
 use Rattle.std.proofs.Common.{◌∙◌}
 use Rattle.connection_calls.proofs.ConnectionLemmas.{Spares-trans, Only-loud, KeepsSent-trans}
 use Rattle.connection_calls.proofs.FaultsLemmas.{BreaksByFault-trans, breaks_closed}
+use Rattle.rtr_client.specs.Speaking.{is_strict, version_of}
 use Rattle.rtr_client.proofs.PduLemmas.{goes_on}
 use Rattle.rtr_client.proofs.TakingLemmas.{next_ended, next_lost, next_refused, next_pdu, refused_now, on_err}
 use Rattle.rtr_client.proofs.taking.move_feed.Goals as goal
@@ -22,7 +23,7 @@ pub returns-in-Lost-clause-only : goal.returns-in-Lost-clause-only
 returns-in-Lost-clause-only g c = Spares-trans c.in_ok-framer.ensures.only (Only-loud _ _ c.close-in-Lost.ensures.later c.close-in-Lost.ensures.closed c.close-in-Lost.ensures.standings)
 
 pub report-requires : goal.report-requires
-report-requires g c = refused_now c.in_ok-framer.framer c.in_ok-framer.asked c.in-Refused.cause c.in-Refused.is c.in_ok-framer.ensures.refused
+report-requires g c = refused_now (version_of c.args.feed.said) c.in_ok-framer.framer c.in_ok-framer.asked c.in-Refused.cause c.in-Refused.is c.in_ok-framer.ensures.refused
 
 pub returns-in_ok-report-in-Refused-clause-moved : goal.returns-in_ok-report-in-Refused-clause-moved
 returns-in_ok-report-in-Refused-clause-moved g c = λ state stands.
@@ -34,7 +35,7 @@ pub returns-in_ok-report-in-Refused-clause-only : goal.returns-in_ok-report-in-R
 returns-in_ok-report-in-Refused-clause-only g c = Spares-trans c.in_ok-framer.ensures.only c.finish.ensures.only
 
 pub perform-requires-clause-phase : goal.perform-requires-clause-phase
-perform-requires-clause-phase g c = λ on. goes_on c.args.feed.session c.in-Pdu.pdu c.in_ok-session-in-Pdu.act c.in_ok-session-in-Pdu.session c.in_ok-session-in-Pdu.ensures c.requires.fit.phase on
+perform-requires-clause-phase g c = λ on. goes_on (is_strict c.args.feed.said) c.args.feed.session c.in-Pdu.pdu c.in_ok-session-in-Pdu.act c.in_ok-session-in-Pdu.session c.in_ok-session-in-Pdu.ensures c.requires.fit.phase on
 
 pub returns-in_ok-outcome-in-Pdu-clause-moved : goal.returns-in_ok-outcome-in-Pdu-clause-moved
 returns-in_ok-outcome-in-Pdu-clause-moved g c = λ state stands.

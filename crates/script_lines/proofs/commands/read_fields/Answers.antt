@@ -4,9 +4,10 @@ use Rattle.std.proofs.lemmas.Iterator.Adapters.{option_map_id}
 use Rattle.dialects.specs.declared.writer.Writer.{Writer}
 use Rattle.dialects.specs.declared.writer.Writer.TheVariants.{Plain}
 use Rattle.path_model.specs.declared.verdict.Verdict.{Verdict}
+use Rattle.rtr_pdu.specs.declared.version.Version.{Version}
 use Rattle.av_text.specs.Words.{words_left}
-use Rattle.script_lines.specs.declared.commands.Command.TheVariants.{Attests, Bmp, Details, Open, Why}
-use Rattle.script_lines.specs.declared.commands.CommandName.TheVariants.{Aspa as AspaName, Aspa64 as Aspa64Name, Validated as ValidatedName, Slurm as SlurmName, Filter as FilterName, Unfilter as UnfilterName, Assert as AssertName, Unassert as UnassertName, At as AtName, Role as RoleName, Open as OpenName, Bmp as BmpName, Take as TakeName, Until as UntilName, Feed as FeedName, Ask as AskName, Sync as SyncName, Serve as ServeName, Judge as JudgeName, Clear as ClearName, Changes as ChangesName, Why as WhyName, Details as DetailsName, Say as SayName, Report as ReportName, Origins as OriginsName, Leaks as LeaksName, Suspects as SuspectsName, Peers as PeersName, Sent as SentName, Explain as ExplainName, Attests as AttestsName, Neighbours as NeighboursName, Routes as RoutesName, Silent as SilentName, Summary as SummaryName}
+use Rattle.script_lines.specs.declared.commands.Command.TheVariants.{Attests, Bmp, Details, Feed, Open, Why}
+use Rattle.script_lines.specs.declared.commands.CommandName.TheVariants.{Aspa as AspaName, Aspa64 as Aspa64Name, Validated as ValidatedName, Slurm as SlurmName, Filter as FilterName, Unfilter as UnfilterName, Assert as AssertName, Unassert as UnassertName, At as AtName, Role as RoleName, Open as OpenName, Bmp as BmpName, Take as TakeName, Until as UntilName, Feed as FeedName, Ask as AskName, Sync as SyncName, Serve as ServeName, Timing as TimingName, Judge as JudgeName, Clear as ClearName, Changes as ChangesName, Why as WhyName, Details as DetailsName, Say as SayName, Report as ReportName, Origins as OriginsName, Leaks as LeaksName, Suspects as SuspectsName, Peers as PeersName, Sent as SentName, Explain as ExplainName, Attests as AttestsName, Neighbours as NeighboursName, Routes as RoutesName, Silent as SilentName, Summary as SummaryName}
 use Rattle.script_lines.specs.Commands.{made_by, SpellsCommand}
 use Rattle.script_lines.proofs.ExplainLemmas.{explained_spelled}
 use Rattle.script_lines.proofs.commands.read_fields.Goals as goal
@@ -60,7 +61,10 @@ pub returns-in_ok-name-in-Until-clause-spelled : goal.returns-in_ok-name-in-Unti
 returns-in_ok-name-in-Until-clause-spelled c = rw c.in-Until.is (c.in_ok-name-in-Until.ensures.spelled (made_by UntilName))
 
 pub returns-in_ok-name-in-Feed-clause-spelled : goal.returns-in_ok-name-in-Feed-clause-spelled
-returns-in_ok-name-in-Feed-clause-spelled c = rw c.in-Feed.is (c.in_ok-name-in-Feed.ensures.spelled (made_by FeedName))
+returns-in_ok-name-in-Feed-clause-spelled c =
+    let found = c.in_ok-name-in-Feed in
+    let P : Option Version → Type 0 = λ said. SpellsCommand FeedName (words_left c.args.words) (Feed found.name found.place said) in
+    rw c.in-Feed.is (subst P (option_map_id found.said) (found.ensures.spelled (made_by FeedName)))
 
 pub returns-in_ok-name-in-Ask-clause-spelled : goal.returns-in_ok-name-in-Ask-clause-spelled
 returns-in_ok-name-in-Ask-clause-spelled c = rw c.in-Ask.is (c.in_ok-name-in-Ask.ensures.spelled (made_by AskName))
@@ -70,6 +74,9 @@ returns-in_ok-name-in-Sync-clause-spelled c = rw c.in-Sync.is (c.in_ok-name-in-S
 
 pub returns-in_ok-place-in-Serve-clause-spelled : goal.returns-in_ok-place-in-Serve-clause-spelled
 returns-in_ok-place-in-Serve-clause-spelled c = rw c.in-Serve.is (c.in_ok-place-in-Serve.ensures.spelled (made_by ServeName))
+
+pub returns-in_ok-refresh-in-Timing-clause-spelled : goal.returns-in_ok-refresh-in-Timing-clause-spelled
+returns-in_ok-refresh-in-Timing-clause-spelled c = rw c.in-Timing.is (c.in_ok-refresh-in-Timing.ensures.spelled (made_by TimingName))
 
 pub returns-in_ok-role-in-Judge-clause-spelled : goal.returns-in_ok-role-in-Judge-clause-spelled
 returns-in_ok-role-in-Judge-clause-spelled c = rw c.in-Judge.is (c.in_ok-role-in-Judge.ensures.spelled (made_by JudgeName))

@@ -14,6 +14,7 @@ invariant_of-result c = record {
 pub returns : goal.returns
 returns c = record {
   session_is = refl;
+  timing_is = c.suggested.ensures;
   serial = refl;
   rows = are_rows c.in_ok-rows.rows c.args.table.now c.in_ok-rows.ensures;
   alone = ap (λ (backs : List PatchMap). older_of 0 c.in_ok-rows.rows backs) c.new.ensures.items;

@@ -9,7 +9,7 @@ use Rattle.rtr_cache.proofs.cache.Cache.update.Goals as goal
 
 pub returns-then-is_none : goal.returns-then-is_none
 returns-then-is_none c = subst (λ (old : Versions). Updates old c.args.table.now old) c.self.view_is
-    (updates_same c.self.inside.session c.self.inside.serial c.self.inside.rows c.self.inside.back.items c.args.table.now c.in_ok-back.back c.in_ok-back.ensures (c.is_none.ensures.0 c.if-is_none.true))
+    (updates_same c.self.inside.session c.self.inside.timing c.self.inside.serial c.self.inside.rows c.self.inside.back.items c.args.table.now c.in_ok-back.back c.in_ok-back.ensures (c.is_none.ensures.0 c.if-is_none.true))
 
 pub invariant_of-self : goal.invariant_of-self
 invariant_of-self c =
@@ -22,7 +22,7 @@ pub returns : goal.returns
 returns c =
     let items : c.truncate.new.self.items ≡ take 63 (c.in_ok-back.back ∷ c.self.inside.back.items) = c.truncate.ensures.items ∙ ap (take 63) c.in_ok-push_front.ensures.items in
     let some : c.in_ok-back.back ≢ map.empty = (λ none. let never : ⊥ = (let t = c.is_none.ensures.1 none in let f = c.if-is_none.false in cc) in never) in
-    subst (λ (old : Versions). Updates old c.args.table.now (versions_of c.self.inside.session (c.self.inside.serial + 1) c.follow.new.rows c.truncate.new.self.items)) c.self.view_is
-    (subst (λ (backs : List PatchMap). Updates (versions_of c.self.inside.session c.self.inside.serial c.self.inside.rows c.self.inside.back.items) c.args.table.now (versions_of c.self.inside.session (c.self.inside.serial + 1) c.follow.new.rows backs)) (sym items)
-    (updates_next c.self.inside.session c.self.inside.serial c.self.inside.rows c.follow.new.rows c.self.inside.back.items c.args.table.now c.in_ok-back.back c.in_ok-back.ensures
+    subst (λ (old : Versions). Updates old c.args.table.now (versions_of c.self.inside.session c.self.inside.timing (c.self.inside.serial + 1) c.follow.new.rows c.truncate.new.self.items)) c.self.view_is
+    (subst (λ (backs : List PatchMap). Updates (versions_of c.self.inside.session c.self.inside.timing c.self.inside.serial c.self.inside.rows c.self.inside.back.items) c.args.table.now (versions_of c.self.inside.session c.self.inside.timing (c.self.inside.serial + 1) c.follow.new.rows backs)) (sym items)
+    (updates_next c.self.inside.session c.self.inside.timing c.self.inside.serial c.self.inside.rows c.follow.new.rows c.self.inside.back.items c.args.table.now c.in_ok-back.back c.in_ok-back.ensures
     (followed c.self.inside.rows c.follow.new.rows (table_of c.args.table.now) c.in_ok-back.back c.in_ok-back.ensures c.in_ok-follow.ensures) some))
