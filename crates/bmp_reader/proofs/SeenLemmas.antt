@@ -72,10 +72,13 @@ told_more front told last is = by_test (last.code == 9) refl
 -- ---- what else they tell
 
 -- what is seen so far is what the capabilities have
-any_more : {P : Triple → Bool} (front : List Triple) (seen : Bool) (last : Triple) → seen ≡ list_any P front → (seen || P last) ≡ list_any P (front ++ last ∷ [])
-any_more {P} front seen last is = ap (λ (b : Bool). b || P last) is ∙ ap (λ (b : Bool). list_any P front || b) (one (P last)) ∙ sym (list_any-append P front (last ∷ []))
+any_more : (P : Triple → Bool) (front : List Triple) (seen : Bool) (last : Triple) → seen ≡ list_any P front → (seen || P last) ≡ list_any P (front ++ last ∷ [])
+any_more P front seen last is =
+    let first : (seen || P last) ≡ (list_any P front || P last) = ap (λ (b : Bool). b || P last) is in
+    let then : (list_any P front || P last) ≡ (list_any P front || list_any P (last ∷ [])) = ap (λ (b : Bool). list_any P front || b) (one (P last)) in
+    first ∙ then ∙ sym (list_any-append P front (last ∷ []))
   where
-    one : (b : Bool) → b ≡ cond b true false
+    one : (b : Bool) → b ≡ (b || false)
     one true = refl
     one false = refl
 
@@ -85,8 +88,8 @@ pub record IsOffered (front : List Triple) (six : Bool) (offered : Offered) : Ty
 
 offered_more : (front : List Triple) (six : Bool) (offered : Offered) (last : Triple) → IsOffered front six offered → IsOffered (front ++ last ∷ []) six (offered_also offered last six)
 offered_more front six offered last is = record {
-  sends = any_more {P = is_offer 2 six} front offered.sends last is.sends;
-  receives = any_more {P = is_offer 1 six} front offered.receives last is.receives;
+  sends = any_more (is_offer 2 six) front offered.sends last is.sends;
+  receives = any_more (is_offer 1 six) front offered.receives last is.receives;
 }
 
 -- ---- all of them
@@ -115,8 +118,8 @@ one_seen front seen last is = record {
   told = told_more front seen.told last is.told;
   four = offered_more front false seen.four last is.four;
   six = offered_more front true seen.six last is.six;
-  add_path = any_more {P = λ t. t.code == 69} front seen.add_path last is.add_path;
-  wide = any_more {P = λ t. t.code == 65} front seen.wide last is.wide;
+  add_path = any_more (λ (t : Triple). t.code == 69) front seen.add_path last is.add_path;
+  wide = any_more (λ (t : Triple). t.code == 65) front seen.wide last is.wide;
 }
 
 more_seen : (front : List Triple) (seen : Seen) (capabilities : List Triple) → IsSeen front seen → IsSeen (front ++ capabilities) (see_all seen capabilities)

@@ -1,5 +1,5 @@
 -- Times of messages.
-use Rattle.std.proofs.Common.{◌≡◌, ◌⊎◌, inl, inr, ℕ, ◌<◌, ◌==◌, Bool, true, false, List, [], ◌++◌, length, take, drop, None, Some, Ok, Err, refl, sym, ap, subst, ◌∙◌, append_assoc, arith}
+use Rattle.std.proofs.Common.{◌≡◌, ◌⊎◌, inl, inr, ℕ, ◌<◌, ◌==◌, Bool, true, false, cond, List, [], ◌++◌, length, take, drop, None, Some, Ok, Err, refl, sym, ap, subst, ◌∙◌, append_assoc, arith}
 use Rattle.std.specs.declared.option.Option.{Option}
 use Rattle.std.proofs.lemmas.Bool.Decides.{nat_tests}
 use Rattle.held_bytes.specs.Units.{Begins}
@@ -17,13 +17,25 @@ use Rattle.bmp_reader.proofs.MessageLemmas.{message_made, not_bad, not_other, on
 -- ---- the time of a message is read exactly where it is
 
 -- a time that isn't 0
+abbrev unless : Bool → ℕ → Option ℕ
+unless none n = cond none None (Some n)
+
 known_is : (n time : ℕ) → known_time n ≡ Some time → (n ≡ time) × (0 < time)
-known_is 0 time e = absurd cc
-known_is (suc n) time e = (cc, (let same : suc n ≡ time = cc in omega (arith, same)))
+known_is n time e = by_test (n == 0) refl
+  where
+    by_test : (none : Bool) → (n == 0) ≡ none → (n ≡ time) × (0 < time)
+    by_test true t = let none : known_time n ≡ None = ap (λ (b : Bool). unless b n) t in absurd cc
+    by_test false t =
+        let some : known_time n ≡ Some n = ap (λ (b : Bool). unless b n) t in
+        let same : n ≡ time = cc in
+        (same, grind (arith, nat_tests, t, same))
 
 known_here : (time : ℕ) → 0 < time → known_time time ≡ Some time
-known_here 0 some = absurd (omega (arith, some))
-known_here (suc n) some = refl
+known_here time some = ap (λ (b : Bool). unless b time) (not_zero (time == 0) refl)
+  where
+    not_zero : (none : Bool) → (time == 0) ≡ none → (time == 0) ≡ false
+    not_zero false t = t
+    not_zero true t = absurd (grind (arith, nat_tests, some, t))
 
 time_found : (body : List ℕ) (kind time : ℕ) → is_of_peer kind ≡ true → time_at body ≡ Some time → HasTime (record { kind = kind; body = body }) time
 unfolding time_at

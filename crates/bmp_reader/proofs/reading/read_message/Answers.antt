@@ -1,4 +1,5 @@
 use Rattle.std.proofs.Common.{◌≡◌, List, ℕ, sym, ◌∙◌, subst}
+use Rattle.dialects.specs.declared.view.View.{View}
 use Rattle.bmp_reader.specs.declared.header.PeerHeader.{PeerHeader}
 use Rattle.bmp_reader.specs.declared.kind.Kind.{Kind}
 use Rattle.bmp_reader.specs.declared.kind.Kind.TheVariants.{RouteMonitoring, PeerDown, PeerUp}
@@ -22,11 +23,13 @@ returns-in-PeerDown c =
     let body = c.args.message.now.body.now in
     let is : kind_of c.args.message.now.kind ≡ PeerDown = sym c.kind_of.ensures ∙ c.in-PeerDown.is in
     subst (λ (kind : Kind). OrNoMemory (λ r. KindSays kind c.args.before.now body r) c.read_down.result) (sym is)
-    (or_by_form (IsPeerDown body) (DownSays c.args.before.now.view) (down_at body) c.read_down.result (down_reads body) c.read_down.ensures)
+    (or_by_form (IsPeerDown body) (DownSays c.args.before.now.view) (down_at body) c.read_down.result (down_reads body)
+    (subst (λ (v : View). OrNoMemory (ByParts (down_at body) (DownSays v)) c.read_down.result) c.view.ensures c.read_down.ensures))
 
 pub returns-in-PeerUp : goal.returns-in-PeerUp
 returns-in-PeerUp c =
     let body = c.args.message.now.body.now in
     let is : kind_of c.args.message.now.kind ≡ PeerUp = sym c.kind_of.ensures ∙ c.in-PeerUp.is in
     subst (λ (kind : Kind). OrNoMemory (λ r. KindSays kind c.args.before.now body r) c.read_up.result) (sym is)
-    (or_by_form (IsPeerUp body) (UpSays c.args.before.now.view) (up_at body) c.read_up.result (up_reads body) (or_no_memory (λ r. ByParts (up_at body) (UpSays c.args.before.now.view) r) c.read_up.result c.read_up.ensures))
+    (or_by_form (IsPeerUp body) (UpSays c.args.before.now.view) (up_at body) c.read_up.result (up_reads body) (or_no_memory (λ r. ByParts (up_at body) (UpSays c.args.before.now.view) r) c.read_up.result
+    (subst (λ (v : View). ByParts (up_at body) (UpSays v) c.read_up.result) c.view-in-PeerUp.ensures c.read_up.ensures)))
