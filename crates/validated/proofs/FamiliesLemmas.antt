@@ -34,6 +34,10 @@ both_families kept d four six both four_is six_is joined are = record {
 
 -- ---- a file
 
+-- what is kept of a member that isn't there
+pub absent : {X A : Type 0} (see : X → A) (R : Data → A → Type 0) (kept : Option (Option X)) (o : Option Data) → kept ≡ Some None → Keeps see R kept o → IfThere R o None
+absent {X} see R kept o is keeps = subst (λ (k : Option (Option X)). Keeps see R k o) is keeps
+
 module _ (roas : Option Data) where
   pub first_bad : (first second : Option Data) → ((a : Option (List Aspa)) → IfThere (IsListOf IsAspa) first a → ⊥)
       → (list : List Aspa) → AspasAre first second roas list → ⊥

@@ -51,10 +51,11 @@ pub(crate) fn read_families(
     ensures { Takes (λ kept d. Keeps (items_view aspa_view) AreByFamily kept (Some d)) depth reader.old reader.new result }
 {
     let kept: Families = read_object(alloc, reader, depth)?;
-    let Some(ipv4) = kept.ipv4 else {
+    let Families { ipv4, ipv6 } = kept;
+    let Some(ipv4) = ipv4 else {
         return Ok(None);
     };
-    let Some(ipv6) = kept.ipv6 else {
+    let Some(ipv6) = ipv6 else {
         return Ok(None);
     };
     let both = joined(ipv4, ipv6)?;

@@ -3,13 +3,13 @@ use Rattle.stream_lines.proofs.FrameLemmas.{Leaves-closes, Leaves-opens, Leaves-
 use Rattle.aspa_top.proofs.FileLemmas.{file_within, file_beyond}
 use Rattle.aspa_top.proofs.files.load_file.Goals as goal
 
-pub returns-then-len-gt-FILE_LIMIT-clause-comes : goal.returns-then-len-gt-FILE_LIMIT-clause-comes
-returns-then-len-gt-FILE_LIMIT-clause-comes g c =
+pub returns-then-len-limit-clause-comes : goal.returns-then-len-limit-clause-comes
+returns-then-len-limit-clause-comes g c =
     let opened = rw c.in-Some.is at c.in_ok-file.ensures.answer in
     file_beyond _ _ _ _ _ _ _ _ opened (g.met.F.Shelf.numbered c.args.shelf.now) c.in_ok-bytes.ensures.taken c.args.kind.now (omega arith)
 
-pub returns-then-len-gt-FILE_LIMIT-clause-others : goal.returns-then-len-gt-FILE_LIMIT-clause-others
-returns-then-len-gt-FILE_LIMIT-clause-others g c =
+pub returns-then-len-limit-clause-others : goal.returns-then-len-limit-clause-others
+returns-then-len-limit-clause-others g c =
     let opened = rw c.in-Some.is at c.in_ok-file.ensures.answer in
     Leaves-trans (Leaves-trans (Leaves-opens _ _ _ _ _ _ opened (g.met.F.Shelf.numbered c.args.shelf.now))
     (Leaves-weaker c.read_whole.ensures.others (λ other below same. let number = opened.number in omega (arith, below, same, number))))

@@ -7,12 +7,12 @@ returns-in_default c =
     let here = c.in_ok-kept.ensures in
     (here.0, here.1, no_ipv4 c.in_ok-kept.kept here.0 c.in_default.is here.2)
 
-pub returns-in_default-2 : goal.returns-in_default-2
-returns-in_default-2 c =
+pub returns-in_default-ipv6 : goal.returns-in_default-ipv6
+returns-in_default-ipv6 c =
     let here = c.in_ok-kept.ensures in
-    (here.0, here.1, no_ipv6 c.in_ok-kept.kept here.0 c.in_default-2.is here.2)
+    (here.0, here.1, no_ipv6 c.in_ok-kept.kept here.0 c.in_default-ipv6.is here.2)
 
 pub returns : goal.returns
 returns c =
     let here = c.in_ok-kept.ensures in
-    (here.0, here.1, both_families c.in_ok-kept.kept here.0 c.in-Some.ipv4 c.in-Some-2.ipv6 c.in_ok-both.both c.in-Some.is c.in-Some-2.is c.in_ok-both.ensures.ok here.2)
+    (here.0, here.1, both_families c.in_ok-kept.kept here.0 c.in-Some.ipv4 c.in-Some-ipv6.ipv6 c.in_ok-both.both c.in-Some.is c.in-Some-ipv6.is c.in_ok-both.ensures.ok here.2)
