@@ -1,7 +1,7 @@
 -- Which rules of reading hold for what a writer wrote: the table of `docs/formats.md`, one line a rule.
 use Rattle.std.specs.Prelude.{Bool, true, false}
 use Rattle.dialects.specs.declared.writer.Rule.{Rule}
-use Rattle.dialects.specs.declared.writer.Rule.TheVariants.{EstablishedAlone, PathlessEntry, UnnamedPeer, SwappedPeer}
+use Rattle.dialects.specs.declared.writer.Rule.TheVariants.{EstablishedAlone, PathlessEntry, UnnamedPeer, SwappedPeer, TransitionalPeer}
 use Rattle.dialects.specs.declared.writer.Writer.{Writer}
 use Rattle.dialects.specs.declared.writer.Writer.TheVariants.{Plain, Any, Bird, Frr, OpenBgpd, GoBgp}
 
@@ -27,4 +27,5 @@ abbrev pub has : Writer → Rule → Bool
 has writer EstablishedAlone = is_told writer
 has writer PathlessEntry = is_told writer
 has writer UnnamedPeer = is_told writer
+has writer TransitionalPeer = is_told writer
 has writer SwappedPeer = is_openbgpd writer

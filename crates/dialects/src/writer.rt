@@ -29,6 +29,8 @@ pub enum Rule {
     UnnamedPeer,
     /// Where a state change names the writer itself as the peer, its local fields name the peer.
     SwappedPeer,
+    /// In records of ASes of two bytes a peer in the AS 23456 is in the one over 65,535 that its paths begin with.
+    TransitionalPeer,
 }
 
 impl Writer {
@@ -39,7 +41,10 @@ impl Writer {
         ensures { result ≡ has self rule }
     {
         match rule {
-            Rule::EstablishedAlone | Rule::PathlessEntry | Rule::UnnamedPeer => self.is_told(),
+            Rule::EstablishedAlone
+            | Rule::PathlessEntry
+            | Rule::UnnamedPeer
+            | Rule::TransitionalPeer => self.is_told(),
             Rule::SwappedPeer => self.is_openbgpd(),
         }
     }

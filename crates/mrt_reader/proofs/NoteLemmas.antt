@@ -21,7 +21,7 @@ use Rattle.mrt_reader.specs.declared.fault.BodyFault.{BodyFault}
 use Rattle.mrt_reader.specs.declared.layout.Layout.{Layout}
 use Rattle.mrt_reader.specs.declared.layout.Layout.TheVariants as layouts
 use Rattle.mrt_reader.specs.Before.{Known}
-use Rattle.mrt_reader.specs.Bodies.{ByForm, TableSays, raised, MessageSays, StateSays, LayoutSays, IsReading}
+use Rattle.mrt_reader.specs.Bodies.{ByForm, TableSays, IsSent, raised, MessageSays, StateSays, LayoutSays, IsReading}
 use Rattle.mrt_reader.specs.Dumps.{Dumped, IsTableDump}
 use Rattle.mrt_reader.specs.Layouts.{layout_of}
 use Rattle.mrt_reader.specs.Peers.{IsPeerTable}
@@ -30,6 +30,7 @@ use Rattle.mrt_reader.specs.Ribs.{Entry}
 use Rattle.mrt_reader.specs.Routes.{with_first, IsRoute, AreRoutes, AreSomeRoutes, EntriesSay, DumpSays}
 use Rattle.mrt_reader.specs.Sessions.{Session, StateChange, IsRecordedMessage, IsStateChange}
 use Rattle.mrt_reader.specs.States as states
+use Rattle.mrt_reader.specs.Transition.{resolved}
 
 -- a body that is in form has what its value says
 by_form : {A : Type 0} (HasForm : A → Type 0) (Says : A → Result Body BodyFault → Type 0) (noted : Noted) (beside : Beside) → ((value : A) → Says value (Ok (bodies.Routes noted beside)) → HasNotes noted)
@@ -56,22 +57,22 @@ some_have peers prefix (entry ∷ entries) noted (inr are) =
 entries_have : (writer : Writer) (peers : List Peer) (prefix : Subnet) (entries : List Entry) (noted : Noted) (beside : Beside) → EntriesSay writer peers prefix entries (Ok (bodies.Routes noted beside)) → HasNotes noted
 entries_have writer peers prefix entries noted besides.Nothing are = routes_have peers prefix entries noted are
 entries_have writer peers prefix entries noted besides.Passed are = some_have peers prefix entries noted are.3
-entries_have writer peers prefix entries noted (besides.Own addr) are = absurd are
+entries_have writer peers prefix entries noted (besides.Session peer own) are = absurd are
 
-dump_has : (dumped : Dumped) (noted : Noted) (beside : Beside) → DumpSays dumped (Ok (bodies.Routes noted beside)) → HasNotes noted
-dump_has dumped noted besides.Nothing e = subst HasNotes (sym e.3) refl
-dump_has dumped noted besides.Passed e = absurd e
-dump_has dumped noted (besides.Own addr) e = absurd e
+dump_has : (before : Known) (dumped : Dumped) (noted : Noted) (beside : Beside) → DumpSays before dumped (Ok (bodies.Routes noted beside)) → HasNotes noted
+dump_has before dumped noted besides.Nothing e = subst HasNotes (sym e.3) refl
+dump_has before dumped noted besides.Passed e = absurd e
+dump_has before dumped noted (besides.Session peer own) e = absurd e
 
 -- the end of a session announces nothing
 announces_none : (noted : Noted) (beside : Beside) (changes : List Change) → announced_of changes ≡ 0 → Ok (bodies.Routes noted beside) ≡ Ok (bodies.Routes (updates.without_notes changes) besides.Nothing) → HasNotes noted
 announces_none noted beside changes none e = let same : noted ≡ updates.without_notes changes = cc in subst HasNotes (sym same) (sym none)
 
-state_has : (before : Known) (change : StateChange) (noted : Noted) (beside : Beside) → StateSays before change (Ok (bodies.Routes noted beside)) → HasNotes noted
-state_has before change noted beside says = by_rule (states.is_passed before change) says
+state_has : (before : Known) (wide : Bool) (change : StateChange) (noted : Noted) (beside : Beside) → StateSays before wide change (Ok (bodies.Routes noted beside)) → HasNotes noted
+state_has before wide change noted beside says = by_rule (states.is_passed before change) says
   where
     peer : Peer
-    peer = states.peer_in before change
+    peer = resolved before wide (states.peer_in before change)
 
     by_name : (named : Bool) → Ok (bodies.Routes noted beside) ≡ Ok (if named then bodies.Left peer.asn else bodies.Routes (updates.without_notes (RemovePeer peer ∷ [])) besides.Nothing) → HasNotes noted
     by_name true e = absurd cc
@@ -85,20 +86,20 @@ state_has before change noted beside says = by_rule (states.is_passed before cha
     by_rule true e = absurd cc
     by_rule false e = by_state (change.new == 6) e
 
-raised_has : (wide add_path : Bool) (peer : Peer) (local : Addr) (message : List ℕ) (noted : Noted) (beside : Beside) (inner : Result Noted UpdateFault) → updates.IsMessageReading wide add_path peer message inner
+raised_has : (before : Known) (wide add_path : Bool) (peer : Peer) (local : Addr) (message : List ℕ) (noted : Noted) (beside : Beside) (inner : Result (Noted × Peer) UpdateFault) → IsSent before wide add_path peer message inner
     → Ok (bodies.Routes noted beside) ≡ raised local inner → HasNotes noted
-raised_has wide add_path peer local message noted beside (Ok others) reads is =
-    let same : noted ≡ others = cc in subst HasNotes (sym same) (messages.each_has_note wide add_path peer message others reads)
-raised_has wide add_path peer local message noted beside (Err fault) reads is = absurd cc
+raised_has before wide add_path peer local message noted beside (Ok (others, sender)) reads is =
+    let same : noted ≡ others = cc in subst HasNotes (sym same) (messages.each_has_note wide add_path sender message others reads.3)
+raised_has before wide add_path peer local message noted beside (Err fault) reads is = absurd cc
 
 layout_has : (layout : Layout) (before : Known) (body : List ℕ) (noted : Noted) (beside : Beside) → LayoutSays layout before body (Ok (bodies.Routes noted beside)) → HasNotes noted
 layout_has layouts.PeerIndex before body noted beside says = by_form (IsPeerTable body) TableSays noted beside (λ table e. absurd cc) says
 layout_has (layouts.Rib six add_path) before body noted beside says = entries_have before.writer says.1 says.0.prefix says.0.entries noted beside says.4
-layout_has (layouts.Dump six) before body noted beside says = by_form (IsTableDump six body) DumpSays noted beside (λ dumped e. dump_has dumped noted beside e) says
+layout_has (layouts.Dump six) before body noted beside says = by_form (IsTableDump six body) (DumpSays before) noted beside (λ dumped e. dump_has before dumped noted beside e) says
 layout_has (layouts.Message timed wide add_path) before body noted beside says =
-    by_form (λ (it : Session × List ℕ). IsRecordedMessage timed wide body it.0 it.1) (MessageSays wide add_path) noted beside (λ it e. raised_has wide add_path it.0.peer it.0.local.addr it.1 noted beside e.0 e.1 e.2) says
+    by_form (λ (it : Session × List ℕ). IsRecordedMessage timed wide body it.0 it.1) (MessageSays before wide add_path) noted beside (λ it e. raised_has before wide add_path it.0.peer it.0.local.addr it.1 noted beside e.0 e.1 e.2) says
 layout_has (layouts.State timed wide) before body noted beside says =
-    by_form (IsStateChange timed wide body) (StateSays before) noted beside (λ change e. state_has before change noted beside e) says
+    by_form (IsStateChange timed wide body) (StateSays before wide) noted beside (λ change e. state_has before wide change noted beside e) says
 layout_has layouts.Other before body noted beside says = absurd cc
 
 pub each_has_note : (it : Recorded) (before : Known) (noted : Noted) (beside : Beside) → IsReading it before (Ok (bodies.Routes noted beside)) → HasNotes noted

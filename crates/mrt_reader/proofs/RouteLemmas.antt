@@ -151,7 +151,7 @@ stops_beyond peers prefix all before left entry noted no_path g e none =
 pub rib_from : (writer : Writer) (add_path six : Bool) (peers : Option (List Peer)) (body : List ℕ) (table : List Peer) (rib : Rib) (result : Result Body BodyFault) → IsRib add_path six body rib → peers ≡ Some table
     → EntriesSay writer table rib.prefix rib.entries result → RibSays writer add_path six peers body result
 rib_from writer add_path six peers body table rib (Ok (bodies.Routes noted besides.Nothing)) is e say = (rib, table, is, e, say)
-rib_from writer add_path six peers body table rib (Ok (bodies.Routes noted (besides.Own addr))) is e say = (rib, table, is, e, say)
+rib_from writer add_path six peers body table rib (Ok (bodies.Routes noted (besides.Session peer own))) is e say = (rib, table, is, e, say)
 rib_from writer add_path six peers body table rib (Ok (bodies.Routes noted besides.Passed)) is e say = (rib, table, is, e, say)
 rib_from writer add_path six peers body table rib (Ok (bodies.Peers others)) is e say = absurd say
 rib_from writer add_path six peers body table rib (Ok (bodies.Left asn)) is e say = absurd say

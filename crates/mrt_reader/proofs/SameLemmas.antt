@@ -19,7 +19,10 @@ use Rattle.bgp_attrs.specs.Reading.{Reading, IsUnreadable}
 use Rattle.bgp_attrs.specs.Segments.{Segment}
 use Rattle.bgp_attrs.proofs.JoinedLemmas.{joined_same}
 use Rattle.bgp_attrs.proofs.LawLemmas as attrs
+use Rattle.bgp_update.specs.declared.fault.UpdateFault.{UpdateFault}
+use Rattle.bgp_update.specs.Updates as updates
 use Rattle.bgp_update.specs.Updates.{without_notes}
+use Rattle.mrt_reader.specs.Transition.{sender_of}
 use Rattle.bgp_update.proofs.MessageLemmas as messages
 use Rattle.dialects.specs.declared.writer.Rule.TheVariants.{PathlessEntry}
 use Rattle.dialects.specs.declared.writer.Writer.{Writer}
@@ -32,14 +35,14 @@ use Rattle.mrt_reader.specs.declared.fault.BodyFault.TheVariants as faults
 use Rattle.mrt_reader.specs.declared.layout.Layout.{Layout}
 use Rattle.mrt_reader.specs.declared.layout.Layout.TheVariants as layouts
 use Rattle.mrt_reader.specs.Before.{Known}
-use Rattle.mrt_reader.specs.Bodies.{TableSays, HasEntries, RibSays, raised, MessageSays, StateSays, LayoutSays, IsReading}
+use Rattle.mrt_reader.specs.Bodies.{TableSays, HasEntries, RibSays, IsSent, raised, MessageSays, StateSays, LayoutSays, IsReading}
 use Rattle.mrt_reader.specs.Dumps.{Dumped, IsTableDump}
 use Rattle.mrt_reader.specs.Layouts.{layout_of}
 use Rattle.mrt_reader.specs.Peers.{IsPeerTable}
 use Rattle.mrt_reader.specs.Readers.{dump_at, message_at, state_at, table_at}
 use Rattle.mrt_reader.specs.Records.{Recorded}
 use Rattle.mrt_reader.specs.Ribs.{Entry, Rib, IsCounted, IsRib}
-use Rattle.mrt_reader.specs.Routes.{AnyOf, LacksPath, GivesRoute, with_first, IsWithin, IsBeyond, EntryReadable, EntryUnreadable, EntryLacksPath, nlri_in, IsRoute, AreRoutes, AreSomeRoutes, EntriesSay, dumped_nlri, DumpSays}
+use Rattle.mrt_reader.specs.Routes.{AnyOf, LacksPath, GivesRoute, with_first, IsWithin, IsBeyond, EntryReadable, EntryUnreadable, EntryLacksPath, nlri_in, IsRoute, AreRoutes, AreSomeRoutes, EntriesSay, dumped_route, DumpSays}
 use Rattle.mrt_reader.specs.Sessions.{Session, IsRecordedMessage, IsStateChange}
 use Rattle.mrt_reader.proofs.DumpLemmas.{dump_reads}
 use Rattle.mrt_reader.proofs.EntryLemmas.{entry_reader}
@@ -144,7 +147,7 @@ EntriesCase writer peers prefix entries reading =
 entries_case : (writer : Writer) (peers : List Peer) (prefix : Subnet) (entries : List Entry) (reading : Result Body BodyFault) → EntriesSay writer peers prefix entries reading → EntriesCase writer peers prefix entries reading
 entries_case writer peers prefix entries (Ok (bodies.Routes noted besides.Nothing)) say = inl (noted, say, refl)
 entries_case writer peers prefix entries (Ok (bodies.Routes noted besides.Passed)) say = inr (inr (inr (inr (noted, say.0, say.1, say.2, say.3, refl))))
-entries_case writer peers prefix entries (Ok (bodies.Routes noted (besides.Own addr))) say = absurd say
+entries_case writer peers prefix entries (Ok (bodies.Routes noted (besides.Session peer own))) say = absurd say
 entries_case writer peers prefix entries (Ok (bodies.Peers table)) say = absurd say
 entries_case writer peers prefix entries (Ok (bodies.Left asn)) say = absurd say
 entries_case writer peers prefix entries (Ok bodies.Passed) say = absurd say
@@ -239,63 +242,73 @@ ribs_say_same writer add_path six peers body one other (inr (inr p)) (inr (inr q
 
 -- ---- TABLE_DUMP records
 
--- the announcement of the route and its note
-abbrev dumped_route : Dumped → Path → Otc → Noted
-dumped_route dumped trail otc = with_first (Announce (key_of dumped.peer (dumped_nlri dumped)) trail) otc (without_notes [])
-
 -- the three things that a route says
-abbrev DumpCase : Dumped → Result Body BodyFault → Type 0
-DumpCase dumped reading =
-    ((trail : Path) × (otc : Otc) × GivesRoute false dumped.attributes trail otc × (reading ≡ Ok (bodies.Routes (dumped_route dumped trail otc) besides.Nothing)))
+abbrev DumpCase : Known → Dumped → Result Body BodyFault → Type 0
+DumpCase before dumped reading =
+    ((trail : Path) × (otc : Otc) × GivesRoute false dumped.attributes trail otc × (reading ≡ Ok (bodies.Routes (dumped_route before dumped trail otc) besides.Nothing)))
     ⊎ (IsUnreadable false Table false dumped.attributes × (reading ≡ Err faults.Attributes))
     ⊎ (LacksPath false dumped.attributes × (reading ≡ Err faults.NoPath))
 
-dump_case : (dumped : Dumped) (reading : Result Body BodyFault) → DumpSays dumped reading → DumpCase dumped reading
-dump_case dumped (Ok (bodies.Routes noted besides.Nothing)) say = inl (say.0, say.1, say.2, ap (λ (n : Noted). Ok (bodies.Routes n besides.Nothing)) say.3)
-dump_case dumped (Ok (bodies.Routes noted (besides.Own addr))) say = absurd say
-dump_case dumped (Ok (bodies.Routes noted besides.Passed)) say = absurd say
-dump_case dumped (Ok (bodies.Peers table)) say = absurd say
-dump_case dumped (Ok (bodies.Left asn)) say = absurd say
-dump_case dumped (Ok bodies.Passed) say = absurd say
-dump_case dumped (Err faults.Body) say = absurd say
-dump_case dumped (Err faults.NoPeerTable) say = absurd say
-dump_case dumped (Err faults.PeerIndex) say = absurd say
-dump_case dumped (Err faults.Message) say = absurd say
-dump_case dumped (Err faults.Attributes) say = inr (inl (say, refl))
-dump_case dumped (Err faults.NoPath) say = inr (inr (say, refl))
-dump_case dumped (Err faults.NoMemory) say = absurd say
+dump_case : (before : Known) (dumped : Dumped) (reading : Result Body BodyFault) → DumpSays before dumped reading → DumpCase before dumped reading
+dump_case before dumped (Ok (bodies.Routes noted besides.Nothing)) say = inl (say.0, say.1, say.2, ap (λ (n : Noted). Ok (bodies.Routes n besides.Nothing)) say.3)
+dump_case before dumped (Ok (bodies.Routes noted (besides.Session peer own))) say = absurd say
+dump_case before dumped (Ok (bodies.Routes noted besides.Passed)) say = absurd say
+dump_case before dumped (Ok (bodies.Peers table)) say = absurd say
+dump_case before dumped (Ok (bodies.Left asn)) say = absurd say
+dump_case before dumped (Ok bodies.Passed) say = absurd say
+dump_case before dumped (Err faults.Body) say = absurd say
+dump_case before dumped (Err faults.NoPeerTable) say = absurd say
+dump_case before dumped (Err faults.PeerIndex) say = absurd say
+dump_case before dumped (Err faults.Message) say = absurd say
+dump_case before dumped (Err faults.Attributes) say = inr (inl (say, refl))
+dump_case before dumped (Err faults.NoPath) say = inr (inr (say, refl))
+dump_case before dumped (Err faults.NoMemory) say = absurd say
 
-dumps_say_same : (dumped : Dumped) (one other : Result Body BodyFault) → DumpCase dumped one → DumpCase dumped other → one ≡ other
-dumps_say_same dumped one other (inl p) (inl q) =
+dumps_say_same : (before : Known) (dumped : Dumped) (one other : Result Body BodyFault) → DumpCase before dumped one → DumpCase before dumped other → one ≡ other
+dumps_say_same before dumped one other (inl p) (inl q) =
     let gives = gives_same false dumped.attributes p.0 q.0 p.1 q.1 p.2 q.2 in
-    p.3 ∙ (λ i. Ok (bodies.Routes (dumped_route dumped (gives.0 i) (gives.1 i)) besides.Nothing)) ∙ sym q.3
-dumps_say_same dumped one other (inl p) (inr (inl q)) = absurd (q.0 p.2.0 p.2.1)
-dumps_say_same dumped one other (inl p) (inr (inr q)) = absurd (gives_lacks false dumped.attributes p.0 p.1 p.2 q.0)
-dumps_say_same dumped one other (inr (inl p)) (inl q) = absurd (p.0 q.2.0 q.2.1)
-dumps_say_same dumped one other (inr (inl p)) (inr (inl q)) = p.1 ∙ sym q.1
-dumps_say_same dumped one other (inr (inl p)) (inr (inr q)) = absurd (p.0 q.0.0 q.0.1)
-dumps_say_same dumped one other (inr (inr p)) (inl q) = absurd (gives_lacks false dumped.attributes q.0 q.1 q.2 p.0)
-dumps_say_same dumped one other (inr (inr p)) (inr (inl q)) = absurd (q.0 p.0.0 p.0.1)
-dumps_say_same dumped one other (inr (inr p)) (inr (inr q)) = p.1 ∙ sym q.1
+    p.3 ∙ (λ i. Ok (bodies.Routes (dumped_route before dumped (gives.0 i) (gives.1 i)) besides.Nothing)) ∙ sym q.3
+dumps_say_same before dumped one other (inl p) (inr (inl q)) = absurd (q.0 p.2.0 p.2.1)
+dumps_say_same before dumped one other (inl p) (inr (inr q)) = absurd (gives_lacks false dumped.attributes p.0 p.1 p.2 q.0)
+dumps_say_same before dumped one other (inr (inl p)) (inl q) = absurd (p.0 q.2.0 q.2.1)
+dumps_say_same before dumped one other (inr (inl p)) (inr (inl q)) = p.1 ∙ sym q.1
+dumps_say_same before dumped one other (inr (inl p)) (inr (inr q)) = absurd (p.0 q.0.0 q.0.1)
+dumps_say_same before dumped one other (inr (inr p)) (inl q) = absurd (gives_lacks false dumped.attributes q.0 q.1 q.2 p.0)
+dumps_say_same before dumped one other (inr (inr p)) (inr (inl q)) = absurd (q.0 p.0.0 p.0.1)
+dumps_say_same before dumped one other (inr (inr p)) (inr (inr q)) = p.1 ∙ sym q.1
 
-dump_says_same : (dumped : Dumped) (one other : Result Body BodyFault) → DumpSays dumped one → DumpSays dumped other → one ≡ other
-dump_says_same dumped one other p q = dumps_say_same dumped one other (dump_case dumped one p) (dump_case dumped other q)
+dump_says_same : (before : Known) (dumped : Dumped) (one other : Result Body BodyFault) → DumpSays before dumped one → DumpSays before dumped other → one ≡ other
+dump_says_same before dumped one other p q = dumps_say_same before dumped one other (dump_case before dumped one p) (dump_case before dumped other q)
 
 -- ---- all layouts
 
-message_says_same : (wide add_path : Bool) (it : Session × List ℕ) (one other : Result Body BodyFault) → MessageSays wide add_path it one → MessageSays wide add_path it other → one ≡ other
-message_says_same wide add_path (session, message) one other p q =
-    p.2 ∙ ap (raised session.local.addr) (messages.reading_same wide add_path session.peer message p.0 q.0 p.1 q.1) ∙ sym q.2
+-- a message has one sender, and says one thing of it
+sent_same : (before : Known) (wide add_path : Bool) (peer : Peer) (message : List ℕ) (one other : Result (Noted × Peer) UpdateFault) → IsSent before wide add_path peer message one → IsSent before wide add_path peer message other → one ≡ other
+sent_same before wide add_path peer message (Err fault) (Err second) p q =
+    let same : Err fault ≡ Err second = messages.reading_same wide add_path peer message (Err fault) (Err second) p q in cc
+sent_same before wide add_path peer message (Err fault) (Ok (noted, sender)) p q =
+    let same : Err fault ≡ Ok q.0 = messages.reading_same wide add_path peer message (Err fault) (Ok q.0) p q.1 in absurd cc
+sent_same before wide add_path peer message (Ok (noted, sender)) (Err second) p q =
+    let same : Ok p.0 ≡ Err second = messages.reading_same wide add_path peer message (Ok p.0) (Err second) p.1 q in absurd cc
+sent_same before wide add_path peer message (Ok (noted, sender)) (Ok (others, second)) p q =
+    let written : p.0 ≡ q.0 = let same : Ok p.0 ≡ Ok q.0 = messages.reading_same wide add_path peer message (Ok p.0) (Ok q.0) p.1 q.1 in cc in
+    let senders : sender ≡ second = p.2 ∙ ap (sender_of before wide peer) written ∙ sym q.2 in
+    let said : noted ≡ others = let same : Ok noted ≡ Ok others = messages.reading_same wide add_path second message (Ok noted) (Ok others) (subst (λ (s : Peer). updates.IsMessageReading wide add_path s message (Ok noted)) senders p.3) q.3 in cc in
+    λ i. Ok (said i, senders i)
+
+message_says_same : (before : Known) (wide add_path : Bool) (it : Session × List ℕ) (one other : Result Body BodyFault) → MessageSays before wide add_path it one → MessageSays before wide add_path it other → one ≡ other
+message_says_same before wide add_path (session, message) one other p q =
+    p.2 ∙ ap (raised session.local.addr) (sent_same before wide add_path session.peer message p.0 q.0 p.1 q.1) ∙ sym q.2
 
 layout_says_same : (layout : Layout) (before : Known) (body : List ℕ) (one other : Result Body BodyFault) → LayoutSays layout before body one → LayoutSays layout before body other → one ≡ other
 layout_says_same layouts.PeerIndex before body one other p q = form_same (IsPeerTable body) TableSays (table_at body) one other (table_reads body) (λ peers a b. a ∙ sym b) p q
 layout_says_same (layouts.Rib six add_path) before body one other p q =
     ribs_say_same before.writer add_path six before.peers body one other (rib_case before.writer add_path six before.peers body one p) (rib_case before.writer add_path six before.peers body other q)
-layout_says_same (layouts.Dump six) before body one other p q = form_same (IsTableDump six body) DumpSays (dump_at six body) one other (dump_reads six body) (λ dumped a b. dump_says_same dumped one other a b) p q
+layout_says_same (layouts.Dump six) before body one other p q = form_same (IsTableDump six body) (DumpSays before) (dump_at six body) one other (dump_reads six body) (λ dumped a b. dump_says_same before dumped one other a b) p q
 layout_says_same (layouts.Message timed wide add_path) before body one other p q =
-    form_same (λ (it : Session × List ℕ). IsRecordedMessage timed wide body it.0 it.1) (MessageSays wide add_path) (message_at timed wide body) one other (message_reads timed wide body) (λ it a b. message_says_same wide add_path it one other a b) p q
+    form_same (λ (it : Session × List ℕ). IsRecordedMessage timed wide body it.0 it.1) (MessageSays before wide add_path) (message_at timed wide body) one other (message_reads timed wide body) (λ it a b. message_says_same before wide add_path it one other a b) p q
 layout_says_same (layouts.State timed wide) before body one other p q =
-    form_same (IsStateChange timed wide body) (StateSays before) (state_at timed wide body) one other (state_reads timed wide body) (λ it a b. a ∙ sym b) p q
+    form_same (IsStateChange timed wide body) (StateSays before wide) (state_at timed wide body) one other (state_reads timed wide body) (λ it a b. a ∙ sym b) p q
 layout_says_same layouts.Other before body one other p q = p ∙ sym q
 
 pub reading_same : (it : Recorded) (before : Known) (one other : Result Body BodyFault) → IsReading it before one → IsReading it before other → one ≡ other

@@ -5,6 +5,7 @@ use Rattle.std.specs.Int.{w16, from_be_bytes}
 use Rattle.std.specs.List.{AllByRecursion}
 use Rattle.std.proofs.lemmas.Bool.Decides.{nat_tests}
 use Rattle.std.specs.declared.option.Option.{Option}
+use Rattle.std.specs.declared.result.Result.{Result}
 use Rattle.av_base.specs.One.{HasOne}
 use Rattle.path_model.specs.declared.noted.Noted.{Noted}
 use Rattle.path_model.specs.declared.otc.Otc.{Otc}
@@ -21,6 +22,9 @@ use Rattle.bgp_attrs.specs.Reading.{Reading, IsRead}
 use Rattle.bgp_attrs.specs.Segments.{Segment}
 use Rattle.bgp_attrs.proofs.DecideLemmas.{SomeOrNone, joined_decided, reading_decided}
 use Rattle.bgp_attrs.proofs.JoinedLemmas.{joined_same}
+use Rattle.bgp_update.specs.declared.fault.UpdateFault.{UpdateFault}
+use Rattle.bgp_update.specs.declared.fault.UpdateFault.TheVariants as update_faults
+use Rattle.bgp_update.specs.Updates as updates
 use Rattle.bgp_update.specs.Updates.{without_notes}
 use Rattle.bgp_update.proofs.MessageLemmas as messages
 use Rattle.dialects.specs.declared.writer.Rule.TheVariants.{PathlessEntry}
@@ -32,16 +36,17 @@ use Rattle.mrt_reader.specs.declared.fault.BodyFault.TheVariants as faults
 use Rattle.mrt_reader.specs.declared.layout.Layout.{Layout}
 use Rattle.mrt_reader.specs.declared.layout.Layout.TheVariants as layouts
 use Rattle.mrt_reader.specs.Before.{Known}
-use Rattle.mrt_reader.specs.Bodies.{TableSays, RibSays, raised, MessageSays, StateSays, LayoutSays, IsReading}
+use Rattle.mrt_reader.specs.Bodies.{TableSays, RibSays, IsSent, raised, MessageSays, StateSays, LayoutSays, IsReading}
 use Rattle.mrt_reader.specs.Dumps.{Dumped, IsTableDump}
 use Rattle.mrt_reader.specs.Layouts.{layout_of}
 use Rattle.mrt_reader.specs.Peers.{IsPeerTable}
 use Rattle.mrt_reader.specs.Readers.{dump_at, message_at, state_at, table_at}
 use Rattle.mrt_reader.specs.Records.{Recorded}
 use Rattle.mrt_reader.specs.Ribs.{Entry, IsEntry, IsCounted, IsRib}
-use Rattle.mrt_reader.specs.Routes.{AnyOf, LacksPath, GivesRoute, with_first, IsWithin, IsBeyond, EntryReadable, EntryUnreadable, EntryLacksPath, nlri_in, AreRoutes, AreSomeRoutes, EntriesSay, dumped_nlri, DumpSays}
+use Rattle.mrt_reader.specs.Routes.{AnyOf, LacksPath, GivesRoute, with_first, IsWithin, IsBeyond, EntryReadable, EntryUnreadable, EntryLacksPath, nlri_in, AreRoutes, AreSomeRoutes, EntriesSay, dumped_route, DumpSays}
 use Rattle.mrt_reader.specs.Sessions.{Session, StateChange, IsRecordedMessage, IsStateChange}
 use Rattle.mrt_reader.specs.States as states
+use Rattle.mrt_reader.specs.Transition.{sender_of}
 use Rattle.mrt_reader.proofs.DumpLemmas.{dump_reads}
 use Rattle.mrt_reader.proofs.EntryLemmas.{entry_reader}
 use Rattle.mrt_reader.proofs.FormLemmas.{Says, form_some}
@@ -172,28 +177,52 @@ rib_some writer add_path six (Some table) body (inl rib) =
     let say = entries_some writer table rib.0.prefix rib.0.entries (all_or_any (IsWithin table) (IsBeyond table) (within_or_beyond table) rib.0.entries) in
     (say.0, rib_from writer add_path six (Some table) body table rib.0 say.0 rib.1 refl say.1)
 
-dump_by : (dumped : Dumped) → SomeOrNone (IsRead false Table false dumped.attributes) → Says (DumpSays dumped)
-dump_by dumped (inr none) = (Err faults.Attributes, none)
-dump_by dumped (inl x) = with_path (path_or_none false dumped.attributes x.0 x.1 x.0.path refl)
+dump_by : (before : Known) (dumped : Dumped) → SomeOrNone (IsRead false Table false dumped.attributes) → Says (DumpSays before dumped)
+dump_by before dumped (inr none) = (Err faults.Attributes, none)
+dump_by before dumped (inl x) = with_path (path_or_none false dumped.attributes x.0 x.1 x.0.path refl)
   where
-    with_path : ((trail : Path) × (otc : Otc) × GivesRoute false dumped.attributes trail otc) ⊎ LacksPath false dumped.attributes → Says (DumpSays dumped)
-    with_path (inl give) = (Ok (bodies.Routes (with_first (Announce (key_of dumped.peer (dumped_nlri dumped)) give.0) give.1 (without_notes [])) besides.Nothing), (give.0, give.1, give.2, refl))
+    with_path : ((trail : Path) × (otc : Otc) × GivesRoute false dumped.attributes trail otc) ⊎ LacksPath false dumped.attributes → Says (DumpSays before dumped)
+    with_path (inl give) = (Ok (bodies.Routes (dumped_route before dumped give.0 give.1) besides.Nothing), (give.0, give.1, give.2, refl))
     with_path (inr lacks) = (Err faults.NoPath, lacks)
 
-message_some : (wide add_path : Bool) (it : Session × List ℕ) → Says (MessageSays wide add_path it)
-message_some wide add_path (session, message) = let inner = messages.reading_some wide add_path session.peer message in (raised session.local.addr inner.0, (inner.0, inner.1, refl))
+-- what is refused of one peer is so of another one
+also_refused : (wide add_path : Bool) (peer other : Peer) (message : List ℕ) (fault : UpdateFault) → updates.IsMessageReading wide add_path peer message (Err fault) → updates.IsMessageReading wide add_path other message (Err fault)
+also_refused wide add_path peer other message update_faults.Message reads = reads
+also_refused wide add_path peer other message update_faults.Attributes reads = reads
+also_refused wide add_path peer other message update_faults.NoPath reads = reads
+also_refused wide add_path peer other message update_faults.NoMemory reads = reads
 
-state_some : (before : Known) (change : StateChange) → Says (StateSays before change)
-state_some before change = (Ok (states.says before change), refl)
+sent_some : (before : Known) (wide add_path : Bool) (peer : Peer) (message : List ℕ) → (inner : Result (Noted × Peer) UpdateFault) × IsSent before wide add_path peer message inner
+sent_some before wide add_path peer message = as_written (messages.reading_some wide add_path peer message)
+  where
+    Sent : Type 0
+    Sent = (inner : Result (Noted × Peer) UpdateFault) × IsSent before wide add_path peer message inner
+
+    as_sent : (written : Noted) → updates.IsMessageReading wide add_path peer message (Ok written) → (reading : Result Noted UpdateFault)
+        → updates.IsMessageReading wide add_path (sender_of before wide peer written) message reading → Sent
+    as_sent written reads (Ok noted) of_sender = (Ok (noted, sender_of before wide peer written), (written, reads, refl, of_sender))
+    as_sent written reads (Err fault) of_sender =
+        let same : Ok written ≡ Err fault = messages.reading_same wide add_path peer message (Ok written) (Err fault) reads (also_refused wide add_path (sender_of before wide peer written) peer message fault of_sender) in
+        absurd cc
+
+    as_written : (first : (reading : Result Noted UpdateFault) × updates.IsMessageReading wide add_path peer message reading) → Sent
+    as_written (Err fault, reads) = (Err fault, reads)
+    as_written (Ok written, reads) = let more = messages.reading_some wide add_path (sender_of before wide peer written) message in as_sent written reads more.0 more.1
+
+message_some : (before : Known) (wide add_path : Bool) (it : Session × List ℕ) → Says (MessageSays before wide add_path it)
+message_some before wide add_path (session, message) = let inner = sent_some before wide add_path session.peer message in (raised session.local.addr inner.0, (inner.0, inner.1, refl))
+
+state_some : (before : Known) (wide : Bool) (change : StateChange) → Says (StateSays before wide change)
+state_some before wide change = (Ok (states.says before wide change), refl)
 
 layout_some : (layout : Layout) (before : Known) (body : List ℕ) → Says (LayoutSays layout before body)
 layout_some layouts.PeerIndex before body = form_some (IsPeerTable body) TableSays (table_at body) (table_reads body) (λ table. (Ok (bodies.Peers table), refl))
 layout_some (layouts.Rib six add_path) before body = rib_some before.writer add_path six before.peers body (rib_decided add_path six body)
-layout_some (layouts.Dump six) before body = form_some (IsTableDump six body) DumpSays (dump_at six body) (dump_reads six body) (λ dumped. dump_by dumped (reading_decided false Table false dumped.attributes))
+layout_some (layouts.Dump six) before body = form_some (IsTableDump six body) (DumpSays before) (dump_at six body) (dump_reads six body) (λ dumped. dump_by before dumped (reading_decided false Table false dumped.attributes))
 layout_some (layouts.Message timed wide add_path) before body =
-    form_some (λ (it : Session × List ℕ). IsRecordedMessage timed wide body it.0 it.1) (MessageSays wide add_path) (message_at timed wide body) (message_reads timed wide body) (message_some wide add_path)
+    form_some (λ (it : Session × List ℕ). IsRecordedMessage timed wide body it.0 it.1) (MessageSays before wide add_path) (message_at timed wide body) (message_reads timed wide body) (message_some before wide add_path)
 layout_some (layouts.State timed wide) before body =
-    form_some (IsStateChange timed wide body) (StateSays before) (state_at timed wide body) (state_reads timed wide body) (state_some before)
+    form_some (IsStateChange timed wide body) (StateSays before wide) (state_at timed wide body) (state_reads timed wide body) (state_some before wide)
 layout_some layouts.Other before body = (Ok bodies.Passed, refl)
 
 pub one_reading : (it : Recorded) (before : Known) → HasOne (IsReading it before)

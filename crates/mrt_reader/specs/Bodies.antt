@@ -25,6 +25,7 @@ use Rattle.mrt_reader.specs.Ribs.{Rib, IsRib}
 use Rattle.mrt_reader.specs.Routes.{EntriesSay, DumpSays}
 use Rattle.mrt_reader.specs.Sessions.{Session, StateChange, IsRecordedMessage, IsStateChange}
 use Rattle.mrt_reader.specs.States as states
+use Rattle.mrt_reader.specs.Transition.{sender_of}
 
 -- the body has no such form, and that is the fault; or it has, and the reading is what its value says
 abbrev pub ByForm : {A : Type 0} → (A → Type 0) → (A → Result Body BodyFault → Type 0) → Result Body BodyFault → Type 0
@@ -59,27 +60,43 @@ fault_of update_faults.Attributes = faults.Attributes
 fault_of update_faults.NoPath = faults.NoPath
 fault_of update_faults.NoMemory = faults.NoMemory
 
+-- What a message says, where `add_path` with path identifiers, and whose it is: that of the peer that is written, or where AS_TRANS stands there
+-- of the one in the AS that it stands for.
+abbrev pub IsSent : Known → Bool → Bool → Peer → List ℕ → Result (Noted × Peer) UpdateFault → Type 0
+IsSent before wide add_path peer message (Err fault) = updates.IsMessageReading wide add_path peer message (Err fault)
+IsSent before wide add_path peer message (Ok (noted, sender)) =
+    (written : Noted) × updates.IsMessageReading wide add_path peer message (Ok written) × (sender ≡ sender_of before wide peer written)
+    × updates.IsMessageReading wide add_path sender message (Ok noted)
+
+-- the answer is that, or want of memory
+abbrev pub IsSentOutcome : Known → Bool → Bool → Peer → List ℕ → Result (Noted × Peer) UpdateFault → Type 0
+IsSentOutcome before wide add_path peer message (Err update_faults.NoMemory) = Unit {0}
+IsSentOutcome before wide add_path peer message (Err update_faults.Message) = IsSent before wide add_path peer message (Err update_faults.Message)
+IsSentOutcome before wide add_path peer message (Err update_faults.Attributes) = IsSent before wide add_path peer message (Err update_faults.Attributes)
+IsSentOutcome before wide add_path peer message (Err update_faults.NoPath) = IsSent before wide add_path peer message (Err update_faults.NoPath)
+IsSentOutcome before wide add_path peer message (Ok sent) = IsSent before wide add_path peer message (Ok sent)
+
 -- what a message says as what a record with this local address says
-abbrev pub raised : Addr → Result Noted UpdateFault → Result Body BodyFault
-raised local (Ok noted) = Ok (bodies.Routes noted (besides.Own local))
+abbrev pub raised : Addr → Result (Noted × Peer) UpdateFault → Result Body BodyFault
+raised local (Ok (noted, sender)) = Ok (bodies.Routes noted (besides.Session sender local))
 raised local (Err fault) = Err (fault_of fault)
 
--- a recorded message of a session: what the message says, where `add_path` with path identifiers; and beside it, whose address is local
-abbrev pub MessageSays : Bool → Bool → Session × List ℕ → Result Body BodyFault → Type 0
-MessageSays wide add_path (session, message) reading =
-    (inner : Result Noted UpdateFault) × updates.IsMessageReading wide add_path session.peer message inner × (reading ≡ raised session.local.addr inner)
+-- a recorded message of a session: what the message says, and beside it whose it is, and whose address is local
+abbrev pub MessageSays : Known → Bool → Bool → Session × List ℕ → Result Body BodyFault → Type 0
+MessageSays before wide add_path (session, message) reading =
+    (inner : Result (Noted × Peer) UpdateFault) × IsSent before wide add_path session.peer message inner × (reading ≡ raised session.local.addr inner)
 
 -- a state change: what it does, by what is known before it
-abbrev pub StateSays : Known → StateChange → Result Body BodyFault → Type 0
-StateSays before change reading = reading ≡ Ok (states.says before change)
+abbrev pub StateSays : Known → Bool → StateChange → Result Body BodyFault → Type 0
+StateSays before wide change reading = reading ≡ Ok (states.says before wide change)
 
 -- the body of each layout; the bodies of all other types and subtypes are passed over unread
 abbrev pub LayoutSays : Layout → Known → List ℕ → Result Body BodyFault → Type 0
 LayoutSays layouts.PeerIndex before body reading = ByForm (IsPeerTable body) TableSays reading
 LayoutSays (layouts.Rib six add_path) before body reading = RibSays before.writer add_path six before.peers body reading
-LayoutSays (layouts.Dump six) before body reading = ByForm (IsTableDump six body) DumpSays reading
-LayoutSays (layouts.Message timed wide add_path) before body reading = ByForm (λ (it : Session × List ℕ). IsRecordedMessage timed wide body it.0 it.1) (MessageSays wide add_path) reading
-LayoutSays (layouts.State timed wide) before body reading = ByForm (IsStateChange timed wide body) (StateSays before) reading
+LayoutSays (layouts.Dump six) before body reading = ByForm (IsTableDump six body) (DumpSays before) reading
+LayoutSays (layouts.Message timed wide add_path) before body reading = ByForm (λ (it : Session × List ℕ). IsRecordedMessage timed wide body it.0 it.1) (MessageSays before wide add_path) reading
+LayoutSays (layouts.State timed wide) before body reading = ByForm (IsStateChange timed wide body) (StateSays before wide) reading
 LayoutSays layouts.Other before body reading = reading ≡ Ok bodies.Passed
 
 -- What the record says, or the first fault in the order Body, NoPeerTable, PeerIndex, Message, Attributes, NoPath, each over the

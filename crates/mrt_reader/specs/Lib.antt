@@ -16,3 +16,4 @@ pub mod Routes
 pub mod Routing
 pub mod Sessions
 pub mod States
+pub mod Transition

@@ -23,8 +23,10 @@ use Rattle.mrt_reader.specs.declared.body.Body.{Body}
 use Rattle.mrt_reader.specs.declared.body.Body.TheVariants as bodies
 use Rattle.mrt_reader.specs.declared.fault.BodyFault.{BodyFault}
 use Rattle.mrt_reader.specs.declared.fault.BodyFault.TheVariants as faults
+use Rattle.mrt_reader.specs.Before.{Known}
 use Rattle.mrt_reader.specs.Dumps.{Dumped}
 use Rattle.mrt_reader.specs.Ribs.{Entry}
+use Rattle.mrt_reader.specs.Transition.{announcer_of}
 
 -- some item has the property
 abbrev pub AnyOf : {A : Type 0} → (A → Type 0) → List A → Type 0
@@ -98,7 +100,7 @@ abbrev pub EntriesSay : Writer → List Peer → Subnet → List Entry → Resul
 EntriesSay writer peers prefix entries (Ok (bodies.Routes noted besides.Nothing)) = AreRoutes peers prefix entries noted
 EntriesSay writer peers prefix entries (Ok (bodies.Routes noted besides.Passed)) =
     (has writer PathlessEntry ≡ true) × AllByRecursion (IsWithin peers) entries × AnyOf EntryLacksPath entries × AreSomeRoutes peers prefix entries noted
-EntriesSay writer peers prefix entries (Ok (bodies.Routes noted (besides.Own addr))) = ⊥
+EntriesSay writer peers prefix entries (Ok (bodies.Routes noted (besides.Session peer own))) = ⊥
 EntriesSay writer peers prefix entries (Ok (bodies.Peers table)) = ⊥
 EntriesSay writer peers prefix entries (Ok (bodies.Left asn)) = ⊥
 EntriesSay writer peers prefix entries (Ok bodies.Passed) = ⊥
@@ -117,19 +119,23 @@ EntriesSay writer peers prefix entries (Err faults.NoMemory) = ⊥
 abbrev pub dumped_nlri : Dumped → Nlri
 dumped_nlri dumped = record { prefix = dumped.prefix; path = None }
 
+-- the announcement with its note
+abbrev pub dumped_route : Known → Dumped → Path → Otc → Noted
+dumped_route before dumped trail otc = with_first (Announce (key_of (announcer_of before dumped.peer trail) (dumped_nlri dumped)) trail) otc (without_notes [])
+
 -- What it says: its announcement, with its note; or its attributes have no reading; or they have one without a path.
-abbrev pub DumpSays : Dumped → Result Body BodyFault → Type 0
-DumpSays dumped (Ok (bodies.Routes noted besides.Nothing)) =
-    (trail : Path) × (otc : Otc) × GivesRoute false dumped.attributes trail otc × (noted ≡ with_first (Announce (key_of dumped.peer (dumped_nlri dumped)) trail) otc (without_notes []))
-DumpSays dumped (Ok (bodies.Routes noted (besides.Own addr))) = ⊥
-DumpSays dumped (Ok (bodies.Routes noted besides.Passed)) = ⊥
-DumpSays dumped (Ok (bodies.Peers table)) = ⊥
-DumpSays dumped (Ok (bodies.Left asn)) = ⊥
-DumpSays dumped (Ok bodies.Passed) = ⊥
-DumpSays dumped (Err faults.Body) = ⊥
-DumpSays dumped (Err faults.NoPeerTable) = ⊥
-DumpSays dumped (Err faults.PeerIndex) = ⊥
-DumpSays dumped (Err faults.Message) = ⊥
-DumpSays dumped (Err faults.Attributes) = IsUnreadable false Table false dumped.attributes
-DumpSays dumped (Err faults.NoPath) = LacksPath false dumped.attributes
-DumpSays dumped (Err faults.NoMemory) = ⊥
+abbrev pub DumpSays : Known → Dumped → Result Body BodyFault → Type 0
+DumpSays before dumped (Ok (bodies.Routes noted besides.Nothing)) =
+    (trail : Path) × (otc : Otc) × GivesRoute false dumped.attributes trail otc × (noted ≡ dumped_route before dumped trail otc)
+DumpSays before dumped (Ok (bodies.Routes noted (besides.Session peer own))) = ⊥
+DumpSays before dumped (Ok (bodies.Routes noted besides.Passed)) = ⊥
+DumpSays before dumped (Ok (bodies.Peers table)) = ⊥
+DumpSays before dumped (Ok (bodies.Left asn)) = ⊥
+DumpSays before dumped (Ok bodies.Passed) = ⊥
+DumpSays before dumped (Err faults.Body) = ⊥
+DumpSays before dumped (Err faults.NoPeerTable) = ⊥
+DumpSays before dumped (Err faults.PeerIndex) = ⊥
+DumpSays before dumped (Err faults.Message) = ⊥
+DumpSays before dumped (Err faults.Attributes) = IsUnreadable false Table false dumped.attributes
+DumpSays before dumped (Err faults.NoPath) = LacksPath false dumped.attributes
+DumpSays before dumped (Err faults.NoMemory) = ⊥

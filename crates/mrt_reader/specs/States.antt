@@ -13,6 +13,7 @@ use Rattle.mrt_reader.specs.declared.body.Body.{Body}
 use Rattle.mrt_reader.specs.declared.body.Body.TheVariants.{Routes, Left, Passed}
 use Rattle.mrt_reader.specs.Before.{Known}
 use Rattle.mrt_reader.specs.Sessions.{Session, StateChange}
+use Rattle.mrt_reader.specs.Transition.{resolved}
 
 -- the session was Established (6; RFC 4271, section 8.2.2), or is so now
 abbrev pub touches_session : StateChange → Bool
@@ -45,7 +46,7 @@ ended before peer = if is_unnamed before peer then Left peer.asn else Routes (wi
 
 -- The session is up, and nothing happens; or it ended. A change between two states of which none is Established ends no session: it is passed
 -- over, where the rule holds, and else taken for an end.
-abbrev pub says : Known → StateChange → Body
-says before change =
+abbrev pub says : Known → Bool → StateChange → Body
+says before wide change =
     if is_passed before change then Passed
-    else (if change.new == 6 then Routes (without_notes []) Nothing else ended before (peer_in before change))
+    else (if change.new == 6 then Routes (without_notes []) Nothing else ended before (resolved before wide (peer_in before change)))

@@ -1,6 +1,6 @@
 //! What a record says.
 use crate::peers::PeerTable;
-use path_model::{Addr, Noted};
+use path_model::{Addr, Noted, Peer};
 
 /// What a record says.
 #[derive(Debug, Drop)]
@@ -21,8 +21,8 @@ pub enum Body {
 pub enum Beside {
     /// Nothing.
     Nothing,
-    /// The address of who wrote it: the local one of a recorded message.
-    Own(Addr),
+    /// Whose message it is, and the address of who wrote it: the local one of a recorded message.
+    Session(Peer, Addr),
     /// That some of its entries were passed over.
     Passed,
 }

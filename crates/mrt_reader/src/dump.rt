@@ -1,25 +1,36 @@
 //! Bodies of TABLE_DUMP records.
-ghost use Rattle.std.specs.Prelude.{◌≡◌, option_map};
+ghost use Rattle.std.specs.Prelude.{◌≡◌, [], None, IfOk, option_map};
+ghost use Rattle.path_model.specs.declared.change.Change.TheVariants.{Announce};
+ghost use Rattle.path_model.specs.Key.{key_of};
+ghost use Rattle.bgp_update.specs.Updates.{without_notes};
 ghost use Rattle.mrt_reader.specs.Bodies.{OrNoMemory};
 ghost use Rattle.mrt_reader.specs.Gathering.{ByParts};
 ghost use Rattle.mrt_reader.specs.Left.{dumped_of};
 ghost use Rattle.mrt_reader.specs.Readers.{dump_at, route_at, last_block as block_in};
-ghost use Rattle.mrt_reader.specs.Routes.{DumpSays};
+ghost use Rattle.mrt_reader.specs.Routes.{DumpSays, with_first};
 
+use crate::before::Before;
 use crate::body::{Beside, Body};
 use crate::fault::BodyFault;
 use crate::parts::DumpParts;
-use crate::routing::{no_changes, put_route};
-use bgp_attrs::{take, take_addr, take_asn, take_block, take_byte};
-use path_model::{Key, Peer, Prefix};
+use crate::routing::no_changes;
+use crate::transition::announcer_of;
+use av_base::NoMemory;
+use bgp_attrs::{Form, take, take_addr, take_asn, take_block, take_byte};
+use path_model::{Key, Noted, Otc, Peer, Prefix, Trail};
 use std::alloc::Global;
 
 // The route of a whole body.
-pub(crate) fn read_dump(alloc: Global, body: &[u8], six: bool) -> Result<Body, BodyFault>
-    ensures { OrNoMemory (ByParts (dump_at six body.now) DumpSays) result }
+pub(crate) fn read_dump(
+    alloc: Global,
+    body: &[u8],
+    six: bool,
+    before: &Before,
+) -> Result<Body, BodyFault>
+    ensures { OrNoMemory (ByParts (dump_at six body.now) (DumpSays before.now)) result }
 {
     match dump_parts(body, six) {
-        Some(parts) => route_of(alloc, parts),
+        Some(parts) => route_of(alloc, parts, before),
         None => Err(BodyFault::Body),
     }
 }
@@ -65,19 +76,43 @@ fn last_block(bytes: &[u8]) -> Option<&[u8]>
     Some(block)
 }
 
-// The route of the parts: its peer announces one path for the prefix, with no identifier.
-fn route_of(alloc: Global, parts: DumpParts<'_>) -> Result<Body, BodyFault>
-    ensures { OrNoMemory (DumpSays (dumped_of parts.entry)) result }
+// The route of the parts: who announces it has one path for the prefix, with no identifier.
+fn route_of(alloc: Global, parts: DumpParts<'_>, before: &Before) -> Result<Body, BodyFault>
+    ensures { OrNoMemory (DumpSays before.now (dumped_of parts.entry)) result }
+{
+    match bgp_attrs::read(parts.attributes, false, Form::Table, false) {
+        Ok(attrs) => match attrs.trail(alloc)? {
+            Some(trail) => {
+                let peer = announcer_of(before, parts.peer, &trail);
+                let noted = announced(alloc, peer, parts.prefix, trail, attrs.otc())?;
+                Ok(Body::Routes(noted, Beside::Nothing))
+            }
+            None => Err(BodyFault::NoPath),
+        },
+        Err(_) => Err(BodyFault::Attributes),
+    }
+}
+
+// One announcement, with its note.
+fn announced(
+    alloc: Global,
+    peer: Peer,
+    prefix: Prefix,
+    trail: Trail,
+    otc: Otc,
+) -> Result<Noted, NoMemory>
+    ensures { IfOk result (λ noted. noted ≡ with_first (Announce (key_of peer (record {
+      prefix = prefix;
+      path = None;
+    })) trail) otc (without_notes [])) }
 {
     let mut noted = no_changes(alloc);
     let key = Key {
-        peer: parts.peer,
-        prefix: parts.prefix,
+        peer,
+        prefix,
         path: None,
     };
-    match put_route(alloc, &mut noted, key, parts.attributes, false) {
-        Ok(true) => Ok(Body::Routes(noted, Beside::Nothing)),
-        Ok(false) => Err(BodyFault::NoPath),
-        Err(fault) => Err(fault),
-    }
+    noted.changes.announce(key, trail)?;
+    noted.notes.note(otc)?;
+    Ok(noted)
 }

@@ -24,6 +24,7 @@ mod framer;
 mod heading;
 mod laws;
 mod layout;
+mod names;
 mod own;
 mod parts;
 mod peers;
@@ -35,6 +36,7 @@ mod shaping;
 mod splitting;
 mod states;
 mod table;
+mod transition;
 
 pub use before::Before;
 pub use body::{Beside, Body};

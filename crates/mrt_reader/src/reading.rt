@@ -28,12 +28,12 @@ pub fn read_body(alloc: Global, unit: &Record<'_>, before: &Before) -> Result<Bo
             let peers = before.peers.as_ref();
             read_rib(alloc, unit.body, six, add_path, peers, before.writer)
         }
-        Layout::Dump { six } => read_dump(alloc, unit.body, six),
+        Layout::Dump { six } => read_dump(alloc, unit.body, six, before),
         Layout::Message {
             timed,
             wide,
             add_path,
-        } => read_message(alloc, unit.body, timed, wide, add_path),
+        } => read_message(alloc, unit.body, timed, wide, add_path, before),
         Layout::State { timed, wide } => read_state(alloc, unit.body, timed, wide, before),
         Layout::Other => Ok(Body::Passed),
     }

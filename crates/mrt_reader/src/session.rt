@@ -1,15 +1,17 @@
 //! Bodies of recorded messages.
 ghost use Rattle.std.specs.Prelude.{◌≡◌, option_map};
-ghost use Rattle.mrt_reader.specs.Bodies.{OrNoMemory, MessageSays, fault_of};
+ghost use Rattle.mrt_reader.specs.Bodies.{IsSentOutcome, OrNoMemory, MessageSays, fault_of};
 ghost use Rattle.mrt_reader.specs.Gathering.{ByParts};
 ghost use Rattle.mrt_reader.specs.Left.{session_of};
 ghost use Rattle.mrt_reader.specs.Readers.{six_of, behind_time, session_at, message_at};
 
+use crate::before::Before;
 use crate::body::{Beside, Body};
 use crate::fault::BodyFault;
+use crate::transition::sender_of;
 use bgp_attrs::{take, take_addr, take_asn, take_two};
 use bgp_update::UpdateFault;
-use path_model::Peer;
+use path_model::{Noted, Peer};
 use std::alloc::Global;
 
 /// The two ends of a session.
@@ -28,11 +30,12 @@ pub(crate) fn read_message(
     timed: bool,
     wide: bool,
     add_path: bool,
+    before: &Before,
 ) -> Result<Body, BodyFault>
-    ensures { OrNoMemory (ByParts (message_at timed wide body.now) (MessageSays wide add_path)) result }
+    ensures { OrNoMemory (ByParts (message_at timed wide body.now) (MessageSays before.now wide add_path)) result }
 {
     match take_message(body, timed, wide) {
-        Some((ends, message)) => changes_of(alloc, message, wide, add_path, ends),
+        Some((ends, message)) => changes_of(alloc, message, wide, add_path, ends, before),
         None => Err(BodyFault::Body),
     }
 }
@@ -43,16 +46,37 @@ fn changes_of(
     wide: bool,
     add_path: bool,
     ends: Ends,
+    before: &Before,
 ) -> Result<Body, BodyFault>
-    ensures { OrNoMemory (MessageSays wide add_path (session_of ends, message.now)) result }
+    ensures { OrNoMemory (MessageSays before.now wide add_path (session_of ends, message.now)) result }
 {
-    match bgp_update::read(alloc, message, wide, add_path, ends.peer) {
-        Ok(noted) => Ok(Body::Routes(noted, Beside::Own(ends.local.addr))),
+    match changes_by(alloc, message, wide, add_path, ends.peer, before) {
+        Ok((noted, peer)) => Ok(Body::Routes(noted, Beside::Session(peer, ends.local.addr))),
         Err(UpdateFault::Message) => Err(BodyFault::Message),
         Err(UpdateFault::Attributes) => Err(BodyFault::Attributes),
         Err(UpdateFault::NoPath) => Err(BodyFault::NoPath),
         Err(UpdateFault::NoMemory) => Err(BodyFault::NoMemory),
     }
+}
+
+// The changes of the peer's message, and the peer: where AS_TRANS stands for another AS, the message is read once more as that one's.
+fn changes_by(
+    alloc: Global,
+    message: &[u8],
+    wide: bool,
+    add_path: bool,
+    peer: Peer,
+    before: &Before,
+) -> Result<(Noted, Peer), UpdateFault>
+    ensures { IsSentOutcome before.now wide add_path peer message.now result }
+{
+    let noted = bgp_update::read(alloc, message, wide, add_path, peer)?;
+    let sender = sender_of(before, wide, peer, &noted);
+    if sender == peer {
+        return Ok((noted, peer));
+    }
+    let noted = bgp_update::read(alloc, message, wide, add_path, sender)?;
+    Ok((noted, sender))
 }
 
 // The ends of the session, and the bytes behind its fields.

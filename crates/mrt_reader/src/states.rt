@@ -11,6 +11,7 @@ use crate::body::{Beside, Body};
 use crate::fault::BodyFault;
 use crate::routing::no_changes;
 use crate::session::{Ends, take_message};
+use crate::transition::resolved;
 use bgp_attrs::take_two;
 use dialects::Rule;
 use path_model::{Addr, Peer};
@@ -34,17 +35,22 @@ pub(crate) fn read_state(
     wide: bool,
     before: &Before,
 ) -> Result<Body, BodyFault>
-    ensures { OrNoMemory (ByParts (state_at timed wide body.now) (StateSays before.now)) result }
+    ensures { OrNoMemory (ByParts (state_at timed wide body.now) (StateSays before.now wide)) result }
 {
     match take_state(body, timed, wide) {
-        Some(change) => change_at(alloc, change, before),
+        Some(change) => change_at(alloc, change, wide, before),
         None => Err(BodyFault::Body),
     }
 }
 
 // Where the session isn't up, all routes of the peer are gone. By the writer's rules what doesn't end a session is passed over.
-fn change_at(alloc: Global, change: StateChange, before: &Before) -> Result<Body, BodyFault>
-    ensures { OrNoMemory (StateSays before.now (change_of change)) result }
+fn change_at(
+    alloc: Global,
+    change: StateChange,
+    wide: bool,
+    before: &Before,
+) -> Result<Body, BodyFault>
+    ensures { OrNoMemory (StateSays before.now wide (change_of change)) result }
 {
     if is_passed(change, before) {
         return Ok(Body::Passed);
@@ -52,7 +58,8 @@ fn change_at(alloc: Global, change: StateChange, before: &Before) -> Result<Body
     if change.new == ESTABLISHED {
         return Ok(Body::Routes(no_changes(alloc), Beside::Nothing));
     }
-    end_of(alloc, peer_of(change, before), before)
+    let peer = resolved(before, wide, peer_of(change, before));
+    end_of(alloc, peer, before)
 }
 
 // Whether it is passed over, since the session wasn't Established, nor is it now.

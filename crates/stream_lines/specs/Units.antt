@@ -14,7 +14,7 @@ use Rattle.mrt_reader.specs.declared.body.Body.{Body as RecordBody}
 use Rattle.mrt_reader.specs.declared.body.Body.TheVariants as bodies
 use Rattle.mrt_reader.specs.declared.fault.BodyFault.{BodyFault}
 use Rattle.mrt_reader.specs.declared.fault.BodyFault.TheVariants as faults
-use Rattle.mrt_reader.specs.Before.{Known as BeforeRecord, fresh, with_own, with_table}
+use Rattle.mrt_reader.specs.Before.{Known as BeforeRecord, fresh, with_name, with_own, with_table}
 use Rattle.mrt_reader.specs.Bodies as mrt
 use Rattle.mrt_reader.specs.Coming as records
 use Rattle.bmp_reader.specs.declared.body.Body.{Body as MessageBody}
@@ -90,13 +90,13 @@ record_cause faults.NoMemory = None
 -- what changes do, by what the record tells beside them
 abbrev pub effect_of : Noted → Beside → Effect
 effect_of noted besides.Nothing = Routes noted
-effect_of noted (besides.Own addr) = Routes noted
+effect_of noted (besides.Session peer own) = Routes noted
 effect_of noted besides.Passed = Part noted
 
 -- what is known behind such a record
 abbrev pub told_by : BeforeRecord → Beside → BeforeRecord
 told_by before besides.Nothing = before
-told_by before (besides.Own addr) = with_own before addr
+told_by before (besides.Session peer own) = with_own (with_name before peer) own
 told_by before besides.Passed = before
 
 -- A record that reads so: its changes happen, with their notes; its peer table is that of the records behind it; all peers in an AS leave; or

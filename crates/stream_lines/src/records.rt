@@ -80,8 +80,8 @@ impl Records {
     {
         match beside {
             Beside::Nothing => Ok(Effect::Routes(noted)),
-            Beside::Own(addr) => {
-                self.before.note_own(addr)?;
+            Beside::Session(peer, own) => {
+                self.before.note_session(peer, own)?;
                 Ok(Effect::Routes(noted))
             }
             Beside::Passed => Ok(Effect::Part(noted)),

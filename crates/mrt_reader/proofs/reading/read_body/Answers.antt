@@ -26,18 +26,18 @@ returns-in-Dump c =
     let body = c.args.unit.now.body.now in
     let is : layout_of c.args.unit.now.kind c.args.unit.now.subkind ≡ Dump c.in-Dump.six = sym c.layout_of.ensures ∙ c.in-Dump.is in
     subst (λ (layout : Layout). OrNoMemory (λ r. LayoutSays layout c.args.before.now body r) c.read_dump.result) (sym is)
-    (or_by_form (IsTableDump c.in-Dump.six body) DumpSays (dump_at c.in-Dump.six body) c.read_dump.result (dump_reads c.in-Dump.six body) c.read_dump.ensures)
+    (or_by_form (IsTableDump c.in-Dump.six body) (DumpSays c.args.before.now) (dump_at c.in-Dump.six body) c.read_dump.result (dump_reads c.in-Dump.six body) c.read_dump.ensures)
 
 pub returns-in-Message : goal.returns-in-Message
 returns-in-Message c =
     let body = c.args.unit.now.body.now in
     let is : layout_of c.args.unit.now.kind c.args.unit.now.subkind ≡ Message c.in-Message.timed c.in-Message.wide c.in-Message.add_path = sym c.layout_of.ensures ∙ c.in-Message.is in
     subst (λ (layout : Layout). OrNoMemory (λ r. LayoutSays layout c.args.before.now body r) c.read_message.result) (sym is)
-    (or_by_form (λ (it : Session × List ℕ). IsRecordedMessage c.in-Message.timed c.in-Message.wide body it.0 it.1) (MessageSays c.in-Message.wide c.in-Message.add_path) (message_at c.in-Message.timed c.in-Message.wide body) c.read_message.result (message_reads c.in-Message.timed c.in-Message.wide body) c.read_message.ensures)
+    (or_by_form (λ (it : Session × List ℕ). IsRecordedMessage c.in-Message.timed c.in-Message.wide body it.0 it.1) (MessageSays c.args.before.now c.in-Message.wide c.in-Message.add_path) (message_at c.in-Message.timed c.in-Message.wide body) c.read_message.result (message_reads c.in-Message.timed c.in-Message.wide body) c.read_message.ensures)
 
 pub returns-in-State : goal.returns-in-State
 returns-in-State c =
     let body = c.args.unit.now.body.now in
     let is : layout_of c.args.unit.now.kind c.args.unit.now.subkind ≡ State c.in-State.timed c.in-State.wide = sym c.layout_of.ensures ∙ c.in-State.is in
     subst (λ (layout : Layout). OrNoMemory (λ r. LayoutSays layout c.args.before.now body r) c.read_state.result) (sym is)
-    (or_by_form (IsStateChange c.in-State.timed c.in-State.wide body) (StateSays c.args.before.now) (state_at c.in-State.timed c.in-State.wide body) c.read_state.result (state_reads c.in-State.timed c.in-State.wide body) c.read_state.ensures)
+    (or_by_form (IsStateChange c.in-State.timed c.in-State.wide body) (StateSays c.args.before.now c.in-State.wide) (state_at c.in-State.timed c.in-State.wide body) c.read_state.result (state_reads c.in-State.timed c.in-State.wide body) c.read_state.ensures)
