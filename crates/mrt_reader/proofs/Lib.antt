@@ -9,6 +9,7 @@ pub mod RecordLemmas
 pub mod RouteLemmas
 pub mod SameLemmas
 pub mod SessionLemmas
+pub mod SetLemmas
 pub mod ShapeLemmas
 pub mod SomeLemmas
 pub mod TableLemmas
