@@ -68,21 +68,24 @@ dump_has before dumped noted (besides.Session peer own) e = absurd e
 announces_none : (noted : Noted) (beside : Beside) (changes : List Change) → announced_of changes ≡ 0 → Ok (bodies.Routes noted beside) ≡ Ok (bodies.Routes (updates.without_notes changes) besides.Nothing) → HasNotes noted
 announces_none noted beside changes none e = let same : noted ≡ updates.without_notes changes = cc in subst HasNotes (sym same) (sym none)
 
-state_has : (before : Known) (wide : Bool) (change : StateChange) (noted : Noted) (beside : Beside) → StateSays before wide change (Ok (bodies.Routes noted beside)) → HasNotes noted
-state_has before wide change noted beside says = by_rule (states.is_passed before change) says
+ended_has : (before : Known) (peer : Peer) (noted : Noted) (beside : Beside) → Ok (bodies.Routes noted beside) ≡ Ok (states.ended before peer) → HasNotes noted
+ended_has before peer noted beside is = by_name (states.is_unnamed before peer) is
   where
-    peer : Peer
-    peer = resolved before wide (states.peer_in before change)
-
     by_name : (named : Bool) → Ok (bodies.Routes noted beside) ≡ Ok (if named then bodies.Left peer.asn else bodies.Routes (updates.without_notes (RemovePeer peer ∷ [])) besides.Nothing) → HasNotes noted
     by_name true e = absurd cc
     by_name false e = announces_none noted beside (RemovePeer peer ∷ []) refl e
 
-    by_state : (up : Bool) → Ok (bodies.Routes noted beside) ≡ Ok (if up then bodies.Routes (updates.without_notes []) besides.Nothing else states.ended before peer) → HasNotes noted
+state_has : (before : Known) (wide : Bool) (change : StateChange) (noted : Noted) (beside : Beside) → StateSays before wide change (Ok (bodies.Routes noted beside)) → HasNotes noted
+state_has before wide change noted beside says = by_rule (states.is_passed before change) says
+  where
+    by_state : (up : Bool) → Ok (bodies.Routes noted beside) ≡ Ok (if up then bodies.Routes (updates.without_notes []) besides.Nothing else states.ended before (resolved before wide (states.peer_in before change))) → HasNotes noted
     by_state true e = announces_none noted beside [] refl e
-    by_state false e = by_name (states.is_unnamed before peer) e
+    by_state false e = ended_has before (resolved before wide (states.peer_in before change)) noted beside e
 
-    by_rule : (passed : Bool) → Ok (bodies.Routes noted beside) ≡ Ok (if passed then bodies.Passed else (if change.new == 6 then bodies.Routes (updates.without_notes []) besides.Nothing else states.ended before peer)) → HasNotes noted
+    by_rule : (passed : Bool)
+        → Ok (bodies.Routes noted beside)
+        ≡ Ok (if passed then bodies.Passed else (if change.new == 6 then bodies.Routes (updates.without_notes []) besides.Nothing else states.ended before (resolved before wide (states.peer_in before change))))
+        → HasNotes noted
     by_rule true e = absurd cc
     by_rule false e = by_state (change.new == 6) e
 

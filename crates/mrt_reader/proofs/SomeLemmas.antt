@@ -192,22 +192,23 @@ also_refused wide add_path peer other message update_faults.Attributes reads = r
 also_refused wide add_path peer other message update_faults.NoPath reads = reads
 also_refused wide add_path peer other message update_faults.NoMemory reads = reads
 
-sent_some : (before : Known) (wide add_path : Bool) (peer : Peer) (message : List ℕ) → (inner : Result (Noted × Peer) UpdateFault) × IsSent before wide add_path peer message inner
-sent_some before wide add_path peer message = as_written (messages.reading_some wide add_path peer message)
-  where
-    Sent : Type 0
-    Sent = (inner : Result (Noted × Peer) UpdateFault) × IsSent before wide add_path peer message inner
+abbrev Sent : Known → Bool → Bool → Peer → List ℕ → Type 0
+Sent before wide add_path peer message = (inner : Result (Noted × Peer) UpdateFault) × IsSent before wide add_path peer message inner
 
-    as_sent : (written : Noted) → updates.IsMessageReading wide add_path peer message (Ok written) → (reading : Result Noted UpdateFault)
-        → updates.IsMessageReading wide add_path (sender_of before wide peer written) message reading → Sent
-    as_sent written reads (Ok noted) of_sender = (Ok (noted, sender_of before wide peer written), (written, reads, refl, of_sender))
-    as_sent written reads (Err fault) of_sender =
-        let same : Ok written ≡ Err fault = messages.reading_same wide add_path peer message (Ok written) (Err fault) reads (also_refused wide add_path (sender_of before wide peer written) peer message fault of_sender) in
-        absurd cc
+sent_by : (before : Known) (wide add_path : Bool) (peer : Peer) (message : List ℕ) (written : Noted) → updates.IsMessageReading wide add_path peer message (Ok written) → (reading : Result Noted UpdateFault)
+    → updates.IsMessageReading wide add_path (sender_of before wide peer written) message reading → Sent before wide add_path peer message
+sent_by before wide add_path peer message written reads (Ok noted) of_sender = (Ok (noted, sender_of before wide peer written), (written, reads, refl, of_sender))
+sent_by before wide add_path peer message written reads (Err fault) of_sender =
+    let same : Ok written ≡ Err fault = messages.reading_same wide add_path peer message (Ok written) (Err fault) reads (also_refused wide add_path (sender_of before wide peer written) peer message fault of_sender) in
+    absurd cc
 
-    as_written : (first : (reading : Result Noted UpdateFault) × updates.IsMessageReading wide add_path peer message reading) → Sent
-    as_written (Err fault, reads) = (Err fault, reads)
-    as_written (Ok written, reads) = let more = messages.reading_some wide add_path (sender_of before wide peer written) message in as_sent written reads more.0 more.1
+sent_of : (before : Known) (wide add_path : Bool) (peer : Peer) (message : List ℕ) (reading : Result Noted UpdateFault) → updates.IsMessageReading wide add_path peer message reading → Sent before wide add_path peer message
+sent_of before wide add_path peer message (Err fault) reads = (Err fault, reads)
+sent_of before wide add_path peer message (Ok written) reads =
+    let more = messages.reading_some wide add_path (sender_of before wide peer written) message in sent_by before wide add_path peer message written reads more.0 more.1
+
+sent_some : (before : Known) (wide add_path : Bool) (peer : Peer) (message : List ℕ) → Sent before wide add_path peer message
+sent_some before wide add_path peer message = let first = messages.reading_some wide add_path peer message in sent_of before wide add_path peer message first.0 first.1
 
 message_some : (before : Known) (wide add_path : Bool) (it : Session × List ℕ) → Says (MessageSays before wide add_path it)
 message_some before wide add_path (session, message) = let inner = sent_some before wide add_path session.peer message in (raised session.local.addr inner.0, (inner.0, inner.1, refl))
