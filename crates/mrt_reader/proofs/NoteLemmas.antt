@@ -64,33 +64,39 @@ dump_has before dumped noted besides.Nothing e = subst HasNotes (sym e.3) refl
 dump_has before dumped noted besides.Passed e = absurd e
 dump_has before dumped noted (besides.Session peer own) e = absurd e
 
+-- the reading is this one
+abbrev Is : Result Body BodyFault → Body → Type 0
+Is reading body = reading ≡ Ok body
+
 -- the end of a session announces nothing
-announces_none : (noted : Noted) (beside : Beside) (changes : List Change) → announced_of changes ≡ 0 → Ok (bodies.Routes noted beside) ≡ Ok (bodies.Routes (updates.without_notes changes) besides.Nothing) → HasNotes noted
+announces_none : (noted : Noted) (beside : Beside) (changes : List Change) → announced_of changes ≡ 0 → Is (Ok (bodies.Routes noted beside)) (bodies.Routes (updates.without_notes changes) besides.Nothing) → HasNotes noted
 announces_none noted beside changes none e = let same : noted ≡ updates.without_notes changes = cc in subst HasNotes (sym same) (sym none)
 
-ended_has : (before : Known) (peer : Peer) (noted : Noted) (beside : Beside) → Ok (bodies.Routes noted beside) ≡ Ok (states.ended before peer) → HasNotes noted
+ended_has : (before : Known) (peer : Peer) (noted : Noted) (beside : Beside) → Is (Ok (bodies.Routes noted beside)) (states.ended before peer) → HasNotes noted
 ended_has before peer noted beside is = by_name (states.is_unnamed before peer) is
   where
-    by_name : (named : Bool) → Ok (bodies.Routes noted beside) ≡ Ok (if named then bodies.Left peer.asn else bodies.Routes (updates.without_notes (RemovePeer peer ∷ [])) besides.Nothing) → HasNotes noted
+    by_name : (named : Bool) → Is (Ok (bodies.Routes noted beside)) (if named then bodies.Left peer.asn else bodies.Routes (updates.without_notes (RemovePeer peer ∷ [])) besides.Nothing) → HasNotes noted
     by_name true e = absurd cc
     by_name false e = announces_none noted beside (RemovePeer peer ∷ []) refl e
 
 state_has : (before : Known) (wide : Bool) (change : StateChange) (noted : Noted) (beside : Beside) → StateSays before wide change (Ok (bodies.Routes noted beside)) → HasNotes noted
 state_has before wide change noted beside says = by_rule (states.is_passed before change) says
   where
-    by_state : (up : Bool) → Ok (bodies.Routes noted beside) ≡ Ok (if up then bodies.Routes (updates.without_notes []) besides.Nothing else states.ended before (resolved before wide (states.peer_in before change))) → HasNotes noted
+    by_state : (up : Bool) → Is (Ok (bodies.Routes noted beside)) (if up then bodies.Routes (updates.without_notes []) besides.Nothing else states.ended before (resolved before wide (states.peer_in before change))) → HasNotes noted
     by_state true e = announces_none noted beside [] refl e
     by_state false e = ended_has before (resolved before wide (states.peer_in before change)) noted beside e
 
     by_rule : (passed : Bool)
-        → Ok (bodies.Routes noted beside)
-        ≡ Ok (if passed then bodies.Passed else (if change.new == 6 then bodies.Routes (updates.without_notes []) besides.Nothing else states.ended before (resolved before wide (states.peer_in before change))))
+        → Is (Ok (bodies.Routes noted beside)) (if passed then bodies.Passed else (if change.new == 6 then bodies.Routes (updates.without_notes []) besides.Nothing else states.ended before (resolved before wide (states.peer_in before change))))
         → HasNotes noted
     by_rule true e = absurd cc
     by_rule false e = by_state (change.new == 6) e
 
+abbrev Says : Result Body BodyFault → Addr → Result (Noted × Peer) UpdateFault → Type 0
+Says reading local inner = reading ≡ raised local inner
+
 raised_has : (before : Known) (wide add_path : Bool) (peer : Peer) (local : Addr) (message : List ℕ) (noted : Noted) (beside : Beside) (inner : Result (Noted × Peer) UpdateFault) → IsSent before wide add_path peer message inner
-    → Ok (bodies.Routes noted beside) ≡ raised local inner → HasNotes noted
+    → Says (Ok (bodies.Routes noted beside)) local inner → HasNotes noted
 raised_has before wide add_path peer local message noted beside (Ok (others, sender)) reads is =
     let same : noted ≡ others = cc in subst HasNotes (sym same) (messages.each_has_note wide add_path sender message others reads.3)
 raised_has before wide add_path peer local message noted beside (Err fault) reads is = absurd cc
