@@ -92,11 +92,8 @@ state_has before wide change noted beside says = by_rule (states.is_passed befor
     by_rule true e = absurd cc
     by_rule false e = by_state (change.new == 6) e
 
-abbrev Says : Result Body BodyFault → Addr → Result (Noted × Peer) UpdateFault → Type 0
-Says reading local inner = reading ≡ raised local inner
-
 raised_has : (before : Known) (wide add_path : Bool) (peer : Peer) (local : Addr) (message : List ℕ) (noted : Noted) (beside : Beside) (inner : Result (Noted × Peer) UpdateFault) → IsSent before wide add_path peer message inner
-    → Says (Ok (bodies.Routes noted beside)) local inner → HasNotes noted
+    → Ok (bodies.Routes noted beside) ≡ raised local inner → HasNotes noted
 raised_has before wide add_path peer local message noted beside (Ok (others, sender)) reads is =
     let same : noted ≡ others = cc in subst HasNotes (sym same) (messages.each_has_note wide add_path sender message others reads.3)
 raised_has before wide add_path peer local message noted beside (Err fault) reads is = absurd cc
