@@ -1,0 +1,12 @@
+pub mod ChangeLemmas
+pub mod FeedLemmas
+pub mod HeadlineLemmas
+pub mod JudgedLemmas
+pub mod LineLemmas
+pub mod MarkLemmas
+pub mod MarkLineLemmas
+pub mod MessageLemmas
+pub mod OriginLemmas
+pub mod PieceLemmas
+pub mod RefusedLemmas
+pub mod ServedLemmas
