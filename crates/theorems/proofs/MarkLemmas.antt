@@ -22,12 +22,14 @@ use Rattle.path_model.specs.Order.{key_total, peer_total}
 use Rattle.path_model.specs.Routes.{Routes, changed, is_of_peer, performed}
 use Rattle.path_model.specs.Trail.{Path}
 use Rattle.path_model.proofs.OrderLemmas.{peer_exact}
+use Rattle.held_bytes.specs.Units.{Begins}
 use Rattle.mrt_reader.specs.declared.body.Body.{Body as RecordBody}
 use Rattle.mrt_reader.specs.declared.body.Body.TheVariants as bodies
 use Rattle.mrt_reader.specs.declared.fault.BodyFault.{BodyFault}
 use Rattle.mrt_reader.specs.Bodies as mrt
 use Rattle.mrt_reader.specs.Coming as records
 use Rattle.mrt_reader.specs.Records.{Recorded}
+use Rattle.mrt_reader.proofs.LawLemmas as record_laws
 use Rattle.mrt_reader.proofs.NoteLemmas as record_notes
 use Rattle.bmp_reader.specs.declared.body.Body.{Body as MessageBody}
 use Rattle.bmp_reader.specs.declared.body.Body.TheVariants as sayings
@@ -35,7 +37,8 @@ use Rattle.bmp_reader.specs.declared.fault.BmpFault.{BmpFault}
 use Rattle.bmp_reader.specs.declared.view.View.{View}
 use Rattle.bmp_reader.specs.Bodies as bmp
 use Rattle.bmp_reader.specs.Coming as messages
-use Rattle.bmp_reader.specs.Messages.{Sent}
+use Rattle.bmp_reader.specs.Messages.{IsMessage, Sent}
+use Rattle.bmp_reader.proofs.LawLemmas as message_laws
 use Rattle.bmp_reader.proofs.NoteLemmas as message_notes
 use Rattle.otc_check.specs.Laws.{AllLeave, AreOfRoutes, Leaves, note_at}
 use Rattle.otc_check.specs.Marks.{Marked, mark_of, noted_by}
@@ -47,78 +50,10 @@ use Rattle.otc_check.proofs.RouteLemmas.{are_of_routes}
 use Rattle.otc_check.proofs.UnitLemmas.{marks_go_on}
 use Rattle.report_text.specs.declared.cause.Cause.{Cause}
 use Rattle.rib_store.specs.State.{State as Analysis}
-use Rattle.stream_lines.specs.declared.next.Effect.{Effect}
-use Rattle.stream_lines.specs.declared.next.Effect.TheVariants.{Routes as RoutesSaid, Learn, Note, Pass}
-use Rattle.stream_lines.specs.declared.next.Next.{Next}
-use Rattle.stream_lines.specs.declared.next.Next.TheVariants.{Unit as AUnit, Broken, End}
-use Rattle.stream_lines.specs.Streams.{Asking, Dump, Taking, TakesComing, TakesUnits, TakesUnless, after_unit, ended}
+use Rattle.stream_lines.specs.Streams.{Asking, Taking, TakesComing, TakesUnit, TakesUnits, TakesUnless, after_unit}
 use Rattle.stream_lines.specs.Units.{Bmp, Coming, IsComing, IsRefused, Known, MessageComes, MessageSays, Mrt, RecordComes, RecordSays, message_cause, record_cause}
-use Rattle.theorems.specs.Marks.{Said, UnitsSay, behind, joined, nothing, said_by}
+use Rattle.theorems.specs.Marks.{Said, UnitSays, UnitsSay, joined, message_says, nothing, record_says}
 use Rattle.theorems.proofs.ChangeLemmas.{performed_append}
-
--- ---- a unit that says what changes has a note for each announcement
-
-abbrev IfRoutes : Next → Type 0
-IfRoutes next = (noted : Noted) → next ≡ AUnit (Ok (RoutesSaid noted)) → HasNotes noted
-
--- what comes next is something else
-other_next : (next other : Next) → next ≡ other → ((noted : Noted) → other ≡ AUnit (Ok (RoutesSaid noted)) → ⊥) → IfRoutes next
-other_next next other is never noted says = absurd (never noted (sym is ∙ says))
-
-refused_next : (cause : Option Cause) (known : Known) (rest : List ℕ) (coming : Coming) → IsRefused cause known rest coming → IfRoutes coming.next
-refused_next None known rest coming is = absurd is
-refused_next (Some cause) known rest coming is = other_next coming.next (AUnit (Err cause)) (ap (λ (c : Coming). c.next) is) (λ noted e. let never : ⊥ = cc in never)
-
-same_noted : (next : Next) (noted other : Noted) → next ≡ AUnit (Ok (RoutesSaid noted)) → HasNotes noted → next ≡ AUnit (Ok (RoutesSaid other)) → HasNotes other
-same_noted next noted other is has says =
-    let both : AUnit (Ok (RoutesSaid noted)) ≡ AUnit (Ok (RoutesSaid other)) = sym is ∙ says in
-    let same : noted ≡ other = cc in
-    subst HasNotes same has
-
-record_next : (it : Recorded) (peers : Option (List Peer)) (reading : Result RecordBody BodyFault) (rest : List ℕ) (coming : Coming) → mrt.IsReading it peers reading
-    → RecordSays peers reading rest coming → IfRoutes coming.next
-record_next it peers (Ok (bodies.Peers table)) rest coming reads says =
-    other_next coming.next (AUnit (Ok Note)) (ap (λ (c : Coming). c.next) says) (λ noted e. let never : ⊥ = cc in never)
-record_next it peers (Ok (bodies.Routes noted)) rest coming reads says =
-    λ other e. same_noted coming.next noted other (ap (λ (c : Coming). c.next) says) (record_notes.each_has_note it peers noted reads) e
-record_next it peers (Ok bodies.Passed) rest coming reads says =
-    other_next coming.next (AUnit (Ok Pass)) (ap (λ (c : Coming). c.next) says) (λ noted e. let never : ⊥ = cc in never)
-record_next it peers (Err fault) rest coming reads says = refused_next (record_cause fault) (Mrt peers) rest coming says
-
-message_next : (it : Sent) (view : View) (peers : bmp.Identifying) (reading : Result MessageBody BmpFault) (rest : List ℕ) (coming : Coming) → bmp.IsReading it view peers reading
-    → MessageSays view peers reading rest coming → IfRoutes coming.next
-message_next it view peers (Ok (sayings.Routes noted)) rest coming reads says =
-    λ other e. same_noted coming.next noted other (ap (λ (c : Coming). c.next) says) (message_notes.each_has_note it view peers noted reads) e
-message_next it view peers (Ok (sayings.Up peer (Some role) paths)) rest coming reads says =
-    other_next coming.next (AUnit (Ok (Learn peer.asn role))) (ap (λ (c : Coming). c.next) says) (λ noted e. let never : ⊥ = cc in never)
-message_next it view peers (Ok (sayings.Up peer None paths)) rest coming reads says =
-    other_next coming.next (AUnit (Ok Note)) (ap (λ (c : Coming). c.next) says) (λ noted e. let never : ⊥ = cc in never)
-message_next it view peers (Ok sayings.Passed) rest coming reads says =
-    other_next coming.next (AUnit (Ok Pass)) (ap (λ (c : Coming). c.next) says) (λ noted e. let never : ⊥ = cc in never)
-message_next it view peers (Err fault) rest coming reads says = refused_next (message_cause fault) (Bmp view peers) rest coming says
-
-broken_next : (next : Next) (cause : Cause) → next ≡ Broken cause → IfRoutes next
-broken_next next cause is = other_next next (Broken cause) is (λ noted e. let never : ⊥ = cc in never)
-
-end_next : (next : Next) → next ≡ End → IfRoutes next
-end_next next is = other_next next End is (λ noted e. let never : ⊥ = cc in never)
-
-record_comes : (peers : Option (List Peer)) (left : List ℕ) (it : records.Coming) (coming : Coming) → RecordComes peers left it coming → IfRoutes coming.next
-record_comes peers left (records.Whole it rest) coming comes = record_next it peers comes.0 rest coming comes.1 comes.2
-record_comes peers left records.TooLong coming comes = broken_next coming.next _ (ap (λ (c : Coming). c.next) comes)
-record_comes peers left records.CutShort coming comes = broken_next coming.next _ (ap (λ (c : Coming). c.next) comes)
-record_comes peers left records.End coming comes = end_next coming.next (ap (λ (c : Coming). c.next) comes)
-
-message_comes : (view : View) (peers : bmp.Identifying) (left : List ℕ) (it : messages.Coming) (coming : Coming) → MessageComes view peers left it coming → IfRoutes coming.next
-message_comes view peers left (messages.Whole it rest) coming comes = message_next it view peers comes.0 rest coming comes.1 comes.2
-message_comes view peers left messages.OtherVersion coming comes = broken_next coming.next _ (ap (λ (c : Coming). c.next) comes)
-message_comes view peers left messages.BadLength coming comes = broken_next coming.next _ (ap (λ (c : Coming). c.next) comes)
-message_comes view peers left messages.CutShort coming comes = broken_next coming.next _ (ap (λ (c : Coming). c.next) comes)
-message_comes view peers left messages.End coming comes = end_next coming.next (ap (λ (c : Coming). c.next) comes)
-
-coming_noted : (known : Known) (left : List ℕ) (coming : Coming) → IsComing known left coming → IfRoutes coming.next
-coming_noted (Mrt peers) left coming is = record_comes peers left is.0 coming is.2
-coming_noted (Bmp view peers) left coming is = message_comes view peers left is.0 coming is.2
 
 -- ---- what units say is what becomes of the routes and of their marks
 
@@ -137,82 +72,139 @@ became_then some more r s t l m n first rest = record {
 pub became_nothing : (r s : Routes) (l m : Marked) → s ≡ r → m ≡ l → Became nothing r l s m
 became_nothing r s l m routes marks = record { noted = refl; routes = routes; marks = marks }
 
-module _ (asking : Asking) (old new : Taking) (text : List ℕ) (after : Dump) where
-  abbrev Becomes : Said → Type 0
-  Becomes said = Became said old.state.routes old.marks new.state.routes new.marks
+abbrev Becomes : Taking → Taking → Said → Type 0
+Becomes old new said = Became said old.state.routes old.marks new.state.routes new.marks
 
-  same_taking : (built : Taking) → new ≡ built → built.state ≡ old.state → built.marks ≡ old.marks → Becomes nothing
-  same_taking built is state marks =
-      became_nothing old.state.routes new.state.routes old.marks new.marks (ap (λ (k : Taking). k.state.routes) is ∙ ap (λ (a : Analysis). a.routes) state) (ap (λ (k : Taking). k.marks) is ∙ marks)
+same_taking : (old new built : Taking) → new ≡ built → built.state ≡ old.state → built.marks ≡ old.marks → Becomes old new nothing
+same_taking old new built is state marks =
+    became_nothing old.state.routes new.state.routes old.marks new.marks (ap (λ (k : Taking). k.state.routes) is ∙ ap (λ (a : Analysis). a.routes) state) (ap (λ (k : Taking). k.marks) is ∙ marks)
 
-  unit_became : (next : Next) → IfRoutes next → TakesComing asking old after next text new → Becomes (said_by next)
-  unit_became (AUnit (Ok (RoutesSaid noted))) notes takes = record {
-    noted = notes noted refl;
-    routes = ap (λ (k : Taking). k.state.routes) takes.1.new_is ∙ ap (λ (a : Analysis). a.routes) takes.1.happens;
-    marks = ap (λ (k : Taking). k.marks) takes.1.new_is;
+-- a unit says something, and it becomes of the routes and the marks
+record Told (known : Known) (left : List ℕ) (old new : Taking) : Type 0 where
+  said : Said
+  says : UnitSays known left said
+  became : Becomes old new said
+
+module _ (asking : Asking) (old new : Taking) (text : List ℕ) where
+  abbrev Takes : Coming → Type 0
+  Takes c = TakesComing asking old (after_unit old.dump c) c.next text new
+
+  refused_became : (cause : Option Cause) (known : Known) (rest : List ℕ) (coming : Coming) → IsRefused cause known rest coming → Takes coming → Becomes old new nothing
+  refused_became None known rest coming says takes = absurd says
+  refused_became (Some cause) known rest coming says takes = same_taking old new _ (subst Takes says takes).1 refl refl
+
+  record_became : (it : Recorded) (peers : Option (List Peer)) (reading : Result RecordBody BodyFault) (rest : List ℕ) (coming : Coming) → mrt.IsReading it peers reading
+      → RecordSays peers reading rest coming → Takes coming → Becomes old new (record_says reading)
+  record_became it peers (Ok (bodies.Peers table)) rest coming reads says takes = same_taking old new _ (subst Takes says takes).1 refl refl
+  record_became it peers (Ok (bodies.Routes noted)) rest coming reads says takes =
+      let lets = (subst Takes says takes).1 in
+      record {
+        noted = record_notes.each_has_note it peers noted reads;
+        routes = ap (λ (k : Taking). k.state.routes) lets.new_is ∙ ap (λ (a : Analysis). a.routes) lets.happens;
+        marks = ap (λ (k : Taking). k.marks) lets.new_is;
+      }
+  record_became it peers (Ok bodies.Passed) rest coming reads says takes = same_taking old new _ (subst Takes says takes).1 refl refl
+  record_became it peers (Err fault) rest coming reads says takes = refused_became (record_cause fault) (Mrt peers) rest coming says takes
+
+  message_became : (it : Sent) (view : View) (peers : bmp.Identifying) (reading : Result MessageBody BmpFault) (rest : List ℕ) (coming : Coming) → bmp.IsReading it view peers reading
+      → MessageSays view peers reading rest coming → Takes coming → Becomes old new (message_says reading)
+  message_became it view peers (Ok (sayings.Routes noted)) rest coming reads says takes =
+      let lets = (subst Takes says takes).1 in
+      record {
+        noted = message_notes.each_has_note it view peers noted reads;
+        routes = ap (λ (k : Taking). k.state.routes) lets.new_is ∙ ap (λ (a : Analysis). a.routes) lets.happens;
+        marks = ap (λ (k : Taking). k.marks) lets.new_is;
+      }
+  message_became it view peers (Ok (sayings.Up peer (Some role) paths)) rest coming reads says takes =
+      let lets = (subst Takes says takes).1 in
+      became_nothing old.state.routes new.state.routes old.marks new.marks (ap (λ (k : Taking). k.state.routes) lets.new_is ∙ ap (λ (a : Analysis). a.routes) lets.happens) (ap (λ (k : Taking). k.marks) lets.new_is)
+  message_became it view peers (Ok (sayings.Up peer None paths)) rest coming reads says takes = same_taking old new _ (subst Takes says takes).1 refl refl
+  message_became it view peers (Ok sayings.Passed) rest coming reads says takes = same_taking old new _ (subst Takes says takes).1 refl refl
+  message_became it view peers (Err fault) rest coming reads says takes = refused_became (message_cause fault) (Bmp view peers) rest coming says takes
+
+  record_told : (peers : Option (List Peer)) (left : List ℕ) (it : records.Coming) (coming : Coming) → records.IsComing left it → RecordComes peers left it coming → Takes coming
+      → Told (Mrt peers) left old new
+  record_told peers left (records.Whole it rest) coming is comes takes = record {
+    said = record_says comes.0;
+    says = inl (it, rest, comes.0, is, comes.1, refl);
+    became = record_became it peers comes.0 rest coming comes.1 comes.2 takes;
   }
-  unit_became (AUnit (Ok (Learn asn role))) notes takes =
-      became_nothing old.state.routes new.state.routes old.marks new.marks (ap (λ (k : Taking). k.state.routes) takes.1.new_is ∙ ap (λ (a : Analysis). a.routes) takes.1.happens) (ap (λ (k : Taking). k.marks) takes.1.new_is)
-  unit_became (AUnit (Ok Note)) notes takes = same_taking _ takes.1 refl refl
-  unit_became (AUnit (Ok Pass)) notes takes = same_taking _ takes.1 refl refl
-  unit_became (AUnit (Err cause)) notes takes = same_taking _ takes.1 refl refl
-  unit_became (Broken cause) notes takes = same_taking _ takes.1 refl refl
-  unit_became End notes takes = same_taking _ takes.1 refl refl
+  record_told peers left records.TooLong coming is comes takes = record {
+    said = nothing;
+    says = inr ((λ it rest begins. record_laws.not_too_long left it rest begins is), refl);
+    became = same_taking old new _ (subst Takes comes takes).1 refl refl;
+  }
+  record_told peers left records.CutShort coming is comes takes =
+      record { said = nothing; says = inr (is.0.no_record, refl); became = same_taking old new _ (subst Takes comes takes).1 refl refl }
+  record_told peers left records.End coming is comes takes = record {
+    said = nothing;
+    says = inr ((λ it rest begins. record_laws.not_empty left it rest begins is), refl);
+    became = same_taking old new _ (subst Takes comes takes).1 refl refl;
+  }
 
-  -- and where the dump stands
-  abbrev stands : Next → Dump
-  stands (AUnit outcome) = after
-  stands (Broken cause) = ended old.dump
-  stands End = ended old.dump
+  no_message : (left : List ℕ) (other : messages.Coming) (it : Sent) (rest : List ℕ) → messages.IsComing left other → Begins IsMessage left it rest → messages.Whole it rest ≡ other
+  no_message left other it rest is begins = message_laws.coming_same left (messages.Whole it rest) other begins is
 
-  unit_stands : (next : Next) → TakesComing asking old after next text new → new.dump ≡ stands next
-  unit_stands (AUnit (Ok (RoutesSaid noted))) takes = ap (λ (k : Taking). k.dump) takes.1.new_is
-  unit_stands (AUnit (Ok (Learn asn role))) takes = ap (λ (k : Taking). k.dump) takes.1.new_is
-  unit_stands (AUnit (Ok Note)) takes = ap (λ (k : Taking). k.dump) takes.1
-  unit_stands (AUnit (Ok Pass)) takes = ap (λ (k : Taking). k.dump) takes.1
-  unit_stands (AUnit (Err cause)) takes = ap (λ (k : Taking). k.dump) takes.1
-  unit_stands (Broken cause) takes = ap (λ (k : Taking). k.dump) takes.1
-  unit_stands End takes = ap (λ (k : Taking). k.dump) takes.1
+  message_told : (view : View) (peers : bmp.Identifying) (left : List ℕ) (it : messages.Coming) (coming : Coming) → messages.IsComing left it → MessageComes view peers left it coming → Takes coming
+      → Told (Bmp view peers) left old new
+  message_told view peers left (messages.Whole it rest) coming is comes takes = record {
+    said = message_says comes.0;
+    says = inl (it, rest, comes.0, is, comes.1, refl);
+    became = message_became it view peers comes.0 rest coming comes.1 comes.2 takes;
+  }
+  message_told view peers left messages.OtherVersion coming is comes takes = record {
+    said = nothing;
+    says = inr ((λ it rest begins. let same = no_message left messages.OtherVersion it rest is begins in let never : ⊥ = cc in never), refl);
+    became = same_taking old new _ (subst Takes comes takes).1 refl refl;
+  }
+  message_told view peers left messages.BadLength coming is comes takes = record {
+    said = nothing;
+    says = inr ((λ it rest begins. let same = no_message left messages.BadLength it rest is begins in let never : ⊥ = cc in never), refl);
+    became = same_taking old new _ (subst Takes comes takes).1 refl refl;
+  }
+  message_told view peers left messages.CutShort coming is comes takes =
+      record { said = nothing; says = inr (is.0.no_message, refl); became = same_taking old new _ (subst Takes comes takes).1 refl refl }
+  message_told view peers left messages.End coming is comes takes = record {
+    said = nothing;
+    says = inr ((λ it rest begins. message_laws.not_empty left it rest begins is), refl);
+    became = same_taking old new _ (subst Takes comes takes).1 refl refl;
+  }
 
--- the dump stands behind what came
-is_behind : (dump : Dump) (coming : Coming) (next : Next) (old new : Taking) (text : List ℕ) (asking : Asking) → old.dump ≡ dump → stands asking old new text (after_unit dump coming) next ≡ behind dump next coming
-is_behind dump coming (AUnit outcome) old new text asking is = refl
-is_behind dump coming (Broken cause) old new text asking is = ap ended is
-is_behind dump coming End old new text asking is = ap ended is
+  coming_told : (known : Known) (left : List ℕ) (coming : Coming) → IsComing known left coming → Takes coming → Told known left old new
+  coming_told (Mrt peers) left coming is takes = record_told peers left is.0 coming is.1 is.2 takes
+  coming_told (Bmp view peers) left coming is takes = message_told view peers left is.0 coming is.1 is.2 takes
 
 -- units of a dump say something, which becomes of the routes and the marks
-pub record Saying (old new : Taking) : Type 0 where
+pub record Saying (asking : Asking) (old new : Taking) : Type 0 where
   pub count : ℕ
   pub said : Said
-  pub say : UnitsSay count old.dump said new.dump
+  pub say : UnitsSay asking count old said new
   pub became : Became said old.state.routes old.marks new.state.routes new.marks
 
-none_said : (old new : Taking) → new ≡ old → Saying old new
-none_said old new is = record {
+pub none_said : (asking : Asking) (old new : Taking) → new ≡ old → Saying asking old new
+none_said asking old new is = record {
   count = 0;
   said = nothing;
-  say = (refl, ap (λ (k : Taking). k.dump) is);
+  say = (refl, is);
   became = became_nothing old.state.routes new.state.routes old.marks new.marks (ap (λ (k : Taking). k.state.routes) is) (ap (λ (k : Taking). k.marks) is);
 }
 
-pub units_said : (asking : Asking) (count : ℕ) (old new : Taking) (text : List ℕ) → TakesUnits asking count old text new → Saying old new
-units_said asking zero old new text takes = none_said old new takes.1
-units_said asking (suc count) old new text takes = by_over old.dump.over refl takes.takes where
-  others : Saying takes.mid new
-  others = units_said asking count takes.mid new takes.rest takes.goes_on
+one_more_said : (over : Bool) (asking : Asking) (old mid new : Taking) (text : List ℕ) → old.dump.over ≡ over → TakesUnit asking old text mid → TakesUnless over asking old text mid
+    → Saying asking mid new → Saying asking old new
+one_more_said true asking old mid new text is takes unless others = subst (λ (k : Taking). Saying asking k new) unless.1 others
+one_more_said false asking old mid new text is takes unless others =
+    let told = coming_told asking old mid text old.dump.known old.dump.left unless.coming unless.is_coming unless.takes in
+    record {
+      count = suc others.count;
+      said = joined told.said others.said;
+      say = (text, mid, told.said, others.said, is, takes, told.says, others.say, refl);
+      became = became_then told.said others.said old.state.routes mid.state.routes new.state.routes old.marks mid.marks new.marks told.became others.became;
+    }
 
-  by_over : (over : Bool) → old.dump.over ≡ over → TakesUnless over asking old takes.first takes.mid → Saying old new
-  by_over true is unless = subst (λ (k : Taking). Saying k new) unless.1 others
-  by_over false is unless =
-      let c = unless.coming in
-      let first = unit_became asking old takes.mid takes.first (after_unit old.dump c) c.next (coming_noted old.dump.known old.dump.left c unless.is_coming) unless.takes in
-      let at : takes.mid.dump ≡ behind old.dump c.next c = unit_stands asking old takes.mid takes.first (after_unit old.dump c) c.next unless.takes ∙ is_behind old.dump c c.next old takes.mid takes.first asking refl in
-      record {
-        count = suc others.count;
-        said = joined (said_by c.next) others.said;
-        say = (c, others.said, is, unless.is_coming, subst (λ (d : Dump). UnitsSay others.count d others.said new.dump) at others.say, refl);
-        became = became_then (said_by c.next) others.said old.state.routes takes.mid.state.routes new.state.routes old.marks takes.mid.marks new.marks first others.became;
-      }
+pub units_said : (asking : Asking) (count : ℕ) (old new : Taking) (text : List ℕ) → TakesUnits asking count old text new → Saying asking old new
+units_said asking zero old new text takes = none_said asking old new takes.1
+units_said asking (suc count) old new text takes =
+    one_more_said old.dump.over asking old takes.mid new takes.first refl takes.takes takes.takes (units_said asking count takes.mid new takes.rest takes.goes_on)
 
 -- ---- the last that is said of a key
 

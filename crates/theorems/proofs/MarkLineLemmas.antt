@@ -26,7 +26,7 @@ use Rattle.stream_lines.specs.Units.{is_of_records}
 use Rattle.aspa_top.specs.declared.task.Task.{Task}
 use Rattle.aspa_top.specs.declared.task.Task.TheVariants.{Idle as Nothing, Happen, Clear, Judge as JudgePath, Explain as ExplainPath, Sent as ListSent, Say, Load, Open, Take, Until, Connect, OnFeed, Serve, Answer, Changes}
 use Rattle.aspa_top.specs.Evaluation.{Asked, DoesAsked, Evaluates, asked_of, counted}
-use Rattle.aspa_top.specs.Tasks.{DoesTask, State, TakesNamed, TakesOpen, TakesRecordsUnless, TakesUntilNamed, after_taking, same_name, start, taking_of}
+use Rattle.aspa_top.specs.Tasks.{DoesTask, State, TakesNamed, TakesOpen, TakesRecordsUnless, TakesUntilNamed, after_taking, asking_of, same_name, start, taking_of}
 use Rattle.aspa_top.specs.World.{World}
 use Rattle.theorems.specs.Marks.{DumpSays, HasMarks, IsByLast, LinesSay, MarksAreByLastAnnouncements, Said, SaidBehind, UnitsSay, joined, nothing}
 use Rattle.theorems.proofs.FeedLemmas.{works_keeps}
@@ -61,9 +61,9 @@ module _ (world : World) (state next : State) (text : List ℕ) (said : Said) (s
 
   -- what a line says of the dump of a name
   abbrev SaysOf : List ℕ → Type 0
-  SaysOf name = (now : Said) × ((more : Said) × DumpSays (state.dumps name) (next.dumps name) more × (now ≡ joined said more)) × Stands now next
+  SaysOf name = (now : Said) × ((more : Said) × DumpSays state next name (state.dumps name) more × (now ≡ joined said more)) × Stands now next
 
-  says_more : (name : List ℕ) (more : Said) → DumpSays (state.dumps name) (next.dumps name) more → Became more state.analysis.routes state.marks next.analysis.routes next.marks → SaysOf name
+  says_more : (name : List ℕ) (more : Said) → DumpSays state next name (state.dumps name) more → Became more state.analysis.routes state.marks next.analysis.routes next.marks → SaysOf name
   says_more name more says became = (
     joined said more,
     (more, says, refl),
@@ -71,24 +71,24 @@ module _ (world : World) (state next : State) (text : List ℕ) (said : Said) (s
   )
 
   -- nothing, where it took none
-  says_nothing : (name : List ℕ) → DumpSays (state.dumps name) (next.dumps name) nothing → next.analysis.routes ≡ state.analysis.routes → next.marks ≡ state.marks → SaysOf name
+  says_nothing : (name : List ℕ) → DumpSays state next name (state.dumps name) nothing → next.analysis.routes ≡ state.analysis.routes → next.marks ≡ state.marks → SaysOf name
   says_nothing name says routes marks = says_more name nothing says (became_nothing state.analysis.routes next.analysis.routes state.marks next.marks routes marks)
 
-  same_dump : (name : List ℕ) (before after : Option Dump) → after ≡ before → DumpSays before after nothing
-  same_dump name None after is = refl
-  same_dump name (Some dump) after is = subst (λ (o : Option Dump). DumpSays (Some dump) o nothing) (sym is) (0, (refl, refl))
+  same_dump : (name : List ℕ) (before : Option Dump) → next.dumps name ≡ before → DumpSays state next name before nothing
+  same_dump name None after = refl
+  same_dump name (Some dump) after = (0, taking_of state dump, (refl, refl), after)
 
   refused : (name : List ℕ) → next ≡ record state { refused = next.refused } → SaysOf name
-  refused name is = says_nothing name (same_dump name (state.dumps name) (next.dumps name) (ap (λ (s : State). s.dumps name) is)) (ap (λ (s : State). s.analysis.routes) is) (ap (λ (s : State). s.marks) is)
+  refused name is = says_nothing name (same_dump name (state.dumps name) (ap (λ (s : State). s.dumps name) is)) (ap (λ (s : State). s.analysis.routes) is) (ap (λ (s : State). s.marks) is)
 
   counted_once : (refusals : ℕ) → next ≡ record state { refused = refusals } → next ≡ record state { refused = next.refused }
   counted_once refusals is = is ∙ (λ i. record state { refused = sym (ap (λ (s : State). s.refused) is) i })
 
-  took : (name : List ℕ) (dump : Dump) (end : Taking) → state.dumps name ≡ Some dump → Saying (taking_of state dump) end → next ≡ after_taking state name end → SaysOf name
+  took : (name : List ℕ) (dump : Dump) (end : Taking) → state.dumps name ≡ Some dump → Saying (asking_of state name) (taking_of state dump) end → next ≡ after_taking state name end → SaysOf name
   took name dump end there saying is =
       let stays : next.dumps name ≡ Some end.dump = ap (λ (s : State). s.dumps name) is ∙ ap (λ (b : Bool). cond b (Some end.dump) (state.dumps name)) (itself name) in
-      let says : DumpSays (Some dump) (Some end.dump) saying.said = (saying.count, saying.say) in
-      let at = subst (λ (o : Option Dump). DumpSays o (next.dumps name) saying.said) (sym there) (subst (λ (o : Option Dump). DumpSays (Some dump) o saying.said) (sym stays) says) in
+      let says : DumpSays state next name (Some dump) saying.said = (saying.count, end, saying.say, stays) in
+      let at = subst (λ (o : Option Dump). DumpSays state next name o saying.said) (sym there) says in
       says_more name saying.said at (record {
         noted = saying.became.noted;
         routes = ap (λ (s : State). s.analysis.routes) is ∙ saying.became.routes;
@@ -97,19 +97,19 @@ module _ (world : World) (state next : State) (text : List ℕ) (said : Said) (s
 
   open_says : (over : Bool) (name : List ℕ) (count : ℕ) (dump : Dump) → state.dumps name ≡ Some dump → TakesOpen over state name count dump text next → SaysOf name
   open_says true name count dump there takes = refused name (counted_once _ takes.1)
-  open_says false name count dump there takes = took name dump takes.end there (units_said _ count (taking_of state dump) takes.end text takes.takes) takes.next_is
+  open_says false name count dump there takes = took name dump takes.end there (units_said (asking_of state name) count (taking_of state dump) takes.end text takes.takes) takes.next_is
 
   take_says : (dump : Option Dump) (name : List ℕ) (count : ℕ) → state.dumps name ≡ dump → TakesNamed dump world state name count text next → SaysOf name
   take_says None name count there takes =
       let keeps = works_keeps world state next name (TakePdus count) text takes in
-      says_nothing name (subst (λ (o : Option Dump). DumpSays o (next.dumps name) nothing) (sym there) refl) keeps.routes keeps.marks
+      says_nothing name (subst (λ (o : Option Dump). DumpSays state next name o nothing) (sym there) refl) keeps.routes keeps.marks
   take_says (Some dump) name count there takes = open_says dump.over name count dump there takes
 
   records_say : (kind over : Bool) (name : List ℕ) (moment : ℕ) (dump : Dump) → state.dumps name ≡ Some dump → TakesRecordsUnless kind over state name moment dump text next → SaysOf name
   records_say false over name moment dump there takes = refused name (counted_once _ takes.1)
   records_say true true name moment dump there takes = refused name (counted_once _ takes.1)
   records_say true false name moment dump there takes =
-      took name dump takes.end there (units_said _ takes.takes.count (taking_of state dump) takes.end text takes.takes.counted.takes) takes.next_is
+      took name dump takes.end there (units_said (asking_of state name) takes.takes.count (taking_of state dump) takes.end text takes.takes.counted.takes) takes.next_is
 
   until_says : (dump : Option Dump) (name : List ℕ) (moment : ℕ) → state.dumps name ≡ dump → TakesUntilNamed dump state name moment text next → SaysOf name
   until_says None name moment there takes = refused name (counted_once _ takes.1)
@@ -164,19 +164,13 @@ all_say world before (line ∷ more) text end said stands evaluates =
 
 by_last : (said : Said) (key : Key) (routes : Routes) (marks : Marked) → Became said fin.empty fin.empty routes marks → IsByLast said key (fin.get routes key) (mark_of marks key)
 by_last said key routes marks became = of_last (last_said key said.changes) where
-  abbrev Route : Option Path → Type 0
-  Route route = fin.get routes key ≡ route
-
-  abbrev At : List Change → Type 0
-  At changes = said.changes ≡ changes
-
-  none_left : Route None → mark_of marks key ≡ Absent → IsByLast said key (fin.get routes key) (mark_of marks key)
+  none_left : fin.get routes key ≡ None → mark_of marks key ≡ Absent → IsByLast said key (fin.get routes key) (mark_of marks key)
   none_left route mark = subst (λ (o : Option Path). IsByLast said key o (mark_of marks key)) (sym route) mark
 
-  route_is : (changes : List Change) → At changes → (route : Option Path) → fin.get (performed changes no_routes) key ≡ route → Route route
+  route_is : (changes : List Change) → said.changes ≡ changes → (route : Option Path) → fin.get (performed changes no_routes) key ≡ route → fin.get routes key ≡ route
   route_is changes is route got = ap (λ (r : Routes). fin.get r key) became.routes ∙ ap (λ (cs : List Change). fin.get (performed cs no_routes) key) is ∙ got
 
-  mark_is : (changes : List Change) → At changes → (mark : Otc) → mark_of (noted_by changes said.notes no_marks) key ≡ mark → mark_of marks key ≡ mark
+  mark_is : (changes : List Change) → said.changes ≡ changes → (mark : Otc) → mark_of (noted_by changes said.notes no_marks) key ≡ mark → mark_of marks key ≡ mark
   mark_is changes is mark got = ap (λ (m : Marked). mark_of m key) became.marks ∙ ap (λ (cs : List Change). mark_of (noted_by cs said.notes no_marks) key) is ∙ got
 
   of_last : Last key said.changes → IsByLast said key (fin.get routes key) (mark_of marks key)

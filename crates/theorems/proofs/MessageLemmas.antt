@@ -15,7 +15,6 @@ use Rattle.otc_check.specs.Marks.{noted_by}
 use Rattle.otc_check.proofs.UnitLemmas.{marks_go_on}
 use Rattle.report_text.specs.declared.cause.Cause.{Cause}
 use Rattle.rib_store.specs.State.{State}
-use Rattle.stream_lines.specs.declared.next.Next.TheVariants.{Unit as AUnit}
 use Rattle.stream_lines.specs.Streams.{Asking, Dump, Taking, TakesComing, TakesNext, TakesUnits, TakesUnless, after_unit, ended}
 use Rattle.stream_lines.specs.Units.{Bmp, Coming, IsComing, IsRefused, Known, MessageComes, MessageSays, message_cause}
 use Rattle.stream_lines.proofs.ComingLemmas.{one_thing_comes}
@@ -107,7 +106,7 @@ none_taken view peers count old new built known is dump state marks =
       messages = [];
       are = ap (λ (d : Dump). d.left) at;
       few = omega arith;
-      all = λ open. absurd (true≢false (sym (ap (λ (d : Dump). d.over) at) ∙ open));
+      all = λ unclosed. absurd (true≢false (sym (ap (λ (d : Dump). d.over) at) ∙ unclosed));
       view_stays = ap (λ (d : Dump). d.known) at ∙ known;
       state = ap (λ (k : Taking). k.state) is ∙ state;
       marks = ap (λ (k : Taking). k.marks) is ∙ marks;
@@ -123,7 +122,7 @@ one_more view peers count it reading rest old mid new begins reads took others =
       messages = (it, reading) ∷ more;
       are = (rest, begins, reads, subst (λ (l : List ℕ). AreRead view (identifying peers reading) l more new.dump.left) took.left others.are);
       few = omega (arith, few);
-      all = λ open. ap suc (others.all open);
+      all = λ unclosed. ap suc (others.all unclosed);
       view_stays = others.view_stays;
       state = others.state
           ∙ ap (λ (s : State). record s { routes = performed (changes_in more) s.routes; roles = with_roles s.roles more }) took.state
@@ -139,9 +138,12 @@ one_more view peers count it reading rest old mid new begins reads took others =
 nothing_more : (asking : Asking) (count : ℕ) (mid new : Taking) (rest : List ℕ) → mid.dump.over ≡ true → TakesUnits asking count mid rest new → new ≡ mid
 nothing_more asking count mid new rest over takes = (units_unique asking count mid rest [] new mid takes (TakesUnits-over asking count mid over)).1
 
+abbrev Ended : Asking → Taking → Taking → List ℕ → Coming → Type 0
+Ended asking old mid text c = TakesComing asking old (after_unit old.dump c) c.next text mid
+
 takes_messages : (asking : Asking) (count : ℕ) (old new : Taking) (text : List ℕ) (view : View) (peers : Identifying) → old.dump.known ≡ Bmp view peers → old.dump.over ≡ false
     → TakesUnits asking count old text new → TakesMessages view peers count old new
-takes_messages asking zero old new text view peers known open takes = subst (λ (n : Taking). TakesMessages view peers zero old n) (sym takes.1) (record {
+takes_messages asking zero old new text view peers known unclosed takes = subst (λ (n : Taking). TakesMessages view peers zero old n) (sym takes.1) (record {
   messages = [];
   are = refl;
   few = omega arith;
@@ -150,29 +152,27 @@ takes_messages asking zero old new text view peers known open takes = subst (λ 
   state = refl;
   marks = refl;
 })
-takes_messages asking (suc count) old new text view peers known open takes =
-    let next : TakesNext asking old takes.first takes.mid = subst (λ b. TakesUnless b asking old takes.first takes.mid) open takes.takes in
+takes_messages asking (suc count) old new text view peers known unclosed takes =
+    let next : TakesNext asking old takes.first takes.mid = subst (λ b. TakesUnless b asking old takes.first takes.mid) unclosed takes.takes in
     let comes : IsComing (Bmp view peers) old.dump.left next.coming = subst (λ (k : Known). IsComing k old.dump.left next.coming) known next.is_coming in
-    by_coming next comes.0 comes.1 comes.2
+    by_coming next (λ after is still. takes_messages asking count takes.mid new takes.rest view after is still takes.goes_on) comes.0 comes.1 comes.2
   where
-    abbrev Ended : Coming → Type 0
-    Ended c = TakesComing asking old (after_unit old.dump c) c.next takes.first takes.mid
-
     ends : (built : Taking) → takes.mid ≡ built → built.dump ≡ ended old.dump → built.state ≡ old.state → built.marks ≡ old.marks → TakesMessages view peers (suc count) old new
     ends built is dump state marks =
         let over = ap (λ (k : Taking). k.dump.over) is ∙ ap (λ (d : Dump). d.over) dump in
         none_taken view peers (suc count) old new built known (nothing_more asking count takes.mid new takes.rest over takes.goes_on ∙ is) dump state marks
 
-    by_coming : (next : TakesNext asking old takes.first takes.mid) (it : messages.Coming) → messages.IsComing old.dump.left it → MessageComes view peers old.dump.left it next.coming
+    by_coming : (next : TakesNext asking old takes.first takes.mid)
+        → ((after : Identifying) → takes.mid.dump.known ≡ Bmp view after → takes.mid.dump.over ≡ false → TakesMessages view after count takes.mid new) → (it : messages.Coming) → messages.IsComing old.dump.left it → MessageComes view peers old.dump.left it next.coming
         → TakesMessages view peers (suc count) old new
-    by_coming next (messages.Whole it rest) is comes =
+    by_coming next others (messages.Whole it rest) is comes =
         let took = message_took asking view peers old takes.mid takes.first rest comes.0 next.coming comes.2 next.takes in
         one_more view peers count it comes.0 rest old takes.mid new is comes.1 took
-        (takes_messages asking count takes.mid new takes.rest view (identifying peers comes.0) took.known (took.over ∙ open) takes.goes_on)
-    by_coming next messages.OtherVersion is comes = ends _ (subst Ended comes next.takes).1 refl refl refl
-    by_coming next messages.BadLength is comes = ends _ (subst Ended comes next.takes).1 refl refl refl
-    by_coming next messages.CutShort is comes = ends _ (subst Ended comes next.takes).1 refl refl refl
-    by_coming next messages.End is comes = ends _ (subst Ended comes next.takes).1 refl refl refl
+        (others (identifying peers comes.0) took.known (took.over ∙ unclosed))
+    by_coming next others messages.OtherVersion is comes = ends _ (subst (Ended asking old takes.mid takes.first) comes next.takes).1 refl refl refl
+    by_coming next others messages.BadLength is comes = ends _ (subst (Ended asking old takes.mid takes.first) comes next.takes).1 refl refl refl
+    by_coming next others messages.CutShort is comes = ends _ (subst (Ended asking old takes.mid takes.first) comes next.takes).1 refl refl refl
+    by_coming next others messages.End is comes = ends _ (subst (Ended asking old takes.mid takes.first) comes next.takes).1 refl refl refl
 
 pub messages_have_one_outcome : MessagesHaveOneOutcome
 messages_have_one_outcome = record {

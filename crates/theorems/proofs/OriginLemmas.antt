@@ -96,13 +96,13 @@ given_by (s ∷ sources) v sorted (inr behind) =
 -- and what a name has is given
 gives : (sources : Named) (name : List ℕ) (payloads : List Payload) (v : Payload) → source_of sources name ≡ Some payloads → has payloads v ≡ true → IsGiven sources v
 gives [] name payloads v source among = absurd (let no : ⊥ = cc in no)
-gives (s ∷ sources) name payloads v source among = by_test (is_at (name_cmp name) s.0) refl where
-  by_test : (b : Bool) → is_at (name_cmp name) s.0 ≡ b → IsGiven (s ∷ sources) v
-  by_test true test =
+gives (s ∷ sources) name payloads v source among = by_test (is_at (name_cmp name) s.0) refl (gives sources name payloads v) where
+  by_test : (b : Bool) → is_at (name_cmp name) s.0 ≡ b → (source_of sources name ≡ Some payloads → has payloads v ≡ true → IsGiven sources v) → IsGiven (s ∷ sources) v
+  by_test true test behind =
       let here : Some s.1 ≡ Some payloads = sym (ap (λ b. cond b (Some s.1) (source_of sources name)) test) ∙ source in
       let same : s.1 ≡ payloads = cc in
       inl (ap (λ (ps : List Payload). has ps v) same ∙ among)
-  by_test false test = inr (gives sources name payloads v (sym (ap (λ b. cond b (Some s.1) (source_of sources name)) test) ∙ source) among)
+  by_test false test behind = inr (behind (sym (ap (λ b. cond b (Some s.1) (source_of sources name)) test) ∙ source) among)
 
 -- ---- the union
 

@@ -222,8 +222,8 @@ next_passed asking old new text after DumpEnds refused known takes = absurd refu
 
 unit_passed : (asking : Asking) (old new : Taking) (text : List ℕ) (coming : Coming) → old.dump.over ≡ false → IsComing old.dump.known old.dump.left coming → IsRefusedNext coming.next
     → TakesUnit asking old text new → IsOnlyPassed asking old text new
-unit_passed asking old new text coming open is refused takes =
-    let next : TakesNext asking old text new = subst (λ b. TakesUnless b asking old text new) open takes in
+unit_passed asking old new text coming unclosed is refused takes =
+    let next : TakesNext asking old text new = subst (λ b. TakesUnless b asking old text new) unclosed takes in
     let same = coming_same old.dump.known old.dump.left coming next.coming is next.is_coming in
     let bad : IsRefusedNext next.coming.next = subst (λ (c : Coming). IsRefusedNext c.next) same refused in
     next_passed asking old new text (after_unit old.dump next.coming) next.coming.next bad (coming_tells old.dump.known old.dump.left next.coming next.is_coming bad) next.takes

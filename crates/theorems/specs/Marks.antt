@@ -1,9 +1,21 @@
 -- What routes say of Only-to-Customer (RFC 9234, section 5), over all lines of a script.
-use Rattle.std.specs.Prelude.{◌≡◌, ℕ, zero, suc, false, List, [], ◌∷◌, ◌++◌, length}
+use Rattle.std.specs.Prelude.{◌≡◌, ◌⊎◌, ℕ, zero, suc, false, List, [], ◌∷◌, ◌++◌, length}
 use Rattle.std.specs.FinMap as fin
 use Rattle.std.specs.declared.option.Option.{Option}
 use Rattle.std.specs.declared.option.Option.TheVariants.{Some, None}
+use Rattle.std.specs.declared.result.Result.{Result}
 use Rattle.std.specs.declared.result.Result.TheVariants.{Ok, Err}
+use Rattle.held_bytes.specs.Units.{Begins, BeginsWithNone}
+use Rattle.mrt_reader.specs.declared.body.Body.{Body as RecordBody}
+use Rattle.mrt_reader.specs.declared.body.Body.TheVariants as bodies
+use Rattle.mrt_reader.specs.declared.fault.BodyFault.{BodyFault}
+use Rattle.mrt_reader.specs.Bodies as mrt
+use Rattle.mrt_reader.specs.Records.{IsRecord, Recorded}
+use Rattle.bmp_reader.specs.declared.body.Body.{Body as MessageBody}
+use Rattle.bmp_reader.specs.declared.body.Body.TheVariants as sayings
+use Rattle.bmp_reader.specs.declared.fault.BmpFault.{BmpFault}
+use Rattle.bmp_reader.specs.Bodies as bmp
+use Rattle.bmp_reader.specs.Messages.{IsMessage, Sent}
 use Rattle.path_model.specs.declared.change.Change.{Change}
 use Rattle.path_model.specs.declared.change.Change.TheVariants.{Announce}
 use Rattle.path_model.specs.declared.key.Key.{Key}
@@ -14,13 +26,11 @@ use Rattle.path_model.specs.Routes.{performed}
 use Rattle.path_model.specs.Trail.{Path}
 use Rattle.otc_check.specs.Laws.{AllLeave, AreOfRoutes, note_at}
 use Rattle.otc_check.specs.Marks.{mark_of, noted_by}
-use Rattle.stream_lines.specs.declared.next.Effect.TheVariants.{Routes, Learn, Note, Pass}
-use Rattle.stream_lines.specs.declared.next.Next.{Next}
-use Rattle.stream_lines.specs.declared.next.Next.TheVariants.{Unit as AUnit, Broken, End}
-use Rattle.stream_lines.specs.Streams.{Dump, after_unit, ended}
-use Rattle.stream_lines.specs.Units.{Coming, IsComing}
+use Rattle.stream_lines.specs.Streams.{Asking, Dump, Taking, TakesUnit}
+use Rattle.stream_lines.specs.Units.{Bmp, Known, Mrt}
 use Rattle.aspa_top.specs.declared.task.Task.TheVariants.{Clear, Take, Until}
 use Rattle.aspa_top.specs.Evaluation.{Asked, Evaluates, Performs, asked_of, counted}
+use Rattle.aspa_top.specs.Dumps.{asking_of, taking_of}
 use Rattle.aspa_top.specs.State.{State, start}
 use Rattle.aspa_top.specs.World.{World}
 
@@ -37,41 +47,47 @@ nothing = record { changes = []; notes = [] }
 abbrev pub joined : Said → Said → Said
 joined some more = record { changes = some.changes ++ more.changes; notes = some.notes ++ more.notes }
 
--- what a unit says: one that is refused, and one that is no record or message of routes, says nothing
-abbrev pub said_by : Next → Said
-said_by (AUnit (Ok (Routes noted))) = record { changes = noted.changes; notes = noted.notes }
-said_by (AUnit (Ok (Learn asn role))) = nothing
-said_by (AUnit (Ok Note)) = nothing
-said_by (AUnit (Ok Pass)) = nothing
-said_by (AUnit (Err cause)) = nothing
-said_by (Broken cause) = nothing
-said_by End = nothing
+-- what a record says, and what a message does: one that is refused, or isn't of routes, says nothing
+abbrev pub record_says : Result RecordBody BodyFault → Said
+record_says (Ok (bodies.Routes noted)) = record { changes = noted.changes; notes = noted.notes }
+record_says (Ok (bodies.Peers table)) = nothing
+record_says (Ok bodies.Passed) = nothing
+record_says (Err fault) = nothing
 
--- where the dump stands behind what came
-abbrev pub behind : Dump → Next → Coming → Dump
-behind dump (AUnit outcome) coming = after_unit dump coming
-behind dump (Broken cause) coming = ended dump
-behind dump End coming = ended dump
+abbrev pub message_says : Result MessageBody BmpFault → Said
+message_says (Ok (sayings.Routes noted)) = record { changes = noted.changes; notes = noted.notes }
+message_says (Ok (sayings.Up peer role paths)) = nothing
+message_says (Ok sayings.Passed) = nothing
+message_says (Err fault) = nothing
 
--- so many units of a dump, one after another, say this, and the dump stands there then
-abbrev pub UnitsSay : ℕ → Dump → Said → Dump → Type 0
-UnitsSay zero dump said last = (said ≡ nothing) × (last ≡ dump)
-UnitsSay (suc count) dump said last =
-    (coming : Coming) × (more : Said) × (dump.over ≡ false) × IsComing dump.known dump.left coming
-    × UnitsSay count (behind dump coming.next coming) more last × (said ≡ joined (said_by coming.next) more)
+-- What comes next in a dump says this: the whole record or message that stands there, by its reading; and nothing where none does.
+abbrev pub UnitSays : Known → List ℕ → Said → Type 0
+UnitSays (Mrt peers) left said =
+    ((it : Recorded) × (rest : List ℕ) × (reading : Result RecordBody BodyFault) × Begins IsRecord left it rest × mrt.IsReading it peers reading × (said ≡ record_says reading))
+    ⊎ (BeginsWithNone IsRecord left × (said ≡ nothing))
+UnitSays (Bmp view peers) left said =
+    ((it : Sent) × (rest : List ℕ) × (reading : Result MessageBody BmpFault) × Begins IsMessage left it rest × bmp.IsReading it view peers reading × (said ≡ message_says reading))
+    ⊎ (BeginsWithNone IsMessage left × (said ≡ nothing))
 
--- the units that a line took of the dump of a name, by where it stood before and stands then
-abbrev pub DumpSays : Option Dump → Option Dump → Said → Type 0
-DumpSays None after said = said ≡ nothing
-DumpSays (Some dump) None said = ⊥
-DumpSays (Some dump) (Some last) said = (count : ℕ) × UnitsSay count dump said last
+-- so many units are taken of a dump, one after another, and say this
+abbrev pub UnitsSay : Asking → ℕ → Taking → Said → Taking → Type 0
+UnitsSay asking zero old said new = (said ≡ nothing) × (new ≡ old)
+UnitsSay asking (suc count) old said new =
+    (text : List ℕ) × (mid : Taking) × (first : Said) × (more : Said) × (old.dump.over ≡ false) × TakesUnit asking old text mid
+    × UnitSays old.dump.known old.dump.left first × UnitsSay asking count mid more new × (said ≡ joined first more)
+
+-- the units that a line took of the dump of a name say this; where the name is no dump's there are none
+abbrev pub DumpSays : State → State → List ℕ → Option Dump → Said → Type 0
+DumpSays before next name None said = said ≡ nothing
+DumpSays before next name (Some dump) said =
+    (count : ℕ) × (last : Taking) × UnitsSay (asking_of before name) count (taking_of before dump) said last × (next.dumps name ≡ Some last.dump)
 
 -- What was said so far, and what is said behind a line: behind `clear` nothing, behind `take` and `until` also what the units say that it
 -- took, and behind any other line the same.
 abbrev pub SaidBehind : State → Asked → State → Said → Said → Type 0
 SaidBehind before (Ok Clear) next said now = now ≡ nothing
-SaidBehind before (Ok (Take name count)) next said now = (more : Said) × DumpSays (before.dumps name) (next.dumps name) more × (now ≡ joined said more)
-SaidBehind before (Ok (Until name moment)) next said now = (more : Said) × DumpSays (before.dumps name) (next.dumps name) more × (now ≡ joined said more)
+SaidBehind before (Ok (Take name count)) next said now = (more : Said) × DumpSays before next name (before.dumps name) more × (now ≡ joined said more)
+SaidBehind before (Ok (Until name moment)) next said now = (more : Said) × DumpSays before next name (before.dumps name) more × (now ≡ joined said more)
 SaidBehind before asked next said now = now ≡ said
 
 -- some lines are performed, one after another, and all this is said then
