@@ -1,5 +1,5 @@
 -- What lines on feeds leave: the routes as they were, and each source of payloads under one name.
-use Rattle.std.proofs.Common.{◌≡◌, ℕ, zero, suc, Bool, true, false, List, None, Some, refl, sym, ap, subst, ◌∙◌}
+use Rattle.std.proofs.Common.{◌≡◌, ℕ, zero, suc, Bool, true, false, List, [], None, Some, refl, sym, ap, subst, ◌∙◌}
 use Rattle.std.specs.declared.option.Option.{Option}
 use Rattle.std.specs.Cmp.Lexicographic.{nat_list_cmp_total, slice_cmp}
 use Rattle.std.specs.List.Sorted.{IsStrictlySortedBy}
@@ -12,13 +12,14 @@ use Rattle.origin_validation.specs.Records.{with_source}
 use Rattle.rib_store.specs.State.{State as Analysis}
 use Rattle.sorted_map.proofs.BlockLemmas.{sorted_inserted}
 use Rattle.connection_calls.specs.World.{World as Ends}
-use Rattle.rtr_client.specs.declared.changing.PayloadsChange.{PayloadsChange}
-use Rattle.rtr_client.specs.declared.changing.PayloadsChange.TheVariants.{Replace as ReplacePayloads, Patch as PatchPayloads}
-use Rattle.rtr_client.specs.declared.changing.SourceChange.{SourceChange}
+use Rattle.rtr_session.specs.declared.act.Act.{Act}
+use Rattle.rtr_session.specs.declared.act.Act.TheVariants.{Nothing, Send, Apply, End}
+use Rattle.rtr_session.specs.declared.act.Delta.TheVariants.{Whole, Part}
+use Rattle.rtr_session.specs.declared.act.Ending.TheVariants.{Unexpected, UnknownWithdrawal, SessionChanged, PeerReported}
 use Rattle.rtr_client.specs.declared.telling.Telling.{Telling}
 use Rattle.rtr_client.specs.declared.working.Work.{Work}
 use Rattle.rtr_client.specs.declared.working.Work.TheVariants.{Ask, Take, Sync}
-use Rattle.rtr_client.specs.Feeds.{BadPdu, ChangesPayloads, Coming, Feed, Follows, NoMore, OnePdu, TakesComing, TakesFrom, TakesPdus, Taking, asked_of, change_due}
+use Rattle.rtr_client.specs.Feeds.{BadPdu, Coming, Feed, Follows, NoMore, OnePdu, TakesComing, TakesFrom, TakesPdus, Taking, asked_of, change_due}
 use Rattle.rtr_client.specs.Lines.{Does, State as FeedState, WorksBy, taking_of}
 use Rattle.aspa_top.specs.Tasks.{State, Works, feeds_of}
 use Rattle.aspa_top.specs.World.{World}
@@ -29,9 +30,8 @@ use Rattle.theorems.specs.Origins.{AreNamed}
 pub put_named : (parts : Parts) (name : List ℕ) (payloads : List Payload) → AreNamed parts → AreNamed (with_source parts name payloads)
 put_named parts name payloads named = sorted_inserted nat_list_cmp_total name payloads parts.sources named
 
-payloads_named : (name : List ℕ) (change : PayloadsChange) (old new : Parts) → ChangesPayloads name change old new → AreNamed old → AreNamed new
-payloads_named name (ReplacePayloads payloads) old new is named = subst AreNamed (sym is) (put_named old name payloads named)
-payloads_named name (PatchPayloads changes) old new patches named = subst AreNamed (sym patches.puts) (put_named old name patches.payloads named)
+is_put : (old new : Parts) (name : List ℕ) (payloads : List Payload) → new ≡ with_source old name payloads → AreNamed old → AreNamed new
+is_put old new name payloads is named = subst AreNamed (sym is) (put_named old name payloads named)
 
 -- ---- what is taken of a feed
 
@@ -48,15 +48,27 @@ same_fed old new built is state parts = record {
 then_fed : (old mid new : Taking) → Fed old mid → Fed mid new → Fed old new
 then_fed old mid new first more = record { routes = more.routes ∙ first.routes; named = λ named. more.named (first.named named) }
 
-follows_fed : (due : Option SourceChange) (old new : Taking) → Follows due old new → Fed old new
-follows_fed None old new stays = same_fed old new _ stays refl refl
-follows_fed (Some change) old new changes = record {
+follows_fed : (name : List ℕ) (act : Act) (old new : Taking) → Follows (change_due name act) old new → Fed old new
+follows_fed name Nothing old new stays = same_fed old new _ stays refl refl
+follows_fed name (Send query) old new stays = same_fed old new _ stays refl refl
+follows_fed name (Apply (Whole rows payloads)) old new changes = record {
   routes = ap (λ (a : Analysis). a.routes) changes.happens.2;
-  named = payloads_named change.name change.payloads old.parts new.parts changes.payloads;
+  named = is_put old.parts new.parts name payloads changes.payloads;
 }
+follows_fed name (Apply (Part patch said)) old new changes = record {
+  routes = ap (λ (a : Analysis). a.routes) changes.happens.2;
+  named = is_put old.parts new.parts name changes.payloads.payloads changes.payloads.puts;
+}
+follows_fed name (End Unexpected) old new stays = same_fed old new _ stays refl refl
+follows_fed name (End UnknownWithdrawal) old new stays = same_fed old new _ stays refl refl
+follows_fed name (End SessionChanged) old new changes = record {
+  routes = ap (λ (a : Analysis). a.routes) changes.happens.2;
+  named = is_put old.parts new.parts name [] changes.payloads;
+}
+follows_fed name (End PeerReported) old new stays = same_fed old new _ stays refl refl
 
 coming_fed : (t : Link) (name : List ℕ) (feed : Feed) (old : Taking) (coming : Coming) (tells : List Telling) (new : Taking) → TakesComing t name feed old coming tells new → Fed old new
-coming_fed t name feed old (OnePdu bytes pdu) tells new takes = follows_fed (change_due name takes.act) old new takes.follows
+coming_fed t name feed old (OnePdu bytes pdu) tells new takes = follows_fed name takes.act old new takes.follows
 coming_fed t name feed old (BadPdu left fault) tells new takes = same_fed old new _ takes.stays refl refl
 coming_fed t name feed old NoMore tells new takes = same_fed old new _ takes.4 refl refl
 

@@ -5,15 +5,17 @@ use Rattle.std.specs.declared.option.Option.{Option}
 use Rattle.std.specs.declared.result.Result.{Result}
 use Rattle.av_base.specs.Connections.{Link}
 use Rattle.mrt_reader.specs.declared.body.Body.{Body as RecordBody}
-use Rattle.mrt_reader.specs.declared.body.Body.TheVariants as bodies
 use Rattle.mrt_reader.specs.declared.fault.BodyFault.{BodyFault}
 use Rattle.mrt_reader.specs.Coming as records
+use Rattle.mrt_reader.proofs.LawLemmas as record_laws
+use Rattle.mrt_reader.proofs.SameLemmas.{reading_same}
 use Rattle.bmp_reader.specs.declared.body.Body.{Body as MessageBody}
-use Rattle.bmp_reader.specs.declared.body.Body.TheVariants as sayings
 use Rattle.bmp_reader.specs.declared.fault.BmpFault.{BmpFault}
 use Rattle.bmp_reader.specs.declared.view.View.{View}
 use Rattle.bmp_reader.specs.Bodies.{Identifying}
 use Rattle.bmp_reader.specs.Coming as messages
+use Rattle.bmp_reader.proofs.LawLemmas as message_laws
+use Rattle.bmp_reader.proofs.ReadingLemmas as message_readings
 use Rattle.path_model.specs.declared.peer.Peer.{Peer}
 use Rattle.path_model.specs.Trail.{Path}
 use Rattle.report_text.specs.declared.cause.Cause.{Cause}
@@ -39,12 +41,8 @@ use Rattle.script_lines.specs.declared.fault.LineFault.{LineFault}
 use Rattle.script_lines.specs.Grammar.{IsReading}
 use Rattle.script_lines.proofs.LawLemmas.{IsReading-unique}
 use Rattle.stream_lines.specs.declared.kind.DumpKind.{DumpKind}
-use Rattle.stream_lines.specs.declared.next.Effect.TheVariants.{Routes, Learn, Note, Pass}
-use Rattle.stream_lines.specs.declared.next.Next.{Next}
-use Rattle.stream_lines.specs.declared.next.Next.TheVariants.{Unit as AUnit, Broken, End as DumpEnds}
-use Rattle.stream_lines.specs.Streams.{Asking, Dump, Taking, TakesComing, TakesNext, TakesUnit, TakesUnless, after_unit}
+use Rattle.stream_lines.specs.Streams.{Asking, Dump, Taking, TakesComing, TakesNext, TakesUnit, TakesUnless, after_unit, unit_refused}
 use Rattle.stream_lines.specs.Units.{Bmp, Coming, IsComing, IsRefused, Known, MessageComes, MessageSays, Mrt, RecordComes, RecordSays, is_of_records, message_cause, record_cause}
-use Rattle.stream_lines.proofs.ComingLemmas.{coming_same}
 use Rattle.aspa_top.specs.declared.files.FileKind.{FileKind}
 use Rattle.aspa_top.specs.declared.files.Outcome.{Outcome}
 use Rattle.aspa_top.specs.declared.files.Outcome.TheVariants.{NoFile, Long as FileLong, Flawed, Good}
@@ -161,72 +159,64 @@ module _ (world : World) (state next : State) (text : List ℕ) where
 
 -- ---- units of a dump
 
--- what is refused tells nothing of what is behind it
-abbrev TellsNothing : Known → Coming → Type 0
-TellsNothing known coming = IsRefusedNext coming.next → coming.known ≡ known
+-- what is passed so, where what comes next is this
+module _ (asking : Asking) (old new : Taking) (text : List ℕ) where
+  abbrev Takes : Coming → Type 0
+  Takes c = TakesComing asking old (after_unit old.dump c) c.next text new
 
-accepted : (known : Known) (coming : Coming) (next : Next) → coming.next ≡ next → ¬ IsRefusedNext next → TellsNothing known coming
-accepted known coming next is good refused = absurd (good (subst IsRefusedNext is refused))
+  only_passed : (cause : Cause) (built : Taking) → text ≡ unit_refused asking old.dump cause → new ≡ built → built.state ≡ old.state → built.marks ≡ old.marks → built.dump.known ≡ old.dump.known
+      → IsOnlyPassed asking old text new
+  only_passed cause built report is state marks known = record {
+    cause = cause;
+    report = report;
+    analysis = ap (λ (k : Taking). k.state) is ∙ state;
+    marks = ap (λ (k : Taking). k.marks) is ∙ marks;
+    known = ap (λ (k : Taking). k.dump.known) is ∙ known;
+  }
 
-told_refused_one : (cause : Option Cause) (known : Known) (rest : List ℕ) (coming : Coming) → IsRefused cause known rest coming → TellsNothing known coming
-told_refused_one None known rest coming is = absurd is
-told_refused_one (Some cause) known rest coming is = λ refused. ap (λ (c : Coming). c.known) is
+  fault_passed : (cause : Option Cause) (known : Known) (rest : List ℕ) (coming : Coming) → known ≡ old.dump.known → IsRefused cause known rest coming → Takes coming → IsOnlyPassed asking old text new
+  fault_passed None known rest coming same says takes = absurd says
+  fault_passed (Some cause) known rest coming same says takes = let is = subst Takes says takes in only_passed cause _ is.0 is.1 refl refl same
 
-record_tells : (peers : Option (List Peer)) (reading : Result RecordBody BodyFault) (rest : List ℕ) (coming : Coming) → RecordSays peers reading rest coming → TellsNothing (Mrt peers) coming
-record_tells peers (Ok (bodies.Peers table)) rest coming says = accepted (Mrt peers) coming _ (ap (λ (c : Coming). c.next) says) (λ bad. bad)
-record_tells peers (Ok (bodies.Routes noted)) rest coming says = accepted (Mrt peers) coming _ (ap (λ (c : Coming). c.next) says) (λ bad. bad)
-record_tells peers (Ok bodies.Passed) rest coming says = accepted (Mrt peers) coming _ (ap (λ (c : Coming). c.next) says) (λ bad. bad)
-record_tells peers (Err fault) rest coming says = told_refused_one (record_cause fault) (Mrt peers) rest coming says
+  record_passed : (peers : Option (List Peer)) (left : List ℕ) (coming : Coming) → Mrt peers ≡ old.dump.known → IsRefusedNext (Mrt peers) left → IsComing (Mrt peers) left coming → Takes coming
+      → IsOnlyPassed asking old text new
+  record_passed peers left coming same (inl bad) is takes =
+      let it = record_laws.coming_same left is.0 (records.Whole bad.0 bad.1) is.1 bad.3 in
+      let comes : RecordComes peers left (records.Whole bad.0 bad.1) coming = subst (λ (c : records.Coming). RecordComes peers left c coming) it is.2 in
+      let reading = reading_same bad.0 peers comes.0 (Err bad.2) comes.1 bad.4 in
+      fault_passed (record_cause bad.2) (Mrt peers) bad.1 coming same (subst (λ (r : Result RecordBody BodyFault). RecordSays peers r bad.1 coming) reading comes.2) takes
+  record_passed peers left coming same (inr (inl long)) is takes =
+      let it = record_laws.coming_same left is.0 records.TooLong is.1 long in
+      (let ends = subst Takes (subst (λ (c : records.Coming). RecordComes peers left c coming) it is.2) takes in only_passed _ _ ends.0 ends.1 refl refl refl)
+  record_passed peers left coming same (inr (inr cut)) is takes =
+      let it = record_laws.coming_same left is.0 records.CutShort is.1 cut in
+      (let ends = subst Takes (subst (λ (c : records.Coming). RecordComes peers left c coming) it is.2) takes in only_passed _ _ ends.0 ends.1 refl refl refl)
 
-message_tells : (view : View) (peers : Identifying) (reading : Result MessageBody BmpFault) (rest : List ℕ) (coming : Coming) → MessageSays view peers reading rest coming → TellsNothing (Bmp view peers) coming
-message_tells view peers (Ok (sayings.Routes noted)) rest coming says = accepted (Bmp view peers) coming _ (ap (λ (c : Coming). c.next) says) (λ bad. bad)
-message_tells view peers (Ok (sayings.Up peer (Some role) paths)) rest coming says = accepted (Bmp view peers) coming _ (ap (λ (c : Coming). c.next) says) (λ bad. bad)
-message_tells view peers (Ok (sayings.Up peer None paths)) rest coming says = accepted (Bmp view peers) coming _ (ap (λ (c : Coming). c.next) says) (λ bad. bad)
-message_tells view peers (Ok sayings.Passed) rest coming says = accepted (Bmp view peers) coming _ (ap (λ (c : Coming). c.next) says) (λ bad. bad)
-message_tells view peers (Err fault) rest coming says = told_refused_one (message_cause fault) (Bmp view peers) rest coming says
+  message_passed : (view : View) (peers : Identifying) (left : List ℕ) (coming : Coming) → Bmp view peers ≡ old.dump.known → IsRefusedNext (Bmp view peers) left → IsComing (Bmp view peers) left coming
+      → Takes coming → IsOnlyPassed asking old text new
+  message_passed view peers left coming same (inl bad) is takes =
+      let it = message_laws.coming_same left is.0 (messages.Whole bad.0 bad.1) is.1 bad.3 in
+      let comes : MessageComes view peers left (messages.Whole bad.0 bad.1) coming = subst (λ (c : messages.Coming). MessageComes view peers left c coming) it is.2 in
+      let reading = message_readings.reading_same bad.0 view peers comes.0 (Err bad.2) comes.1 bad.4 in
+      fault_passed (message_cause bad.2) (Bmp view peers) bad.1 coming same (subst (λ (r : Result MessageBody BmpFault). MessageSays view peers r bad.1 coming) reading comes.2) takes
+  message_passed view peers left coming same (inr (inl other)) is takes =
+      let it = message_laws.coming_same left is.0 messages.OtherVersion is.1 other in
+      (let ends = subst Takes (subst (λ (c : messages.Coming). MessageComes view peers left c coming) it is.2) takes in only_passed _ _ ends.0 ends.1 refl refl refl)
+  message_passed view peers left coming same (inr (inr (inl bad))) is takes =
+      let it = message_laws.coming_same left is.0 messages.BadLength is.1 bad in
+      (let ends = subst Takes (subst (λ (c : messages.Coming). MessageComes view peers left c coming) it is.2) takes in only_passed _ _ ends.0 ends.1 refl refl refl)
+  message_passed view peers left coming same (inr (inr (inr cut))) is takes =
+      let it = message_laws.coming_same left is.0 messages.CutShort is.1 cut in
+      (let ends = subst Takes (subst (λ (c : messages.Coming). MessageComes view peers left c coming) it is.2) takes in only_passed _ _ ends.0 ends.1 refl refl refl)
 
-record_comes_tells : (peers : Option (List Peer)) (left : List ℕ) (it : records.Coming) (coming : Coming) → RecordComes peers left it coming → TellsNothing (Mrt peers) coming
-record_comes_tells peers left (records.Whole it rest) coming comes = record_tells peers comes.0 rest coming comes.2
-record_comes_tells peers left records.TooLong coming comes = λ refused. ap (λ (c : Coming). c.known) comes
-record_comes_tells peers left records.CutShort coming comes = λ refused. ap (λ (c : Coming). c.known) comes
-record_comes_tells peers left records.End coming comes = λ refused. ap (λ (c : Coming). c.known) comes
+  coming_passed : (known : Known) (left : List ℕ) (coming : Coming) → known ≡ old.dump.known → IsRefusedNext known left → IsComing known left coming → Takes coming → IsOnlyPassed asking old text new
+  coming_passed (Mrt peers) left coming same bad is takes = record_passed peers left coming same bad is takes
+  coming_passed (Bmp view peers) left coming same bad is takes = message_passed view peers left coming same bad is takes
 
-message_comes_tells : (view : View) (peers : Identifying) (left : List ℕ) (it : messages.Coming) (coming : Coming) → MessageComes view peers left it coming → TellsNothing (Bmp view peers) coming
-message_comes_tells view peers left (messages.Whole it rest) coming comes = message_tells view peers comes.0 rest coming comes.2
-message_comes_tells view peers left messages.OtherVersion coming comes = λ refused. ap (λ (c : Coming). c.known) comes
-message_comes_tells view peers left messages.BadLength coming comes = λ refused. ap (λ (c : Coming). c.known) comes
-message_comes_tells view peers left messages.CutShort coming comes = λ refused. ap (λ (c : Coming). c.known) comes
-message_comes_tells view peers left messages.End coming comes = λ refused. ap (λ (c : Coming). c.known) comes
-
-coming_tells : (known : Known) (left : List ℕ) (coming : Coming) → IsComing known left coming → TellsNothing known coming
-coming_tells (Mrt peers) left coming is = record_comes_tells peers left is.0 coming is.2
-coming_tells (Bmp view peers) left coming is = message_comes_tells view peers left is.0 coming is.2
-
-next_passed : (asking : Asking) (old new : Taking) (text : List ℕ) (after : Dump) (next : Next) → IsRefusedNext next → after.known ≡ old.dump.known → TakesComing asking old after next text new → IsOnlyPassed asking old text new
-next_passed asking old new text after (AUnit (Ok effect)) refused known takes = absurd refused
-next_passed asking old new text after (AUnit (Err cause)) refused known takes = record {
-  cause = cause;
-  report = takes.0;
-  analysis = ap (λ (k : Taking). k.state) takes.1;
-  marks = ap (λ (k : Taking). k.marks) takes.1;
-  known = ap (λ (k : Taking). k.dump.known) takes.1 ∙ known;
-}
-next_passed asking old new text after (Broken cause) refused known takes = record {
-  cause = cause;
-  report = takes.0;
-  analysis = ap (λ (k : Taking). k.state) takes.1;
-  marks = ap (λ (k : Taking). k.marks) takes.1;
-  known = ap (λ (k : Taking). k.dump.known) takes.1;
-}
-next_passed asking old new text after DumpEnds refused known takes = absurd refused
-
-unit_passed : (asking : Asking) (old new : Taking) (text : List ℕ) (coming : Coming) → old.dump.over ≡ false → IsComing old.dump.known old.dump.left coming → IsRefusedNext coming.next
-    → TakesUnit asking old text new → IsOnlyPassed asking old text new
-unit_passed asking old new text coming unclosed is refused takes =
+unit_passed : (asking : Asking) (old new : Taking) (text : List ℕ) → old.dump.over ≡ false → IsRefusedNext old.dump.known old.dump.left → TakesUnit asking old text new → IsOnlyPassed asking old text new
+unit_passed asking old new text unclosed refused takes =
     let next : TakesNext asking old text new = subst (λ b. TakesUnless b asking old text new) unclosed takes in
-    let same = coming_same old.dump.known old.dump.left coming next.coming is next.is_coming in
-    let bad : IsRefusedNext next.coming.next = subst (λ (c : Coming). IsRefusedNext c.next) same refused in
-    next_passed asking old new text (after_unit old.dump next.coming) next.coming.next bad (coming_tells old.dump.known old.dump.left next.coming next.is_coming bad) next.takes
+    coming_passed asking old new text old.dump.known old.dump.left next.coming refl refused next.is_coming next.takes
 
 -- ---- PDUs
 

@@ -6,6 +6,14 @@ use Rattle.std.specs.declared.result.Result.TheVariants.{Ok, Err}
 use Rattle.av_base.specs.Connections.{Link}
 use Rattle.analyser.specs.declared.event.Event.TheVariants.{Table}
 use Rattle.analyser.specs.Events.{Happens}
+use Rattle.bmp_reader.specs.declared.fault.BmpFault.{BmpFault}
+use Rattle.bmp_reader.specs.Bodies as bmp
+use Rattle.bmp_reader.specs.Coming as messages
+use Rattle.bmp_reader.specs.Messages.{Sent}
+use Rattle.mrt_reader.specs.declared.fault.BodyFault.{BodyFault}
+use Rattle.mrt_reader.specs.Bodies as mrt
+use Rattle.mrt_reader.specs.Coming as records
+use Rattle.mrt_reader.specs.Records.{Recorded}
 use Rattle.origin_model.specs.Current.{Parts as Origins}
 use Rattle.origin_validation.specs.Records.{with_source}
 use Rattle.otc_check.specs.Marks.{Marked}
@@ -24,10 +32,8 @@ use Rattle.rtr_session.specs.Client.{Client}
 use Rattle.rtr_session.specs.State.{State as Session}
 use Rattle.script_lines.specs.declared.commands.Command.TheVariants.{Serve as ServeLine}
 use Rattle.script_lines.specs.Grammar.{IsReading}
-use Rattle.stream_lines.specs.declared.next.Next.{Next}
-use Rattle.stream_lines.specs.declared.next.Next.TheVariants.{Unit as AUnit, Broken}
 use Rattle.stream_lines.specs.Streams.{Asking, Dump, Taking, TakesUnit, unit_refused}
-use Rattle.stream_lines.specs.Units.{Coming, IsComing, is_of_records}
+use Rattle.stream_lines.specs.Units.{Bmp, Known, Mrt, is_of_records}
 use Rattle.vap_table.specs.declared.change.TableChange.TheVariants.{Replace}
 use Rattle.aspa_top.specs.declared.files.Outcome.{Outcome}
 use Rattle.aspa_top.specs.declared.files.Outcome.TheVariants.{Good}
@@ -78,11 +84,15 @@ pub record IsOnlyReported (state : State) (text : List ℕ) (next : State) : Typ
 
 -- ---- a refused unit of a dump, and a refused PDU
 
--- a record or message is refused, or no more of them can be cut out
-abbrev pub IsRefusedNext : Next → Type 0
-IsRefusedNext (AUnit (Err cause)) = Unit {0}
-IsRefusedNext (Broken cause) = Unit {0}
-IsRefusedNext next = ⊥
+-- What comes next in a dump is refused: a whole record or message stands there that has no reading but a fault; or no more can be cut out, since
+-- its length or version isn't allowed, or since the dump ends within it.
+abbrev pub IsRefusedNext : Known → List ℕ → Type 0
+IsRefusedNext (Mrt peers) left =
+    ((it : Recorded) × (rest : List ℕ) × (fault : BodyFault) × records.IsComing left (records.Whole it rest) × mrt.IsReading it peers (Err fault))
+    ⊎ (records.IsComing left records.TooLong ⊎ records.IsComing left records.CutShort)
+IsRefusedNext (Bmp view peers) left =
+    ((it : Sent) × (rest : List ℕ) × (fault : BmpFault) × messages.IsComing left (messages.Whole it rest) × bmp.IsReading it view peers (Err fault))
+    ⊎ (messages.IsComing left messages.OtherVersion ⊎ (messages.IsComing left messages.BadLength ⊎ messages.IsComing left messages.CutShort))
 
 -- one line reports it, and the analysis and the marks are as they were, and so is what the units before have told of those behind
 pub record IsOnlyPassed (asking : Asking) (old : Taking) (text : List ℕ) (new : Taking) : Type 0 where
@@ -121,8 +131,8 @@ pub record RefusedInputChangesNothing : Type 0 where
   pub line : (world : World) (before next : State) (line text : List ℕ) (performs : Performs world before line text next)
       → IsRefusedLine world (counted before) (asked_of performs.reading) → IsOnlyReported (counted before) text next
   -- a record or message that comes next in a dump
-  pub unit : (asking : Asking) (old new : Taking) (text : List ℕ) (coming : Coming) → old.dump.over ≡ false → IsComing old.dump.known old.dump.left coming
-      → IsRefusedNext coming.next → TakesUnit asking old text new → IsOnlyPassed asking old text new
+  pub unit : (asking : Asking) (old new : Taking) (text : List ℕ) → old.dump.over ≡ false → IsRefusedNext old.dump.known old.dump.left
+      → TakesUnit asking old text new → IsOnlyPassed asking old text new
   -- a PDU of a cache that is none, or one of the wrong form
   pub pdu : (t : Link) (name : List ℕ) (feed : Feed) (old new : FeedTaking) (tells : List Telling) (left : List ℕ) (fault : PduFault)
       (takes : TakesNext t name feed old tells new) → takes.coming ≡ BadPdu left fault → EndsAlone old new
